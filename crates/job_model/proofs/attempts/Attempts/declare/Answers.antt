@@ -1,0 +1,7 @@
+use Rattle.std.proofs.Common.{◌∙◌}
+use Rattle.job_model.specs.Attempts.{same_name}
+use Rattle.job_model.proofs.Entries.{insert_new}
+use Rattle.job_model.proofs.attempts.Attempts.declare.Goals as goal
+
+pub returns-in-Ok : goal.returns-in-Ok
+returns-in-Ok c = rw (← c.new.ensures) (c.in-Ok.ensures.entries ∙ insert_new same_name c.self.inside.declared c.args.name c.new.result c.args.self.now c.self.view_is c.requires)

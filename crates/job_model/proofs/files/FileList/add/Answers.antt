@@ -1,0 +1,7 @@
+use Rattle.std.proofs.Common.{◌∙◌}
+use Rattle.proof_base.specs.Order.{text_eq}
+use Rattle.job_model.proofs.Entries.{insert_new}
+use Rattle.job_model.proofs.files.FileList.add.Goals as goal
+
+pub returns-in-Ok : goal.returns-in-Ok
+returns-in-Ok c = c.in-Ok.ensures.entries ∙ insert_new text_eq c.self.inside.files c.args.path c.args.bytes c.args.self.now c.self.view_is c.requires

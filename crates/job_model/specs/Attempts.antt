@@ -1,0 +1,27 @@
+-- The declared attempts with their files.
+use Rattle.std.specs.Prelude.{ℕ, List, [], ◌∷◌, ◌++◌, Bool, ◌&&◌, nat_eq, is_some}
+use Rattle.std.specs.Map.{lookup}
+use Rattle.job_model.specs.declared.attempts.AttemptName.{AttemptName}
+use Rattle.job_model.specs.Files.{File}
+
+abbrev pub same_name : AttemptName → AttemptName → Bool
+same_name x y = nat_eq x.task y.task && nat_eq x.attempt y.attempt
+
+abbrev pub Declared : Type 0
+Declared = AttemptName × List File
+
+-- some attempt has this name
+abbrev pub declares : List Declared → AttemptName → Bool
+declares attempts name = is_some (lookup (same_name name) attempts)
+
+-- the files of the last attempt
+abbrev pub last_files : List Declared → List File
+last_files [] = []
+last_files (a ∷ []) = a.1
+last_files (a ∷ b ∷ bs) = last_files (b ∷ bs)
+
+-- one more file of the last attempt
+abbrev pub with_file : List Declared → List ℕ → List ℕ → List Declared
+with_file [] path bytes = []
+with_file (a ∷ []) path bytes = (a.0, a.1 ++ (path, bytes) ∷ []) ∷ []
+with_file (a ∷ b ∷ bs) path bytes = a ∷ with_file (b ∷ bs) path bytes

@@ -1,0 +1,11 @@
+-- The files of an attempt: paths with their bytes.
+use Rattle.std.specs.Prelude.{ℕ, List, Bool, is_some}
+use Rattle.std.specs.Map.{lookup}
+use Rattle.proof_base.specs.Order.{text_eq}
+
+abbrev pub File : Type 0
+File = List ℕ × List ℕ
+
+-- some file has this path
+abbrev pub has_path : List File → List ℕ → Bool
+has_path files path = is_some (lookup (text_eq path) files)

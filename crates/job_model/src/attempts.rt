@@ -1,0 +1,93 @@
+ghost use Rattle.std.specs.Prelude.{◌≡◌, [], ◌∷◌, ◌++◌, length, OnOk, false};
+ghost use Rattle.job_model.specs.Files.{has_path};
+ghost use Rattle.job_model.specs.Attempts.{declares, last_files, with_file};
+
+use crate::files::FileList;
+use indexmap::IndexMap;
+use s3_types::{Bytes, Text};
+use std::alloc::{AllocError, Global};
+use std::marker::Model;
+
+/// An attempt by its task's number and its own.
+#[derive(Clone, Copy, Debug, PartialEq, Eq, Hash)]
+pub struct AttemptName {
+    pub task: u32,
+    pub attempt: u32,
+}
+
+/// The declared attempts in script order, each with its files.
+#[derive(Drop)]
+pub struct Attempts {
+    declared: IndexMap<AttemptName, FileList>,
+}
+
+impl Model for Attempts {
+    ghost use Rattle.std.specs.Prelude.{ℕ, List};
+    ghost use Rattle.job_model.specs.declared.attempts.AttemptName.{AttemptName};
+
+    ghost Value = { List (AttemptName × List (List ℕ × List ℕ)) };
+
+    ghost view = { λ a. a.declared.entries };
+}
+
+impl Attempts {
+    /// No attempts. Takes no memory.
+    pub fn new(alloc: Global) -> Attempts
+        ensures { result ≡ [] }
+    {
+        Attempts {
+            declared: IndexMap::new(alloc),
+        }
+    }
+
+    pub fn len(&self) -> usize
+        ensures { result ≡ length self.now }
+    {
+        self.declared.len()
+    }
+
+    pub fn declares(&self, name: AttemptName) -> bool
+        ensures { result ≡ declares self.now name }
+    {
+        self.declared.contains_key(&name)
+    }
+
+    /// Declares another attempt behind the others, with no file yet.
+    pub fn declare(&mut self, alloc: Global, name: AttemptName) -> Result<(), AllocError>
+        requires { declares self.old name ≡ false }
+        ensures { OnOk result (self.new ≡ self.old ++ (name, []) ∷ []) }
+    {
+        match self.declared.insert(name, FileList::new(alloc)) {
+            Ok(_) => Ok(()),
+            Err(_) => Err(AllocError),
+        }
+    }
+
+    /// Whether the last attempt has a file with this path.
+    pub fn last_has(&self, path: &Text) -> bool
+        ensures { result ≡ has_path (last_files self.now) path.now }
+    {
+        match self.declared.last() {
+            Some((_, files)) => files.has(path),
+            None => false,
+        }
+    }
+
+    /// Adds a file to the last attempt, where there is one.
+    pub fn add_file(&mut self, path: Text, bytes: Bytes) -> Result<(), AllocError>
+        requires { has_path (last_files self.old) path ≡ false }
+        ensures { OnOk result (self.new ≡ with_file self.old path bytes) }
+    {
+        let Some(files) = self.declared.last_mut() else {
+            return Ok(());
+        };
+        files.add(path, bytes)
+    }
+
+    /// The attempts' names and files.
+    pub fn held(&self) -> &IndexMap<AttemptName, FileList>
+        ensures { result.now.entries ≡ self.now }
+    {
+        &self.declared
+    }
+}

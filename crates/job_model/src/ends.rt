@@ -1,0 +1,221 @@
+use s3_types::{Actor, Sequence, Text};
+use std::fmt;
+
+/// How a job's set-up ended.
+#[derive(Drop)]
+pub enum SetupEnd {
+    Done,
+    /// The mode is fail and the destination shows a file; this is the least of their paths.
+    Conflict(Text),
+    /// An object stands at the destination's own key.
+    DestIsFile,
+    NoSuchBucket,
+    /// A request was lost past its retries.
+    StoreFault,
+    NoMemory,
+}
+
+impl fmt::Display for SetupEnd {
+    fn fmt<W: fmt::Write>(&self, f: &mut fmt::Formatter<W>) -> fmt::Result {
+        match self {
+            SetupEnd::Done => write!(f, "done"),
+            SetupEnd::Conflict(path) => {
+                let path = path.as_str();
+                write!(f, "conflict {path}")
+            }
+            SetupEnd::DestIsFile => write!(f, "dest-is-file"),
+            SetupEnd::NoSuchBucket => write!(f, "no-such-bucket"),
+            SetupEnd::StoreFault => write!(f, "store-fault"),
+            SetupEnd::NoMemory => write!(f, "no-memory"),
+        }
+    }
+}
+
+/// How an attempt's operation ended.
+#[derive(Drop)]
+pub enum TaskEnd {
+    Done,
+    /// A file stands in this partition, and the mode is fail. Of a commit alone.
+    Conflict(Text),
+    /// The attempt has sent its publishing request. Of an abort alone.
+    Kept,
+    /// The attempt's own upload, record or temporary file of this name is not there.
+    Gone(Text),
+    /// A request was lost past its retries.
+    StoreFault,
+    NoMemory,
+}
+
+impl fmt::Display for TaskEnd {
+    fn fmt<W: fmt::Write>(&self, f: &mut fmt::Formatter<W>) -> fmt::Result {
+        match self {
+            TaskEnd::Done => write!(f, "done"),
+            TaskEnd::Conflict(partition) => {
+                let partition = partition.as_str();
+                write!(f, "conflict {partition}")
+            }
+            TaskEnd::Kept => write!(f, "kept"),
+            TaskEnd::Gone(name) => {
+                let name = name.as_str();
+                write!(f, "gone {name}")
+            }
+            TaskEnd::StoreFault => write!(f, "store-fault"),
+            TaskEnd::NoMemory => write!(f, "no-memory"),
+        }
+    }
+}
+
+/// Which requests of a job's commit a lost one was among.
+#[derive(Clone, Copy, Debug, PartialEq, Eq)]
+pub enum Stage {
+    /// The reads of the tasks' sets.
+    Read,
+    /// The deletion of what the mode does not keep.
+    Delete,
+    /// The completions of the uploads.
+    Complete,
+    /// The put of `_SUCCESS`.
+    Success,
+}
+
+impl fmt::Display for Stage {
+    fn fmt<W: fmt::Write>(&self, f: &mut fmt::Formatter<W>) -> fmt::Result {
+        match self {
+            Stage::Read => write!(f, "read"),
+            Stage::Delete => write!(f, "delete"),
+            Stage::Complete => write!(f, "complete"),
+            Stage::Success => write!(f, "success"),
+        }
+    }
+}
+
+/// How a job's commit ended.
+#[derive(Drop)]
+pub enum CommitEnd {
+    Committed,
+    /// No attempt of this task, the least such one, reported that it committed.
+    Missing(u32),
+    /// Two tasks would write one path: the least such path, with its two least tasks.
+    SamePath { path: Text, first: u32, second: u32 },
+    /// A request was lost past its retries.
+    StoreFault(Stage),
+    NoMemory,
+}
+
+impl fmt::Display for CommitEnd {
+    fn fmt<W: fmt::Write>(&self, f: &mut fmt::Formatter<W>) -> fmt::Result {
+        match self {
+            CommitEnd::Committed => write!(f, "committed"),
+            CommitEnd::Missing(task) => write!(f, "missing {task}"),
+            CommitEnd::SamePath {
+                path,
+                first,
+                second,
+            } => {
+                let path = path.as_str();
+                write!(f, "same-path {path} {first} {second}")
+            }
+            CommitEnd::StoreFault(stage) => write!(f, "store-fault {stage}"),
+            CommitEnd::NoMemory => write!(f, "no-memory"),
+        }
+    }
+}
+
+/// How a job's clean or abort ended.
+#[derive(Clone, Copy, Debug, PartialEq, Eq)]
+pub enum CleanEnd {
+    Done,
+    /// A request was lost past its retries.
+    StoreFault,
+    NoMemory,
+}
+
+impl fmt::Display for CleanEnd {
+    fn fmt<W: fmt::Write>(&self, f: &mut fmt::Formatter<W>) -> fmt::Result {
+        match self {
+            CleanEnd::Done => write!(f, "done"),
+            CleanEnd::StoreFault => write!(f, "store-fault"),
+            CleanEnd::NoMemory => write!(f, "no-memory"),
+        }
+    }
+}
+
+/// How an operation ended, by whose it was.
+#[derive(Drop)]
+pub enum OpEnd {
+    Setup(SetupEnd),
+    Commit(CommitEnd),
+    Clean(CleanEnd),
+    Task(TaskEnd),
+    /// The operation could not be begun.
+    NoMemory,
+}
+
+impl fmt::Display for OpEnd {
+    fn fmt<W: fmt::Write>(&self, f: &mut fmt::Formatter<W>) -> fmt::Result {
+        match self {
+            OpEnd::Setup(end) => write!(f, "{end}"),
+            OpEnd::Commit(end) => write!(f, "{end}"),
+            OpEnd::Clean(end) => write!(f, "{end}"),
+            OpEnd::Task(end) => write!(f, "{end}"),
+            OpEnd::NoMemory => write!(f, "no-memory"),
+        }
+    }
+}
+
+/// How an actor's operation ended in a mix.
+#[derive(Drop)]
+pub struct ActorEnd {
+    pub actor: Actor,
+    pub end: OpEnd,
+}
+
+/// Ends in the order in which they came.
+pub type ActorEndList = Sequence<ActorEnd>;
+
+/// Why an event was refused, in the order of the checks.
+#[derive(Clone, Copy, Debug, PartialEq, Eq)]
+pub enum EventFault {
+    Dead = 1,
+    Busy = 2,
+    Idle = 3,
+    NotSet = 4,
+    WrongState = 5,
+}
+
+impl fmt::Display for EventFault {
+    fn fmt<W: fmt::Write>(&self, f: &mut fmt::Formatter<W>) -> fmt::Result {
+        match self {
+            EventFault::Dead => write!(f, "dead"),
+            EventFault::Busy => write!(f, "busy"),
+            EventFault::Idle => write!(f, "idle"),
+            EventFault::NotSet => write!(f, "not-set"),
+            EventFault::WrongState => write!(f, "wrong-state"),
+        }
+    }
+}
+
+/// How an event ended.
+#[derive(Drop)]
+pub enum EventEnd {
+    /// It ended no operation.
+    Done,
+    Ended(OpEnd),
+    /// The ends of a mix.
+    Mixed(ActorEndList),
+    /// It changed nothing.
+    Refused(EventFault),
+}
+
+/// Ends of events in order.
+pub type EndList = Sequence<EventEnd>;
+
+/// The attempt of a task whose files a job's commit publishes.
+#[derive(Clone, Copy, Debug, PartialEq, Eq)]
+pub struct Pick {
+    pub task: u32,
+    pub attempt: u32,
+}
+
+/// Picks in order of tasks.
+pub type PickList = Sequence<Pick>;

@@ -1,0 +1,57 @@
+use s3_types::{Actor, Sequence};
+use std::fmt;
+
+/// An operation. The driver's are all but `Write`; an attempt's are `Write`, `Commit` and `Abort`.
+#[derive(Clone, Copy, Debug, PartialEq, Eq)]
+pub enum Op {
+    Setup,
+    Write,
+    Commit,
+    Abort,
+    Clean,
+}
+
+impl fmt::Display for Op {
+    fn fmt<W: fmt::Write>(&self, f: &mut fmt::Formatter<W>) -> fmt::Result {
+        match self {
+            Op::Setup => write!(f, "setup"),
+            Op::Write => write!(f, "write"),
+            Op::Commit => write!(f, "commit"),
+            Op::Abort => write!(f, "abort"),
+            Op::Clean => write!(f, "clean"),
+        }
+    }
+}
+
+/// What happens next in a run.
+#[derive(Clone, Copy, Debug, PartialEq, Eq)]
+pub enum Event {
+    /// The actor begins an operation and goes on until it ends.
+    Do { actor: Actor, op: Op },
+    /// The actor begins an operation.
+    Start { actor: Actor, op: Op },
+    /// The actor sends up to so many requests, 1 to 1,000,000.
+    Step { actor: Actor, count: u32 },
+    /// The actor goes on until its operation ends.
+    Run { actor: Actor },
+    /// The actor dies.
+    Kill { actor: Actor },
+    /// The busy actors send in turns that the seed chooses, below 2^31, until none is busy.
+    Mix { seed: u32 },
+}
+
+impl fmt::Display for Event {
+    fn fmt<W: fmt::Write>(&self, f: &mut fmt::Formatter<W>) -> fmt::Result {
+        match self {
+            Event::Do { actor, op } => write!(f, "do {actor} {op}"),
+            Event::Start { actor, op } => write!(f, "start {actor} {op}"),
+            Event::Step { actor, count } => write!(f, "step {actor} {count}"),
+            Event::Run { actor } => write!(f, "run {actor}"),
+            Event::Kill { actor } => write!(f, "kill {actor}"),
+            Event::Mix { seed } => write!(f, "mix {seed}"),
+        }
+    }
+}
+
+/// Events in order.
+pub type EventList = Sequence<Event>;

@@ -1,0 +1,98 @@
+ghost use Rattle.std.specs.Prelude.{◌≡◌, [], OnOk, OnErr};
+ghost use Rattle.std.specs.Ordering.{nat_cmp};
+ghost use Rattle.std.specs.BTreeSet.{insert_key};
+
+use crate::files::FileList;
+use path_keys::S3Path;
+use pending_json::PendingList;
+use s3_types::{Committer, Mode, Text, UploadList};
+use std::alloc::{AllocError, Global};
+use std::collections::BTreeSet;
+use std::marker::Model;
+
+/// What a job's driver and attempts know of the job. Its id has 1 to 64 letters, digits, `_` and `-`,
+/// its destination's key 1 to 400 bytes; it has at most 1,000 tasks, and a stamp is below 10^18.
+#[derive(Drop)]
+pub struct JobPlan {
+    pub job: Text,
+    pub dest: S3Path,
+    pub committer: Committer,
+    pub mode: Mode,
+    pub tasks: u32,
+    pub stamp: Option<u64>,
+}
+
+impl Model for JobPlan {
+    ghost use Rattle.std.specs.Prelude.{◌≡◌, true};
+    ghost use Rattle.job_model.specs.Jobs.{Job, is_job};
+
+    ghost Value = { Job };
+
+    ghost view = { λ p. record { job = p.job; dest = p.dest; committer = p.committer; mode = p.mode; tasks = p.tasks; stamp = p.stamp } };
+
+    ghost invariant = { λ p. is_job p.job p.dest p.tasks p.stamp ≡ true };
+}
+
+/// What an attempt knows and has done: of which job, task and attempt it is, its files, the sizes in
+/// bytes that its parts are cut by (the script's block, at most 67,108,864 and 0 for none, and the
+/// store's minimum, 1 to 5,242,880), the uploads whose ids it got in the order of their making, the
+/// records of its finished uploads, and whether it has sent the put of its temporary file and its
+/// publishing request. Its task is below the job's number of tasks, and its own number is at most 99.
+#[derive(Drop)]
+pub struct TaskPlan {
+    pub job: JobPlan,
+    pub task: u32,
+    pub attempt: u32,
+    pub files: FileList,
+    pub block: u64,
+    pub minimum: u64,
+    pub known: UploadList,
+    pub records: PendingList,
+    pub put_sent: bool,
+    pub publish_sent: bool,
+}
+
+impl Model for TaskPlan {
+    ghost use Rattle.std.specs.Prelude.{◌≡◌, true};
+    ghost use Rattle.job_model.specs.Jobs.{Task, is_task};
+
+    ghost Value = { Task };
+
+    ghost view = { λ p. record { job = p.job; task = p.task; attempt = p.attempt; files = p.files; block = p.block; minimum = p.minimum; known = p.known; records = p.records; put_sent = p.put_sent; publish_sent = p.publish_sent } };
+
+    ghost invariant = { λ p. is_task p.job p.task p.attempt p.block p.minimum ≡ true };
+}
+
+/// Numbers of tasks, rising and each once.
+#[derive(Drop)]
+pub struct TaskSet {
+    held: BTreeSet<u32>,
+}
+
+impl Model for TaskSet {
+    ghost use Rattle.std.specs.Prelude.{ℕ, List};
+
+    ghost Value = { List ℕ };
+
+    ghost view = { λ s. s.held.keys };
+}
+
+impl TaskSet {
+    /// No tasks. Takes no memory.
+    pub fn new(alloc: Global) -> TaskSet
+        ensures { result ≡ [] }
+    {
+        TaskSet {
+            held: BTreeSet::new(alloc),
+        }
+    }
+
+    /// Adds a task, or changes nothing where it is there. After an error the set is as before.
+    pub fn add(&mut self, task: u32) -> Result<(), AllocError>
+        ensures ok { OnOk result (self.new ≡ insert_key nat_cmp self.old task) }
+        ensures err { OnErr result (self.new ≡ self.old) }
+    {
+        self.held.insert(task)?;
+        Ok(())
+    }
+}

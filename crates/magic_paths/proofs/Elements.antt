@@ -1,0 +1,107 @@
+-- The elements of the layout's keys.
+use Rattle.std.proofs.Common.{◌≡◌, ◌≢◌, ℕ, ◌+◌, ◌<◌, ◌≤◌, ◌^◌, ◌%◌, ◌==◌, ◌&&◌, nat_le, Bool, true, false, List, [], ◌∷◌, ◌++◌, length, codes, refl, sym, ap, ◌∙◌, arith, append_assoc}
+use Rattle.std.specs.List.{list_all}
+use Rattle.std.specs.Fmt.{decimal}
+use Rattle.std.proofs.lemmas.Bool.{and_parts}
+use Rattle.std.proofs.lemmas.Bool.Decides.{nat_tests}
+use Rattle.std.proofs.lemmas.List.Folds.{list_all-append}
+use Rattle.std.proofs.lemmas.Fmt.{decimal_by_steps, decimal_nonempty}
+use Rattle.words.specs.Parts.{parts_from, is_other}
+use Rattle.words.proofs.Pieces.{one_part}
+use Rattle.s3_types.specs.Names.{are_elements, is_element}
+use Rattle.path_keys.specs.Paths.{is_key}
+use Rattle.path_keys.proofs.Keys.{some_key}
+use Rattle.path_keys.proofs.Beneath.{elements_append}
+use Rattle.magic_paths.specs.Layout.{attempt_key, set_key, success_key}
+
+abbrev is_digit : ℕ → Bool
+is_digit b = nat_le 48 b && nat_le b 57
+
+a_digit : (k : ℕ) → k < 10 → is_digit (48 + k) ≡ true
+a_digit k h = grind (arith, nat_tests)
+
+digits_only : (n : ℕ) → n < 2 ^ 64 → list_all is_digit (decimal n) ≡ true
+digits_only n h = decimal_by_steps (λ m ds. list_all is_digit ds ≡ true) one more n h
+  where
+    one : (m : ℕ) → m < 10 → list_all is_digit ((48 + m) ∷ []) ≡ true
+    one m lt = rw (a_digit m lt) refl
+
+    more : (m : ℕ) (ds : List ℕ) → 10 ≤ m → list_all is_digit ds ≡ true → list_all is_digit (ds ++ ((48 + m % 10) ∷ [])) ≡ true
+    more m ds le old = list_all-append is_digit ds ((48 + m % 10) ∷ []) ∙ rw (old, a_digit (m % 10) (omega arith)) refl
+
+digit_other : (b : ℕ) → is_digit b ≡ true → is_other 47 b ≡ true
+digit_other b h = grind (arith, nat_tests)
+
+digits_others : (ds : List ℕ) → list_all is_digit ds ≡ true → list_all (is_other 47) ds ≡ true
+digits_others [] h = refl
+digits_others (d ∷ ds) h = let p = and_parts (is_digit d) (list_all is_digit ds) h in rw (digit_other d p.0, digits_others ds p.1) refl
+
+-- a decimal has no `/`
+decimal_others : (n : ℕ) → n < 2 ^ 64 → list_all (is_other 47) (decimal n) ≡ true
+decimal_others n h = digits_others (decimal n) (digits_only n h)
+
+-- a word that does not begin with a dot is an element
+word_is_element : (b : ℕ) (bs : List ℕ) → b ≢ 46 → is_element (b ∷ bs) ≡ true
+word_is_element b bs n =
+    let some : (length (b ∷ bs) == 0) ≡ false = grind (arith, nat_tests) in
+    let other : (b == 46) ≡ false = grind (arith, nat_tests) in
+    rw (some, other) refl
+
+digit_no_dot : (b : ℕ) → is_digit b ≡ true → b ≢ 46
+digit_no_dot b h = grind (arith, nat_tests)
+
+number_is_element : (ds more : List ℕ) → 0 < length ds → list_all is_digit ds ≡ true → is_element (ds ++ more) ≡ true
+number_is_element [] more some h = absurd (omega arith)
+number_is_element (d ∷ ds) more some h = word_is_element d (ds ++ more) (digit_no_dot d (and_parts (is_digit d) (list_all is_digit ds) h).0)
+
+lone_element : (word : List ℕ) → list_all (is_other 47) word ≡ true → is_element word ≡ true → are_elements word ≡ true
+lone_element word others is = ap (list_all is_element) (one_part 47 word others) ∙ rw is refl
+
+three_others : (a b c : List ℕ) → list_all (is_other 47) a ≡ true → list_all (is_other 47) b ≡ true → list_all (is_other 47) c ≡ true → list_all (is_other 47) (a ++ (b ++ c)) ≡ true
+three_others a b c x y z = list_all-append (is_other 47) a (b ++ c) ∙ rw (x, list_all-append (is_other 47) b c, y, z) refl
+
+-- the element T_A of an attempt
+attempt_elements : (task attempt : ℕ) → task < 2 ^ 64 → attempt < 2 ^ 64 → are_elements (decimal task ++ (codes "_" ++ decimal attempt)) ≡ true
+attempt_elements task attempt t a =
+    lone_element (decimal task ++ (codes "_" ++ decimal attempt)) (three_others (decimal task) (codes "_") (decimal attempt) (decimal_others task t) refl (decimal_others attempt a))
+    (number_is_element (decimal task) (codes "_" ++ decimal attempt) (decimal_nonempty task t) (digits_only task t))
+
+-- the element task_T.pendingset of a set
+set_elements : (task : ℕ) → task < 2 ^ 64 → are_elements (codes "task_" ++ (decimal task ++ codes ".pendingset")) ≡ true
+set_elements task t =
+    lone_element (codes "task_" ++ (decimal task ++ codes ".pendingset")) (three_others (codes "task_") (decimal task) (codes ".pendingset") refl (decimal_others task t) refl)
+    (word_is_element 116 (codes "ask_" ++ (decimal task ++ codes ".pendingset")) (λ e. absurd (omega arith)))
+
+fixed_tasks : are_elements (codes "__magic/tasks") ≡ true
+unfolding parts_from
+fixed_tasks = refl
+
+fixed_sets : are_elements (codes "__magic/sets") ≡ true
+unfolding parts_from
+fixed_sets = refl
+
+fixed_base : are_elements (codes "__base") ≡ true
+unfolding parts_from
+fixed_base = refl
+
+fixed_success : are_elements (codes "_SUCCESS") ≡ true
+unfolding parts_from
+fixed_success = refl
+
+pub attempt_key_elements : (dest : List ℕ) (task attempt : ℕ) → are_elements dest ≡ true → task < 2 ^ 64 → attempt < 2 ^ 64 → are_elements (attempt_key dest task attempt) ≡ true
+attempt_key_elements dest task attempt d t a =
+    let word = decimal task ++ (codes "_" ++ decimal attempt) in
+    let behind : word ++ codes "/__base" ≡ decimal task ++ (codes "_" ++ (decimal attempt ++ codes "/__base")) = append_assoc (decimal task) (codes "_" ++ decimal attempt) (codes "/__base") in
+    let tail = elements_append (codes "__magic/tasks") (word ++ codes "/__base") fixed_tasks (elements_append word (codes "__base") (attempt_elements task attempt t a) fixed_base) in
+    elements_append dest (codes "__magic/tasks/" ++ (decimal task ++ (codes "_" ++ (decimal attempt ++ codes "/__base")))) d (ap (λ (l : List ℕ). are_elements (codes "__magic/tasks/" ++ l)) (sym behind) ∙ tail)
+
+pub set_key_elements : (dest : List ℕ) (task : ℕ) → are_elements dest ≡ true → task < 2 ^ 64 → are_elements (set_key dest task) ≡ true
+set_key_elements dest task d t =
+    elements_append dest (codes "__magic/sets/task_" ++ (decimal task ++ codes ".pendingset")) d
+    (elements_append (codes "__magic/sets") (codes "task_" ++ (decimal task ++ codes ".pendingset")) fixed_sets (set_elements task t))
+
+pub success_key_elements : (dest : List ℕ) → are_elements dest ≡ true → are_elements (success_key dest) ≡ true
+success_key_elements dest d = elements_append dest (codes "_SUCCESS") d fixed_success
+
+pub dest_elements : (dest : List ℕ) → 1 ≤ length dest → is_key dest ≡ true → are_elements dest ≡ true
+dest_elements dest some h = (some_key dest (omega arith) h).0

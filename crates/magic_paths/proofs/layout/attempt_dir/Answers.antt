@@ -1,0 +1,14 @@
+use Rattle.std.proofs.Common.{ap, sym, ◌∙◌, arith}
+use Rattle.path_keys.specs.Paths.{is_key}
+use Rattle.path_keys.proofs.Keys.{key_from}
+use Rattle.magic_paths.specs.Layout.{attempt_key}
+use Rattle.magic_paths.proofs.Elements.{attempt_key_elements, dest_elements}
+use Rattle.magic_paths.proofs.Lengths.{attempt_key_short}
+use Rattle.magic_paths.proofs.layout.attempt_dir.Goals as goal
+
+pub new-requires-2 : goal.new-requires-2
+new-requires-2 c =
+    let dest = c.args.dest.now.key in
+    let elements = attempt_key_elements dest c.args.task c.args.attempt (dest_elements dest c.requires.some (ap is_key (sym c.key.ensures.text) ∙ c.key.ensures.key)) (omega arith) (omega arith) in
+    ap is_key (c.in_ok-key.ensures ∙ c.in_ok-text.ensures ∙ ap (λ d. attempt_key d c.args.task c.args.attempt) (c.as_str.ensures ∙ c.key.ensures.text))
+    ∙ key_from (attempt_key dest c.args.task c.args.attempt) elements (attempt_key_short dest c.args.task c.args.attempt c.requires.most c.ranges.task.fits c.ranges.attempt.fits)

@@ -1,0 +1,15 @@
+use Rattle.std.proofs.Common.{ap, sym, ◌∙◌, arith}
+use Rattle.s3_types.specs.Names.{is_key_path}
+use Rattle.path_keys.specs.Paths.{is_key}
+use Rattle.path_keys.proofs.Beneath.{key_path_from}
+use Rattle.magic_paths.specs.Layout.{set_key}
+use Rattle.magic_paths.proofs.Elements.{set_key_elements, dest_elements}
+use Rattle.magic_paths.proofs.Lengths.{set_key_short}
+use Rattle.magic_paths.proofs.layout.set_key.Goals as goal
+
+pub new-requires-2 : goal.new-requires-2
+new-requires-2 c =
+    let dest = c.args.dest.now.key in
+    let elements = set_key_elements dest c.args.task (dest_elements dest c.requires.some (ap is_key (sym c.key.ensures.text) ∙ c.key.ensures.key)) (omega arith) in
+    ap is_key_path (c.in_ok-new.ensures ∙ c.in_ok-text.ensures ∙ ap (λ d. set_key d c.args.task) (c.as_str.ensures ∙ c.key.ensures.text))
+    ∙ key_path_from (set_key dest c.args.task) elements (set_key_short dest c.args.task c.requires.most c.ranges.task.fits)

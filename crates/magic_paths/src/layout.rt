@@ -1,0 +1,66 @@
+ghost use Rattle.std.specs.Prelude.{◌≡◌, ◌≤◌, true, IfOk, length};
+ghost use Rattle.s3_types.specs.Names.{are_elements};
+ghost use Rattle.path_keys.specs.Paths.{below};
+ghost use Rattle.magic_paths.specs.Layout as keys;
+
+use crate::texts::{attempt_text, prefix_text, set_text, success_text};
+use path_keys::S3Path;
+use s3_types::{Key, Text};
+use std::alloc::{AllocError, Global};
+
+/// The directory that an attempt of a task writes its files below: `DEST/__magic/tasks/T_A/__base`.
+/// A destination's key has 1 to 400 bytes.
+pub fn attempt_dir(
+    alloc: Global,
+    dest: &S3Path,
+    task: u32,
+    attempt: u32,
+) -> Result<S3Path, AllocError>
+    requires some { 1 ≤ length dest.now.key }
+    requires most { length dest.now.key ≤ 400 }
+    ensures { IfOk result (λ p. p ≡ record { bucket = dest.now.bucket; key = keys.attempt_key dest.now.key task attempt }) }
+{
+    let text = attempt_text(alloc, dest.key().as_str(), task, attempt)?;
+    let key = Text::new(alloc, text)?;
+    Ok(S3Path::new(dest.bucket().clone()?, key))
+}
+
+/// The key of a committed task's set of pending uploads: `DEST/__magic/sets/task_T.pendingset`. A
+/// destination's key has 1 to 400 bytes.
+pub fn set_key(alloc: Global, dest: &S3Path, task: u32) -> Result<Key, AllocError>
+    requires some { 1 ≤ length dest.now.key }
+    requires most { length dest.now.key ≤ 400 }
+    ensures { IfOk result (λ k. k ≡ keys.set_key dest.now.key task) }
+{
+    let text = set_text(alloc, dest.key().as_str(), task)?;
+    Ok(Key::new(Text::new(alloc, text)?))
+}
+
+/// The key of the marker of a committed job: `DEST/_SUCCESS`. A destination's key has 1 to 400 bytes.
+pub fn success_key(alloc: Global, dest: &S3Path) -> Result<Key, AllocError>
+    requires some { 1 ≤ length dest.now.key }
+    requires most { length dest.now.key ≤ 400 }
+    ensures { IfOk result (λ k. k ≡ keys.success_key dest.now.key) }
+{
+    let text = success_text(alloc, dest.key().as_str())?;
+    Ok(Key::new(Text::new(alloc, text)?))
+}
+
+/// What the keys of all that is below a destination's magic directory begin with: `DEST/__magic/`.
+pub fn magic_prefix(alloc: Global, dest: &S3Path) -> Result<Text, AllocError>
+    ensures { IfOk result (λ t. t ≡ keys.magic_prefix dest.now.key) }
+{
+    let text = prefix_text(alloc, dest.key().as_str())?;
+    Text::new(alloc, text)
+}
+
+/// The key of a file whose path stands below a directory: the directory's key, a `/`, and the path; at
+/// a bucket's root, the path alone.
+pub fn file_key(alloc: Global, dir: &S3Path, path: &Text) -> Result<Key, AllocError>
+    requires elements { are_elements path.now ≡ true }
+    requires most { length (below dir.now.key path.now) ≤ 1024 }
+    ensures { IfOk result (λ k. k ≡ below dir.now.key path.now) }
+{
+    let text = dir.text_below(alloc, path.as_str())?;
+    Ok(Key::new(Text::new(alloc, text)?))
+}

@@ -1,0 +1,65 @@
+ghost use Rattle.std.specs.Prelude.{◌≤◌, IfOk, length};
+
+use super::*;
+use path_keys::{PathFault, S3Path};
+use s3_types::{Key, Text};
+use std::alloc::{AllocError, Global};
+use std::test::Fail;
+
+fn dest(alloc: Global) -> Result<S3Path, PathFault>
+    ensures { IfOk result (λ p. (1 ≤ length p.key) × (length p.key ≤ 400)) }
+{
+    let path = S3Path::read(alloc, "s3a://lake/out")?;
+    let len = path.key().as_bytes().len();
+    if len == 0 || len > 400 {
+        return Err(PathFault::TooLong);
+    }
+    Ok(path)
+}
+
+fn text_of(alloc: Global, key: &Key) -> Result<String, AllocError> {
+    String::from_str(alloc, key.as_text().as_str())
+}
+
+fn attempt_text(alloc: Global) -> Result<String, PathFault> {
+    let dir = attempt_dir(alloc, &dest(alloc)?, 7, 0)?;
+    Ok(String::from_str(alloc, dir.key().as_str())?)
+}
+
+fn set_text(alloc: Global, task: u32) -> Result<String, PathFault> {
+    Ok(text_of(alloc, &set_key(alloc, &dest(alloc)?, task)?)?)
+}
+
+fn success_text(alloc: Global) -> Result<String, PathFault> {
+    Ok(text_of(alloc, &success_key(alloc, &dest(alloc)?)?)?)
+}
+
+fn prefix_text(alloc: Global) -> Result<Text, PathFault> {
+    Ok(magic_prefix(alloc, &dest(alloc)?)?)
+}
+
+#[test]
+fn attempts(rt: HostRuntime) -> Result<(), Fail> {
+    let text = attempt_text(rt.alloc())?;
+    assert_eq!(rt; text.as_str(), "out/__magic/tasks/7_0/__base");
+    Ok(())
+}
+
+#[test]
+fn sets(rt: HostRuntime) -> Result<(), Fail> {
+    let text = set_text(rt.alloc(), 4294967295)?;
+    assert_eq!(rt;
+        text.as_str(),
+        "out/__magic/sets/task_4294967295.pendingset"
+    );
+    Ok(())
+}
+
+#[test]
+fn marker_and_prefix(rt: HostRuntime) -> Result<(), Fail> {
+    let text = success_text(rt.alloc())?;
+    assert_eq!(rt; text.as_str(), "out/_SUCCESS");
+    let text = prefix_text(rt.alloc())?;
+    assert_eq!(rt; text.as_str(), "out/__magic/");
+    Ok(())
+}

@@ -1,0 +1,4 @@
+pub mod Keyed
+pub mod Numbered
+pub mod Begins
+pub mod Follow

@@ -1,0 +1,18 @@
+use Rattle.std.proofs.Common.{◌≡◌, true, ap, ◌∙◌, sym, subst, List, ℕ}
+use Rattle.std.specs.FinMap as fin
+use Rattle.std.specs.List.{AllByRecursion}
+use Rattle.std.specs.Cmp.{nat_cmp_total}
+use Rattle.proof_base.proofs.Tree.{entries_made}
+use Rattle.s3_types.specs.Multipart.{is_part_number}
+use Rattle.multipart.proofs.Numbered.{all_numbered}
+use Rattle.multipart.proofs.part.Parts.iter.Goals as goal
+
+pub returns-clause-entries : goal.returns-clause-entries
+returns-clause-entries c =
+    c.iter.ensures.rest ∙ sym (entries_made nat_cmp_total c.self.inside.held.entries c.iter.ensures.ordered) ∙ ap fin.entries c.self.view_is
+
+pub returns-clause-numbers : goal.returns-clause-numbers
+returns-clause-numbers c =
+    subst (λ (es : List (ℕ × List ℕ)). AllByRecursion (λ e. is_part_number e.0 ≡ true) es)
+    (entries_made nat_cmp_total c.self.inside.held.entries c.iter.ensures.ordered ∙ sym c.iter.ensures.rest)
+    (all_numbered (fin.from_entries c.self.inside.held.entries) c.self.invariant)

@@ -1,0 +1,15 @@
+use Rattle.std.proofs.Common.{ap, ◌∙◌, sym, List, ℕ}
+use Rattle.std.specs.FinMap as fin
+use Rattle.std.specs.Range.Bound.{bound_map}
+use Rattle.std.specs.BTreeMap.Range.{entries_between}
+use Rattle.std.specs.declared.ops.Bound.TheVariants.{Unbounded}
+use Rattle.proof_base.proofs.Tree.{entries_made}
+use Rattle.s3_types.specs.Multipart.{ref_cmp}
+use Rattle.s3_types.specs.declared.request.UploadRef.{UploadRef}
+use Rattle.multipart.proofs.Keyed.{refs_total}
+use Rattle.multipart.proofs.tables.Index.from.Goals as goal
+
+pub returns : goal.returns
+returns c =
+    c.range.ensures.between tt
+    ∙ ap (λ (l : List (UploadRef × List ℕ)). entries_between ref_cmp (bound_map (λ p. p.now) c.args.start) Unbounded l) (sym (entries_made refs_total c.self.inside.held.entries c.range.ensures.ordered) ∙ ap fin.entries c.self.view_is)

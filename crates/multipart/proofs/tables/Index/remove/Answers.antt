@@ -1,0 +1,10 @@
+use Rattle.std.proofs.Common.{ap, ◌∙◌}
+use Rattle.std.specs.FinMap as fin
+use Rattle.proof_base.proofs.Tree.{made_remove}
+use Rattle.multipart.proofs.Keyed.{refs_total, exact_refs}
+use Rattle.multipart.proofs.tables.Index.remove.Goals as goal
+
+pub returns : goal.returns
+returns c =
+    made_remove refs_total exact_refs c.self.inside.held.entries c.remove.new.self.entries c.args.place.now c.remove.ensures.updates.0
+    ∙ ap (λ m. fin.remove m c.args.place.now) c.self.view_is

@@ -1,0 +1,22 @@
+//! The multipart uploads of a bucket that have not ended: their parts, what a completion joins, and
+//! listings. (Amazon S3 API: CreateMultipartUpload, UploadPart, CompleteMultipartUpload,
+//! AbortMultipartUpload, ListParts, ListMultipartUploads.)
+#![tactic(auto)]
+
+mod fault;
+mod iter;
+mod join;
+mod list;
+mod part;
+mod tables;
+mod uploads;
+
+pub use fault::UploadFault;
+pub use iter::{PartEntries, UploadEntries, UploadView};
+pub use join::Joined;
+pub use list::UploadPage;
+pub use part::Parts;
+pub use uploads::{LiveUpload, Uploads};
+
+#[cfg(test)]
+mod tests;

@@ -1,0 +1,125 @@
+ghost use Rattle.std.specs.Option.{option_copied};
+ghost use Rattle.std.specs.Prelude.{◌≡◌, ◌≤◌, ℕ, List, Some, None, length, nat_lt, take, IfOk};
+ghost use Rattle.std.specs.Map.{keys_of};
+ghost use Rattle.s3_types.specs.Pages.{begins};
+ghost use Rattle.s3_types.specs.Multipart.{listed};
+ghost use Rattle.multipart.specs.Listing.{below, Follows, AreOwn};
+
+use crate::tables::Place;
+use crate::uploads::Uploads;
+use s3_types::{Key, PageLimit, Text, UploadList, UploadRef};
+use std::alloc::{AllocError, Global};
+use std::collections::btree_map::Range;
+use std::ops::Bound;
+
+/// Some live uploads by key and then by id, and whether more remain.
+#[derive(Drop)]
+pub struct UploadPage {
+    pub entries: UploadList,
+    pub more: bool,
+}
+
+fn begins(prefix: &Text, text: &Text) -> bool
+    ensures { result ≡ begins prefix.now text.now }
+{
+    text.as_bytes().starts_with(prefix.as_bytes())
+}
+
+/// A page of the uploads that are left whose keys begin with a prefix.
+fn page_of(
+    alloc: Global,
+    rest: Range<'_, Place, Key>,
+    prefix: &Text,
+    limit: u16,
+) -> Result<UploadPage, AllocError>
+    requires follows { Follows prefix.now (keys_of rest) }
+    requires own { AreOwn rest }
+    ensures entries { IfOk result (λ page. page.entries ≡ take limit (below prefix.now (keys_of rest.entry))) }
+    ensures more { IfOk result (λ page. page.more ≡ nat_lt limit (length (below prefix.now (keys_of rest.entry)))) }
+{
+    let mut rest = rest;
+    let mut entries = Vec::new(alloc);
+    while let Some((place, key)) = rest.next() {
+        if !begins(prefix, &place.text) {
+            return Ok(UploadPage {
+                entries: UploadList::from_vec(entries),
+                more: false,
+            });
+        }
+        if entries.len() == limit as usize {
+            return Ok(UploadPage {
+                entries: UploadList::from_vec(entries),
+                more: true,
+            });
+        }
+        let key = key.clone()?;
+        entries.push(UploadRef {
+            key,
+            upload: place.upload,
+        })?;
+    }
+    Ok(UploadPage {
+        entries: UploadList::from_vec(entries),
+        more: false,
+    })
+}
+
+impl Uploads {
+    fn list_first(&self, prefix: &Text, limit: u16) -> Result<UploadPage, AllocError>
+        ensures entries { IfOk result (λ page. page.entries ≡ take limit (listed prefix.now None self.now)) }
+        ensures more { IfOk result (λ page. page.more ≡ nat_lt limit (length (listed prefix.now None self.now))) }
+    {
+        let first = Place {
+            text: prefix.clone()?,
+            upload: 0,
+        };
+        page_of(
+            self.allocator(),
+            self.from(Bound::Included(&first)),
+            prefix,
+            limit,
+        )
+    }
+
+    fn list_after(
+        &self,
+        prefix: &Text,
+        last: &UploadRef,
+        limit: u16,
+    ) -> Result<UploadPage, AllocError>
+        ensures entries { IfOk result (λ page. page.entries ≡ take limit (listed prefix.now (Some last.now) self.now)) }
+        ensures more { IfOk result (λ page. page.more ≡ nat_lt limit (length (listed prefix.now (Some last.now) self.now))) }
+    {
+        if last.key.as_text().cmp(prefix).is_lt() {
+            return self.list_first(prefix, limit);
+        }
+        let start = Place {
+            text: last.key.as_text().clone()?,
+            upload: last.upload,
+        };
+        page_of(
+            self.allocator(),
+            self.from(Bound::Excluded(&start)),
+            prefix,
+            limit,
+        )
+    }
+
+    /// A page of the live uploads whose keys begin with a prefix, by key and then by id: at most `limit` of
+    /// them behind `after`, if that is given, in O(log u + k) for k entries. (Amazon S3 API,
+    /// ListMultipartUploads.)
+    pub fn list(
+        &self,
+        prefix: &Text,
+        after: Option<&UploadRef>,
+        limit: PageLimit,
+    ) -> Result<UploadPage, AllocError>
+        ensures entries { IfOk result (λ page. page.entries ≡ take limit (listed prefix.now (option_copied after.entry) self.now)) }
+        ensures more { IfOk result (λ page. page.more ≡ nat_lt limit (length (listed prefix.now (option_copied after.entry) self.now))) }
+    {
+        match after {
+            Some(last) => self.list_after(prefix, last, limit.get()),
+            None => self.list_first(prefix, limit.get()),
+        }
+    }
+}

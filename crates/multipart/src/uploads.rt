@@ -1,0 +1,206 @@
+ghost use Rattle.std.specs.Option.{option_copied, option_map, option_and_then};
+ghost use Rattle.std.specs.Prelude.{◌≡◌, ◌↔◌, ◌≤◌, ℕ, List, None, IfOk, IfErr, OnOk, OnErr, IsErrOf, IsOkUnless};
+ghost use Rattle.std.specs.FinMap as fin;
+ghost use Rattle.std.specs.Range.Bound.{bound_map};
+ghost use Rattle.std.specs.BTreeMap.Range.{entries_between};
+ghost use Rattle.std.specs.declared.ops.Bound.TheVariants.{Unbounded};
+ghost use Rattle.s3_types.specs.Multipart.{live, ref_cmp};
+ghost use Rattle.multipart.specs.Index.{keyed};
+ghost use Rattle.s3_types.specs.Answer.{part_answer, part_put, parts_answer};
+ghost use Rattle.multipart.specs.Faults.{IfRefused};
+ghost use Rattle.multipart.specs.Next.{next_of, shown};
+
+use crate::fault::UploadFault;
+use crate::part::Part;
+use crate::tables::{Index, Live, Lives, Place};
+use s3_types::{Bytes, Key, PartSizes, Refusal, Reply, Tag};
+use std::alloc::{AllocError, Global};
+use std::collections::btree_map::Range;
+use std::marker::Model;
+use std::ops::Bound;
+
+/// A live upload: its id, its key and how many parts it has, at most 10,000.
+#[derive(Clone, Copy)]
+pub struct LiveUpload<'a> {
+    pub upload: u64,
+    pub key: &'a Key,
+    pub parts: u32,
+}
+
+/// The live uploads of a bucket, which clauses see as a finite map from their ids. Beside them stands an
+/// index by key and id. In the costs below u is the number of uploads, and no call but a completion of
+/// several parts copies a part's bytes.
+#[derive(Drop)]
+pub struct Uploads {
+    pub(crate) lives: Lives,
+    index: Index,
+    alloc: Global,
+}
+
+impl Model for Uploads {
+    ghost use Rattle.std.specs.Prelude.{◌≡◌};
+    ghost use Rattle.s3_types.specs.Store.{Uploads as TheUploads};
+    ghost use Rattle.s3_types.specs.Coded.{coded_uploads};
+    ghost use Rattle.multipart.specs.Index.{keyed};
+
+    ghost Value = { TheUploads };
+
+    ghost coded = { coded_uploads };
+
+    ghost view = { λ u. u.lives };
+
+    ghost invariant = { λ u. u.index ≡ keyed u.lives };
+}
+
+impl Uploads {
+    /// No uploads. Takes no memory.
+    pub fn new(alloc: Global) -> Uploads
+        ensures { result ≡ fin.empty }
+    {
+        Uploads {
+            lives: Lives::new(alloc),
+            index: Index::new(alloc),
+            alloc,
+        }
+    }
+
+    /// Begins an upload with no parts, in O(log u). Its id is greater than those of the live uploads.
+    /// After an error all is as before. (Amazon S3 API, CreateMultipartUpload.)
+    pub fn create(&mut self, upload: u64, key: Key) -> Result<(), AllocError>
+        requires { (i : ℕ) → upload ≤ i → fin.get self.old i ≡ None }
+        ensures ok { OnOk result (self.new ≡ fin.insert self.old upload (record { key = key; parts = fin.empty })) }
+        ensures err { OnErr result (self.new ≡ self.old) }
+    {
+        let text = key.as_text().clone()?;
+        let indexed = key.clone()?;
+        let live = Live::new(self.alloc, key)?;
+        self.lives.insert(upload, live)?;
+        let Err(_) = self.index.insert(Place { text, upload }, indexed) else {
+            return Ok(());
+        };
+        let _ = self.lives.remove(upload);
+        Err(AllocError)
+    }
+
+    /// The upload that is live with this key.
+    pub(crate) fn live(&self, key: &Key, upload: u64) -> Option<&Live>
+        ensures { option_copied result ≡ live self.now key.now upload }
+    {
+        let Some(found) = self.lives.get(upload) else {
+            return None;
+        };
+        if found.key() == key {
+            return Some(found);
+        }
+        None
+    }
+
+    /// The index from a place on.
+    pub(crate) fn from(&self, start: Bound<&Place>) -> Range<'_, Place, Key>
+        ensures { result ≡ entries_between ref_cmp (bound_map (λ p. p.now) start.entry) Unbounded (fin.entries (keyed self.now)) }
+    {
+        self.index.from(start)
+    }
+
+    pub(crate) fn allocator(&self) -> Global {
+        self.alloc
+    }
+
+    /// Sets a part, in place of an earlier one of that number, in O(log u), and gives its tag. Refused
+    /// are, in this order: NoSuchUpload where the upload is not live with this key, and BadPartNumber
+    /// where the number is not 1 to 10,000. After any fault all is as before. (Amazon S3 API, UploadPart.)
+    pub fn part(
+        &mut self,
+        key: &Key,
+        upload: u64,
+        number: u32,
+        bytes: Bytes,
+    ) -> Result<Tag, UploadFault>
+        ensures tag { IfOk result (λ tag. part_answer (live self.old key.now upload) number bytes ≡ Reply.Part tag) }
+        ensures put { OnOk result (self.new ≡ part_put self.old upload (live self.old key.now upload) number bytes) }
+        ensures refused { IfErr result (λ fault. IfRefused fault (λ refusal. part_answer (live self.old key.now upload) number bytes ≡ Reply.Refused refusal)) }
+        ensures same { OnErr result (self.new ≡ self.old) }
+    {
+        if self.live(key, upload).is_none() {
+            return Err(UploadFault::Refused(Refusal::NoSuchUpload));
+        }
+        if number < 1 || number > 10_000 {
+            return Err(UploadFault::Refused(Refusal::BadPartNumber));
+        }
+        let part = Part::new(bytes);
+        let tag = part.tag();
+        match self.lives.put_part(upload, number, part) {
+            Ok(()) => Ok(tag),
+            Err(_) => Err(UploadFault::NoMemory),
+        }
+    }
+
+    /// Ends an upload, in O(log u), and drops its parts. NoSuchUpload comes where it is not live with this
+    /// key, and then all is as before. Takes no memory. (Amazon S3 API, AbortMultipartUpload.)
+    pub fn remove(&mut self, key: &Key, upload: u64) -> Result<(), Refusal>
+        ensures refused { IsErrOf result Refusal.NoSuchUpload ↔ (live self.old key.now upload ≡ None) }
+        ensures only { IsOkUnless result Refusal.NoSuchUpload }
+        ensures ok { OnOk result (self.new ≡ fin.remove self.old upload) }
+        ensures err { OnErr result (self.new ≡ self.old) }
+    {
+        if self.live(key, upload).is_none() {
+            return Err(Refusal::NoSuchUpload);
+        }
+        if let Some(found) = self.lives.remove(upload) {
+            let text = found.into_text();
+            self.index.remove(&Place { text, upload });
+        }
+        Ok(())
+    }
+
+    /// How many uploads are live.
+    pub fn count(&self) -> u64
+        ensures { result ≡ fin.len self.now }
+    {
+        self.lives.count()
+    }
+
+    /// An upload's parts by rising number, each with its length in bytes and its tag, in O(log u + k) for
+    /// k parts. NoSuchUpload comes where the upload is not live with this key. (Amazon S3 API, ListParts.)
+    pub fn parts(&self, key: &Key, upload: u64) -> Result<PartSizes, UploadFault>
+        ensures sizes { IfOk result (λ sizes. parts_answer (live self.now key.now upload) ≡ Reply.Parts sizes) }
+        ensures refused { IsErrOf result (UploadFault.Refused Refusal.NoSuchUpload) ↔ (live self.now key.now upload ≡ None) }
+        ensures only { IfErr result (λ fault. IfRefused fault (λ refusal. refusal ≡ Refusal.NoSuchUpload)) }
+    {
+        let Some(live) = self.live(key, upload) else {
+            return Err(UploadFault::Refused(Refusal::NoSuchUpload));
+        };
+        match live.parts().sizes(self.alloc) {
+            Ok(sizes) => Ok(sizes),
+            Err(_) => Err(UploadFault::NoMemory),
+        }
+    }
+
+    /// The live upload of the least id that is greater than `after`, in O(log u).
+    pub fn next(&self, after: u64) -> Option<LiveUpload<'_>>
+        ensures { option_map {U = ℕ × List ℕ × ℕ} (λ l. (l.upload, l.key.now, l.parts)) result ≡ option_map shown (next_of after self.now) }
+    {
+        match self.lives.next(after) {
+            Some((upload, live)) => Some(LiveUpload {
+                upload,
+                key: live.key(),
+                parts: live.parts().count(),
+            }),
+            None => None,
+        }
+    }
+
+    /// The part of the least number that is greater than `after` in a live upload, with its bytes, in
+    /// O(log u).
+    pub fn next_part(&self, upload: u64, after: u32) -> Option<(u32, &Bytes)>
+        ensures { option_map (λ p. (p.0, p.1.now)) result ≡ option_and_then (λ u. next_of after u.parts) (fin.get self.now upload) }
+    {
+        let Some(live) = self.lives.get(upload) else {
+            return None;
+        };
+        match live.parts().next(after) {
+            Some((number, part)) => Some((number, part.bytes())),
+            None => None,
+        }
+    }
+}

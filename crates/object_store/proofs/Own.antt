@@ -1,0 +1,65 @@
+-- Entries whose keys have the texts that they stand at.
+use Rattle.std.proofs.Common.{◌≡◌, ℕ, Bool, true, false, List, [], ◌∷◌, Option, refl, sym, ap, ◌∙◌, cond}
+use Rattle.std.specs.declared.cmp.Ordering.{Ordering}
+use Rattle.std.specs.declared.cmp.Ordering.TheVariants.{Less, Equal, Greater}
+use Rattle.std.specs.declared.ops.Bound.{Bound}
+use Rattle.std.specs.List.{filter, slice_get}
+use Rattle.std.specs.FinMap.{get, from_entries}
+use Rattle.std.specs.Map.{lookup, remove_entry}
+use Rattle.std.specs.Option.{option_map}
+use Rattle.std.specs.Ordering.{match_ordering}
+use Rattle.std.specs.BTreeMap.{insert_entry, is_at}
+use Rattle.std.specs.BTreeMap.Range.{range_contains, entries_between}
+use Rattle.std.proofs.lemmas.Map.Lookups.{exact_bytes}
+use Rattle.proof_base.specs.Order.{text_cmp, text_total}
+use Rattle.proof_base.proofs.Viewed.{first_map, first_between, get_viewed}
+use Rattle.s3_types.specs.declared.object.Object.{Object}
+use Rattle.object_store.specs.declared.objects.Held.{Held}
+use Rattle.object_store.specs.Held.{contents, lent, AreOwn}
+
+pub own_insert : (es : List (List ℕ × Held)) (k : List ℕ) (h : Held) → h.key ≡ k → AreOwn es → AreOwn (insert_entry text_cmp es k h)
+own_insert [] k h is own = (is, tt)
+own_insert (e ∷ es) k h is own = by (text_cmp k e.0) refl (own_insert es k h is own.1)
+  where
+    by : (r : Ordering) → text_cmp k e.0 ≡ r → AreOwn (insert_entry text_cmp es k h) → AreOwn (match_ordering r ((k, h) ∷ e ∷ es) ((e.0, h) ∷ es) (e ∷ insert_entry text_cmp es k h))
+    by Less t ih = (is, own)
+    by Equal t ih = (is ∙ exact_bytes k e.0 t, own.1)
+    by Greater t ih = (own.0, ih)
+
+pub own_remove : (test : List ℕ → Bool) (es : List (List ℕ × Held)) → AreOwn es → AreOwn (remove_entry test es)
+own_remove test [] own = tt
+own_remove test (e ∷ es) own = by (test e.0) (own_remove test es own.1)
+  where
+    by : (b : Bool) → AreOwn (remove_entry test es) → AreOwn (cond b es (e ∷ remove_entry test es))
+    by true ih = own.1
+    by false ih = (own.0, ih)
+
+own_filter : (p : List ℕ × Held → Bool) (es : List (List ℕ × Held)) → AreOwn es → AreOwn (filter p es)
+own_filter p [] own = tt
+own_filter p (e ∷ es) own = by (p e) (own_filter p es own.1)
+  where
+    by : (b : Bool) → AreOwn (filter p es) → AreOwn (cond b (e ∷ filter p es) (filter p es))
+    by true ih = (own.0, ih)
+    by false ih = ih
+
+-- an entry by its own key
+abbrev pub by_own_key : List ℕ × Held → List ℕ × Object
+by_own_key e = (e.1.key, e.1.object)
+
+-- the objects by their own keys are the objects by the texts that they stand at
+pub own_contents : (es : List (List ℕ × Held)) → AreOwn es → lent es ≡ contents es
+own_contents [] own = refl
+own_contents (e ∷ es) own = λ i. (own.0 i, e.1.object) ∷ own_contents es own.1 i
+
+-- the first entry between two bounds
+pub first_lent : (es : List (List ℕ × Held)) (lo hi : Bound (List ℕ)) → AreOwn es → option_map by_own_key (slice_get (entries_between text_cmp lo hi es) 0) ≡ slice_get (entries_between text_cmp lo hi (contents es)) 0
+first_lent es lo hi own =
+    let fs : List (List ℕ × Held) = entries_between text_cmp lo hi es in
+    sym (first_map by_own_key fs)
+    ∙ ap (λ (l : List (List ℕ × Object)). slice_get l 0) (own_contents fs (own_filter (λ e. range_contains text_cmp lo hi e.0) es own))
+    ∙ first_map (λ e. (e.0, e.1.object)) fs
+    ∙ sym (first_between (λ h. h.object) text_cmp lo hi es)
+
+-- what is found at a text is the map's
+pub got : (es : List (List ℕ × Held)) (o : Option Held) (k : List ℕ) → o ≡ lookup (is_at (text_cmp k)) es → option_map (λ (h : Held). h.object) o ≡ get (from_entries {R = text_cmp} (contents es)) k
+got es o k h = ap (option_map (λ (h : Held). h.object)) h ∙ sym (get_viewed (λ (h : Held). h.object) text_total es k)

@@ -1,0 +1,89 @@
+-- What a text begins with, and the order of texts.
+use Rattle.std.proofs.Common.{◌≡◌, ℕ, Bool, true, false, ◌&&◌, not, nat_eq, List, [], ◌∷◌, ◌++◌, refl, arith}
+use Rattle.std.proofs.lemmas.Bool.Decides.{nat_tests}
+use Rattle.std.proofs.lemmas.Bool.{false≢true, true≢false}
+use Rattle.std.specs.declared.cmp.Ordering.{Ordering}
+use Rattle.std.specs.Ordering.{nat_cmp, is_lt, is_gt, is_le, ordering_then}
+use Rattle.proof_base.specs.Order.{text_cmp, text_total}
+use Rattle.proof_base.proofs.Less as less
+use Rattle.s3_types.specs.Pages.{begins}
+
+-- whether a text is less than another
+abbrev pub lt : List ℕ → List ℕ → Bool
+lt = less.lt text_cmp
+
+pub lt_back : (a b : List ℕ) → lt b a ≡ is_gt (text_cmp a b)
+lt_back = less.lt_back text_total
+
+pub le_not : (a b : List ℕ) → is_le (text_cmp a b) ≡ not (lt b a)
+le_not = less.le_not text_total
+
+pub irrefl : (a : List ℕ) → lt a a ≡ false
+irrefl = less.irrefl text_total
+
+pub lt_trans : (a b c : List ℕ) → lt a b ≡ true → lt b c ≡ true → lt a c ≡ true
+lt_trans = less.lt_trans text_total
+
+pub lt_not : (a b : List ℕ) → lt a b ≡ true → lt b a ≡ false
+lt_not = less.lt_not text_total
+
+pub le_lt : (a b c : List ℕ) → lt b a ≡ false → lt b c ≡ true → lt a c ≡ true
+le_lt = less.le_lt text_total
+
+pub lt_le : (a b c : List ℕ) → lt a b ≡ true → lt c b ≡ false → lt a c ≡ true
+lt_le = less.lt_le text_total
+
+pub le_le : (a b c : List ℕ) → lt b a ≡ false → lt c b ≡ false → lt c a ≡ false
+le_le = less.le_le text_total
+
+step_between : (y z w : ℕ) (r s : Ordering) (b c : Bool) → (is_lt r ≡ false → is_lt s ≡ false → b ≡ true → c ≡ true)
+    → is_lt (ordering_then (nat_cmp z y) r) ≡ false → is_lt (ordering_then (nat_cmp w z) s) ≡ false → (nat_eq y w && b) ≡ true → (nat_eq y z && c) ≡ true
+step_between y z w r s b c ih h g k = grind (arith, nat_tests)
+
+-- what lies between a text and a key that begins with it begins with it too
+pub between : (t x q : List ℕ) → lt x t ≡ false → lt q x ≡ false → begins t q ≡ true → begins t x ≡ true
+between [] x q h g k = refl
+between (y ∷ t) [] q h g k = absurd (true≢false h)
+between (y ∷ t) (z ∷ x) [] h g k = absurd (false≢true k)
+between (y ∷ t) (z ∷ x) (w ∷ q) h g k = step_between y z w (text_cmp x t) (text_cmp q x) (begins t q) (begins t x) (between t x q) h g k
+
+step_from : (y w : ℕ) (r : Ordering) (b : Bool) → (b ≡ true → is_lt r ≡ false) → (nat_eq y w && b) ≡ true → is_lt (ordering_then (nat_cmp w y) r) ≡ false
+step_from y w r b ih k = grind (arith, nat_tests)
+
+-- a key is not less than what it begins with
+pub from_prefix : (t q : List ℕ) → begins t q ≡ true → lt q t ≡ false
+from_prefix [] [] k = refl
+from_prefix [] (w ∷ q) k = refl
+from_prefix (y ∷ t) [] k = absurd (false≢true k)
+from_prefix (y ∷ t) (w ∷ q) k = step_from y w (text_cmp q t) (begins t q) (from_prefix t q) k
+
+step_up : (y w : ℕ) (r : Ordering) (b : Bool) → (b ≡ true → is_lt r ≡ true) → (nat_eq y w && b) ≡ true → is_lt (ordering_then (nat_cmp w y) r) ≡ true
+step_up y w r b ih k = grind (arith, nat_tests)
+
+-- a key that begins with s and a `/` is less than s and a `0`
+pub up_to_next : (s q : List ℕ) → begins (s ++ 47 ∷ []) q ≡ true → lt q (s ++ 48 ∷ []) ≡ true
+up_to_next [] [] k = absurd (false≢true k)
+up_to_next [] (w ∷ q) k = step_up' w (text_cmp q []) (begins [] q) k
+  where
+    step_up' : (w : ℕ) (r : Ordering) (b : Bool) → (nat_eq 47 w && b) ≡ true → is_lt (ordering_then (nat_cmp w 48) r) ≡ true
+    step_up' w r b k = grind (arith, nat_tests)
+up_to_next (y ∷ s) [] k = absurd (false≢true k)
+up_to_next (y ∷ s) (w ∷ q) k = step_up y w (text_cmp q (s ++ 48 ∷ [])) (begins (s ++ 47 ∷ []) q) (up_to_next s q) k
+
+step_next : (w : ℕ) (r s : Ordering) → is_lt s ≡ false → is_lt (ordering_then (nat_cmp w 47) r) ≡ false → is_lt (ordering_then (nat_cmp w 48) s) ≡ true → (nat_eq 47 w && true) ≡ true
+step_next w r s n h g = grind (arith, nat_tests)
+
+step_before : (y w : ℕ) (r s : Ordering) (b : Bool) → (is_lt r ≡ false → is_lt s ≡ true → b ≡ true)
+    → is_lt (ordering_then (nat_cmp w y) r) ≡ false → is_lt (ordering_then (nat_cmp w y) s) ≡ true → (nat_eq y w && b) ≡ true
+step_before y w r s b ih h g = grind (arith, nat_tests)
+
+nothing_less : (q : List ℕ) → lt q [] ≡ false
+nothing_less [] = refl
+nothing_less (w ∷ q) = refl
+
+-- what lies between s with a `/` and s with a `0` begins with s and a `/`
+pub before_next : (s q : List ℕ) → lt q (s ++ 47 ∷ []) ≡ false → lt q (s ++ 48 ∷ []) ≡ true → begins (s ++ 47 ∷ []) q ≡ true
+before_next [] [] h g = absurd (true≢false h)
+before_next [] (w ∷ q) h g = step_next w (text_cmp q []) (text_cmp q []) (nothing_less q) h g
+before_next (y ∷ s) [] h g = absurd (true≢false h)
+before_next (y ∷ s) (w ∷ q) h g = step_before y w (text_cmp q (s ++ 47 ∷ [])) (text_cmp q (s ++ 48 ∷ [])) (begins (s ++ 47 ∷ []) q) (before_next s q) h g

@@ -1,0 +1,7 @@
+use Rattle.std.proofs.Common.{◌≡◌, drop}
+use Rattle.s3_types.specs.Answer.{without}
+use Rattle.object_store.proofs.objects.Objects.delete_many.Given as goal
+
+-- what is left to remove, removed, leaves what all of them leave
+abbrev pub invariant-loop-key : goal.invariant-loop-key
+invariant-loop-key l = without l.self (drop l.key-index l.keys) ≡ without l.fn.self l.keys

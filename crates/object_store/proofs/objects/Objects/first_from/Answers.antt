@@ -1,0 +1,31 @@
+use Rattle.std.proofs.Common.{ap, ◌∙◌, sym, List, ℕ, ◌≡◌, Some, None}
+use Rattle.std.specs.FinMap as map
+use Rattle.std.specs.List.{slice_get}
+use Rattle.std.specs.Option.{option_map}
+use Rattle.std.specs.Range.Bound.{bound_map}
+use Rattle.std.specs.BTreeMap.Range.{entries_between}
+use Rattle.std.specs.declared.ops.Bound.TheVariants.{Unbounded}
+use Rattle.proof_base.specs.Order.{text_total, text_cmp}
+use Rattle.proof_base.proofs.Viewed.{entries_viewed}
+use Rattle.s3_types.specs.declared.object.Object.{Object}
+use Rattle.object_store.specs.declared.objects.Held.{Held}
+use Rattle.object_store.proofs.Own.{first_lent, by_own_key}
+use Rattle.object_store.proofs.objects.Objects.first_from.Goals as goal
+
+pub returns-in-Some : goal.returns-in-Some
+returns-in-Some c =
+    let es : List (List ℕ × Held) = c.self.inside.held.entries in
+    let first : Some (c.in-Some.field-0-0.now, c.in-Some.held.now) ≡ slice_get (entries_between text_cmp (bound_map (λ x. x.now) c.args.start) Unbounded es) 0 =
+    ap (λ (l : List (List ℕ × Held)). slice_get l 0) (sym c.in-Some.ensures.steps ∙ c.range.ensures.between tt) in
+    ap (option_map by_own_key) first
+    ∙ first_lent es (bound_map (λ x. x.now) c.args.start) Unbounded c.self.invariant
+    ∙ ap (λ (l : List (List ℕ × Object)). slice_get (entries_between text_cmp (bound_map (λ x. x.now) c.args.start) Unbounded l) 0) (sym (entries_viewed (λ (h : Held). h.object) text_total es c.range.ensures.ordered) ∙ ap map.entries c.self.view_is)
+
+pub returns-in-None : goal.returns-in-None
+returns-in-None c =
+    let es : List (List ℕ × Held) = c.self.inside.held.entries in
+    let first : None ≡ slice_get (entries_between text_cmp (bound_map (λ x. x.now) c.args.start) Unbounded es) 0 =
+    ap (λ (l : List (List ℕ × Held)). slice_get l 0) (sym c.in-None.ensures.steps.0 ∙ c.range.ensures.between tt) in
+    ap (option_map by_own_key) first
+    ∙ first_lent es (bound_map (λ x. x.now) c.args.start) Unbounded c.self.invariant
+    ∙ ap (λ (l : List (List ℕ × Object)). slice_get (entries_between text_cmp (bound_map (λ x. x.now) c.args.start) Unbounded l) 0) (sym (entries_viewed (λ (h : Held). h.object) text_total es c.range.ensures.ordered) ∙ ap map.entries c.self.view_is)

@@ -1,0 +1,8 @@
+use Rattle.std.proofs.Common.{◌≡◌}
+use Rattle.s3_types.specs.Pages.{stem}
+use Rattle.object_store.proofs.Scan.{from}
+use Rattle.object_store.proofs.page.stem_of.Given as goal
+
+-- the stem is the one found from here on
+abbrev pub invariant-loop-i : goal.invariant-loop-i
+invariant-loop-i l = stem l.prefix l.text ≡ from l.text l.i

@@ -1,0 +1,4 @@
+pub mod Fault
+pub mod Held
+pub mod Objects
+pub mod Walk

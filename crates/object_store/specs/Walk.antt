@@ -1,0 +1,38 @@
+-- Pages by a walk over the entries, which finds where each next entry stands.
+use Rattle.std.specs.Prelude.{◌≡◌, ℕ, Bool, ◌&&◌, cond, List, [], ◌∷◌, ◌++◌, Option, Some, None}
+use Rattle.std.specs.Ordering.{is_lt}
+use Rattle.std.specs.declared.ops.Bound.{Bound}
+use Rattle.std.specs.declared.ops.Bound.TheVariants.{Included, Excluded}
+use Rattle.proof_base.specs.Order.{text_cmp}
+use Rattle.s3_types.specs.Pages.{begins, stem_if, entry_of}
+use Rattle.s3_types.specs.declared.object.Object.{Object}
+use Rattle.s3_types.specs.declared.reply.PageEntry.{PageEntry}
+
+-- the text of a key's entry: its common prefix, or the key
+abbrev pub text_by : Option (List ℕ) → List ℕ → List ℕ
+text_by (Some s) q = s ++ 47 ∷ []
+text_by None q = q
+
+abbrev pub text_of : List ℕ → Bool → List ℕ → List ℕ
+text_of p delimited q = text_by (stem_if delimited p q) q
+
+-- the entries of the keys below p whose texts are greater than the last that was given
+abbrev pub walked : List ℕ → Bool → List ℕ → List (List ℕ × Object) → List PageEntry
+walked p delimited last [] = []
+walked p delimited last (e ∷ es) =
+    cond (begins p e.0 && is_lt (text_cmp last (text_of p delimited e.0)))
+    (entry_of p delimited e ∷ walked p delimited (text_of p delimited e.0) es)
+    (walked p delimited last es)
+
+-- where to look for the entries after a text: past its common prefix, or after it, or from p on
+abbrev pub start_by : Option (List ℕ) → List ℕ → List ℕ → Bound (List ℕ)
+start_by (Some s) p last = Included (s ++ 48 ∷ [])
+start_by None p last = cond (is_lt (text_cmp last p)) (Included p) (Excluded last)
+
+abbrev pub start : List ℕ → Bool → List ℕ → Bound (List ℕ)
+start p delimited last = start_by (stem_if delimited p last) p last
+
+-- the next entry after a text is that of e, or there is none
+abbrev pub ComesNext : List ℕ → Bool → List ℕ → List (List ℕ × Object) → Option (List ℕ × Object) → Type 0
+ComesNext p delimited last es None = walked p delimited last es ≡ []
+ComesNext p delimited last es (Some e) = walked p delimited last es ≡ entry_of p delimited e ∷ walked p delimited (text_of p delimited e.0) es

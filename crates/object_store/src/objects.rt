@@ -1,0 +1,200 @@
+ghost use Rattle.std.specs.Option.{option_copied, option_map};
+ghost use Rattle.std.specs.Prelude.{◌≡◌, ℕ, List, ◌<◌, ◌↔◌, length, take, nat_lt, IfOk, OnOk, OnErr, IsOkUnless, IsErrOf, IsSome, Some, None, slice_get};
+ghost use Rattle.std.specs.FinMap as map;
+ghost use Rattle.std.specs.Range.Bound.{bound_map};
+ghost use Rattle.std.specs.BTreeMap.Range.{entries_between};
+ghost use Rattle.std.specs.declared.ops.Bound.TheVariants.{Unbounded};
+ghost use Rattle.proof_base.specs.Order.{text_cmp};
+ghost use Rattle.s3_types.specs.Answer.{without, copied};
+ghost use Rattle.s3_types.specs.Pages.{listed};
+ghost use Rattle.object_store.specs.Objects.{head_of, next_of, IsNext};
+
+use crate::entries::Entries;
+use crate::fault::CopyFault;
+use crate::page::Page;
+use s3_types::{Bytes, Head, Key, LengthHeader, Object, PageLimit, Refusal, Text};
+use std::alloc::{AllocError, Global};
+use std::collections::BTreeMap;
+use std::marker::Model;
+use std::ops::Bound;
+
+/// The most keys that one request may delete. (Amazon S3 API, DeleteObjects.)
+const MOST_DELETED: usize = 1000;
+
+/// What the tree has at a key's text.
+#[derive(Drop)]
+pub(crate) struct Held {
+    pub(crate) key: Key,
+    pub(crate) object: Object,
+}
+
+/// The objects of a bucket by their keys, which clauses see as a finite map. The keys are ordered by
+/// their bytes. In the costs below n is the number of objects; no call copies an object's bytes.
+#[derive(Drop)]
+pub struct Objects {
+    pub(crate) alloc: Global,
+    pub(crate) held: BTreeMap<Text, Held>,
+}
+
+impl Model for Objects {
+    ghost use Rattle.std.specs.FinMap as map;
+    ghost use Rattle.s3_types.specs.Store.{Objects as Content};
+    ghost use Rattle.s3_types.specs.Coded.{coded_objects};
+    ghost use Rattle.object_store.specs.Held.{contents, AreOwn};
+
+    ghost Value = { Content };
+
+    ghost coded = { coded_objects };
+
+    ghost view = { λ o. map.from_entries (contents o.held.entries) };
+
+    ghost invariant = { λ o. AreOwn o.held.entries };
+}
+
+impl Objects {
+    /// No objects. Takes no memory.
+    pub fn new(alloc: Global) -> Objects
+        ensures { result ≡ map.empty }
+    {
+        Objects {
+            alloc,
+            held: BTreeMap::new(alloc),
+        }
+    }
+
+    /// Puts an object at a key, in place of what stands there, in O(log n). After an error all is as
+    /// before. (Amazon S3 API, PutObject.)
+    pub fn put(
+        &mut self,
+        key: Key,
+        bytes: Bytes,
+        header: Option<LengthHeader>,
+    ) -> Result<(), AllocError>
+        ensures ok { OnOk result (self.new ≡ map.insert self.old key (record { bytes = bytes; header = header })) }
+        ensures err { OnErr result (self.new ≡ self.old) }
+    {
+        let text = key.as_text().clone()?;
+        let object = Object { bytes, header };
+        self.held.insert(text, Held { key, object })?;
+        Ok(())
+    }
+
+    /// What stands at a key, in O(log n). (Amazon S3 API, GetObject.)
+    pub fn get(&self, key: &Key) -> Option<&Object>
+        ensures { option_copied result ≡ map.get self.now key.now }
+    {
+        match self.held.get(key.as_text()) {
+            Some(held) => Some(&held.object),
+            None => None,
+        }
+    }
+
+    /// The length in bytes of what stands at a key and its length header, in O(log n). (Amazon S3 API,
+    /// HeadObject.)
+    pub fn head(&self, key: &Key) -> Option<Head>
+        ensures { result ≡ option_map head_of (map.get self.now key.now) }
+    {
+        match self.get(key) {
+            Some(object) => Some(Head {
+                length: object.bytes.as_slice().len() as u64,
+                header: object.header,
+            }),
+            None => None,
+        }
+    }
+
+    /// Removes what stands at a key, if anything does, in O(log n). (Amazon S3 API, DeleteObject.)
+    pub fn delete(&mut self, key: &Key)
+        ensures { self.new ≡ map.remove self.old key.now }
+    {
+        let _ = self.held.remove(key.as_text());
+    }
+
+    /// Removes what stands at these keys, in O(log n) for each of them. TooManyKeys comes where there
+    /// are more than 1,000, and then nothing is removed. (Amazon S3 API, DeleteObjects.)
+    pub fn delete_many(&mut self, keys: &[Key]) -> Result<(), Refusal>
+        ensures many { IsErrOf result Refusal.TooManyKeys ↔ (1000 < length keys.now) }
+        ensures only { IsOkUnless result Refusal.TooManyKeys }
+        ensures ok { OnOk result (self.new ≡ without self.old keys.now) }
+        ensures err { OnErr result (self.new ≡ self.old) }
+    {
+        if keys.len() > MOST_DELETED {
+            return Err(Refusal::TooManyKeys);
+        }
+        for key in keys {
+            self.delete(key);
+        }
+        Ok(())
+    }
+
+    /// Puts what stands at the source at the target too, bytes and header, in O(log n). The two share
+    /// the bytes. NoSuchKey comes where nothing stands at the source. After an error all is as before.
+    /// (Amazon S3 API, CopyObject.)
+    pub fn copy(&mut self, source: &Key, target: &Key) -> Result<(), CopyFault>
+        ensures ok { OnOk result (self.new ≡ copied self.old target.now (map.get self.old source.now)) }
+        ensures there { OnOk result (IsSome (map.get self.old source.now)) }
+        ensures missing { IsErrOf result CopyFault.NoSuchKey ↔ (map.get self.old source.now ≡ None) }
+        ensures err { OnErr result (self.new ≡ self.old) }
+    {
+        let Some(object) = self.get(source) else {
+            return Err(CopyFault::NoSuchKey);
+        };
+        let header = object.header;
+        let bytes = object.bytes.clone()?;
+        self.put(target.clone()?, bytes, header)?;
+        Ok(())
+    }
+
+    /// How many objects there are.
+    pub fn count(&self) -> u64
+        ensures { result ≡ map.len self.now }
+    {
+        self.held.len() as u64
+    }
+
+    /// A page of the entries whose keys begin with the prefix: the first `limit` of those that are
+    /// greater than `after`, in the order of their bytes, and whether more remain. Where it is
+    /// delimited, keys with a common text up to the first `/` after the prefix are one entry, that
+    /// text. A page of k entries takes O((k + 1) log n). (Amazon S3 API, ListObjectsV2.)
+    pub fn list_page(
+        &self,
+        prefix: &Text,
+        delimited: bool,
+        after: &Text,
+        limit: PageLimit,
+    ) -> Result<Page, AllocError>
+        ensures entries { IfOk result (λ page. page.entries ≡ take limit (listed prefix.now delimited after.now self.now)) }
+        ensures more { IfOk result (λ page. page.more ≡ nat_lt limit (length (listed prefix.now delimited after.now self.now))) }
+    {
+        self.walk(self.alloc, prefix, delimited, after, limit.get())
+    }
+
+    /// The first entry from a bound on.
+    pub(crate) fn first_from(&self, start: Bound<&Text>) -> Option<(&Key, &Object)>
+        ensures { option_map (λ p. (p.0.now, p.1.now)) result ≡ slice_get (entries_between text_cmp (bound_map (λ x. x.now) start.entry) Unbounded (map.entries self.now)) 0 }
+    {
+        match self.held.range((start, Bound::Unbounded)).next() {
+            Some((_, held)) => Some((&held.key, &held.object)),
+            None => None,
+        }
+    }
+
+    /// The entry with the least key that is greater than `after`, or with the least of all where that
+    /// is None, in O(log n).
+    pub fn next(&self, after: Option<&Key>) -> Option<(&Key, &Object)>
+        ensures next { option_map (λ p. (p.0.now, p.1.now)) result ≡ next_of (option_copied after.entry) self.now }
+        ensures rest { IsNext (option_copied after.entry) self.now (option_map (λ p. (p.0.now, p.1.now)) result) }
+    {
+        match after {
+            Some(key) => self.first_from(Bound::Excluded(key.as_text())),
+            None => self.first_from(Bound::Unbounded),
+        }
+    }
+
+    /// All entries in the order of their keys.
+    pub fn iter(&self) -> Entries<'_>
+        ensures { result ≡ map.entries self.now }
+    {
+        Entries::new(self.held.iter())
+    }
+}

@@ -1,0 +1,16 @@
+use Rattle.std.proofs.Common.{[], None, Some, ap, ◌∙◌, arith}
+use Rattle.std.proofs.lemmas.Str.Pattern.{split_parts}
+use Rattle.words.specs.Parts.{parts_of}
+use Rattle.words.proofs.Split.{part_from}
+use Rattle.words.proofs.Pieces.{others_from_bytes, one_part}
+use Rattle.path_keys.proofs.split.first_element.Goals as goal
+
+pub returns-in-Some : goal.returns-in-Some
+returns-in-Some c =
+    let round = split_parts 47 c.args.text.now (Some (c.in-Some.front, c.in-Some.behind)) c.in-Some.ensures.cases (omega arith) in
+    ap (parts_of 47) round.0 ∙ part_from 47 [] c.in-Some.front.now c.in-Some.behind.now (others_from_bytes 47 c.in-Some.front.now round.1)
+
+pub returns-in-None : goal.returns-in-None
+returns-in-None c =
+    let none = split_parts 47 c.args.text.now None c.in-None.ensures.cases (omega arith) in
+    one_part 47 c.args.text.now (others_from_bytes 47 c.args.text.now none)

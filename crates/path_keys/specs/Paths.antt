@@ -1,0 +1,93 @@
+-- Paths `s3a://BUCKET/KEY` (Hadoop FileSystem specification, paths; Amazon S3, object key names).
+use Rattle.std.specs.Prelude.{◌≡◌, ℕ, ◌==◌, ◌&&◌, nat_le, nat_eq, Bool, true, List, [], ◌∷◌, ◌++◌, length, drop, codes, Option, Some, None, Result, Ok, Err, if◌then◌else◌}
+use Rattle.std.specs.List.{starts_with, join_with_byte}
+use Rattle.words.specs.Parts.{parts_of}
+use Rattle.s3_types.specs.Names.{are_elements, is_element, is_bucket, trimmed}
+use Rattle.path_keys.specs.declared.fault.PathFault.{PathFault}
+use Rattle.path_keys.specs.declared.fault.PathFault.TheVariants.{BadScheme, BadBucket, EmptyElement, DotElement, TooLong, NoMemory}
+
+-- a path by its bucket and its key, which is empty at the root
+pub record Path : Type 0 where
+  pub bucket : List ℕ
+  pub key : List ℕ
+
+-- a path's key: none, or elements joined by `/`, of at most 1,023 bytes together
+abbrev pub is_key : List ℕ → Bool
+is_key [] = true
+is_key (x ∷ xs) = are_elements (x ∷ xs) && nat_le (length (x ∷ xs)) 1023
+
+-- why an element may not stand in a key
+abbrev pub element_fault : List ℕ → Option PathFault
+element_fault e = if length e == 0 then Some EmptyElement else if is_element e then None else Some DotElement
+
+abbrev pub or_else : Option PathFault → Option PathFault → Option PathFault
+or_else (Some fault) other = Some fault
+or_else None other = other
+
+-- the fault of the first such element
+abbrev pub first_fault : List (List ℕ) → Option PathFault
+first_fault [] = None
+first_fault (e ∷ es) = or_else (element_fault e) (first_fault es)
+
+-- a key that has this fault in its elements, or that may be too long
+abbrev pub checked : Option PathFault → List ℕ → Result (List ℕ) PathFault
+checked (Some fault) key = Err fault
+checked None key = if nat_le (length key) 1023 then Ok key else Err TooLong
+
+-- the key of these elements
+abbrev pub key_of : List (List ℕ) → Result (List ℕ) PathFault
+key_of elements = checked (first_fault elements) (join_with_byte 47 elements)
+
+abbrev pub bucket_in : List ℕ → Result (List ℕ) PathFault
+bucket_in name = if is_bucket name then Ok name else Err BadBucket
+
+abbrev pub path_of : Result (List ℕ) PathFault → Result (List ℕ) PathFault → Result Path PathFault
+path_of (Err fault) key = Err fault
+path_of (Ok bucket) (Err fault) = Err fault
+path_of (Ok bucket) (Ok key) = Ok (record { bucket = bucket; key = key })
+
+-- the first part names the bucket, the others are the key's elements
+abbrev pub named : List (List ℕ) → Result Path PathFault
+named [] = Err BadBucket
+named (name ∷ elements) = path_of (bucket_in name) (key_of elements)
+
+abbrev pub named_if : Option (List ℕ) → Result Path PathFault
+named_if None = Err BadScheme
+named_if (Some rest) = named (parts_of 47 (trimmed rest))
+
+-- what stands behind `s3a://`
+abbrev pub without_scheme : List ℕ → Option (List ℕ)
+without_scheme text = if starts_with nat_eq text (codes "s3a://") then Some (drop 6 text) else None
+
+-- a text read as a path: its scheme, then its bucket, then its key, without one `/` at the end
+abbrev pub path_in : List ℕ → Result Path PathFault
+path_in text = named_if (without_scheme text)
+
+-- what stands behind a key and a `/`, or alone at the root
+abbrev pub below : List ℕ → List ℕ → List ℕ
+below [] relative = relative
+below (x ∷ xs) relative = (x ∷ xs) ++ 47 ∷ relative
+
+-- the path that a text leads to from another
+abbrev pub joined : Path → List ℕ → Result Path PathFault
+joined p relative = path_of (Ok p.bucket) (checked (first_fault (parts_of 47 relative)) (below p.key relative))
+
+-- the elements but the last one
+abbrev pub without_last : List (List ℕ) → List (List ℕ)
+without_last [] = []
+without_last (e ∷ []) = []
+without_last (e ∷ f ∷ es) = e ∷ without_last (f ∷ es)
+
+-- the path without its last element; a root has none
+abbrev pub parent_of : Path → Option Path
+parent_of p = if length p.key == 0 then None else Some (record { bucket = p.bucket; key = join_with_byte 47 (without_last (parts_of 47 p.key)) })
+
+-- what follows a path's key and a `/` in a text that begins so; at the root, all of it
+abbrev pub relative_in : List ℕ → List ℕ → Option (List ℕ)
+relative_in key text = if starts_with nat_eq text (below key []) then Some (drop (length (below key [])) text) else None
+
+-- what a call returned is what reading gives, unless memory ran out
+abbrev pub Gives : {X : Type 0} → Result X PathFault → Result X PathFault → Type 0
+Gives (Ok x) read = read ≡ Ok x
+Gives (Err NoMemory) read = Unit {0}
+Gives (Err fault) read = read ≡ Err fault

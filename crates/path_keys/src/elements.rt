@@ -1,0 +1,36 @@
+ghost use Rattle.std.specs.Prelude.{◌≡◌, Some, None, length, nat_lt, if◌then◌else◌};
+ghost use Rattle.words.specs.Parts.{parts_of};
+ghost use Rattle.path_keys.specs.Paths.{element_fault, first_fault, checked};
+
+use crate::fault::PathFault;
+use s3_types::is_element;
+use words::next_part;
+
+fn element_fault(element: &[u8]) -> Option<PathFault>
+    ensures { result ≡ element_fault element.now }
+{
+    if element.is_empty() {
+        Some(PathFault::EmptyElement)
+    } else if is_element(element) {
+        None
+    } else {
+        Some(PathFault::DotElement)
+    }
+}
+
+/// The fault of the first element between the `/` of a text that may not stand in a key.
+pub fn first_fault(path: &[u8]) -> Option<PathFault>
+    ensures { result ≡ first_fault (parts_of 47 path.now) }
+{
+    let mut rest = path;
+    loop {
+        let (element, more) = next_part(b'/', rest);
+        if let Some(fault) = element_fault(element) {
+            return Some(fault);
+        }
+        match more {
+            Some(after) => rest = after,
+            None => return None,
+        }
+    }
+}

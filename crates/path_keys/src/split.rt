@@ -1,0 +1,31 @@
+ghost use Rattle.std.specs.Prelude.{◌≡◌, ◌∷◌, option_map};
+ghost use Rattle.words.specs.Parts.{parts_of, parts_after};
+ghost use Rattle.s3_types.specs.Names as names;
+ghost use Rattle.path_keys.specs.Paths.{without_scheme};
+
+/// What stands behind the scheme, where it is `s3a`.
+pub fn without_scheme(text: &str) -> Option<&str>
+    ensures { option_map (λ r. r.now) result ≡ without_scheme text.now }
+{
+    text.strip_prefix("s3a://")
+}
+
+/// The text without one `/` at its end.
+pub fn trimmed(text: &str) -> &str
+    ensures { result.now ≡ names.trimmed text.now }
+{
+    match text.strip_suffix('/') {
+        Some(front) => front,
+        None => text,
+    }
+}
+
+/// What stands before the first `/`, and what stands behind it, where there is one.
+pub fn first_element(text: &str) -> (&str, Option<&str>)
+    ensures { parts_of 47 text.now ≡ result.0.now ∷ parts_after 47 (option_map (λ r. r.now) result.1) }
+{
+    match text.split_once('/') {
+        Some((front, behind)) => (front, Some(behind)),
+        None => (text, None),
+    }
+}

@@ -1,0 +1,63 @@
+-- The records as JSON, each object's members in the byte order of their names (Hadoop, S3A committer architecture).
+use Rattle.std.specs.Prelude.{ℕ, List, map, codes, Option, Some, None}
+use Rattle.serde_json.specs.Data.{unsigned, Data, number, string, array, object, Items, Members, no_members, member}
+use Rattle.serde_json.specs.View.{items_of}
+use Rattle.s3_types.specs.Tags.{Spelled}
+use Rattle.s3_types.specs.declared.request.Committer.{Committer}
+use Rattle.s3_types.specs.declared.request.Committer.TheVariants.{Magic, Directory, Partitioned}
+use Rattle.pending_json.specs.Pending.{Pending}
+use Rattle.pending_json.specs.declared.records.PendingSet.{PendingSet}
+use Rattle.pending_json.specs.declared.records.SuccessMark.{SuccessMark}
+
+abbrev pub whole : ℕ → Data
+whole n = number (unsigned n)
+
+-- a list of strings
+abbrev pub texts : List (List ℕ) → Items
+texts all = items_of (map string all)
+
+abbrev pub tag_digits : Spelled → List ℕ
+tag_digits tag = tag.digits
+
+-- a pending upload
+abbrev pub pending_tree : Pending → Data
+pending_tree p = object
+    (member (codes "attempt") (whole p.attempt)
+    (member (codes "bucket") (string p.bucket)
+    (member (codes "destination") (string p.destination)
+    (member (codes "etags") (array (texts (map tag_digits p.tags)))
+    (member (codes "kind") (string (codes "pending"))
+    (member (codes "length") (whole p.length)
+    (member (codes "task") (whole p.task)
+    (member (codes "upload") (whole p.upload)
+    (member (codes "version") (whole 1) no_members)))))))))
+
+-- a task's set of pending uploads
+abbrev pub set_tree : PendingSet → Data
+set_tree s = object
+    (member (codes "attempt") (whole s.attempt)
+    (member (codes "commits") (array (items_of (map pending_tree s.commits)))
+    (member (codes "job") (string s.job)
+    (member (codes "kind") (string (codes "pendingset"))
+    (member (codes "task") (whole s.task)
+    (member (codes "version") (whole 1) no_members))))))
+
+abbrev pub committer_word : Committer → List ℕ
+committer_word Magic = codes "magic"
+committer_word Directory = codes "directory"
+committer_word Partitioned = codes "partitioned"
+
+-- a stamp, where there is one, before other members
+abbrev pub with_stamp : Option ℕ → Members → Members
+with_stamp None others = others
+with_stamp (Some stamp) others = member (codes "stamp") (whole stamp) others
+
+-- the marker of a committed job
+abbrev pub success_tree : SuccessMark → Data
+success_tree m = object
+    (member (codes "committer") (string (committer_word m.committer))
+    (member (codes "files") (array (texts m.files))
+    (member (codes "job") (string m.job)
+    (member (codes "kind") (string (codes "success"))
+    (with_stamp m.stamp
+    (member (codes "version") (whole 1) no_members))))))

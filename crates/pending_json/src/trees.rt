@@ -1,0 +1,109 @@
+ghost use Rattle.std.specs.Prelude.{◌≡◌, IfOk, map};
+ghost use Rattle.serde_json.specs.View.{view, items_view, items_of};
+ghost use Rattle.pending_json.specs.Trees.{texts, tag_digits, pending_tree, set_tree, success_tree, committer_word};
+
+use crate::pending::PendingUpload;
+use crate::records::{PendingSet, SuccessMark};
+use s3_types::{Committer, Tag, Text};
+use serde_json::{Value, json};
+use std::alloc::{AllocError, Global};
+
+/// The version of the records' form.
+const VERSION: u32 = 1;
+
+fn tag_values(alloc: Global, tags: &[Tag]) -> Result<Vec<Value>, AllocError>
+    ensures { IfOk result (λ v. items_view v.items ≡ texts (map tag_digits tags.now)) }
+{
+    let mut list = Vec::new(alloc);
+    for tag in tags {
+        let digits = String::from_str(alloc, tag.digits_text())?;
+        list.push(Value::String(digits))?;
+    }
+    Ok(list)
+}
+
+fn text_values(alloc: Global, all: &[Text]) -> Result<Vec<Value>, AllocError>
+    ensures { IfOk result (λ v. items_view v.items ≡ texts all.now) }
+{
+    let mut list = Vec::new(alloc);
+    for text in all {
+        let copy = String::from_str(alloc, text.as_str())?;
+        list.push(Value::String(copy))?;
+    }
+    Ok(list)
+}
+
+pub fn pending_value(alloc: Global, pending: &PendingUpload) -> Result<Value, AllocError>
+    ensures { IfOk result (λ v. view v ≡ pending_tree pending.now) }
+{
+    let etags = Value::Array(tag_values(alloc, pending.tags().as_slice())?);
+    json!(in alloc; {
+        "attempt": pending.attempt(),
+        "bucket": pending.bucket().as_text().as_str(),
+        "destination": pending.destination().as_text().as_str(),
+        "etags": etags,
+        "kind": "pending",
+        "length": pending.length(),
+        "task": pending.task(),
+        "upload": pending.upload(),
+        "version": VERSION
+    })
+}
+
+fn pending_values(alloc: Global, all: &[PendingUpload]) -> Result<Vec<Value>, AllocError>
+    ensures { IfOk result (λ v. items_view v.items ≡ items_of (map pending_tree all.now)) }
+{
+    let mut list = Vec::new(alloc);
+    for pending in all {
+        list.push(pending_value(alloc, pending)?)?;
+    }
+    Ok(list)
+}
+
+pub fn set_value(alloc: Global, set: &PendingSet) -> Result<Value, AllocError>
+    ensures { IfOk result (λ v. view v ≡ set_tree set.now) }
+{
+    let commits = Value::Array(pending_values(alloc, set.commits.as_slice())?);
+    json!(in alloc; {
+        "attempt": set.attempt,
+        "commits": commits,
+        "job": set.job.as_str(),
+        "kind": "pendingset",
+        "task": set.task,
+        "version": VERSION
+    })
+}
+
+fn committer_word(committer: Committer) -> &'static str
+    ensures { result.now ≡ committer_word committer }
+{
+    match committer {
+        Committer::Magic => "magic",
+        Committer::Directory => "directory",
+        Committer::Partitioned => "partitioned",
+    }
+}
+
+pub fn success_value(alloc: Global, mark: &SuccessMark) -> Result<Value, AllocError>
+    ensures { IfOk result (λ v. view v ≡ success_tree mark.now) }
+{
+    let files = Value::Array(text_values(alloc, mark.files.as_slice())?);
+    let committer = committer_word(mark.committer);
+    match mark.stamp {
+        Some(stamp) => json!(in alloc; {
+            "committer": committer,
+            "files": files,
+            "job": mark.job.as_str(),
+            "kind": "success",
+            "stamp": stamp,
+            "version": VERSION
+        }),
+        None => json!(in alloc; {
+            "committer": committer,
+            "files": files,
+            "job": mark.job.as_str(),
+            "kind": "success",
+            "version": VERSION
+        }),
+    }
+}

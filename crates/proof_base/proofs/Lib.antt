@@ -1,0 +1,4 @@
+pub mod Less
+pub mod Rest
+pub mod Tree
+pub mod Viewed

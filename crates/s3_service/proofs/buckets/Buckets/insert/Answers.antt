@@ -1,0 +1,11 @@
+use Rattle.std.proofs.Common.{ap, ◌∙◌}
+use Rattle.std.specs.FinMap as map
+use Rattle.std.proofs.lemmas.Map.Lookups.{exact_bytes}
+use Rattle.proof_base.specs.Order.{text_total}
+use Rattle.proof_base.proofs.Tree.{made_insert}
+use Rattle.s3_service.proofs.buckets.Buckets.insert.Goals as goal
+
+pub returns-clause-ok : goal.returns-clause-ok
+returns-clause-ok c =
+    made_insert text_total exact_bytes c.self.inside.held.entries c.insert.new.self.entries c.args.name c.args.bucket c.in_ok-insert.ensures.updates.0
+    ∙ ap (λ m. map.insert m c.args.name c.args.bucket) c.self.view_is

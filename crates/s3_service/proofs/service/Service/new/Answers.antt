@@ -1,0 +1,8 @@
+use Rattle.std.proofs.Common.{sym, subst}
+use Rattle.s3_types.specs.Store.{Buckets}
+use Rattle.s3_service.specs.Ids.{AreBelow}
+use Rattle.s3_service.proofs.Below.{none_below}
+use Rattle.s3_service.proofs.service.Service.new.Goals as goal
+
+pub invariant_of-result : goal.invariant_of-result
+invariant_of-result c = subst (λ (m : Buckets). AreBelow m 1) (sym c.new.ensures) (none_below 1)

@@ -1,0 +1,21 @@
+-- The buckets one after another.
+use Rattle.std.specs.Prelude.{◌≡◌, ℕ, List, [], ◌∷◌, Option, Some, None, slice_get}
+use Rattle.std.specs.FinMap as fin
+use Rattle.std.specs.List.{filter}
+use Rattle.std.specs.Ordering.{is_lt}
+use Rattle.proof_base.specs.Order.{text_cmp}
+use Rattle.s3_types.specs.Store.{BucketContent, Buckets}
+
+-- the buckets whose names are greater than a name, or all
+abbrev pub rest_of : Option (List ℕ) → Buckets → List (List ℕ × BucketContent)
+rest_of None m = fin.entries m
+rest_of (Some k) m = filter (λ e. is_lt (text_cmp k e.0)) (fin.entries m)
+
+-- the first of them
+abbrev pub next_of : Option (List ℕ) → Buckets → Option (List ℕ × BucketContent)
+next_of after m = slice_get (rest_of after m) 0
+
+-- the rest after a name is a bucket and the rest after that, or there is none
+abbrev pub IsNext : Option (List ℕ) → Buckets → Option (List ℕ × BucketContent) → Type 0
+IsNext after m None = rest_of after m ≡ []
+IsNext after m (Some e) = rest_of after m ≡ e ∷ rest_of (Some e.0) m

@@ -1,0 +1,84 @@
+ghost use Rattle.std.specs.Option.{option_copied, IsSomeAnd};
+ghost use Rattle.std.specs.Prelude.{◌≡◌, ℕ, ◌≤◌, List, None, Some, IfOk, OnOk, OnErr, IsSome, length, option_map, slice_get};
+ghost use Rattle.std.specs.FinMap as map;
+ghost use Rattle.s3_types.specs.Store.{BucketContent, new_bucket};
+ghost use Rattle.s3_types.specs.Answer.{answer_in, apply_in};
+ghost use Rattle.s3_service.specs.Ids.{IsFresh};
+
+use crate::bucket::BucketStore;
+use s3_types::{Bucket, Reply, Request};
+use std::alloc::{AllocError, Global};
+use std::collections::BTreeMap;
+use std::marker::Model;
+
+/// Buckets by their names.
+#[derive(Drop)]
+pub struct Buckets {
+    pub(crate) held: BTreeMap<Bucket, BucketStore>,
+}
+
+impl Model for Buckets {
+    ghost use Rattle.std.specs.FinMap as map;
+    ghost use Rattle.s3_types.specs.Store.{Buckets as TheBuckets};
+    ghost use Rattle.s3_types.specs.Coded.{coded_buckets};
+
+    ghost Value = { TheBuckets };
+
+    ghost coded = { coded_buckets };
+
+    ghost view = { λ b. map.from_entries b.held.entries };
+}
+
+impl Buckets {
+    pub fn new(alloc: Global) -> Buckets
+        ensures { result ≡ map.empty }
+    {
+        Buckets {
+            held: BTreeMap::new(alloc),
+        }
+    }
+
+    pub fn get(&self, name: &Bucket) -> Option<&BucketStore>
+        ensures { option_copied result ≡ map.get self.now name.now }
+    {
+        self.held.get(name)
+    }
+
+    pub fn count(&self) -> u64
+        ensures { result ≡ map.len self.now }
+    {
+        self.held.len() as u64
+    }
+
+    /// Adds a bucket, or replaces the one of that name.
+    pub fn insert(&mut self, name: Bucket, bucket: BucketStore) -> Result<(), AllocError>
+        ensures ok { OnOk result (self.new ≡ map.insert self.old name bucket) }
+        ensures err { OnErr result (self.new ≡ self.old) }
+    {
+        self.held.insert(name, bucket)?;
+        Ok(())
+    }
+
+    /// Does a request to a bucket that is there.
+    pub fn apply(
+        &mut self,
+        name: &Bucket,
+        request: &Request,
+        next: u64,
+        minimum: u64,
+    ) -> Result<Reply, AllocError>
+        requires there { IsSome (map.get self.old name.now) }
+        requires fresh { (b : BucketContent) → map.get self.old name.now ≡ Some b → IsFresh b.uploads next }
+        ensures reply { IfOk result (λ r. IsSomeAnd (map.get self.old name.now) (λ b. r ≡ answer_in b next minimum request.now)) }
+        ensures ok { OnOk result (IsSomeAnd (map.get self.old name.now) (λ b. self.new ≡ map.insert self.old name.now (apply_in b next minimum request.now))) }
+        ensures err { OnErr result (self.new ≡ self.old) }
+    {
+        let Some(bucket) = self.held.get_mut(name) else {
+            return Err(AllocError);
+        };
+        match bucket.apply(request, next, minimum) {
+            Ok(reply) => return Ok(reply),
+            Err(error) => return Err(error),
+        }
+    }
+}

@@ -1,0 +1,51 @@
+ghost use Rattle.std.specs.Prelude.{◌≡◌, option_map};
+ghost use Rattle.s3_types.specs.Answer.{draws};
+ghost use Rattle.s3_service.specs.Named.{named, is_store};
+
+use s3_types::{Bucket, Request};
+
+/// The bucket that a request names, if it names one.
+pub fn bucket_named(request: &Request) -> Option<&Bucket>
+    ensures { option_map (λ b. b.now) result ≡ named request.now }
+{
+    match request {
+        Request::PutObject { bucket, .. } => Some(bucket),
+        Request::GetObject { bucket, .. } => Some(bucket),
+        Request::HeadObject { bucket, .. } => Some(bucket),
+        Request::DeleteObject { bucket, .. } => Some(bucket),
+        Request::DeleteObjects { bucket, .. } => Some(bucket),
+        Request::CopyObject { bucket, .. } => Some(bucket),
+        Request::ListPage { bucket, .. } => Some(bucket),
+        Request::CreateUpload { bucket, .. } => Some(bucket),
+        Request::UploadPart { bucket, .. } => Some(bucket),
+        Request::CompleteUpload { bucket, .. } => Some(bucket),
+        Request::AbortUpload { bucket, .. } => Some(bucket),
+        Request::ListParts { bucket, .. } => Some(bucket),
+        Request::ListUploads { bucket, .. } => Some(bucket),
+        _ => None,
+    }
+}
+
+/// Whether a request draws an upload's id.
+pub fn draws(request: &Request) -> bool
+    ensures { result ≡ draws request.now }
+{
+    match request {
+        Request::CreateUpload { .. } => true,
+        _ => false,
+    }
+}
+
+/// Whether a request is the store's and not the cluster's.
+pub fn is_store_request(request: &Request) -> bool
+    ensures { result ≡ is_store request.now }
+{
+    match request {
+        Request::ClusterPut { .. } => false,
+        Request::ClusterRename { .. } => false,
+        Request::ClusterGet { .. } => false,
+        Request::ClusterDelete { .. } => false,
+        Request::ClusterList { .. } => false,
+        _ => true,
+    }
+}

@@ -1,0 +1,157 @@
+ghost use Rattle.std.specs.Prelude.{◌≡◌, ◌+◌, ◌<◌, ◌≤◌, ◌^◌, ℕ, None, true, cond, IfOk, OnOk, OnErr};
+ghost use Rattle.std.specs.FinMap as map;
+ghost use Rattle.s3_types.specs.Store.{new_content};
+ghost use Rattle.s3_types.specs.Answer.{answer_store, apply_store, draws};
+ghost use Rattle.s3_service.specs.Named.{is_store};
+ghost use Rattle.s3_service.specs.Ids.{IsFresh};
+
+use crate::bucket::BucketStore;
+use crate::buckets::Buckets;
+use crate::named::{bucket_named, draws};
+use multipart::Uploads;
+use object_store::Objects;
+use s3_types::{Bucket, NameFault, Refusal, Reply, Request, Text};
+use std::alloc::{AllocError, Global};
+use std::marker::Model;
+
+/// The store: its buckets, the id of the next upload, and the least size in bytes of a part that is not
+/// the last.
+#[derive(Drop)]
+pub struct Service {
+    pub(crate) buckets: Buckets,
+    next: u64,
+    minimum: u64,
+    alloc: Global,
+}
+
+impl Model for Service {
+    ghost use Rattle.s3_types.specs.Store.{Content};
+    ghost use Rattle.s3_types.specs.Coded.{coded_content};
+    ghost use Rattle.s3_service.specs.Ids.{AreBelow};
+
+    ghost Value = { Content };
+
+    ghost coded = { coded_content };
+
+    ghost view = { λ s. record { buckets = s.buckets; next = s.next; minimum = s.minimum } };
+
+    ghost invariant = { λ s. AreBelow s.buckets s.next };
+}
+
+/// The next upload's id after a request that was done.
+fn next_after(request: &Request, next: u64) -> u64
+    requires { next < 2 ^ 63 }
+    ensures { result ≡ cond (draws request.now) (next + 1) next }
+{
+    if draws(request) { next + 1 } else { next }
+}
+
+impl Service {
+    /// A store with no bucket, whose first upload's id is 1. The minimum is 1 to 5,242,880 bytes. Takes
+    /// no memory.
+    pub fn new(alloc: Global, minimum: u64) -> Service
+        requires some { 1 ≤ minimum }
+        requires most { minimum ≤ 5242880 }
+        ensures { result ≡ new_content minimum }
+    {
+        Service {
+            buckets: Buckets::new(alloc),
+            next: 1,
+            minimum,
+            alloc,
+        }
+    }
+
+    /// A store with no bucket, whose next upload's id is the counter. Takes no memory.
+    pub fn restore(alloc: Global, minimum: u64, counter: u64) -> Service
+        requires some { 1 ≤ minimum }
+        requires most { minimum ≤ 5242880 }
+        requires counted { 1 ≤ counter }
+        requires few { counter ≤ 2 ^ 62 }
+        ensures { result ≡ record { buckets = map.empty; next = counter; minimum = minimum } }
+    {
+        Service {
+            buckets: Buckets::new(alloc),
+            next: counter,
+            minimum,
+            alloc,
+        }
+    }
+
+    /// The least size in bytes of a part that is not the last.
+    pub fn minimum(&self) -> u64
+        ensures { result ≡ self.now.minimum }
+    {
+        self.minimum
+    }
+
+    /// The id of the next upload.
+    pub fn next_upload(&self) -> u64
+        ensures { result ≡ self.now.next }
+    {
+        self.next
+    }
+
+    /// How many buckets there are.
+    pub fn buckets(&self) -> u64
+        ensures { result ≡ map.len self.now.buckets }
+    {
+        self.buckets.count()
+    }
+
+    /// Adds a bucket with these objects and uploads. After want of memory the store is as before.
+    pub fn add_bucket(
+        &mut self,
+        name: Bucket,
+        objects: Objects,
+        uploads: Uploads,
+    ) -> Result<(), AllocError>
+        requires absent { map.get self.old.buckets name ≡ None }
+        requires below { IsFresh uploads self.old.next }
+        ensures ok { OnOk result (self.new ≡ record { buckets = map.insert self.old.buckets name (record { objects = objects; uploads = uploads }); next = self.old.next; minimum = self.old.minimum }) }
+        ensures err { OnErr result (self.new ≡ self.old) }
+    {
+        self.buckets
+            .insert(name, BucketStore::new(objects, uploads))?;
+        Ok(())
+    }
+
+    fn make(&mut self, name: &Text) -> Result<Reply, AllocError>
+        ensures reply { IfOk result (λ r. r ≡ answer_store self.old (Request.MakeBucket name.now)) }
+        ensures ok { OnOk result (self.new ≡ apply_store self.old (Request.MakeBucket name.now)) }
+        ensures err { OnErr result (self.new ≡ self.old) }
+    {
+        let name = match Bucket::read(self.alloc, name.as_bytes()) {
+            Ok(name) => name,
+            Err(NameFault::BadName) => return Ok(Reply::Refused(Refusal::BadName)),
+            Err(NameFault::NoMemory) => return Err(AllocError),
+        };
+        if self.buckets.get(&name).is_some() {
+            return Ok(Reply::Refused(Refusal::BucketExists));
+        }
+        self.buckets.insert(name, BucketStore::empty(self.alloc))?;
+        Ok(Reply::Made)
+    }
+
+    /// Does a request to the store. After want of memory all is as before.
+    pub fn apply(&mut self, request: &Request) -> Result<Reply, AllocError>
+        requires store { is_store request.now ≡ true }
+        requires few { self.old.next < 2 ^ 63 }
+        ensures reply { IfOk result (λ r. r ≡ answer_store self.old request.now) }
+        ensures ok { OnOk result (self.new ≡ apply_store self.old request.now) }
+        ensures err { OnErr result (self.new ≡ self.old) }
+    {
+        if let Request::MakeBucket { name } = request {
+            return self.make(name);
+        }
+        let Some(name) = bucket_named(request) else {
+            unreachable!();
+        };
+        if self.buckets.get(name).is_none() {
+            return Ok(Reply::Refused(Refusal::NoSuchBucket));
+        }
+        let reply = self.buckets.apply(name, request, self.next, self.minimum)?;
+        self.next = next_after(request, self.next);
+        Ok(reply)
+    }
+}

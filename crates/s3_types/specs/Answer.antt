@@ -1,0 +1,205 @@
+-- What a request is answered, and what it leaves. A refused request changes nothing.
+use Rattle.std.specs.Prelude.{ℕ, ◌+◌, Bool, true, false, nat_lt, cond, List, [], ◌∷◌, Option, Some, None, Result, Ok, Err, length, map}
+use Rattle.std.specs.FinMap as fin
+use Rattle.std.specs.List.{filter}
+use Rattle.s3_types.specs.Names.{is_bucket}
+use Rattle.s3_types.specs.Store.{Objects, Upload, Uploads, BucketContent, Content, Files, Scene, new_bucket}
+use Rattle.s3_types.specs.Tags.{plain_tag, joined_tag}
+use Rattle.s3_types.specs.Pages as pages
+use Rattle.s3_types.specs.Pages.{begins}
+use Rattle.s3_types.specs.Multipart as uploads
+use Rattle.s3_types.specs.Multipart.{live, is_part_number, with_part, joined, sizes}
+use Rattle.s3_types.specs.declared.object.Object.{Object}
+use Rattle.s3_types.specs.declared.request.NamedPart.{NamedPart}
+use Rattle.s3_types.specs.declared.request.Request.{Request}
+use Rattle.s3_types.specs.declared.request.Request.TheVariants.{MakeBucket, PutObject, GetObject, HeadObject, DeleteObject, DeleteObjects, CopyObject, ListPage, CreateUpload, UploadPart, CompleteUpload, AbortUpload, ListParts, ListUploads, ClusterPut, ClusterRename, ClusterGet, ClusterDelete, ClusterList}
+use Rattle.s3_types.specs.declared.reply.Reply.{Reply}
+use Rattle.s3_types.specs.declared.reply.Reply.TheVariants.{Made, Stored, Object as Found, Head, Deleted, Copied, Upload as Drawn, Part, Completed, Aborted, Parts, ClusterDone, ClusterBytes, ClusterNames, Refused}
+use Rattle.s3_types.specs.declared.reply.Refusal.{Refusal}
+use Rattle.s3_types.specs.declared.reply.Refusal.TheVariants.{NoSuchBucket, NoSuchKey, NoSuchUpload, BadPartNumber, TooManyKeys, BucketExists, BadName, NoSuchFile}
+
+-- ---- answers
+
+-- GetObject: the object's bytes and header
+abbrev pub found : Option Object → Reply
+found (Some o) = Found o.bytes o.header
+found None = Refused NoSuchKey
+
+-- HeadObject: the object's length and header
+abbrev pub head : Option Object → Reply
+head (Some o) = Head (length o.bytes) o.header
+head None = Refused NoSuchKey
+
+-- CopyObject: refused where the source is absent
+abbrev pub copy_answer : Option Object → Reply
+copy_answer (Some o) = Copied
+copy_answer None = Refused NoSuchKey
+
+-- UploadPart: the upload is live, then the number is one
+abbrev pub part_answer : Option Upload → ℕ → List ℕ → Reply
+part_answer None n bytes = Refused NoSuchUpload
+part_answer (Some u) n bytes = cond (is_part_number n) (Part (plain_tag bytes)) (Refused BadPartNumber)
+
+-- CompleteMultipartUpload: the tag of the named parts joined
+abbrev pub complete_answer : List NamedPart → Result (List ℕ) Refusal → Reply
+complete_answer ns (Ok bytes) = Completed (joined_tag (map (λ n. n.tag) ns))
+complete_answer ns (Err r) = Refused r
+
+-- AbortMultipartUpload and ListParts: the upload is live
+abbrev pub abort_answer : Option Upload → Reply
+abort_answer (Some u) = Aborted
+abort_answer None = Refused NoSuchUpload
+
+abbrev pub parts_answer : Option Upload → Reply
+parts_answer (Some u) = Parts (sizes u.parts)
+parts_answer None = Refused NoSuchUpload
+
+-- what a bucket that is there answers, where `next` is the next upload's id
+abbrev pub answer_in : BucketContent → ℕ → ℕ → Request → Reply
+answer_in b next minimum (PutObject n k bytes header) = Stored (plain_tag bytes)
+answer_in b next minimum (GetObject n k) = found (fin.get b.objects k)
+answer_in b next minimum (HeadObject n k) = head (fin.get b.objects k)
+answer_in b next minimum (DeleteObject n k) = Deleted
+answer_in b next minimum (DeleteObjects n ks) = cond (nat_lt 1000 (length ks)) (Refused TooManyKeys) Deleted
+answer_in b next minimum (CopyObject n source target) = copy_answer (fin.get b.objects source)
+answer_in b next minimum (ListPage n p delimited after limit) = pages.page limit (pages.listed p delimited after b.objects)
+answer_in b next minimum (CreateUpload n k) = Drawn next
+answer_in b next minimum (UploadPart n k id number bytes) = part_answer (live b.uploads k id) number bytes
+answer_in b next minimum (CompleteUpload n k id ns) = complete_answer ns (joined (live b.uploads k id) ns minimum)
+answer_in b next minimum (AbortUpload n k id) = abort_answer (live b.uploads k id)
+answer_in b next minimum (ListParts n k id) = parts_answer (live b.uploads k id)
+answer_in b next minimum (ListUploads n p after limit) = uploads.page limit (uploads.listed p after b.uploads)
+-- the others name no bucket that is there
+answer_in b next minimum _ = Refused NoSuchBucket
+
+-- the bucket that a request names
+abbrev pub bucket_of : Request → List ℕ
+bucket_of (MakeBucket n) = n
+bucket_of (PutObject n k bytes header) = n
+bucket_of (GetObject n k) = n
+bucket_of (HeadObject n k) = n
+bucket_of (DeleteObject n k) = n
+bucket_of (DeleteObjects n ks) = n
+bucket_of (CopyObject n source target) = n
+bucket_of (ListPage n p delimited after limit) = n
+bucket_of (CreateUpload n k) = n
+bucket_of (UploadPart n k id number bytes) = n
+bucket_of (CompleteUpload n k id ns) = n
+bucket_of (AbortUpload n k id) = n
+bucket_of (ListParts n k id) = n
+bucket_of (ListUploads n p after limit) = n
+bucket_of _ = []
+
+-- NoSuchBucket comes first
+abbrev pub answer_at : Option BucketContent → ℕ → ℕ → Request → Reply
+answer_at None next minimum r = Refused NoSuchBucket
+answer_at (Some b) next minimum r = answer_in b next minimum r
+
+-- CreateBucket: the name is one, then no bucket has it
+abbrev pub make_answer : List ℕ → Option BucketContent → Reply
+make_answer name None = cond (is_bucket name) Made (Refused BadName)
+make_answer name (Some b) = cond (is_bucket name) (Refused BucketExists) (Refused BadName)
+
+-- what the store answers
+abbrev pub answer_store : Content → Request → Reply
+answer_store c (MakeBucket name) = make_answer name (fin.get c.buckets name)
+answer_store c r = answer_at (fin.get c.buckets (bucket_of r)) c.next c.minimum r
+
+-- a cluster's rename or read is refused where the file is absent
+abbrev pub rename_answer : Option (List ℕ) → Reply
+rename_answer (Some bytes) = ClusterDone
+rename_answer None = Refused NoSuchFile
+
+abbrev pub read_answer : Option (List ℕ) → Reply
+read_answer (Some bytes) = ClusterBytes bytes
+read_answer None = Refused NoSuchFile
+
+-- what is answered in a scene
+abbrev pub answer : Scene → Request → Reply
+answer s (ClusterPut path bytes) = ClusterDone
+answer s (ClusterRename source target) = rename_answer (fin.get s.files source)
+answer s (ClusterGet path) = read_answer (fin.get s.files path)
+answer s (ClusterDelete path) = ClusterDone
+answer s (ClusterList p) = ClusterNames (filter (begins p) (fin.keys s.files))
+answer s r = answer_store s.content r
+
+-- ---- effects
+
+abbrev pub with_objects : BucketContent → Objects → BucketContent
+with_objects b m = record { objects = m; uploads = b.uploads }
+
+abbrev pub with_uploads : BucketContent → Uploads → BucketContent
+with_uploads b m = record { objects = b.objects; uploads = m }
+
+-- the objects without these keys
+abbrev pub without : Objects → List (List ℕ) → Objects
+without m [] = m
+without m (k ∷ ks) = without (fin.remove m k) ks
+
+-- what stands at the source stands at the target too
+abbrev pub copied : Objects → List ℕ → Option Object → Objects
+copied m target (Some o) = fin.insert m target o
+copied m target None = m
+
+-- a part is set in an upload that is live
+abbrev pub part_put : Uploads → ℕ → Option Upload → ℕ → List ℕ → Uploads
+part_put m id None n bytes = m
+part_put m id (Some u) n bytes = cond (is_part_number n) (fin.insert m id (with_part u n bytes)) m
+
+-- the object stands with no header, and the upload is gone
+abbrev pub completed : BucketContent → List ℕ → ℕ → Result (List ℕ) Refusal → BucketContent
+completed b k id (Ok bytes) = record { objects = fin.insert b.objects k (record { bytes = bytes; header = None }); uploads = fin.remove b.uploads id }
+completed b k id (Err r) = b
+
+-- an upload that is live is gone
+abbrev pub aborted : Uploads → ℕ → Option Upload → Uploads
+aborted m id (Some u) = fin.remove m id
+aborted m id None = m
+
+-- what a request leaves of the bucket that it names
+abbrev pub apply_in : BucketContent → ℕ → ℕ → Request → BucketContent
+apply_in b next minimum (PutObject n k bytes header) = with_objects b (fin.insert b.objects k (record { bytes = bytes; header = header }))
+apply_in b next minimum (DeleteObject n k) = with_objects b (fin.remove b.objects k)
+apply_in b next minimum (DeleteObjects n ks) = with_objects b (cond (nat_lt 1000 (length ks)) b.objects (without b.objects ks))
+apply_in b next minimum (CopyObject n source target) = with_objects b (copied b.objects target (fin.get b.objects source))
+apply_in b next minimum (CreateUpload n k) = with_uploads b (fin.insert b.uploads next (record { key = k; parts = fin.empty }))
+apply_in b next minimum (UploadPart n k id number bytes) = with_uploads b (part_put b.uploads id (live b.uploads k id) number bytes)
+apply_in b next minimum (CompleteUpload n k id ns) = completed b k id (joined (live b.uploads k id) ns minimum)
+apply_in b next minimum (AbortUpload n k id) = with_uploads b (aborted b.uploads id (live b.uploads k id))
+apply_in b next minimum _ = b
+
+-- a request that draws an upload's id
+abbrev pub draws : Request → Bool
+draws (CreateUpload n k) = true
+draws _ = false
+
+abbrev pub apply_at : Option BucketContent → Content → Request → Content
+apply_at None c r = c
+apply_at (Some b) c r = record { buckets = fin.insert c.buckets (bucket_of r) (apply_in b c.next c.minimum r); next = cond (draws r) (c.next + 1) c.next; minimum = c.minimum }
+
+-- a new bucket, where the name is one and no bucket has it
+abbrev pub made : Content → List ℕ → Option BucketContent → Content
+made c name None = cond (is_bucket name) (record { buckets = fin.insert c.buckets name new_bucket; next = c.next; minimum = c.minimum }) c
+made c name (Some b) = c
+
+-- what a request leaves of the store
+abbrev pub apply_store : Content → Request → Content
+apply_store c (MakeBucket name) = made c name (fin.get c.buckets name)
+apply_store c r = apply_at (fin.get c.buckets (bucket_of r)) c r
+
+-- the target holds what the source held, and the source is absent unless it is the target
+abbrev pub renamed : Files → List ℕ → List ℕ → Option (List ℕ) → Files
+renamed m source target (Some bytes) = fin.insert (fin.remove m source) target bytes
+renamed m source target None = m
+
+abbrev pub with_files : Scene → Files → Scene
+with_files s m = record { content = s.content; files = m }
+
+-- what a request leaves of a scene
+abbrev pub apply : Scene → Request → Scene
+apply s (ClusterPut path bytes) = with_files s (fin.insert s.files path bytes)
+apply s (ClusterRename source target) = with_files s (renamed s.files source target (fin.get s.files source))
+apply s (ClusterGet path) = s
+apply s (ClusterDelete path) = with_files s (fin.remove s.files path)
+apply s (ClusterList p) = s
+apply s r = record { content = apply_store s.content r; files = s.files }

@@ -1,0 +1,10 @@
+pub mod Shared
+pub mod Names
+pub mod Tags
+pub mod Ledger
+pub mod Store
+pub mod Pages
+pub mod Multipart
+pub mod Answer
+pub mod Moment
+pub mod Coded

@@ -1,0 +1,39 @@
+-- The names of buckets and of objects.
+use Rattle.std.specs.Prelude.{ℕ, ◌-◌, ◌==◌, ◌&&◌, ◌||◌, nat_le, nat_lt, not, Bool, List, length, take, slice_index, codes, bytes_eq, if◌then◌else◌}
+use Rattle.std.specs.List.{list_all}
+use Rattle.std.specs.Str.{is_utf8}
+use Rattle.words.specs.Parts.{parts_of}
+
+-- an element of a key is neither empty nor `.` nor `..`
+abbrev pub is_element : List ℕ → Bool
+is_element e = not (length e == 0) && not (bytes_eq e (codes ".")) && not (bytes_eq e (codes ".."))
+
+-- what stands between the `/` of a text are elements
+abbrev pub are_elements : List ℕ → Bool
+are_elements path = list_all is_element (parts_of 47 path)
+
+-- a text without one `/` at its end
+abbrev pub trimmed : List ℕ → List ℕ
+trimmed path = if nat_lt 0 (length path) && (slice_index path (length path - 1) == 47) then take (length path - 1) path else path
+
+-- 1 to 1,024 bytes, elements joined by `/`, and at most one `/` behind them
+abbrev pub is_key_path : List ℕ → Bool
+is_key_path path = nat_le 1 (length path) && nat_le (length path) 1024 && are_elements (trimmed path)
+
+-- an object's key (Amazon S3, object key names; the rule on elements is this store's own)
+abbrev pub is_key : List ℕ → Bool
+is_key text = is_utf8 text && is_key_path text
+
+-- a lower-case letter or a digit
+abbrev pub is_letter_or_digit : ℕ → Bool
+is_letter_or_digit b = (nat_le 97 b && nat_le b 122) || (nat_le 48 b && nat_le b 57)
+
+-- a byte of a bucket's name
+abbrev pub is_name_byte : ℕ → Bool
+is_name_byte b = is_letter_or_digit b || b == 46 || b == 45
+
+-- a bucket's name (Amazon S3, bucket naming rules)
+abbrev pub is_bucket : List ℕ → Bool
+is_bucket name =
+    nat_le 3 (length name) && nat_le (length name) 63 && list_all is_name_byte name
+    && is_letter_or_digit (slice_index name 0) && is_letter_or_digit (slice_index name (length name - 1))

@@ -1,0 +1,31 @@
+-- Tags of objects and parts (Amazon S3, common response headers: ETag).
+use Rattle.std.specs.Prelude.{ℕ, ◌&&◌, ◌||◌, nat_le, nat_eq, Bool, List, [], length}
+use Rattle.std.specs.Result.{result_unwrap_or}
+use Rattle.std.specs.List.{list_all, flat_map}
+use Rattle.hex.specs.Hex.{encode_lower, decode_of}
+use Rattle.md5.specs.Md5.{md5}
+
+-- a tag by its hex digits and its count of parts
+pub record Spelled : Type 0 where
+  pub digits : List ℕ
+  pub parts : ℕ
+
+-- a lower-case hex digit
+abbrev pub is_hex : ℕ → Bool
+is_hex b = (nat_le 48 b && nat_le b 57) || (nat_le 97 b && nat_le b 102)
+
+-- the tag of a put or of a part is the MD5 of its bytes
+unfoldable pub plain_tag : List ℕ → Spelled
+plain_tag bytes = record { digits = encode_lower (md5 bytes); parts = 0 }
+
+-- the 16 bytes that a tag's digits spell
+unfoldable pub digest_of : Spelled → List ℕ
+digest_of tag = result_unwrap_or (decode_of tag.digits) []
+
+-- the tag of a completed upload is the MD5 of its parts' joined digests, with the number of parts
+unfoldable pub joined_tag : List Spelled → Spelled
+joined_tag tags = record { digits = encode_lower (md5 (flat_map digest_of tags)); parts = length tags }
+
+-- a part's tag: 32 hex digits and no count
+abbrev pub is_plain_tag : Spelled → Bool
+is_plain_tag tag = nat_eq (length tag.digits) 32 && list_all is_hex tag.digits && nat_eq tag.parts 0

@@ -1,0 +1,67 @@
+ghost use Rattle.std.specs.Prelude.{◌≡◌, [], IfOk};
+
+use std::alloc::{AllocError, Global};
+use std::marker::Model;
+use std::rc::Rc;
+
+/// Bytes that never change. A clone shares them and copies none.
+#[derive(Drop)]
+pub struct Bytes {
+    shared: Option<Rc<Vec<u8>>>,
+}
+
+impl Model for Bytes {
+    ghost use Rattle.std.specs.Prelude.{ℕ, List};
+    ghost use Rattle.s3_types.specs.Shared.{shared_bytes};
+
+    ghost Value = { List ℕ };
+
+    ghost view = { λ b. shared_bytes b.shared };
+}
+
+impl Bytes {
+    /// No bytes. Takes no memory.
+    pub fn empty() -> Bytes
+        ensures { result ≡ [] }
+    {
+        Bytes { shared: None }
+    }
+
+    /// The bytes of a vector, which is kept and not copied.
+    pub fn new(alloc: Global, bytes: Vec<u8>) -> Result<Bytes, AllocError>
+        ensures { IfOk result (λ b. b ≡ bytes.items) }
+    {
+        Ok(Bytes {
+            shared: Some(Rc::new(alloc, bytes)?),
+        })
+    }
+
+    /// A copy of a slice.
+    pub fn from_slice(alloc: Global, bytes: &[u8]) -> Result<Bytes, AllocError>
+        ensures { IfOk result (λ b. b ≡ bytes.now) }
+    {
+        Bytes::new(alloc, Vec::from_slice(alloc, bytes)?)
+    }
+
+    pub fn as_slice(&self) -> &[u8]
+        ensures { result.now ≡ self.now }
+    {
+        match &self.shared {
+            Some(bytes) => bytes.as_slice(),
+            None => &[],
+        }
+    }
+}
+
+impl Clone for Bytes {
+    ghost is_clone = { λ b copy. copy ≡ b };
+
+    fn clone(&self) -> Result<Bytes, AllocError> {
+        match &self.shared {
+            Some(bytes) => Ok(Bytes {
+                shared: Some(bytes.clone()?),
+            }),
+            None => Ok(Bytes::empty()),
+        }
+    }
+}

@@ -1,0 +1,93 @@
+ghost use Rattle.std.specs.Prelude.{◌≡◌, ◌+◌, ◌<◌, ◌^◌, [], ◌∷◌, ◌++◌, length, OnOk};
+
+use crate::reply::Reply;
+use crate::request::{Actor, Request};
+use std::alloc::{AllocError, Global};
+use std::marker::Model;
+
+/// What became of a sending. Its actor cannot tell the last two apart.
+#[derive(Drop)]
+pub enum Outcome {
+    Answered(Reply),
+    /// Answered SlowDown, without effect.
+    Slow,
+    /// Lost before its effect.
+    RequestLost,
+    /// Lost after its effect.
+    ReplyLost,
+}
+
+/// One sending of one request by one actor, in an event of a run. The shell's entries have event 0.
+#[derive(Drop)]
+pub struct Entry {
+    pub event: u32,
+    pub actor: Actor,
+    pub request: Request,
+    pub outcome: Outcome,
+}
+
+/// More entries than a 64-bit machine can address.
+const TOO_MANY: usize = 1 << 62;
+
+/// The sendings of a run in order, fewer than 2^62.
+#[derive(Drop)]
+pub struct Journal {
+    entries: Vec<Entry>,
+}
+
+impl Model for Journal {
+    ghost use Rattle.std.specs.Prelude.{ℕ, List, ◌-◌, ◌<◌, ◌^◌, vec_len, vec_capacity};
+    ghost use Rattle.s3_types.specs.Ledger.{Ledger};
+
+    ghost Value = { Ledger };
+
+    ghost view = { λ j. record { entries = j.entries.items; room = vec_capacity j.entries - vec_len j.entries } };
+
+    ghost invariant = { λ j. vec_len j.entries < 2 ^ 62 };
+}
+
+impl Journal {
+    /// No entries. Takes no memory.
+    pub fn new(alloc: Global) -> Journal
+        ensures { result.entries ≡ [] }
+    {
+        Journal {
+            entries: Vec::new(alloc),
+        }
+    }
+
+    /// Makes room for one more entry. The entries stay as they are.
+    pub fn reserve(&mut self) -> Result<(), AllocError>
+        ensures entries { self.new.entries ≡ self.old.entries }
+        ensures room { OnOk result (0 < self.new.room) }
+        ensures few { OnOk result (length self.new.entries + 1 < 2 ^ 62) }
+    {
+        if self.entries.len() >= TOO_MANY - 1 {
+            return Err(AllocError);
+        }
+        self.entries.reserve(1)
+    }
+
+    /// Adds an entry where there is room for it. Takes no memory.
+    pub fn push(&mut self, entry: Entry)
+        requires room { 0 < self.old.room }
+        requires few { length self.old.entries + 1 < 2 ^ 62 }
+        ensures { self.new.entries ≡ self.old.entries ++ entry ∷ [] }
+    {
+        let _ = self.entries.push(entry);
+    }
+
+    pub fn as_slice(&self) -> &[Entry]
+        ensures entries { result.now ≡ self.now.entries }
+        ensures few { length result.now < 2 ^ 62 }
+    {
+        self.entries.as_slice()
+    }
+
+    pub fn len(&self) -> usize
+        ensures len { result ≡ length self.now.entries }
+        ensures few { result < 2 ^ 62 }
+    {
+        self.entries.len()
+    }
+}

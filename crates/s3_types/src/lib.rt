@@ -1,0 +1,32 @@
+//! The types of the modelled S3 store and of the cluster file system beside it, and what their
+//! requests mean: `answer`, `apply` and the moments of a journal, in `specs/`.
+#![tactic(auto)]
+
+mod bytes;
+mod journal;
+mod limits;
+mod lists;
+mod names;
+mod object;
+mod reply;
+mod request;
+mod sequence;
+mod store;
+mod tag;
+mod text;
+
+pub use bytes::Bytes;
+pub use journal::{Entry, Journal, Outcome};
+pub use limits::{LengthHeader, PageLimit};
+pub use lists::{
+    EntryList, KeyList, PartList, PartSizes, TagList, TextList, UploadList, copied_keys,
+    copied_parts,
+};
+pub use names::{Bucket, Key, NameFault, are_elements, is_element, trimmed};
+pub use object::{Head, Object};
+pub use reply::{PageEntry, PartSize, Refusal, Reply};
+pub use request::{Actor, Committer, Mode, NamedPart, Request, UploadRef};
+pub use sequence::Sequence;
+pub use store::ObjectStore;
+pub use tag::Tag;
+pub use text::Text;

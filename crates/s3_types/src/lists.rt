@@ -1,0 +1,42 @@
+ghost use Rattle.std.specs.Prelude.{◌≡◌, IfOk};
+
+use crate::names::Key;
+use crate::reply::{PageEntry, PartSize};
+use crate::request::{NamedPart, UploadRef};
+use crate::sequence::Sequence;
+use crate::tag::Tag;
+use crate::text::Text;
+use std::alloc::{AllocError, Global};
+
+pub type KeyList = Sequence<Key>;
+
+pub type TextList = Sequence<Text>;
+
+pub type TagList = Sequence<Tag>;
+/// The parts that a completion names.
+pub type PartList = Sequence<NamedPart>;
+/// The entries of a page.
+pub type EntryList = Sequence<PageEntry>;
+/// The uploads of a page.
+pub type UploadList = Sequence<UploadRef>;
+/// The parts that an upload has.
+pub type PartSizes = Sequence<PartSize>;
+
+/// The same keys, whose texts are shared.
+pub fn copied_keys(alloc: Global, keys: &KeyList) -> Result<KeyList, AllocError>
+    ensures { IfOk result (λ copy. copy ≡ keys.now) }
+{
+    let keys = keys.as_slice();
+    let mut copy = Vec::with_capacity(alloc, keys.len())?;
+    for key in keys {
+        copy.push(key.clone()?)?;
+    }
+    Ok(Sequence::from_vec(copy))
+}
+
+/// The same parts.
+pub fn copied_parts(alloc: Global, parts: &PartList) -> Result<PartList, AllocError>
+    ensures { IfOk result (λ copy. copy ≡ parts.now) }
+{
+    Ok(Sequence::from_vec(Vec::from_slice(alloc, parts.as_slice())?))
+}

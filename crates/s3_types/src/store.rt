@@ -1,0 +1,31 @@
+ghost use Rattle.std.specs.Prelude.{◌≡◌, ℕ, ◌+◌, ◌<◌, ◌≤◌, ◌^◌, IfOk, OnOk, OnErr, IsTrue};
+ghost use Rattle.s3_types.specs.Store.{Scene};
+ghost use Rattle.s3_types.specs.Answer.{answer};
+ghost use Rattle.s3_types.specs.Moment.{effect, is_unanswered, IsHonestOutcome};
+
+use crate::journal::Outcome;
+use crate::request::Request;
+use std::alloc::AllocError;
+
+/// A store with its cluster, which may lose what is sent to it.
+pub trait ObjectStore {
+    /// What the store and the cluster hold.
+    ghost scene: { Self → Scene };
+
+    /// How many requests were made so far.
+    ghost requests: { Self → ℕ };
+
+    /// How many sendings got no answer so far.
+    ghost losses: { Self → ℕ };
+
+    /// Makes a request. After want of memory all is as before.
+    fn request(&mut self, request: &Request) -> Result<Outcome, AllocError>
+        requires { requests self.old < 2 ^ 62 }
+        ensures answered { IfOk result (λ outcome. IsHonestOutcome outcome (answer (scene self.old) request.now)) }
+        ensures scene { IfOk result (λ outcome. scene self.new ≡ effect (scene self.old) request.now outcome) }
+        ensures count { OnOk result (requests self.new ≡ requests self.old + 1) }
+        ensures lost { IfOk result (λ outcome. IsTrue (is_unanswered outcome) → losses self.old < losses self.new) }
+        ensures losses { losses self.old ≤ losses self.new }
+        ensures same { OnErr result (scene self.new ≡ scene self.old) }
+        ensures same_count { OnErr result (requests self.new ≡ requests self.old) };
+}

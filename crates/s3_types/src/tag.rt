@@ -1,0 +1,73 @@
+ghost use Rattle.std.specs.Prelude.{◌≡◌, ℕ, List, IsTrue, true};
+ghost use Rattle.std.specs.List.{list_all};
+ghost use Rattle.s3_types.specs.Tags.{Spelled, is_hex};
+
+use std::fmt;
+use std::marker::Model;
+
+/// A tag, as S3's ETag: 32 lower-case hex digits, and a count of parts, 0 for the tag of a put or of a
+/// part and else the number of parts of a completed upload. It is written as the digits, and where
+/// there are parts `-` and their count behind them.
+#[derive(Clone, Copy, Debug, PartialEq, Eq)]
+pub struct Tag {
+    digits: [u8; 32],
+    parts: u32,
+}
+
+impl Model for Tag {
+    ghost use Rattle.std.specs.Prelude.{◌≡◌, ℕ, List, true};
+    ghost use Rattle.std.specs.List.{list_all};
+    ghost use Rattle.s3_types.specs.Tags.{Spelled, is_hex};
+
+    ghost Value = { Spelled };
+
+    ghost view = { λ t. record { digits = t.digits; parts = t.parts } };
+
+    ghost invariant = { λ t. list_all is_hex t.digits ≡ true };
+
+    ghost inverse = { λ s. record { digits = s.digits; parts = s.parts } };
+}
+
+impl Tag {
+    pub fn new(digits: [u8; 32], parts: u32) -> Tag
+        requires { list_all is_hex digits ≡ true }
+        ensures { result ≡ record { digits = digits; parts = parts } }
+    {
+        Tag { digits, parts }
+    }
+
+    pub fn digits(&self) -> &[u8; 32]
+        ensures digits { result.now ≡ self.now.digits }
+        ensures hex { list_all is_hex result.now ≡ true }
+    {
+        &self.digits
+    }
+
+    /// The digits as text.
+    pub fn digits_text(&self) -> &str
+        ensures { result.now ≡ self.now.digits }
+    {
+        match str::from_utf8(&self.digits) {
+            Ok(text) => text,
+            Err(_) => unreachable!(),
+        }
+    }
+
+    /// The number of parts of a completed upload, and 0 for a put or a part.
+    pub fn parts(&self) -> u32
+        ensures { result ≡ self.now.parts }
+    {
+        self.parts
+    }
+}
+
+impl fmt::Display for Tag {
+    fn fmt<W: fmt::Write>(&self, f: &mut fmt::Formatter<W>) -> fmt::Result {
+        let digits = self.digits_text();
+        if self.parts == 0 {
+            return write!(f, "{digits}");
+        }
+        let parts = self.parts;
+        write!(f, "{digits}-{parts}")
+    }
+}

@@ -1,0 +1,126 @@
+ghost use Rattle.std.specs.Prelude.{◌≡◌, ℕ, List, [], IfOk, Some, refl, string_bytes};
+ghost use Rattle.std.proofs.Common.{rules};
+ghost use Rattle.std.specs.Cmp.Rules.{comparing, hashing};
+ghost use Rattle.proof_base.specs.Order.{text_cmp, text_eq, text_partial_cmp, text_hash, text_per, text_equiv, text_po, text_total, text_ties};
+
+use std::alloc::{AllocError, Global};
+use std::cmp::Ordering;
+use std::hash::{Hash, Hasher};
+use std::marker::Model;
+use std::rc::Rc;
+
+/// UTF-8 text that never changes, ordered by its bytes. A clone shares it and copies none.
+#[derive(Drop)]
+pub struct Text {
+    shared: Option<Rc<String>>,
+}
+
+impl Model for Text {
+    ghost use Rattle.std.specs.Prelude.{ℕ, List};
+    ghost use Rattle.s3_types.specs.Shared.{shared_text};
+
+    ghost Value = { List ℕ };
+
+    ghost view = { λ t. shared_text t.shared };
+}
+
+impl Text {
+    /// No text. Takes no memory.
+    pub fn empty() -> Text
+        ensures { result ≡ [] }
+    {
+        Text { shared: None }
+    }
+
+    /// The text of a string, which is kept and not copied.
+    pub fn new(alloc: Global, text: String) -> Result<Text, AllocError>
+        ensures { IfOk result (λ t. t ≡ string_bytes text) }
+    {
+        Ok(Text {
+            shared: Some(Rc::new(alloc, text)?),
+        })
+    }
+
+    /// A copy of a text.
+    pub fn copied(alloc: Global, text: &str) -> Result<Text, AllocError>
+        ensures { IfOk result (λ t. t ≡ text.now) }
+    {
+        Text::new(alloc, String::from_str(alloc, text)?)
+    }
+
+    pub fn as_str(&self) -> &str
+        ensures { result.now ≡ self.now }
+    {
+        match &self.shared {
+            Some(text) => text.as_str(),
+            None => "",
+        }
+    }
+
+    pub fn as_bytes(&self) -> &[u8]
+        ensures { result.now ≡ self.now }
+    {
+        self.as_str().as_bytes()
+    }
+}
+
+impl Clone for Text {
+    ghost is_clone = { λ t copy. copy ≡ t };
+
+    fn clone(&self) -> Result<Text, AllocError> {
+        match &self.shared {
+            Some(text) => Ok(Text {
+                shared: Some(text.clone()?),
+            }),
+            None => Ok(Text::empty()),
+        }
+    }
+}
+
+impl PartialEq for Text {
+    ghost eq = { text_eq };
+
+    ghost laws = { text_per };
+
+    fn eq(&self, other: &Text) -> bool {
+        self.as_bytes() == other.as_bytes()
+    }
+}
+
+impl Eq for Text {
+    ghost laws = { text_equiv };
+}
+
+impl PartialOrd for Text {
+    ghost partial_cmp = { text_partial_cmp };
+
+    ghost laws = { text_po };
+
+    fn partial_cmp(&self, other: &Text) -> Option<Ordering> {
+        Some(self.cmp(other))
+    }
+}
+
+impl Ord for Text {
+    ghost cmp = { text_cmp };
+
+    ghost total = { text_total };
+
+    ghost matches_partial_cmp = { λ x y. refl };
+
+    ghost matches_eq = { text_ties };
+
+    fn cmp(&self, other: &Text) -> Ordering {
+        self.as_bytes().cmp(other.as_bytes())
+    }
+}
+
+impl Hash for Text {
+    ghost hash_input = { text_hash };
+
+    ghost respects_eq = { Prim.search (hashing, rules) };
+
+    fn hash<H: Hasher>(&self, state: &mut H) {
+        self.as_bytes().hash(state);
+    }
+}

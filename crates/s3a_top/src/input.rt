@@ -1,0 +1,38 @@
+ghost use Rattle.std.specs.Prelude.{◌≡◌, ◌<◌, ◌≤◌, ◌^◌, ◌-◌, ◌+◌, length, IfOk, OnOk, OnErr, IsErrOf, vec_len, take, Some, Option, IfSome};
+ghost use Rattle.shelf.specs.Devices.{Rose};
+
+use shelf::{Failed, Source};
+use std::alloc::{AllocError, AllocFailed, Global};
+
+/// The most bytes of input that are looked at.
+pub const MOST_INPUT: usize = 67_108_864;
+
+/// Why the input was not read.
+#[derive(Clone, Copy, Debug, PartialEq, Eq)]
+pub enum InputFault {
+    Failed,
+    NoMemory,
+}
+
+/// Reads the input to its end, or to one byte over the limit.
+pub fn read_input<Q: Source>(alloc: Global, input: &mut Q) -> Result<Vec<u8>, InputFault>
+    ensures calm { OnOk result (Q.faults input.new ≡ Q.faults input.old) }
+    ensures failed { IsErrOf result InputFault.Failed → Q.faults input.old < 2 ^ 64 - 1 → Q.faults input.old < Q.faults input.new }
+    ensures few { IfOk result (λ bytes. vec_len bytes ≤ 67108865) }
+{
+    let mut all = Vec::new(alloc);
+    let mut chunk = [0u8; 65536];
+    while all.len() <= MOST_INPUT {
+        let room = (MOST_INPUT + 1 - all.len()).min(65536);
+        match input.read(&mut chunk[..room]) {
+            Ok(0) => return Ok(all),
+            Ok(n) => {
+                if all.extend_from_slice(&chunk[..n]).is_err() {
+                    return Err(InputFault::NoMemory);
+                }
+            }
+            Err(Failed) => return Err(InputFault::Failed),
+        }
+    }
+    Ok(all)
+}

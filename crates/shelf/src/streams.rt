@@ -1,0 +1,97 @@
+ghost use Rattle.std.specs.Prelude.{◌≡◌, ℕ, None};
+
+use crate::device::{Failed, Sink, Source};
+use std::io;
+use std::marker::Model;
+
+/// A reader of the system as a source. It tells nothing of its bytes.
+#[derive(Drop)]
+pub struct StdSource<I> {
+    input: I,
+    faults: u64,
+}
+
+impl<I> Model for StdSource<I> {
+    ghost use Rattle.std.specs.Prelude.{ℕ};
+
+    ghost Value = { ℕ };
+
+    ghost view = { λ s. s.faults };
+}
+
+impl<I: io::Read + Drop> StdSource<I> {
+    pub fn new(input: I) -> StdSource<I>
+        ensures { result ≡ 0 }
+    {
+        StdSource { input, faults: 0 }
+    }
+}
+
+impl<I: io::Read + Drop> Source for StdSource<I> {
+    ghost left = { λ s. None };
+
+    ghost faults = { λ s. s };
+
+    fn read(&mut self, buffer: &mut [u8]) -> Result<usize, Failed> {
+        match self.input.read(buffer) {
+            Ok(n) => Ok(n),
+            Err(_) => {
+                self.faults = self.faults.saturating_add(1);
+                Err(Failed)
+            }
+        }
+    }
+}
+
+/// A writer of the system as a sink. It tells nothing of its bytes.
+#[derive(Drop)]
+pub struct StdSink<O> {
+    output: O,
+    faults: u64,
+}
+
+impl<O> Model for StdSink<O> {
+    ghost use Rattle.std.specs.Prelude.{ℕ};
+
+    ghost Value = { ℕ };
+
+    ghost view = { λ s. s.faults };
+}
+
+impl<O: io::Write + Drop> StdSink<O> {
+    pub fn new(output: O) -> StdSink<O>
+        ensures { result ≡ 0 }
+    {
+        StdSink { output, faults: 0 }
+    }
+}
+
+impl<O: io::Write + Drop> Sink for StdSink<O> {
+    ghost written = { λ s. None };
+
+    ghost faults = { λ s. s };
+
+    /// A write that takes nothing of a piece that is not empty is a fault.
+    fn write(&mut self, piece: &[u8]) -> Result<usize, Failed> {
+        if piece.is_empty() {
+            return Ok(0);
+        }
+        match self.output.write(piece) {
+            Ok(n) if n > 0 => Ok(n),
+            _ => {
+                self.faults = self.faults.saturating_add(1);
+                Err(Failed)
+            }
+        }
+    }
+
+    fn flush(&mut self) -> Result<(), Failed> {
+        match self.output.flush() {
+            Ok(()) => Ok(()),
+            Err(_) => {
+                self.faults = self.faults.saturating_add(1);
+                Err(Failed)
+            }
+        }
+    }
+}

@@ -1,0 +1,49 @@
+-- The one image of what a store holds. All numbers are big-endian.
+use Rattle.std.specs.Prelude.{ℕ, ◌+◌, List, ◌++◌, length, codes, Option, Some, None}
+use Rattle.std.specs.FinMap as fin
+use Rattle.std.specs.Int.{Width, w16, w64, to_be_bytes}
+use Rattle.std.specs.List.{flat_map}
+use Rattle.std.specs.declared.cmp.Ordering.{Ordering}
+use Rattle.s3_types.specs.Store.{Upload, BucketContent, Content}
+use Rattle.s3_types.specs.declared.object.Object.{Object}
+
+-- a key or a name with its length before it
+abbrev pub name : List ℕ → List ℕ
+name text = to_be_bytes w16 (length text) ++ text
+
+-- bytes with their length before them
+abbrev pub block : List ℕ → List ℕ
+block bytes = to_be_bytes w64 (length bytes) ++ bytes
+
+-- the entries of a map in the order of their keys, with their count before them
+abbrev pub counted : {K X : Type 0} {R : K → K → Ordering} → Width → (K × X → List ℕ) → fin.FinMap R X → List ℕ
+counted w entry m = to_be_bytes w (fin.len m) ++ flat_map entry (fin.entries m)
+
+-- a length header is its length plus 1, and none is 0
+abbrev pub header : Option ℕ → ℕ
+header None = 0
+header (Some n) = n + 1
+
+-- an object with its key
+abbrev pub object : List ℕ × Object → List ℕ
+object e = name e.0 ++ to_be_bytes w64 (header e.1.header) ++ block e.1.bytes
+
+-- a part with its number
+abbrev pub part : ℕ × List ℕ → List ℕ
+part e = to_be_bytes w16 e.0 ++ block e.1
+
+-- an upload with its id
+abbrev pub upload : ℕ × Upload → List ℕ
+upload e = to_be_bytes w64 e.0 ++ name e.1.key ++ counted w16 part e.1.parts
+
+-- a bucket with its name
+abbrev pub bucket : List ℕ × BucketContent → List ℕ
+bucket e = name e.0 ++ counted w64 object e.1.objects ++ counted w64 upload e.1.uploads
+
+-- the first 8 bytes of an image
+abbrev pub magic : List ℕ
+magic = codes "S3AIMG01"
+
+-- the image of a store
+abbrev pub image : Content → List ℕ
+image c = magic ++ to_be_bytes w64 c.minimum ++ to_be_bytes w64 c.next ++ counted w64 bucket c.buckets

@@ -1,0 +1,169 @@
+use crate::seen::{Fails, NONE, Seen, run_of};
+use s3_types::Bytes;
+use std::alloc::{AllocError, Global};
+use std::test::Fail;
+
+static HELLO: &str =
+    "job j1\ndest s3a://lake/out\ncommitter magic\ntasks 1\nattempt 0.0\nfile part-00000 text hello\ndo driver setup\ndo 0.0 write\ndo 0.0 commit\ndo driver commit\n";
+
+static EMPTY: &str =
+    "job j1\ndest s3a://lake/out\ncommitter magic\ntasks 1\nattempt 0.0\nfile part-00000 text \ndo driver setup\ndo 0.0 write\ndo 0.0 commit\ndo driver commit\n";
+
+static REPORT: &str =
+    "1 do driver setup: done\n2 do 0.0 write: done\n3 do 0.0 commit: done\n4 do driver commit: committed\npick 0 0\ndriver idle committed\n0.0 idle committed\nsent 13\nstatus 0\n";
+
+/// The image that the run of `HELLO` leaves, in hex, field by field.
+static IMAGE: [&str; 44] = [
+    // the magic, the minimum part, the counter and the number of buckets
+    "533341494d473031",
+    "0000000000500000",
+    "0000000000000002",
+    "0000000000000001",
+    // the bucket lake with five objects
+    "0004",
+    "6c616b65",
+    "0000000000000005",
+    // out/_SUCCESS
+    "000c",
+    "6f75742f5f53554343455353",
+    "0000000000000000",
+    "0000000000000054",
+    "7b22636f6d6d6974746572223a226d61676963222c2266696c6573223a5b22706172742d30303030",
+    "30225d2c226a6f62223a226a31222c226b696e64223a2273756363657373222c2276657273696f6e",
+    "223a317d",
+    // out/__magic/sets/task_0.pendingset
+    "0022",
+    "6f75742f5f5f6d616769632f736574732f7461736b5f302e70656e64696e67736574",
+    "0000000000000000",
+    "00000000000000f3",
+    "7b22617474656d7074223a302c22636f6d6d697473223a5b7b22617474656d7074223a302c226275",
+    "636b6574223a226c616b65222c2264657374696e6174696f6e223a226f75742f706172742d303030",
+    "3030222c226574616773223a5b223564343134303261626334623261373662393731396439313130",
+    "313763353932225d2c226b696e64223a2270656e64696e67222c226c656e677468223a352c227461",
+    "736b223a302c2275706c6f6164223a312c2276657273696f6e223a317d5d2c226a6f62223a226a31",
+    "222c226b696e64223a2270656e64696e67736574222c227461736b223a302c2276657273696f6e22",
+    "3a317d",
+    // out/__magic/tasks/0_0/__base/part-00000
+    "0027",
+    "6f75742f5f5f6d616769632f7461736b732f305f302f5f5f626173652f706172742d3030303030",
+    "0000000000000006",
+    "0000000000000000",
+    // out/__magic/tasks/0_0/__base/part-00000.pending
+    "002f",
+    "6f75742f5f5f6d616769632f7461736b732f305f302f5f5f626173652f706172742d30303030302e70656e64696e67",
+    "0000000000000000",
+    "00000000000000a5",
+    "7b22617474656d7074223a302c226275636b6574223a226c616b65222c2264657374696e6174696f",
+    "6e223a226f75742f706172742d3030303030222c226574616773223a5b2235643431343032616263",
+    "34623261373662393731396439313130313763353932225d2c226b696e64223a2270656e64696e67",
+    "222c226c656e677468223a352c227461736b223a302c2275706c6f6164223a312c2276657273696f",
+    "6e223a317d",
+    // out/part-00000
+    "000e",
+    "6f75742f706172742d3030303030",
+    "0000000000000000",
+    "0000000000000005",
+    "68656c6c6f",
+    // no uploads
+    "0000000000000000",
+];
+
+/// An empty file at its key, in an image: the key with its length, no header and no bytes.
+static EMPTY_FILE: &str = "000e6f75742f706172742d303030303000000000000000000000000000000000";
+
+fn image(alloc: Global) -> Result<String, AllocError> {
+    let mut all = String::new(alloc);
+    for piece in &IMAGE {
+        all.push_str(piece)?;
+    }
+    Ok(all)
+}
+
+fn job(alloc: Global, script: &str, fails: Fails) -> Result<Seen, AllocError> {
+    run_of(alloc, "lake job", script, None, fails)
+}
+
+#[test]
+fn a_job_leaves_its_files_and_reports(rt: HostRuntime) -> Result<(), Fail> {
+    let run = job(rt.alloc(), HELLO, NONE)?;
+    assert_eq!(rt; run.status, 0);
+    assert_eq!(rt; run.sent, 13);
+    assert_eq!(rt; run.text.as_str(), REPORT);
+    let image = image(rt.alloc())?;
+    assert_eq!(rt; run.image.as_str(), image.as_str());
+    Ok(())
+}
+
+#[test]
+fn an_empty_file_is_a_file(rt: HostRuntime) -> Result<(), Fail> {
+    let run = job(rt.alloc(), EMPTY, NONE)?;
+    assert_eq!(rt; run.status, 0);
+    assert_eq!(rt; run.sent, 13);
+    assert_eq!(rt; run.text.as_str(), REPORT);
+    assert!(rt; run.image.contains(EMPTY_FILE));
+    Ok(())
+}
+
+static NO_COMMANDS: [&str; 5] = ["f frob", "f ls", "f ls -x", "", "f job more"];
+
+#[test]
+fn other_words_are_answered_by_the_usage(rt: HostRuntime) -> Result<(), Fail> {
+    for line in &NO_COMMANDS {
+        let run = run_of(rt.alloc(), line, HELLO, None, NONE)?;
+        assert_eq!(rt; run.status, 2);
+        assert_eq!(rt; run.text.as_str(), "usage: s3a FOLDER COMMAND WORDS\n");
+        assert_eq!(rt; run.image.as_str(), "");
+    }
+    Ok(())
+}
+
+/// Which device fails, and the status and the text then; the shelf holds nothing.
+static FAULTS: [(u64, u64, u8, &str); 3] = [
+    (1, 0, 3, "read fault\n"),
+    (0, 1, 5, "shelf fault\n"),
+    (0, 2, 5, "shelf fault\n"),
+];
+
+#[test]
+fn faults_of_the_input_and_the_shelf_are_told(rt: HostRuntime) -> Result<(), Fail> {
+    for (source, shelf, status, text) in &FAULTS {
+        let fails = Fails {
+            source: *source,
+            shelf: *shelf,
+            sink: 0,
+        };
+        let run = job(rt.alloc(), HELLO, fails)?;
+        assert_eq!(rt; run.status, *status);
+        assert_eq!(rt; run.text.as_str(), *text);
+        assert_eq!(rt; run.image.as_str(), "");
+    }
+    Ok(())
+}
+
+#[test]
+fn a_fault_of_the_output_keeps_what_was_saved(rt: HostRuntime) -> Result<(), Fail> {
+    let fails = Fails {
+        source: 0,
+        shelf: 0,
+        sink: 1,
+    };
+    let run = job(rt.alloc(), HELLO, fails)?;
+    assert_eq!(rt; run.status, 4);
+    assert_eq!(rt; run.due, 0);
+    assert_eq!(rt; run.text.as_str(), "");
+    let image = image(rt.alloc())?;
+    assert_eq!(rt; run.image.as_str(), image.as_str());
+    Ok(())
+}
+
+#[test]
+fn other_input_is_not_built(rt: HostRuntime) -> Result<(), Fail> {
+    let run = job(rt.alloc(), "job j1\n", NONE)?;
+    assert_eq!(rt; run.status, 10);
+    assert_eq!(rt; run.text.as_str(), "not built\n");
+    let held = Bytes::from_slice(rt.alloc(), b"x")?;
+    let run = run_of(rt.alloc(), "lake job", HELLO, Some(held), NONE)?;
+    assert_eq!(rt; run.status, 10);
+    assert_eq!(rt; run.image.as_str(), "78");
+    Ok(())
+}

@@ -1,0 +1,7 @@
+use Rattle.std.proofs.Common.{◌≡◌, true, take}
+use Rattle.std.specs.List.{list_all}
+use Rattle.words.specs.Parts.{is_other}
+use Rattle.words.proofs.parts.part_end.Given as goal
+
+abbrev pub invariant-loop-i : goal.invariant-loop-i
+invariant-loop-i l = list_all (is_other l.separator) (take l.i l.text) ≡ true
