@@ -18,6 +18,7 @@ pub enum InputFault {
 pub fn read_input<Q: Source>(alloc: Global, input: &mut Q) -> Result<Vec<u8>, InputFault>
     ensures calm { OnOk result (Q.faults input.new ≡ Q.faults input.old) }
     ensures failed { IsErrOf result InputFault.Failed → Q.faults input.old < 2 ^ 64 - 1 → Q.faults input.old < Q.faults input.new }
+    ensures wanting { IsErrOf result InputFault.NoMemory → Q.faults input.new ≡ Q.faults input.old }
     ensures few { IfOk result (λ bytes. vec_len bytes ≤ 67108865) }
 {
     let mut all = Vec::new(alloc);

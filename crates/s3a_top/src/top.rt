@@ -1,4 +1,6 @@
-ghost use Rattle.std.specs.Prelude.{◌≤◌, IfOk};
+ghost use Rattle.std.specs.Prelude.{◌≡◌, ◌≢◌, ◌<◌, ◌≤◌, ◌-◌, ◌^◌, ◌↔◌, ◌⊎◌, false, IfOk, IfErr, OnOk, OnErr};
+ghost use Rattle.s3a_top.specs.Statuses.{Tells, IsPlayed, IsOfJob, IsDue};
+ghost use Rattle.s3a_top.specs.Words.{is_job};
 ghost use Rattle.s3a_top.specs.Form.{IsForm};
 
 use crate::command::is_job;
@@ -51,7 +53,9 @@ fn fixed_text(due: u8) -> &'static str {
 }
 
 /// A status with nothing done.
-fn nothing(alloc: Global, due: u8) -> Work {
+fn nothing(alloc: Global, due: u8) -> Work
+    ensures { result.due ≡ due }
+{
     Work {
         due,
         text: Bytes::empty(),
@@ -62,7 +66,9 @@ fn nothing(alloc: Global, due: u8) -> Work {
 }
 
 /// A status with what was done, of which nothing more is to be said.
-fn stopped(stage: Stage, due: u8) -> Work {
+fn stopped(stage: Stage, due: u8) -> Work
+    ensures { result.due ≡ due }
+{
     Work {
         due,
         text: Bytes::empty(),
@@ -73,7 +79,13 @@ fn stopped(stage: Stage, due: u8) -> Work {
 }
 
 /// The image of the store, kept on the shelf.
-fn save<F: Shelf>(alloc: Global, shelf: &mut F, stage: &Stage) -> Result<(), u8> {
+fn save<F: Shelf>(alloc: Global, shelf: &mut F, stage: &Stage) -> Result<(), u8>
+    requires { F.faults shelf.old < 2 ^ 64 - 1 }
+    ensures calm { OnOk result (F.faults shelf.new ≡ F.faults shelf.old) }
+    ensures failed { IfErr result (λ due. Tells 5 due (F.faults shelf.old) (F.faults shelf.new)) }
+    ensures which { IfErr result (λ due. (due ≡ 5) ⊎ (due ≡ 9)) }
+    ensures same { OnErr result (F.held shelf.new ≡ F.held shelf.old) }
+{
     let mut image = Vec::new(alloc);
     if encode(alloc, &stage.service, &mut image).is_err() {
         return Err(NO_MEMORY);
@@ -85,7 +97,9 @@ fn save<F: Shelf>(alloc: Global, shelf: &mut F, stage: &Stage) -> Result<(), u8>
 }
 
 /// The report of a run that went to its end.
-fn reported(alloc: Global, form: &Form, stage: Stage) -> Work {
+fn reported(alloc: Global, form: &Form, stage: Stage) -> Work
+    ensures { (result.due ≡ 0) ⊎ (result.due ≡ 9) }
+{
     let report = Report {
         status: DONE,
         due: DONE,
@@ -123,7 +137,11 @@ fn made_ready(alloc: Global, form: &Form) -> Result<(Stage, Places), AllocError>
 
 /// Plays a job of the first form over an empty store.
 fn job<F: Shelf>(alloc: Global, shelf: &mut F, form: &Form) -> Work
-    requires { IsForm form.now.job form.now.dest form.now.path form.now.bytes }
+    requires form { IsForm form.now.job form.now.dest form.now.path form.now.bytes }
+    requires count { F.faults shelf.old < 2 ^ 64 - 1 }
+    ensures which { IsPlayed result.due }
+    ensures shelf { Tells 5 result.due (F.faults shelf.old) (F.faults shelf.new) }
+    ensures kept { result.due ≡ 5 → F.held shelf.new ≡ F.held shelf.old }
 {
     let Ok((mut stage, places)) = made_ready(alloc, form) else {
         return nothing(alloc, NO_MEMORY);
@@ -138,7 +156,14 @@ fn job<F: Shelf>(alloc: Global, shelf: &mut F, form: &Form) -> Work
 }
 
 /// Reads the script and plays it.
-fn read_and_play<Q: Source, F: Shelf>(alloc: Global, input: &mut Q, shelf: &mut F) -> Work {
+fn read_and_play<Q: Source, F: Shelf>(alloc: Global, input: &mut Q, shelf: &mut F) -> Work
+    requires source_count { Q.faults input.old < 2 ^ 64 - 1 }
+    requires shelf_count { F.faults shelf.old < 2 ^ 64 - 1 }
+    ensures which { IsOfJob result.due }
+    ensures read { Tells 3 result.due (Q.faults input.old) (Q.faults input.new) }
+    ensures shelf { Tells 5 result.due (F.faults shelf.old) (F.faults shelf.new) }
+    ensures kept { result.due ≢ 0 → result.due ≢ 9 → F.held shelf.new ≡ F.held shelf.old }
+{
     let bytes = match read_input(alloc, input) {
         Ok(bytes) => bytes,
         Err(InputFault::Failed) => return nothing(alloc, READ_FAULT),
@@ -151,12 +176,15 @@ fn read_and_play<Q: Source, F: Shelf>(alloc: Global, input: &mut Q, shelf: &mut 
     }
 }
 
-fn do_work<Q: Source, F: Shelf>(
-    alloc: Global,
-    words: &[Text],
-    input: &mut Q,
-    shelf: &mut F,
-) -> Work {
+fn do_work<Q: Source, F: Shelf>(alloc: Global, words: &[Text], input: &mut Q, shelf: &mut F) -> Work
+    requires source_count { Q.faults input.old < 2 ^ 64 - 1 }
+    requires shelf_count { F.faults shelf.old < 2 ^ 64 - 1 }
+    ensures which { IsDue result.due }
+    ensures usage { (result.due ≡ 2) ↔ (is_job words.now ≡ false) }
+    ensures read { Tells 3 result.due (Q.faults input.old) (Q.faults input.new) }
+    ensures shelf { Tells 5 result.due (F.faults shelf.old) (F.faults shelf.new) }
+    ensures kept { result.due ≢ 0 → result.due ≢ 9 → F.held shelf.new ≡ F.held shelf.old }
+{
     if !is_job(words) {
         return nothing(alloc, USAGE);
     }
@@ -170,7 +198,12 @@ fn do_work<Q: Source, F: Shelf>(
 }
 
 /// Writes the text that is due.
-fn say<K: Sink>(out: &mut K, work: &Work) -> u8 {
+fn say<K: Sink>(out: &mut K, work: &Work) -> u8
+    requires count { K.faults out.old < 2 ^ 64 - 1 }
+    requires due { work.now.due ≢ 4 }
+    ensures written { Tells 4 result (K.faults out.old) (K.faults out.new) }
+    ensures otherwise { result ≢ 4 → result ≡ work.now.due }
+{
     let fixed = fixed_text(work.due);
     let written = if work.due == DONE {
         write_output(out, work.text.as_slice())
@@ -196,7 +229,22 @@ pub fn run<Q: Source, F: Shelf, K: Sink>(
     input: &mut Q,
     shelf: &mut F,
     out: &mut K,
-) -> Report {
+) -> Report
+    requires source_count { Q.faults input.old < 2 ^ 64 - 1 }
+    requires shelf_count { F.faults shelf.old < 2 ^ 64 - 1 }
+    requires sink_count { K.faults out.old < 2 ^ 64 - 1 }
+
+    // The status that was due before anything was written, and when it is one of a fault.
+    ensures due { IsDue result.due }
+    ensures usage { (result.due ≡ 2) ↔ (is_job words.now ≡ false) }
+    ensures read { Tells 3 result.due (Q.faults input.old) (Q.faults input.new) }
+    ensures shelf { Tells 5 result.due (F.faults shelf.old) (F.faults shelf.new) }
+    ensures kept { result.due ≢ 0 → result.due ≢ 9 → F.held shelf.new ≡ F.held shelf.old }
+
+    // A failed write or flush gives 4, whatever was due.
+    ensures written { Tells 4 result.status (K.faults out.old) (K.faults out.new) }
+    ensures otherwise { result.status ≢ 4 → result.status ≡ result.due }
+{
     let work = do_work(alloc, words, input, shelf);
     let status = say(out, &work);
     Report {
