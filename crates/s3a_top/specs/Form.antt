@@ -24,8 +24,8 @@ is_pending path = nat_le 8 (length path) && bytes_eq (drop (length path - 8) pat
 abbrev pub is_file_name : List ℕ → Bool
 is_file_name path = nat_le 1 (length path) && nat_le (length path) 400 && list_all is_file_byte path && not (slice_index path 0 == 46) && not (is_pending path)
 
--- what a script of the first form says: the job's id, its destination, and its file
-pub record IsForm (job : List ℕ) (dest : Path) (path bytes : List ℕ) : Type 0 where
+-- what a script of the first form says of the job's id, its destination and its file's name
+pub record IsForm (job : List ℕ) (dest : Path) (path : List ℕ) : Type 0 where
   pub id : is_job_id job ≡ true
   pub name : is_name dest.key ≡ true
   pub file : is_file_name path ≡ true

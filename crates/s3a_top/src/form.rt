@@ -185,7 +185,7 @@ fn ends_in_return(bytes: &[u8]) -> bool {
 
 /// What a script of the first form says, or None where the input is none.
 pub fn read_form(alloc: Global, input: &[u8]) -> Result<Option<Form>, AllocError>
-    ensures { IfOk result (λ o. IfSome o (λ f. IsForm f.job f.dest f.path f.bytes)) }
+    ensures { IfOk result (λ o. IfSome o (λ f. IsForm f.job f.dest f.path)) }
 {
     if str::from_utf8(input).is_err() {
         return Ok(None);

@@ -43,7 +43,9 @@ impl Stage {
         requires few { self.old.service.next < 2 ^ 63 }
         ensures next { OnOk result (self.new.service.next ≤ self.old.service.next + 1) }
         ensures left { OnOk result (self.new.service ≡ apply_store self.old.service request) }
+        ensures entry { OnOk result (self.new.journal.entries ≡ self.old.journal.entries ++ record { event = event; actor = actor; request = request; outcome = Outcome.Answered (answer_store self.old.service request) } ∷ []) }
         ensures same { OnErr result (self.new.service ≡ self.old.service) }
+        ensures same_journal { OnErr result (self.new.journal.entries ≡ self.old.journal.entries) }
     {
         self.journal.reserve()?;
         let reply = self.service.apply(&request)?;

@@ -127,7 +127,7 @@ fn text_of(alloc: Global, form: &Form, report: &Report) -> Result<Bytes, AllocEr
 
 /// The stage before the first event, and the places of the job.
 fn made_ready(alloc: Global, form: &Form) -> Result<(Stage, Places), AllocError>
-    requires { IsForm form.now.job form.now.dest form.now.path form.now.bytes }
+    requires { IsForm form.now.job form.now.dest form.now.path }
     ensures { IfOk result (λ ready. ready.0.service.next ≤ 1) }
 {
     let places = Places::new(alloc, &form.dest, &form.path)?;
@@ -137,7 +137,7 @@ fn made_ready(alloc: Global, form: &Form) -> Result<(Stage, Places), AllocError>
 
 /// Plays a job of the first form over an empty store.
 fn job<F: Shelf>(alloc: Global, shelf: &mut F, form: &Form) -> Work
-    requires form { IsForm form.now.job form.now.dest form.now.path form.now.bytes }
+    requires form { IsForm form.now.job form.now.dest form.now.path }
     requires count { F.faults shelf.old < 2 ^ 64 - 1 }
     ensures which { IsPlayed result.due }
     ensures shelf { Tells 5 result.due (F.faults shelf.old) (F.faults shelf.new) }
