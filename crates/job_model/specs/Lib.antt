@@ -1,3 +1,14 @@
 pub mod Files
 pub mod Attempts
 pub mod Jobs
+pub mod View
+pub mod Outputs
+pub mod Replay
+pub mod Headline
+pub mod States
+pub mod Knowledge
+pub mod Blocks
+pub mod Operations
+pub mod Commits
+pub mod Turns
+pub mod Follows
