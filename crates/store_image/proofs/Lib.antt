@@ -1,0 +1,4 @@
+pub mod Steps
+pub mod Maps
+pub mod Loop
+pub mod Entries
