@@ -145,23 +145,24 @@ pub fn bucket_name_of<'b>(
     Ok((name, rest))
 }
 
-/// An upload's id that is greater than the one before it, if there is one, and below the counter.
+/// An upload's id that is greater than the one before it, if there is one, and below the next
+/// upload's.
 #[tactic(auto, unfolding(crate::specs::Reading::id_at))]
 pub fn id_of(
-    counter: u64,
+    next: u64,
     whole: u64,
     last: Option<u64>,
     bytes: &[u8],
 ) -> Result<(u64, &[u8]), ImageFault>
-    ensures exact { GivesBy (λ x. (x.0, x.1.now)) result (id_at counter whole last bytes.now) }
+    ensures exact { GivesBy (λ x. (x.0, x.1.now)) result (id_at next whole last bytes.now) }
     ensures after { IfOk result (λ x. is_after nat_cmp last x.0 ≡ true) }
-    ensures below { IfOk result (λ x. x.0 < counter) }
+    ensures below { IfOk result (λ x. x.0 < next) }
 {
     let (id, rest) = u64_of(whole, bytes)?;
     if !number_follows(last, id) {
         return Err(ImageFault::BadOrder(place_of(whole, bytes)));
     }
-    if !(1 <= id && id < counter) {
+    if !(1 <= id && id < next) {
         return Err(ImageFault::CounterTooHigh);
     }
     Ok((id, rest))

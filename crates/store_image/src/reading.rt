@@ -83,6 +83,7 @@ fn put_part(
 }
 
 /// So many parts, by rising numbers, which are put into an upload that has none.
+#[tactic(auto, unfolding(crate::specs::Reading::rising_at))]
 fn parts_of<'b>(
     alloc: Global,
     whole: u64,
@@ -108,6 +109,7 @@ fn parts_of<'b>(
 }
 
 /// An upload, which is added with this id.
+#[tactic(auto, unfolding(crate::specs::Reading::upload_at, crate::specs::Reading::counted_at))]
 fn upload_of<'b>(
     alloc: Global,
     whole: u64,
@@ -125,21 +127,22 @@ fn upload_of<'b>(
 }
 
 /// So many uploads, by rising ids.
+#[tactic(auto, unfolding(crate::specs::Reading::rising_at))]
 fn uploads_of<'b>(
     alloc: Global,
-    counter: u64,
+    next: u64,
     whole: u64,
     count: u64,
     bytes: &'b [u8],
 ) -> Result<(Uploads, &'b [u8]), ImageFault>
-    ensures exact { GivesBy (λ x. (x.0, x.1.now)) result (map_at (id_at counter whole) (upload_at whole) count bytes.now) }
-    ensures below { IfOk result (λ x. IsFresh x.0 counter) }
+    ensures exact { GivesBy (λ x. (x.0, x.1.now)) result (map_at (id_at next whole) (upload_at whole) count bytes.now) }
+    ensures below { IfOk result (λ x. IsFresh x.0 next) }
 {
     let mut uploads = Uploads::new(alloc);
     let mut last = None;
     let mut rest = bytes;
     for _ in 0..count {
-        let (id, after) = id_of(counter, whole, last, rest)?;
+        let (id, after) = id_of(next, whole, last, rest)?;
         rest = upload_of(alloc, whole, &mut uploads, id, after)?;
         last = Some(id);
     }
@@ -147,23 +150,25 @@ fn uploads_of<'b>(
 }
 
 /// What a bucket holds, without its name.
+#[tactic(auto, unfolding(crate::specs::Reading::bucket_at, crate::specs::Reading::counted_at))]
 fn contents_of<'b>(
     alloc: Global,
-    counter: u64,
+    next: u64,
     whole: u64,
     bytes: &'b [u8],
 ) -> Result<((Objects, Uploads), &'b [u8]), ImageFault>
-    ensures exact { GivesBy (λ x. (record { objects = x.0.0; uploads = x.0.1 }, x.1.now)) result (bucket_at counter whole bytes.now) }
-    ensures below { IfOk result (λ x. IsFresh x.0.1 counter) }
+    ensures exact { GivesBy (λ x. (record { objects = x.0.0; uploads = x.0.1 }, x.1.now)) result (bucket_at next whole bytes.now) }
+    ensures below { IfOk result (λ x. IsFresh x.0.1 next) }
 {
     let (count, rest) = u64_of(whole, bytes)?;
     let (objects, rest) = objects_of(alloc, whole, count, rest)?;
     let (count, rest) = u64_of(whole, rest)?;
-    let (uploads, rest) = uploads_of(alloc, counter, whole, count, rest)?;
+    let (uploads, rest) = uploads_of(alloc, next, whole, count, rest)?;
     Ok(((objects, uploads), rest))
 }
 
 /// So many buckets, by rising names, which are added to a store that has none.
+#[tactic(auto, unfolding(crate::specs::Reading::rising_at))]
 fn buckets_of<'b>(
     alloc: Global,
     whole: u64,
@@ -189,6 +194,7 @@ fn buckets_of<'b>(
 }
 
 /// A store, and what is left after it.
+#[tactic(auto, unfolding(crate::specs::Reading::store_at, crate::specs::Reading::counted_at))]
 fn store_of(alloc: Global, whole: u64, bytes: &[u8]) -> Result<(Service, &[u8]), ImageFault>
     ensures { GivesBy (λ x. (x.0, x.1.now)) result (store_at whole bytes.now) }
 {
@@ -203,6 +209,7 @@ fn store_of(alloc: Global, whole: u64, bytes: &[u8]) -> Result<(Service, &[u8]),
 /// holds, and a constant for each entry. The fault is the first from left to right: fields are read in
 /// their order, a name is checked before its place in the order, and an id's place in the order before
 /// the counter.
+#[tactic(auto, unfolding(crate::specs::Reading::content_in))]
 pub fn decode(alloc: Global, bytes: &[u8]) -> Result<Service, ImageFault>
     // What is read is a content that an image can have, and the bytes are its image.
     ensures found { IfOk result (λ c. IsContent c × (bytes.now ≡ image c)) }
