@@ -180,5 +180,5 @@ module _ {K X : Type 0} {R : K → K → Ordering}
         ∙ rw (number_again w limit wide whole (fin.len m) (text ++ rest) (few m are short), again) (ap (λ (x : fin.FinMap R X). Ok (x, rest)) (made_again o m))
 
     -- a map with its count before it is taken and read again
-    pub counted_reader : IsReader (counted_at w whole key_at value_at) (counted w entry) (AreEntries is_key IsValue)
+    pub counted_reader : IsReader (counted_at {R = R} w whole key_at value_at) (counted w entry) (AreEntries is_key IsValue)
     counted_reader = record { takes = counted_takes; again = counted_again }

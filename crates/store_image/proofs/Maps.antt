@@ -56,7 +56,7 @@ module _ {K X : Type 0} {R : K → K → Ordering} where
 
 -- ---- ids
 
-lt_from : (a b : ℕ) → is_lt (nat_cmp a b) ≡ true → a < b
+pub lt_from : (a b : ℕ) → is_lt (nat_cmp a b) ≡ true → a < b
 lt_from a b h = grind (arith, nat_tests)
 
 lt_to : (a b : ℕ) → a < b → is_lt (nat_cmp a b) ≡ true

@@ -205,11 +205,22 @@ fn store_of(alloc: Global, whole: u64, bytes: &[u8]) -> Result<(Service, &[u8]),
     Ok((service, rest))
 }
 
-/// Reads an image, in time linear in its length and with at most as much memory for the bytes that it
-/// holds, and a constant for each entry. The fault is the first from left to right: fields are read in
-/// their order, a name is checked before its place in the order, and an id's place in the order before
-/// the counter.
+/// The store whose image the bytes are.
 #[tactic(auto, unfolding(crate::specs::Reading::content_in))]
+fn all_of(alloc: Global, whole: u64, bytes: &[u8]) -> Result<Service, ImageFault>
+    requires { whole ≡ length bytes.now }
+    ensures { Gives result (content_in bytes.now) }
+{
+    let (service, rest) = store_of(alloc, whole, bytes)?;
+    if !rest.is_empty() {
+        return Err(ImageFault::Trailing(place_of(whole, rest)));
+    }
+    Ok(service)
+}
+
+/// Reads an image, in time linear in its length, with memory for the bytes that it holds and a constant
+/// for each entry. The fault is the first from left to right: fields are read in their order, a name is
+/// checked before its place in the order, and an id's place in the order before the counter.
 pub fn decode(alloc: Global, bytes: &[u8]) -> Result<Service, ImageFault>
     // What is read is a content that an image can have, and the bytes are its image.
     ensures found { IfOk result (λ c. IsContent c × (bytes.now ≡ image c)) }
@@ -221,9 +232,5 @@ pub fn decode(alloc: Global, bytes: &[u8]) -> Result<Service, ImageFault>
     ensures exact { Gives result (content_in bytes.now) }
 {
     let whole = bytes.len() as u64;
-    let (service, rest) = store_of(alloc, whole, bytes)?;
-    if !rest.is_empty() {
-        return Err(ImageFault::Trailing(place_of(whole, rest)));
-    }
-    Ok(service)
+    all_of(alloc, whole, bytes)
 }
