@@ -99,10 +99,9 @@ abbrev pub IsSpelled : {K X : Type 0} → (K → List ℕ) → (X → List ℕ) 
 IsSpelled {K} {X} key_text value_text entry = (e : K × X) → entry e ≡ key_text e.0 ++ value_text e.1
 
 module _ {K X : Type 0} {R : K → K → Ordering}
-  (key_at : Option K → List ℕ → Read K) (key_text : K → List ℕ) (is_key : K → Bool) (keys : IsKeyReader R key_at key_text is_key)
-  (value_at : List ℕ → Read X) (value_text : X → List ℕ) (IsValue : X → Type 0) (values : IsReader value_at value_text IsValue)
-  (entry : K × X → List ℕ) (spelled : IsSpelled key_text value_text entry) where
-
+    (key_at : Option K → List ℕ → Read K) (key_text : K → List ℕ) (is_key : K → Bool) (keys : IsKeyReader R key_at key_text is_key)
+    (value_at : List ℕ → Read X) (value_text : X → List ℕ) (IsValue : X → Type 0) (values : IsReader value_at value_text IsValue)
+    (entry : K × X → List ℕ) (spelled : IsSpelled key_text value_text entry) where
   record Taken (n : ℕ) (last : Option K) (bytes : List ℕ) (x : List (K × X) × List ℕ) : Type 0 where
     pub front : Takes bytes (flat_map entry x.0) x.1
     pub count : length x.0 ≡ n
@@ -150,8 +149,7 @@ module _ {K X : Type 0} {R : K → K → Ordering}
       omega (arith, one, some, count_fits es)
 
   module _ (o : IsTotalOrder R) (w : Width) (limit : ℕ) (wide : IsWide w limit) (whole : ℕ)
-    (few : (m : fin.FinMap R X) → AreEntries is_key IsValue m → length (flat_map entry (fin.entries m)) < 2 ^ 64 → fin.len m < limit) where
-
+      (few : (m : fin.FinMap R X) → AreEntries is_key IsValue m → length (flat_map entry (fin.entries m)) < 2 ^ 64 → fin.len m < limit) where
     counted_takes : (bytes : List ℕ) (m : fin.FinMap R X) (rest : List ℕ) → IsBytes bytes → counted_at w whole key_at value_at bytes ≡ Ok (m, rest) → Takes bytes (counted w entry m) rest × AreEntries is_key IsValue m
     unfolding counted_at map_at
     counted_takes bytes m rest fits e =

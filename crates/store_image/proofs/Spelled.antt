@@ -61,12 +61,11 @@ part_reader whole = record {
 -- ---- one value after another
 
 module _ {A B C : Type 0}
-  (first_at : List ℕ → Read A) (first_text : A → List ℕ) (IsFirst : A → Type 0) (first : IsReader first_at first_text IsFirst)
-  (second_at : List ℕ → Read B) (second_text : B → List ℕ) (IsSecond : B → Type 0) (second : IsReader second_at second_text IsSecond)
-  (join : A → B → C) (one : C → A) (two : C → B)
-  (join_is : (c : C) → join (one c) (two c) ≡ c) (one_is : (a : A) (b : B) → one (join a b) ≡ a) (two_is : (a : A) (b : B) → two (join a b) ≡ b)
-  (IsValue : C → Type 0) (from : (c : C) → IsFirst (one c) → IsSecond (two c) → IsValue c) (to_first : (c : C) → IsValue c → IsFirst (one c)) (to_second : (c : C) → IsValue c → IsSecond (two c)) where
-
+    (first_at : List ℕ → Read A) (first_text : A → List ℕ) (IsFirst : A → Type 0) (first : IsReader first_at first_text IsFirst)
+    (second_at : List ℕ → Read B) (second_text : B → List ℕ) (IsSecond : B → Type 0) (second : IsReader second_at second_text IsSecond)
+    (join : A → B → C) (one : C → A) (two : C → B)
+    (join_is : (c : C) → join (one c) (two c) ≡ c) (one_is : (a : A) (b : B) → one (join a b) ≡ a) (two_is : (a : A) (b : B) → two (join a b) ≡ b)
+    (IsValue : C → Type 0) (from : (c : C) → IsFirst (one c) → IsSecond (two c) → IsValue c) (to_first : (c : C) → IsValue c → IsFirst (one c)) (to_second : (c : C) → IsValue c → IsSecond (two c)) where
   abbrev pub both_at : List ℕ → Read C
   both_at bytes = first_at bytes >>= λ a. second_at a.1 >>= λ b. Ok (join a.0 b.0, b.1)
 

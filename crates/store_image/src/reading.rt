@@ -183,8 +183,7 @@ fn buckets_of<'b>(
     let mut rest = bytes;
     for _ in 0..count {
         let (name, after) = bucket_name_of(alloc, whole, &last, rest)?;
-        let ((objects, uploads), after) =
-            contents_of(alloc, service.next_upload(), whole, after)?;
+        let ((objects, uploads), after) = contents_of(alloc, service.next_upload(), whole, after)?;
         let copy = name.clone()?;
         service.add_bucket(name, objects, uploads)?;
         last = Some(copy);

@@ -24,10 +24,13 @@ put_part-requires c =
 pub loop-preserved : goal.loop-preserved
 loop-preserved c =
     let held = c.loop.invariant in
-    let same : Some c.from.result ≡ Some c.in_ok-number.number = ap (λ n. Some n) c.from.ensures in
-    (fin.insert held.0 c.in_ok-number.number c.in_ok-block.block,
-      (part_held c.args.uploads.now c.loop.uploads c.put_part.new.uploads c.args.id c.in_ok-number.number c.args.key.now c.in_ok-block.block held.0 held.1.0 c.in_ok-number.ensures.number c.in_ok-put_part.ensures.put,
-        one_more (part_number_at c.args.whole) (block_at w64 c.args.whole) c.args.count c.loop.counter _ c.loop.rest.now _ _ _ _ _ held.0 _ _ c.loop-test.true c.in_ok-number.ensures.exact c.in_ok-block.ensures refl same held.1.1))
+    let same : Some c.from.result ≡ Some c.in_ok-number.number = ap (λ n. Some n) c.from.ensures in (
+      fin.insert held.0 c.in_ok-number.number c.in_ok-block.block,
+      (
+        part_held c.args.uploads.now c.loop.uploads c.put_part.new.uploads c.args.id c.in_ok-number.number c.args.key.now c.in_ok-block.block held.0 held.1.0 c.in_ok-number.ensures.number c.in_ok-put_part.ensures.put,
+        one_more (part_number_at c.args.whole) (block_at w64 c.args.whole) c.args.count c.loop.counter _ c.loop.rest.now _ _ _ _ _ held.0 _ _ c.loop-test.true c.in_ok-number.ensures.exact c.in_ok-block.ensures refl same held.1.1,
+      ),
+    )
 
 pub returns : goal.returns
 returns c =
@@ -35,4 +38,3 @@ returns c =
     let total = last_step (part_number_at c.args.whole) (block_at w64 c.args.whole) c.args.count c.loop.counter _ c.loop.rest.now held.0 _ c.loop-test.false held.1.1 in
     ap (made (λ (ps : Parts). fin.insert c.args.uploads.now c.args.id (record { key = c.args.key.now; parts = ps }))) total
     ∙ ap (λ (m : fin.FinMap nat_cmp Upload). Ok (m, c.loop.rest.now)) (sym held.1.0)
-

@@ -8,4 +8,4 @@ use Rattle.store_image.proofs.reading.parts_of.Given as goal
 
 abbrev pub invariant-loop : goal.invariant-loop
 invariant-loop l = (parts : Parts) × ((l.uploads ≡ fin.insert l.fn.uploads l.id (record { key = l.key; parts = parts }))
-  × (built parts (rising_at (part_number_at l.whole) (block_at w64 l.whole) (l.count - l.counter) l.last l.rest) ≡ map_at (part_number_at l.whole) (block_at w64 l.whole) l.count l.bytes))
+    × (built parts (rising_at (part_number_at l.whole) (block_at w64 l.whole) (l.count - l.counter) l.last l.rest) ≡ map_at (part_number_at l.whole) (block_at w64 l.whole) l.count l.bytes))
