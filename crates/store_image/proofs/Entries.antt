@@ -1,5 +1,5 @@
 -- Entries that rise: they are taken and read again, and they are those of the map that they make.
-use Rattle.std.proofs.Common.{◌≡◌, ℕ, zero, suc, ◌+◌, ◌-◌, ◌^◌, ◌<◌, ◌≤◌, Bool, true, false, cond, T, List, [], ◌∷◌, ◌++◌, length, Option, Some, None, Result, Ok, Err, refl, sym, ap, subst, ◌∙◌, append_assoc, length-append, arith}
+use Rattle.std.proofs.Common.{◌≡◌, ℕ, zero, suc, ◌+◌, ◌^◌, ◌<◌, ◌≤◌, Bool, true, false, T, List, [], ◌∷◌, ◌++◌, length, Option, Some, None, Ok, refl, sym, ap, subst, ◌∙◌, append_assoc, length-append, arith}
 use Rattle.std.specs.Prelude.{◌&&◌}
 use Rattle.std.specs.FinMap as fin
 use Rattle.std.specs.FinMap.{entries_sorted}
@@ -8,14 +8,14 @@ use Rattle.std.specs.Int.{Width, to_be_bytes}
 use Rattle.std.specs.List.{flat_map, AllByRecursion}
 use Rattle.std.specs.Ordering.{is_lt, ordering_reverse}
 use Rattle.std.specs.declared.cmp.Ordering.{Ordering}
-use Rattle.std.specs.declared.cmp.Ordering.TheVariants.{Less, Equal, Greater}
+use Rattle.std.specs.declared.cmp.Ordering.TheVariants.{Greater}
 use Rattle.std.specs.Cmp.{IsTotalOrder}
 use Rattle.std.proofs.lemmas.List.{append-nil}
 use Rattle.std.proofs.lemmas.List.Concat.{flat_map-cons}
 use Rattle.proof_base.proofs.Tree.{entries_empty}
 use Rattle.store_image.specs.Image.{counted}
 use Rattle.store_image.specs.Content.{IsEntry, AreEntries}
-use Rattle.store_image.specs.Reading.{◌>>=◌, Read, made, number_at, is_after, rising_at, with_entries, map_at, counted_at}
+use Rattle.store_image.specs.Reading.{Read, number_at, is_after, rising_at, with_entries, map_at, counted_at}
 use Rattle.store_image.proofs.Steps.{IsBytes, bind_ok, ok_is, Takes, Takes-then, IsReader, IsWide, number_takes, number_again}
 use Rattle.store_image.proofs.Maps.{is_less, after_both}
 

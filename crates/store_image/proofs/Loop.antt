@@ -1,5 +1,5 @@
 -- One more entry of a map that is read.
-use Rattle.std.proofs.Common.{◌≡◌, ℕ, suc, ◌+◌, ◌-◌, ◌<◌, ◌≤◌, List, [], ◌∷◌, Option, Some, None, Result, Ok, Err, refl, sym, ap, subst, ◌∙◌, arith}
+use Rattle.std.proofs.Common.{◌≡◌, ℕ, suc, ◌+◌, ◌-◌, ◌<◌, ◌≤◌, List, ◌∷◌, Option, Some, None, Result, Ok, Err, refl, sym, ap, subst, ◌∙◌, arith}
 use Rattle.std.specs.FinMap as fin
 use Rattle.std.specs.declared.cmp.Ordering.{Ordering}
 use Rattle.store_image.specs.declared.fault.ImageFault.{ImageFault}
@@ -9,7 +9,7 @@ use Rattle.store_image.specs.Reading.{◌>>=◌, Read, made, number_at, block_at
 use Rattle.std.specs.Int.{w16, w64}
 use Rattle.std.proofs.lemmas.Cmp.{nat_cmp_total}
 use Rattle.s3_types.specs.Names.{is_key}
-use Rattle.s3_types.specs.Store.{Parts, Upload, Uploads, Content}
+use Rattle.s3_types.specs.Store.{Parts, Uploads, Content}
 use Rattle.store_image.proofs.Maps.{insert_again}
 use Rattle.store_image.proofs.Steps.{ok_is}
 

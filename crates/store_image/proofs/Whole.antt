@@ -1,5 +1,5 @@
 -- The two laws of the whole: what is read is spelled so, and what is spelled so is read.
-use Rattle.std.proofs.Common.{◌≡◌, ℕ, ◌+◌, ◌-◌, ◌^◌, ◌<◌, ◌≤◌, Bool, true, false, cond, eqb, leb, List, [], ◌∷◌, ◌++◌, length, Option, Some, None, Result, Ok, Err, refl, sym, ap, subst, ◌∙◌, append_assoc, arith}
+use Rattle.std.proofs.Common.{◌≡◌, ℕ, ◌^◌, ◌<◌, ◌≤◌, true, cond, eqb, leb, List, [], ◌++◌, length, Result, Ok, Err, refl, sym, ap, subst, ◌∙◌, append_assoc, arith}
 use Rattle.std.specs.Prelude.{IfOk, bytes_eq}
 use Rattle.std.specs.Int.{w64, to_be_bytes}
 use Rattle.std.proofs.lemmas.Bool.{eqb-true, leb-true, and_parts}
@@ -7,14 +7,14 @@ use Rattle.std.proofs.lemmas.List.{append-nil, nil_from_length, length-append}
 use Rattle.std.proofs.lemmas.Slice.Eq.{bytes_eq-Decides}
 use Rattle.proof_base.specs.Order.{text_cmp}
 use Rattle.s3_types.specs.Names.{is_bucket}
-use Rattle.s3_types.specs.Store.{Buckets, Content}
+use Rattle.s3_types.specs.Store.{Content}
 use Rattle.store_image.specs.declared.fault.ImageFault.{ImageFault}
 use Rattle.store_image.specs.declared.fault.ImageFault.TheVariants.{BadHead, CounterTooHigh, Trailing}
 use Rattle.store_image.specs.Image.{magic, counted, bucket, image}
 use Rattle.store_image.specs.Fault.{Gives}
-use Rattle.store_image.specs.Content.{is_minimum, is_counter, AreEntries, IsBucket, IsContent}
+use Rattle.store_image.specs.Content.{is_minimum, is_counter, IsContent}
 use Rattle.store_image.specs.Reading.{◌>>=◌, Read, place, passing, bytes_at, number_at, name_at, bucket_at, counted_at, head_at, store_at, content_in}
-use Rattle.store_image.proofs.Steps.{IsBytes, bind_ok, done, ok_is, passed, bytes_take, bytes_again, Takes, Takes-then, IsReader, IsBelow, wide64, number_takes, number_again}
+use Rattle.store_image.proofs.Steps.{IsBytes, bind_ok, ok_is, passed, bytes_take, bytes_again, Takes, Takes-then, wide64, number_takes, number_again}
 use Rattle.store_image.proofs.Spelled.{buckets_reader}
 
 -- ---- the head

@@ -1,5 +1,5 @@
 -- Reading an image from left to right, with the first fault that is met. A field's place is how much of the whole, which is told by its length, stands before it.
-use Rattle.std.specs.Prelude.{ℕ, ◌-◌, zero, suc, ◌==◌, ◌&&◌, nat_lt, Bool, true, if◌then◌else◌, List, [], ◌∷◌, length, take, drop, bytes_eq, Option, Some, None, Result, Ok, Err}
+use Rattle.std.specs.Prelude.{ℕ, ◌-◌, zero, suc, ◌==◌, nat_lt, Bool, true, if◌then◌else◌, List, [], ◌∷◌, length, take, drop, bytes_eq, Option, Some, None, Result, Ok, Err}
 use Rattle.std.specs.FinMap as fin
 use Rattle.std.specs.Int.{Width, w16, w64, byte_len, from_be_bytes}
 use Rattle.std.specs.Ordering.{is_lt, nat_cmp}

@@ -1,4 +1,4 @@
-use Rattle.std.proofs.Common.{◌<◌, ◌^◌, length, arith}
+use Rattle.std.proofs.Common.{arith}
 use Rattle.store_image.proofs.Whole.{found, only, one}
 use Rattle.store_image.proofs.reading.decode.Goals as goal
 
