@@ -217,9 +217,10 @@ fn all_of(alloc: Global, whole: u64, bytes: &[u8]) -> Result<Service, ImageFault
     Ok(service)
 }
 
-/// Reads an image, in time linear in its length, with memory for the bytes that it holds and a constant
-/// for each entry. The fault is the first from left to right: fields are read in their order, a name is
-/// checked before its place in the order, and an id's place in the order before the counter.
+/// Reads an image, in one pass. Each entry takes O(log n) to find its place, each byte is copied once at
+/// most, and each part is hashed once; no memory is taken on the word of a length or of a count. The fault
+/// is the first from left to right: fields are read in their order, a name is checked before its place in
+/// the order, and an id's place in the order before the counter.
 pub fn decode(alloc: Global, bytes: &[u8]) -> Result<Service, ImageFault>
     // What is read is a content that an image can have, and the bytes are its image.
     ensures found { IfOk result (λ c. IsContent c × (bytes.now ≡ image c)) }
