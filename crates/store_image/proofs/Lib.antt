@@ -1,0 +1,6 @@
+pub mod Steps
+pub mod Maps
+pub mod Loop
+pub mod Entries
+pub mod Spelled
+pub mod Whole

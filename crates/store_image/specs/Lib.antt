@@ -1,1 +1,4 @@
 pub mod Image
+pub mod Fault
+pub mod Content
+pub mod Reading

@@ -1,8 +1,14 @@
-//! The image of the modelled S3 service: all that it holds as one list of bytes.
+//! The image of the modelled S3 service: all that it holds as one list of bytes, and what such a list
+//! holds.
 #![tactic(auto)]
 
+mod fault;
+mod fields;
+mod reading;
 #[cfg(test)]
 mod tests;
 mod writing;
 
+pub use fault::ImageFault;
+pub use reading::decode;
 pub use writing::encode;

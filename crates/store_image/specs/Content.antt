@@ -1,0 +1,55 @@
+-- What a content must be to have an image.
+use Rattle.std.specs.Prelude.{◌≡◌, ℕ, ◌<◌, ◌^◌, ◌&&◌, nat_le, nat_lt, Bool, true, List}
+use Rattle.std.specs.FinMap as fin
+use Rattle.std.specs.List.{AllByRecursion}
+use Rattle.std.specs.declared.cmp.Ordering.{Ordering}
+use Rattle.s3_types.specs.Names.{is_bucket, is_key}
+use Rattle.s3_types.specs.Multipart.{is_part_number}
+use Rattle.s3_types.specs.Store.{Upload, BucketContent, Content}
+use Rattle.s3_types.specs.declared.object.Object.{Object}
+use Rattle.store_image.specs.Image.{header}
+
+-- the minimum part is 1 to 5,242,880
+abbrev pub is_minimum : ℕ → Bool
+is_minimum n = nat_le 1 n && nat_le n 5242880
+
+-- the counter is 1 to 2^62
+abbrev pub is_counter : ℕ → Bool
+is_counter n = nat_le 1 n && nat_le n (2 ^ 62)
+
+-- an upload's id is 1 to below the counter
+abbrev pub is_id : ℕ → ℕ → Bool
+is_id next n = nat_le 1 n && nat_lt n next
+
+-- an entry of a map has a key that passes the test, and a value of this kind
+pub record IsEntry {K X : Type 0} (is_key : K → Bool) (IsValue : X → Type 0) (e : K × X) : Type 0 where
+  pub key : is_key e.0 ≡ true
+  pub value : IsValue e.1
+
+-- all entries of a map are so
+abbrev pub AreEntries : {K X : Type 0} {R : K → K → Ordering} → (K → Bool) → (X → Type 0) → fin.FinMap R X → Type 0
+AreEntries is_key IsValue m = AllByRecursion (IsEntry is_key IsValue) (fin.entries m)
+
+-- an object's header fits in its field
+pub record IsObject (o : Object) : Type 0 where
+  pub header_fits : header o.header < 2 ^ 64
+
+-- any bytes are a part's
+abbrev pub IsPart : List ℕ → Type 0
+IsPart bytes = Unit {0}
+
+-- an upload has a key, and its parts are 1 to 10,000
+pub record IsUpload (u : Upload) : Type 0 where
+  pub key : is_key u.key ≡ true
+  pub parts : AreEntries is_part_number IsPart u.parts
+
+-- a bucket's objects stand at keys, and its uploads have ids below the counter
+pub record IsBucket (next : ℕ) (b : BucketContent) : Type 0 where
+  pub objects : AreEntries is_key IsObject b.objects
+  pub uploads : AreEntries (is_id next) IsUpload b.uploads
+
+-- a content that an image can have
+pub record IsContent (c : Content) : Type 0 where
+  pub minimum : is_minimum c.minimum ≡ true
+  pub counter : is_counter c.next ≡ true
+  pub buckets : AreEntries is_bucket (IsBucket c.next) c.buckets

@@ -1,0 +1,43 @@
+-- Faults of an image by their numbers and places, and what a call returned of what reading gives.
+use Rattle.std.specs.Prelude.{◌≡◌, ℕ, Result, Ok, Err}
+use Rattle.store_image.specs.declared.fault.ImageFault.{ImageFault}
+use Rattle.store_image.specs.declared.fault.ImageFault.TheVariants.{BadHead, Short, BadOrder, BadName, CounterTooHigh, Trailing, NoMemory}
+
+-- a fault's number
+abbrev pub number_of : ImageFault → ℕ
+number_of BadHead = 1
+number_of (Short place) = 2
+number_of (BadOrder place) = 3
+number_of (BadName place) = 4
+number_of CounterTooHigh = 5
+number_of (Trailing place) = 6
+number_of NoMemory = 7
+
+-- a fault's place, 0 where it has none
+abbrev pub place_in : ImageFault → ℕ
+place_in BadHead = 0
+place_in (Short place) = place
+place_in (BadOrder place) = place
+place_in (BadName place) = place
+place_in CounterTooHigh = 0
+place_in (Trailing place) = place
+place_in NoMemory = 0
+
+-- a fault stands for P, unless memory ran out
+abbrev pub IfNotMemory : ImageFault → Type 0 → Type 0
+IfNotMemory BadHead P = P
+IfNotMemory (Short place) P = P
+IfNotMemory (BadOrder place) P = P
+IfNotMemory (BadName place) P = P
+IfNotMemory CounterTooHigh P = P
+IfNotMemory (Trailing place) P = P
+IfNotMemory NoMemory P = Unit {0}
+
+-- what a call returned, seen by a view, is what reading gives, unless memory ran out
+abbrev pub GivesBy : {A B : Type 0} → (A → B) → Result A ImageFault → Result B ImageFault → Type 0
+GivesBy view (Ok x) read = read ≡ Ok (view x)
+GivesBy view (Err e) read = IfNotMemory e (read ≡ Err e)
+
+-- what a call returned is what reading gives, unless memory ran out
+abbrev pub Gives : {A : Type 0} → Result A ImageFault → Result A ImageFault → Type 0
+Gives result read = GivesBy (λ x. x) result read

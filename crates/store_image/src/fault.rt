@@ -1,0 +1,72 @@
+ghost use Rattle.std.specs.Prelude.{◌≡◌};
+ghost use Rattle.store_image.specs.Fault.{number_of, place_in};
+ghost use Rattle.store_image.specs.declared.fault.ImageFault.TheVariants.{NoMemory};
+
+use std::alloc::{AllocError, AllocFailed};
+
+/// Why bytes are no image: the first fault from left to right, with its place in bytes from the start.
+#[derive(Clone, Copy, Debug, PartialEq, Eq)]
+pub enum ImageFault {
+    /// The first 8 bytes are not `S3AIMG01`, or the minimum is not 1 to 5,242,880.
+    BadHead,
+    /// The input ends within the field that begins there.
+    Short(u64),
+    /// The name, key, id or number there is not greater than the one before it in its list, or the
+    /// number of a part is not 1 to 10,000.
+    BadOrder(u64),
+    /// The name or key whose length stands there is none.
+    BadName(u64),
+    /// The counter is not 1 to 2^62, or an upload's id is not 1 to below the counter.
+    CounterTooHigh,
+    /// Bytes follow the last item from there on.
+    Trailing(u64),
+    NoMemory,
+}
+
+impl ImageFault {
+    /// The fault's number, 1 to 6, and 7 for want of memory.
+    pub fn number(&self) -> u8
+        ensures { result ≡ number_of self.now }
+    {
+        match self {
+            ImageFault::BadHead => 1,
+            ImageFault::Short(_) => 2,
+            ImageFault::BadOrder(_) => 3,
+            ImageFault::BadName(_) => 4,
+            ImageFault::CounterTooHigh => 5,
+            ImageFault::Trailing(_) => 6,
+            ImageFault::NoMemory => 7,
+        }
+    }
+
+    /// The fault's place in bytes from the start, and 0 where it has none.
+    pub fn place(&self) -> u64
+        ensures { result ≡ place_in self.now }
+    {
+        match self {
+            ImageFault::Short(place) => *place,
+            ImageFault::BadOrder(place) => *place,
+            ImageFault::BadName(place) => *place,
+            ImageFault::Trailing(place) => *place,
+            ImageFault::BadHead => 0,
+            ImageFault::CounterTooHigh => 0,
+            ImageFault::NoMemory => 0,
+        }
+    }
+}
+
+impl From<AllocError> for ImageFault {
+    ghost from_gives = { λ _ e. e ≡ NoMemory };
+
+    fn from(_e: AllocError) -> ImageFault {
+        ImageFault::NoMemory
+    }
+}
+
+impl<T: Drop> From<AllocFailed<T>> for ImageFault {
+    ghost from_gives = { λ _ e. e ≡ NoMemory };
+
+    fn from(_e: AllocFailed<T>) -> ImageFault {
+        ImageFault::NoMemory
+    }
+}
