@@ -1,0 +1,10 @@
+use Rattle.std.proofs.Common.{refl}
+use Rattle.worked_jobs.proofs.Digits.{zero_digit}
+use Rattle.worked_jobs.specs.OneFile.{OneFile, LostMark}
+use Rattle.worked_jobs.proofs.one_file.Goals as goal
+
+pub returns-clause-whole : goal.returns-clause-whole
+returns-clause-whole c = record { commit = refl; commit_open = refl; not_begun = refl; begun = refl; unpublished = refl; published = rw zero_digit refl; unpicked = refl; picked = rw zero_digit refl; undecided = refl; decided = rw zero_digit refl; wanted = rw zero_digit refl; unwanted = rw zero_digit refl; kept = refl; unmarked = refl; marked = refl; driver = refl; attempt_state = refl; missing_before = refl; missing_after = refl }
+
+pub returns-clause-lost : goal.returns-clause-lost
+returns-clause-lost c = record { unmarked = refl; marked = refl; marked_again = refl; picked = rw zero_digit refl; worn = refl; spared = refl; end = refl }

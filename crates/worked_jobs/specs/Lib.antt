@@ -1,0 +1,4 @@
+pub mod Entries
+pub mod OneFile
+pub mod Attempts
+pub mod Views
