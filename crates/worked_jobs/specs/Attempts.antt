@@ -1,21 +1,17 @@
 -- Jobs of several attempts: two of one task, one with four files and a driver that dies, and two tasks that write one path.
-use Rattle.std.specs.Prelude.{◌≡◌, ℕ, true, false, List, [], ◌∷◌, ◌++◌, Option, Some, None, codes}
+use Rattle.std.specs.Prelude.{◌≡◌, ℕ, true, false, List, [], ◌∷◌, ◌++◌, Some, None, codes}
 use Rattle.s3_types.specs.declared.request.Actor.{Actor}
 use Rattle.s3_types.specs.declared.request.Actor.TheVariants.{Driver, Attempt}
 use Rattle.s3_types.specs.declared.reply.Reply.TheVariants.{Stored}
 use Rattle.s3_types.specs.declared.journal.Entry.{Entry}
-use Rattle.job_model.specs.Outputs.{Picks, wanted_at, is_decided, is_clash, is_picked}
+use Rattle.job_model.specs.Outputs.{wanted_at, is_decided, is_clash, is_picked}
 use Rattle.job_model.specs.Replay.{Seen, seen}
-use Rattle.job_model.specs.States.{past, commit_event, idle, dead, refusal}
-use Rattle.job_model.specs.Commits.{IsShared}
-use Rattle.job_model.specs.Follows.{CommitIs}
+use Rattle.job_model.specs.States.{past, commit_event, dead, refusal}
 use Rattle.job_model.specs.declared.script.Script.{Script}
 use Rattle.job_model.specs.declared.events.Op.TheVariants.{Setup, Write, Commit, Clean}
-use Rattle.job_model.specs.declared.events.Event.{Event}
 use Rattle.job_model.specs.declared.events.Event.TheVariants.{Do, Start, Step, Kill}
 use Rattle.job_model.specs.declared.ends.SetupEnd.TheVariants as setups
 use Rattle.job_model.specs.declared.ends.TaskEnd.TheVariants as tasks
-use Rattle.job_model.specs.declared.ends.CommitEnd.TheVariants as commits
 use Rattle.job_model.specs.declared.ends.OpEnd.TheVariants as ends
 use Rattle.job_model.specs.declared.ends.EventFault.TheVariants as faults
 use Rattle.job_model.specs.declared.ends.EventEnd.{EventEnd}

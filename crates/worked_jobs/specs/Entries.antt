@@ -1,15 +1,13 @@
 -- Entries of a journal, and the job that the examples are of.
-use Rattle.std.specs.Prelude.{ℕ, List, [], ◌∷◌, ◌++◌, Option, Some, None, codes, false, length}
+use Rattle.std.specs.Prelude.{ℕ, List, [], ◌∷◌, ◌++◌, Some, None, codes, false, length}
 use Rattle.s3_types.specs.Tags.{Spelled}
 use Rattle.s3_types.specs.declared.request.Actor.{Actor}
-use Rattle.s3_types.specs.declared.request.Actor.TheVariants.{Driver, Attempt}
+use Rattle.s3_types.specs.declared.request.Actor.TheVariants.{Driver}
 use Rattle.s3_types.specs.declared.request.Request.{Request}
 use Rattle.s3_types.specs.declared.request.Request.TheVariants.{PutObject, GetObject, HeadObject, DeleteObject, ListPage, CreateUpload, UploadPart, CompleteUpload}
 use Rattle.s3_types.specs.declared.reply.Reply.{Reply}
 use Rattle.s3_types.specs.declared.reply.Reply.TheVariants.{Stored, Object, Deleted, Page, Upload, Part, Completed, Refused}
 use Rattle.s3_types.specs.declared.reply.Refusal.TheVariants.{NoSuchKey}
-use Rattle.s3_types.specs.declared.reply.PageEntry.{PageEntry}
-use Rattle.s3_types.specs.declared.reply.PageEntry.TheVariants.{Object as Single}
 use Rattle.s3_types.specs.declared.journal.Outcome.{Outcome}
 use Rattle.s3_types.specs.declared.journal.Outcome.TheVariants.{Answered}
 use Rattle.s3_types.specs.declared.journal.Entry.{Entry}
@@ -30,8 +28,17 @@ lake = codes "lake"
 -- a job of the magic committer at s3a://lake/out
 abbrev pub job : ℕ → ℕ → List Declared → List Event → Script
 job tasks retries attempts events = record {
-  job = codes "j1"; dest = record { bucket = lake; key = codes "out" }; committer = Magic; mode = Append; unique = false;
-  tasks = tasks; retries = retries; block = 0; stamp = None; attempts = attempts; events = events;
+  job = codes "j1";
+  dest = record { bucket = lake; key = codes "out" };
+  committer = Magic;
+  mode = Append;
+  unique = false;
+  tasks = tasks;
+  retries = retries;
+  block = 0;
+  stamp = None;
+  attempts = attempts;
+  events = events;
 }
 
 -- an attempt that writes files

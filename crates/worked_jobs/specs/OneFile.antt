@@ -1,5 +1,5 @@
 -- A job of one attempt with one file.
-use Rattle.std.specs.Prelude.{◌≡◌, ℕ, true, false, List, [], ◌∷◌, ◌++◌, Option, Some, None, codes}
+use Rattle.std.specs.Prelude.{◌≡◌, ℕ, true, false, List, [], ◌∷◌, ◌++◌, Some, None, codes}
 use Rattle.std.specs.FinMap as fin
 use Rattle.s3_types.specs.Store.{Content, new_bucket}
 use Rattle.s3_types.specs.declared.request.Actor.{Actor}
@@ -7,10 +7,10 @@ use Rattle.s3_types.specs.declared.request.Actor.TheVariants.{Driver, Attempt}
 use Rattle.s3_types.specs.declared.reply.Reply.TheVariants.{Stored}
 use Rattle.s3_types.specs.declared.journal.Outcome.TheVariants.{ReplyLost}
 use Rattle.s3_types.specs.declared.journal.Entry.{Entry}
-use Rattle.job_model.specs.Outputs.{Picks, wanted_at, keeps, is_decided, is_clash}
+use Rattle.job_model.specs.Outputs.{wanted_at, keeps, is_decided}
 use Rattle.job_model.specs.Replay.{Seen, seen}
 use Rattle.job_model.specs.States.{past, commit_event, idle, missing}
-use Rattle.job_model.specs.Turns.{of_event, since}
+use Rattle.job_model.specs.Turns.{of_event}
 use Rattle.job_model.specs.Follows.{first_worn, CommitIs}
 use Rattle.job_model.specs.declared.script.Script.{Script}
 use Rattle.job_model.specs.declared.events.Op.TheVariants.{Setup, Write, Commit}

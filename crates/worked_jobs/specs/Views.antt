@@ -1,5 +1,5 @@
 -- What a destination shows of some stores, and which views the promise refuses.
-use Rattle.std.specs.Prelude.{◌≡◌, ℕ, List, [], ◌∷◌, ◌++◌, Option, Some, None, codes}
+use Rattle.std.specs.Prelude.{◌≡◌, ℕ, List, [], Some, None, codes}
 use Rattle.std.specs.FinMap as fin
 use Rattle.s3_types.specs.Store.{Content, Objects}
 use Rattle.s3_types.specs.declared.object.Object.{Object}

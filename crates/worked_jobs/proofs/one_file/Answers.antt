@@ -1,6 +1,5 @@
 use Rattle.std.proofs.Common.{refl}
 use Rattle.worked_jobs.proofs.Digits.{zero_digit}
-use Rattle.worked_jobs.specs.OneFile.{OneFile, LostMark}
 use Rattle.worked_jobs.proofs.one_file.Goals as goal
 
 pub returns-clause-whole : goal.returns-clause-whole

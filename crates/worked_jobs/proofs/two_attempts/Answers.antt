@@ -1,5 +1,5 @@
 use Rattle.std.proofs.Common.{refl}
-use Rattle.worked_jobs.proofs.Digits.{zero_digit, one_digit}
+use Rattle.worked_jobs.proofs.Digits.{zero_digit}
 use Rattle.worked_jobs.proofs.two_attempts.Goals as goal
 
 pub returns : goal.returns
