@@ -51,6 +51,18 @@ impl Part {
     }
 }
 
+/// The same part. The two share the bytes.
+impl Clone for Part {
+    ghost is_clone = { λ p copy. copy ≡ p };
+
+    fn clone(&self) -> Result<Part, AllocError> {
+        Ok(Part {
+            bytes: self.bytes.clone()?,
+            tag: self.tag,
+        })
+    }
+}
+
 /// The parts of an upload by their numbers, which are 1 to 10,000.
 #[derive(Drop)]
 pub struct Parts {
@@ -71,6 +83,17 @@ impl Model for Parts {
     ghost view = { λ p. fin.from_entries p.held.entries };
 
     ghost invariant = { λ p. AreNumbered (fin.from_entries p.held.entries) };
+}
+
+/// The same parts at the same numbers. The two share the bytes.
+impl Clone for Parts {
+    ghost is_clone = { λ p copy. copy ≡ p };
+
+    fn clone(&self) -> Result<Parts, AllocError> {
+        Ok(Parts {
+            held: self.held.clone()?,
+        })
+    }
 }
 
 impl Parts {

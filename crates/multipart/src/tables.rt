@@ -77,6 +77,18 @@ impl Live {
     }
 }
 
+impl Clone for Live {
+    ghost is_clone = { λ l copy. copy ≡ l };
+
+    fn clone(&self) -> Result<Live, AllocError> {
+        Ok(Live {
+            key: self.key.clone()?,
+            text: self.text.clone()?,
+            parts: self.parts.clone()?,
+        })
+    }
+}
+
 /// Live uploads by their ids.
 #[derive(Drop)]
 pub struct Lives {
@@ -93,6 +105,16 @@ impl Model for Lives {
     ghost coded = { coded_uploads };
 
     ghost view = { λ l. fin.from_entries l.held.entries };
+}
+
+impl Clone for Lives {
+    ghost is_clone = { λ l copy. copy ≡ l };
+
+    fn clone(&self) -> Result<Lives, AllocError> {
+        Ok(Lives {
+            held: self.held.clone()?,
+        })
+    }
 }
 
 impl Lives {
@@ -179,6 +201,17 @@ impl Model for Place {
     ghost inverse = { λ r. record { text = r.key; upload = r.upload } };
 }
 
+impl Clone for Place {
+    ghost is_clone = { λ p copy. copy ≡ p };
+
+    fn clone(&self) -> Result<Place, AllocError> {
+        Ok(Place {
+            text: self.text.clone()?,
+            upload: self.upload,
+        })
+    }
+}
+
 /// The keys of live uploads by their places.
 #[derive(Drop)]
 pub struct Index {
@@ -196,6 +229,16 @@ impl Model for Index {
     ghost coded = { fin.code coded_ref coded_text };
 
     ghost view = { λ i. fin.from_entries i.held.entries };
+}
+
+impl Clone for Index {
+    ghost is_clone = { λ i copy. copy ≡ i };
+
+    fn clone(&self) -> Result<Index, AllocError> {
+        Ok(Index {
+            held: self.held.clone()?,
+        })
+    }
 }
 
 impl Index {

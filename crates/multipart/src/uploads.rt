@@ -52,6 +52,20 @@ impl Model for Uploads {
     ghost invariant = { λ u. u.index ≡ keyed u.lives };
 }
 
+/// The same uploads with the same parts, in O(u + p) for p parts. The two share the parts' bytes and
+/// the keys' texts.
+impl Clone for Uploads {
+    ghost is_clone = { λ u copy. copy ≡ u };
+
+    fn clone(&self) -> Result<Uploads, AllocError> {
+        Ok(Uploads {
+            lives: self.lives.clone()?,
+            index: self.index.clone()?,
+            alloc: self.alloc,
+        })
+    }
+}
+
 impl Uploads {
     /// No uploads. Takes no memory.
     pub fn new(alloc: Global) -> Uploads

@@ -30,6 +30,17 @@ impl Model for BucketStore {
     ghost view = { λ b. record { objects = b.objects; uploads = b.uploads } };
 }
 
+impl Clone for BucketStore {
+    ghost is_clone = { λ b copy. copy ≡ b };
+
+    fn clone(&self) -> Result<BucketStore, AllocError> {
+        Ok(BucketStore {
+            objects: self.objects.clone()?,
+            uploads: self.uploads.clone()?,
+        })
+    }
+}
+
 impl BucketStore {
     /// An empty bucket. Takes no memory.
     pub fn empty(alloc: Global) -> BucketStore

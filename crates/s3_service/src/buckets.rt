@@ -29,6 +29,16 @@ impl Model for Buckets {
     ghost view = { λ b. map.from_entries b.held.entries };
 }
 
+impl Clone for Buckets {
+    ghost is_clone = { λ b copy. copy ≡ b };
+
+    fn clone(&self) -> Result<Buckets, AllocError> {
+        Ok(Buckets {
+            held: self.held.clone()?,
+        })
+    }
+}
+
 impl Buckets {
     pub fn new(alloc: Global) -> Buckets
         ensures { result ≡ map.empty }

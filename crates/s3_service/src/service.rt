@@ -116,6 +116,19 @@ impl Service {
         Ok(())
     }
 
+    /// A store with the same content, in O(n) for n keys, uploads and parts. The two share all bytes and
+    /// the keys' texts, and no request to the one is seen in the other.
+    pub fn copy(&self) -> Result<Service, AllocError>
+        ensures { IfOk result (λ copy. copy ≡ self.now) }
+    {
+        Ok(Service {
+            buckets: self.buckets.clone()?,
+            next: self.next,
+            minimum: self.minimum,
+            alloc: self.alloc,
+        })
+    }
+
     fn make(&mut self, name: &Text) -> Result<Reply, AllocError>
         ensures reply { IfOk result (λ r. r ≡ answer_store self.old (Request.MakeBucket name.now)) }
         ensures ok { OnOk result (self.new ≡ apply_store self.old (Request.MakeBucket name.now)) }
