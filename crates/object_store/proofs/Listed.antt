@@ -17,7 +17,7 @@ use Rattle.object_store.specs.Walk.{text_by, text_of, walked}
 use Rattle.std.specs.FinMap.{entries}
 use Rattle.proof_base.proofs.Tree.{map_sorted}
 use Rattle.s3_types.specs.Store.{Objects}
-use Rattle.object_store.proofs.Prefix.{lt, between, lt_back, lt_le, le_le, lt_not, irrefl}
+use Rattle.object_store.proofs.Prefix.{lt, between, lt_back, lt_le, le_lt, le_le, lt_not, irrefl}
 use Rattle.object_store.proofs.Walked.{stems, text_le}
 
 -- each entry whose text is greater than the last
@@ -170,3 +170,39 @@ pub walked_listed : (p : List ℕ) (d : Bool) (a : List ℕ) (m : Objects) → w
 walked_listed p d a m =
     walked_given p d a (entries m)
     ∙ given_listed a None (entries_below p d (entries m)) tt (started p d (entries m) (map_sorted text_cmp m))
+
+-- ---- behind an entry
+
+given_greater : (a : List ℕ) (xs : List PageEntry) (x : PageEntry) (rest : List PageEntry) → given a xs ≡ x ∷ rest → lt a (text_in x) ≡ true
+given_greater a [] x rest h = absurd (cc)
+given_greater a (y ∷ ys) x rest h = by (lt a (text_in y)) refl (given_greater a ys x rest)
+  where
+    by : (b : Bool) → lt a (text_in y) ≡ b → (given a ys ≡ x ∷ rest → lt a (text_in x) ≡ true) → lt a (text_in x) ≡ true
+    by false n ih = ih (ap (λ b. cond b (y ∷ given (text_in y) ys) (given a ys)) (sym n) ∙ h)
+    by true t ih =
+        let e : y ∷ given (text_in y) ys ≡ x ∷ rest = ap (λ b. cond b (y ∷ given (text_in y) ys) (given a ys)) (sym t) ∙ h in
+        let f : y ≡ x = cc in
+        subst (λ z. lt a (text_in z) ≡ true) f t
+
+given_behind : (a : List ℕ) (xs : List PageEntry) (x : PageEntry) (rest : List PageEntry) → given a xs ≡ x ∷ rest → given (text_in x) xs ≡ rest
+given_behind a [] x rest h = absurd (cc)
+given_behind a (y ∷ ys) x rest h = by (lt a (text_in y)) refl (given_behind a ys x rest)
+  where
+    by : (b : Bool) → lt a (text_in y) ≡ b → (given a ys ≡ x ∷ rest → given (text_in x) ys ≡ rest) → given (text_in x) (y ∷ ys) ≡ rest
+    by false n ih =
+        let g : given a ys ≡ x ∷ rest = ap (λ b. cond b (y ∷ given (text_in y) ys) (given a ys)) (sym n) ∙ h in
+        ap (λ b. cond b (y ∷ given (text_in y) ys) (given (text_in x) ys)) (lt_not (text_in y) (text_in x) (le_lt (text_in y) a (text_in x) n (given_greater a ys x rest g)))
+        ∙ ih g
+    by true t ih =
+        let e : y ∷ given (text_in y) ys ≡ x ∷ rest = ap (λ b. cond b (y ∷ given (text_in y) ys) (given a ys)) (sym t) ∙ h in
+        let f : y ≡ x = cc in
+        let g : given (text_in y) ys ≡ rest = cc in
+        subst (λ z. given (text_in z) (y ∷ ys) ≡ rest) f
+        (ap (λ b. cond b (y ∷ given (text_in y) ys) (given (text_in y) ys)) (irrefl (text_in y)) ∙ g)
+
+-- what is listed behind the first entry are the others
+pub listed_behind : (p : List ℕ) (d : Bool) (a : List ℕ) (m : Objects) (x : PageEntry) (rest : List PageEntry) → listed p d a m ≡ x ∷ rest → listed p d (text_in x) m ≡ rest
+listed_behind p d a m x rest h =
+    let s = started p d (entries m) (map_sorted text_cmp m) in
+    sym (given_listed (text_in x) None (entries_below p d (entries m)) tt s)
+    ∙ given_behind a (entries_below p d (entries m)) x rest (given_listed a None (entries_below p d (entries m)) tt s ∙ h)

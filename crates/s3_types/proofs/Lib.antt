@@ -1,1 +1,3 @@
+pub mod Begins
+pub mod Spans
 pub mod Utf8

@@ -8,3 +8,6 @@ pub mod Multipart
 pub mod Answer
 pub mod Moment
 pub mod Coded
+pub mod Fates
+pub mod Foretold
+pub mod Spans

@@ -3,6 +3,7 @@
 #![tactic(auto)]
 
 mod bytes;
+mod fates;
 mod journal;
 mod limits;
 mod lists;
@@ -16,6 +17,7 @@ mod tag;
 mod text;
 
 pub use bytes::Bytes;
+pub use fates::{Fate, FateFault, Fates};
 pub use journal::{Entry, Journal, Outcome};
 pub use limits::{LengthHeader, PageLimit};
 pub use lists::{
@@ -30,3 +32,6 @@ pub use sequence::Sequence;
 pub use store::ObjectStore;
 pub use tag::Tag;
 pub use text::Text;
+
+#[cfg(test)]
+mod tests;

@@ -1,7 +1,9 @@
-ghost use Rattle.std.specs.Prelude.{◌≡◌, ℕ, ◌+◌, ◌<◌, ◌≤◌, ◌^◌, IfOk, OnOk, OnErr, IsTrue};
+ghost use Rattle.std.specs.Prelude.{◌≡◌, ℕ, ◌+◌, ◌<◌, ◌≤◌, ◌^◌, IfOk, OnOk, OnErr, IsTrue, Option, None};
 ghost use Rattle.s3_types.specs.Store.{Scene};
 ghost use Rattle.s3_types.specs.Answer.{answer};
 ghost use Rattle.s3_types.specs.Moment.{effect, is_unanswered, IsHonestOutcome};
+ghost use Rattle.s3_types.specs.Foretold.{IsForetold};
+ghost use Rattle.s3_types.specs.declared.fates.Fate.{Fate};
 
 use crate::journal::Outcome;
 use crate::request::Request;
@@ -18,6 +20,9 @@ pub trait ObjectStore {
     /// How many sendings got no answer so far.
     ghost losses: { Self → ℕ };
 
+    /// What becomes of the requests, by their numbers from 1, as far as it is told beforehand.
+    ghost foretold: { Self → ℕ → Option Fate } = { λ _ _. None };
+
     /// Makes a request. After want of memory all is as before.
     fn request(&mut self, request: &Request) -> Result<Outcome, AllocError>
         requires { requests self.old < 2 ^ 62 }
@@ -25,6 +30,8 @@ pub trait ObjectStore {
         ensures scene { IfOk result (λ outcome. scene self.new ≡ effect (scene self.old) request.now outcome) }
         ensures count { OnOk result (requests self.new ≡ requests self.old + 1) }
         ensures lost { IfOk result (λ outcome. IsTrue (is_unanswered outcome) → losses self.old < losses self.new) }
+        ensures fate { IfOk result (λ outcome. IsForetold (foretold self.old (requests self.old + 1)) outcome) }
+        ensures foretold { (n : ℕ) → foretold self.new n ≡ foretold self.old n }
         ensures losses { losses self.old ≤ losses self.new }
         ensures same { OnErr result (scene self.new ≡ scene self.old) }
         ensures same_count { OnErr result (requests self.new ≡ requests self.old) };

@@ -1,0 +1,9 @@
+use Rattle.std.proofs.Common.{ap, ◌∙◌, sym}
+use Rattle.std.specs.FinMap as map
+use Rattle.proof_base.specs.Order.{text_total}
+use Rattle.proof_base.proofs.Tree.{get_made}
+use Rattle.cluster_fs.proofs.cluster.Cluster.get.Goals as goal
+
+pub returns : goal.returns
+returns c =
+    c.get.ensures.value ∙ sym (get_made text_total c.self.inside.held.entries c.args.path.now) ∙ ap (λ m. map.get m c.args.path.now) c.self.view_is

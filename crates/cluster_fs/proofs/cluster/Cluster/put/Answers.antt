@@ -1,0 +1,11 @@
+use Rattle.std.proofs.Common.{◌∙◌, ap}
+use Rattle.std.specs.FinMap as map
+use Rattle.std.proofs.lemmas.Map.Lookups.{exact_bytes}
+use Rattle.proof_base.specs.Order.{text_total}
+use Rattle.proof_base.proofs.Tree.{made_insert}
+use Rattle.cluster_fs.proofs.cluster.Cluster.put.Goals as goal
+
+pub returns-clause-ok : goal.returns-clause-ok
+returns-clause-ok c =
+    made_insert text_total exact_bytes c.self.inside.held.entries c.insert.new.self.entries c.in_ok-path.path c.in_ok-bytes.bytes c.in_ok-insert.ensures.updates.0
+    ∙ (λ i. map.insert (c.self.view_is i) (c.in_ok-path.ensures.cases i) (c.in_ok-bytes.ensures.cases i))

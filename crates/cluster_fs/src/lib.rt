@@ -1,0 +1,9 @@
+//! The cluster's file system beside the store: files by their paths.
+#![tactic(auto)]
+
+mod cluster;
+
+pub use cluster::{Cluster, is_cluster_request};
+
+#[cfg(test)]
+mod tests;

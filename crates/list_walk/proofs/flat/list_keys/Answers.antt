@@ -1,0 +1,21 @@
+use Rattle.std.proofs.Common.{◌≡◌, ◌∙◌, ap, [], List}
+use Rattle.machine.specs.declared.retrying.Retrying.{Retrying}
+use Rattle.list_walk.specs.Walk.{standing, outcome_of}
+use Rattle.list_walk.specs.Kinds.{Keys, keys_from}
+use Rattle.list_walk.specs.Pages.{keys_listing}
+use Rattle.list_walk.proofs.Runs.{whole_run, scene_run}
+use Rattle.list_walk.proofs.flat.list_keys.Goals as goal
+
+pub returns-clause-keys : goal.returns-clause-keys
+returns-clause-keys g c =
+    let d = c.in_ok-drive.ensures in
+    c.into_keys.ensures
+    ∙ ap (λ (w : Keys). outcome_of w.end w.found) c.into_inner.ensures
+    ∙ whole_run keys_listing [] c.new-retrying.result _ _ _ d.part d.is_run.follows d.is_run.scene d.ended (ap (λ (t : Retrying Keys). standing t.machine) c.new-retrying.ensures ∙ ap (λ (w : Keys). standing w) c.in-Ok.ensures)
+    ∙ ap (λ (t : Retrying Keys). keys_from (g.S.ObjectStore.scene c.args.store.now) t.machine.bucket t.machine.prefix []) c.new-retrying.ensures
+    ∙ ap (λ (w : Keys). keys_from (g.S.ObjectStore.scene c.args.store.now) w.bucket w.prefix []) c.in-Ok.ensures
+
+pub returns-clause-same : goal.returns-clause-same
+returns-clause-same g c =
+    let d = c.in_ok-drive.ensures in
+    d.is_run.scene ∙ scene_run keys_listing [] _ _ d.part d.is_run.follows

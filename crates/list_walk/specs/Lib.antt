@@ -1,0 +1,4 @@
+pub mod Walk
+pub mod Kinds
+pub mod WalkLaws
+pub mod Pages

@@ -1,0 +1,40 @@
+use Rattle.std.proofs.Common.{◌≡◌, ◌+◌, ◌∙◌, ap, sym, subst, ◌||◌, inl, inr, [], ◌<◌, ◌++◌, append_assoc, ◌∷◌, length, arith}
+use Rattle.machine.specs.Turns.{step, tells_worn}
+use Rattle.s3_types.specs.Foretold.{IsForetold}
+use Rattle.machine.proofs.Runs.{told_more, driving_more, falls_step, told, is_run_more, work}
+use Rattle.machine.proofs.driving.drive.Goals as goal
+
+pub sending-preserved : goal.sending-preserved
+sending-preserved g c =
+    let h = rw c.in-Ok-Some.field-0-is at c.in-Ok-Some.ensures.sent in
+    driving_more g.met.M.Machine.laws _ _ _ _ _ _ _ _ _ _ _ _ _ _ _ _ _ _ _ _ _ _ h.0 c.sending.invariant h.1 h.2 h.3 c.in-Ok-Some.ensures.counted c.in-Ok-Some.ensures.losses h.5
+    (ap (λ b. c.sending.worn || b) (c.is_worn-worn.ensures ∙ ap tells_worn h.4 ∙ told c.sending.machine h.0.outcome)) h.6 c.in-Ok-Some.ensures.foretold h.7
+
+pub sending-smaller : goal.sending-smaller
+sending-smaller g c =
+    let h = rw c.in-Ok-Some.field-0-is at c.in-Ok-Some.ensures.sent in
+    let f = falls_step g.met.M.Machine.laws c.sending.machine _ h.0.request h.0.outcome h.1.wanted c.sending.invariant.ready_still h.1.honest in
+    subst (λ t. work g.M.Machine.left t (g.S.ObjectStore.scene c.send.new.store) < work g.M.Machine.left c.sending.machine (g.S.ObjectStore.scene c.sending.store)) (sym h.3)
+    (subst (λ s. work g.M.Machine.left (step g.M.Machine.after c.sending.machine h.0.outcome) s < work g.M.Machine.left c.sending.machine (g.S.ObjectStore.scene c.sending.store)) (sym h.1.scene) f)
+
+pub returns-in-Err : goal.returns-in-Err
+returns-in-Err g c =
+    let k = c.sending.invariant in
+    elim c.in-Err.ensures.err [
+      | inl h ↦ record {
+        part = k.part;
+        appended = h.0 ∙ k.appended;
+        is_run = record { by = k.is_run.by; honest = k.is_run.honest; follows = k.is_run.follows; scene = h.1 ∙ k.is_run.scene };
+        foretold = k.foretold;
+        ended = tt;
+      }
+      | inr h ↦
+          let n : g.S.ObjectStore.requests c.sending.store + 1 ≡ g.S.ObjectStore.requests c.args.store.now + 1 + length k.part = omega (arith, k.number) in
+          record {
+            part = k.part ++ h.0 ∷ [];
+            appended = h.2 ∙ ap (λ v. v ++ h.0 ∷ []) k.appended ∙ append_assoc _ k.part (h.0 ∷ []);
+            is_run = is_run_more _ _ _ _ _ _ k.part _ _ h.0 _ k.there k.is_run h.1;
+            foretold = told_more _ _ k.part h.0 k.foretold (subst (λ v. IsForetold v h.0.outcome) (k.same _ ∙ ap (g.S.ObjectStore.foretold c.args.store.now) n) h.3);
+            ended = tt;
+          }
+    ]

@@ -1,0 +1,97 @@
+-- What sending once, and driving a machine alone, have done.
+use Rattle.std.specs.Prelude.{◌≡◌, ℕ, ◌<◌, ◌≤◌, ◌+◌, ◌⊎◌, Bool, true, false, List, [], ◌∷◌, ◌++◌, length, Option, Some, None, Result, Ok, Err, IsTrue}
+use Rattle.s3_types.specs.Store.{Scene}
+use Rattle.s3_types.specs.Answer.{answer}
+use Rattle.s3_types.specs.Moment.{effect, after_all, AreHonest, IsHonestOutcome, is_unanswered}
+use Rattle.s3_types.specs.Foretold.{IsForetold, AreForetold}
+use Rattle.s3_types.specs.declared.fates.Fate.{Fate}
+use Rattle.s3_types.specs.declared.request.Request.{Request}
+use Rattle.s3_types.specs.declared.request.Actor.{Actor}
+use Rattle.s3_types.specs.declared.reply.Reply.{Reply}
+use Rattle.s3_types.specs.declared.journal.Entry.{Entry}
+use Rattle.machine.specs.Item.{Item, Standing, Faulted}
+use Rattle.machine.specs.Turns.{Follows, run, step, has_worn, turn_of, AreBy}
+use Rattle.machine.specs.declared.retrying.Retrying.{Retrying}
+use Rattle.machine.specs.declared.retrying.Turn.{Turn}
+use Rattle.machine.specs.declared.driving.DriveStop.{DriveStop}
+use Rattle.machine.specs.declared.driving.DriveStop.TheVariants.{StoreFault, NoMemory}
+
+-- from s to s' these entries are one run of the machine from t on
+pub record IsRun {M : Type 0} (wants : M → Option Request) (after : M → Item → M) (actor : Actor) (event : ℕ) (t : Retrying M) (s : Scene) (part : List Entry) (s' : Scene) : Type 0 where
+  pub by : AreBy actor event part
+  pub honest : AreHonest s part
+  pub follows : Follows wants after t part
+  pub scene : s' ≡ after_all s part
+
+-- one sending, by a machine at t: the entry, which is honest, and the scene after it
+pub record IsSent {M : Type 0} (wants : M → Option Request) (actor : Actor) (event : ℕ) (t : Retrying M) (s : Scene) (e : Entry) (s' : Scene) : Type 0 where
+  pub by : e.actor ≡ actor
+  pub during : e.event ≡ event
+  pub wanted : wants t.machine ≡ Some e.request
+  pub honest : IsHonestOutcome e.outcome (answer s e.request)
+  pub scene : s' ≡ effect s e.request e.outcome
+
+-- nothing was asked, and nothing sent; or one sending, with its entry
+abbrev pub Sent : {M : Type 0} → (M → Option Request) → (M → Item → M) → Actor → ℕ → Retrying M → Retrying M → Scene → Scene → List Entry → List Entry → ℕ → ℕ → (ℕ → Option Fate) → ℕ → ℕ → Option Turn → Type 0
+Sent wants after actor event t t' s s' old new before now told first requests None = (wants t.machine ≡ None) × (t' ≡ t) × (s' ≡ s) × (now ≡ before) × (new ≡ old)
+Sent wants after actor event t t' s s' old new before now told first requests (Some turn) = (e : Entry)
+    × IsSent wants actor event t s e s'
+    × (new ≡ old ++ e ∷ [])
+    × (t' ≡ step after t e.outcome)
+    × (turn ≡ turn_of t e.outcome)
+    × (IsTrue (is_unanswered e.outcome) → before < now)
+    × IsForetold (told (first + 1)) e.outcome
+    × (requests ≡ first + 1)
+
+-- memory was wanting before the sending, or after it, and then its entry stands
+abbrev pub SentNone : {M : Type 0} → (M → Option Request) → Actor → ℕ → Retrying M → Scene → Scene → List Entry → List Entry → (ℕ → Option Fate) → ℕ → Type 0
+SentNone wants actor event t s s' old new told first =
+    ((new ≡ old) × (s' ≡ s))
+    ⊎ ((e : Entry) × IsSent wants actor event t s e s' × (new ≡ old ++ e ∷ []) × IsForetold (told (first + 1)) e.outcome)
+
+-- a worn request shows
+abbrev pub standing_after : Bool → Standing → Standing
+standing_after true x = Faulted
+standing_after false x = x
+
+-- the machine is where these entries lead, and asks nothing more
+pub record IsOver {M : Type 0} (wants : M → Option Request) (after : M → Item → M) (ready : M → Scene → Bool → Type 0) (standing : M → Standing) (t : Retrying M) (part : List Entry) (t' : Retrying M) (s' : Scene) (worn : Bool) : Type 0 where
+  pub there : t' ≡ run after t part
+  pub over : wants t'.machine ≡ None
+  pub ready_still : ready t'.machine s' t'.repeated
+  pub wore : has_worn after t part ≡ worn
+  pub stands : standing t'.machine ≡ standing_after worn (standing t.machine)
+
+-- StoreFault exactly where a request wore out here, and then something was lost
+abbrev pub Ended : {T : Type 0} → (Bool → Type 0) → ℕ → ℕ → Result T DriveStop → Type 0
+Ended over before now (Ok x) = over false
+Ended over before now (Err StoreFault) = over true × (before < now)
+Ended over before now (Err NoMemory) = Unit {0}
+
+-- from t, s and the entries `old`, a machine that was alone was driven to t', s' and the entries `new`
+pub record Drove {M T : Type 0} (wants : M → Option Request) (after : M → Item → M) (ready : M → Scene → Bool → Type 0) (standing : M → Standing) (actor : Actor) (event : ℕ) (t t' : Retrying M) (s s' : Scene) (old new : List Entry) (before now : ℕ) (told : ℕ → Option Fate) (first : ℕ) (result : Result T DriveStop) : Type 0 where
+  pub part : List Entry
+  pub appended : new ≡ old ++ part
+  pub is_run : IsRun wants after actor event t s part s'
+  pub foretold : AreForetold told (first + 1) part
+  pub ended : Ended (IsOver wants after ready standing t part t' s') before now result
+
+-- the same in the middle of it
+pub record Driving {M : Type 0} (after : M → Item → M) (wants : M → Option Request) (ready : M → Scene → Bool → Type 0) (standing : M → Standing) (actor : Actor) (event : ℕ) (t t' : Retrying M) (s s' : Scene) (old new : List Entry) (before now : ℕ) (told tells : ℕ → Option Fate) (first requests : ℕ) (worn : Bool) : Type 0 where
+  pub part : List Entry
+  pub appended : new ≡ old ++ part
+  pub is_run : IsRun wants after actor event t s part s'
+  pub there : t' ≡ run after t part
+  pub wore : worn ≡ has_worn after t part
+  pub ready_still : ready t'.machine s' t'.repeated
+  pub foretold : AreForetold told (first + 1) part
+  pub number : requests ≡ first + length part
+  pub same : (n : ℕ) → tells n ≡ told n
+  pub counted : requests ≤ length new
+  pub losses : before ≤ now
+  pub stands : standing t'.machine ≡ standing_after worn (standing t.machine)
+  pub lost : worn ≡ true → before < now
+
+-- the answer that is due to the present request fits
+abbrev pub DueFits : {M : Type 0} → (M → Option Request) → (M → Reply → Bool → Type 0) → Retrying M → Scene → Type 0
+DueFits wants fits t s = (r : Request) → wants t.machine ≡ Some r → fits t.machine (answer s r) t.repeated

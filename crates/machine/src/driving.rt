@@ -1,0 +1,79 @@
+ghost use Rattle.std.specs.Prelude.{◌≡◌, ℕ, ◌≤◌, length, OnOk, OnErr, IfOk};
+ghost use Rattle.machine.specs.Drove.{Drove, DueFits, Sent, SentNone};
+
+use crate::operation::Machine;
+use crate::retrying::{Retrying, Turn};
+use s3_types::{Actor, Entry, Journal, ObjectStore};
+use std::alloc::{AllocError, Global};
+
+/// Why driving stopped short.
+#[derive(Clone, Copy, Debug, PartialEq, Eq)]
+pub enum DriveStop {
+    /// A request wore out.
+    StoreFault,
+    NoMemory,
+}
+
+/// Sends the present request once, if there is one, and appends its entry, whose place is taken before
+/// the sending. The answer that is due fits. Where memory is wanting before the sending, store and journal
+/// are as before; else the entry stands, and the machine asks nothing more.
+pub fn send<M: Machine, S: ObjectStore>(
+    alloc: Global,
+    machine: &mut Retrying<M>,
+    store: &mut S,
+    actor: Actor,
+    event: u32,
+    journal: &mut Journal,
+) -> Result<Option<Turn>, AllocError>
+    requires due { DueFits M.wants M.fits machine.old (S.scene store.old) }
+    requires counted { S.requests store.old ≤ length journal.old.entries }
+    ensures sent { IfOk result (λ turn. Sent M.wants M.after actor event machine.old machine.new (S.scene store.old) (S.scene store.new) journal.old.entries journal.new.entries (S.losses store.old) (S.losses store.new) (S.foretold store.old) (S.requests store.old) (S.requests store.new) turn) }
+    ensures foretold { (n : ℕ) → S.foretold store.new n ≡ S.foretold store.old n }
+    ensures counted { OnOk result (S.requests store.new ≤ length journal.new.entries) }
+    ensures losses { S.losses store.old ≤ S.losses store.new }
+    ensures err { OnErr result (SentNone M.wants actor event machine.old (S.scene store.old) (S.scene store.new) journal.old.entries journal.new.entries (S.foretold store.old) (S.requests store.old)) }
+{
+    let request = match machine.request() {
+        None => return Ok(None),
+        Some(request) => request.copied(alloc)?,
+    };
+    journal.reserve()?;
+    let outcome = store.request(&request)?;
+    let turn = machine.take(&outcome);
+    journal.push(Entry {
+        event,
+        actor,
+        request,
+        outcome,
+    });
+    Ok(Some(turn?))
+}
+
+/// Drives a machine that is alone until it asks nothing more. It appends one entry for each sending.
+/// StoreFault comes exactly where a request wore out in this call.
+pub fn drive<M: Machine, S: ObjectStore>(
+    alloc: Global,
+    machine: &mut Retrying<M>,
+    store: &mut S,
+    actor: Actor,
+    event: u32,
+    journal: &mut Journal,
+) -> Result<(), DriveStop>
+    requires ready { M.ready machine.old.machine (S.scene store.old) machine.old.repeated }
+    requires counted { S.requests store.old ≤ length journal.old.entries }
+    ensures { Drove M.wants M.after M.ready M.standing actor event machine.old machine.new (S.scene store.old) (S.scene store.new) journal.old.entries journal.new.entries (S.losses store.old) (S.losses store.new) (S.foretold store.old) (S.requests store.old) result }
+{
+    let mut worn = false;
+    'sending: loop {
+        match send(alloc, machine, store, actor, event, journal) {
+            Err(_) => return Err(DriveStop::NoMemory),
+            Ok(None) => break,
+            Ok(Some(turn)) => worn |= turn.is_worn(),
+        }
+    }
+    if worn {
+        Err(DriveStop::StoreFault)
+    } else {
+        Ok(())
+    }
+}

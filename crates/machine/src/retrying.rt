@@ -1,0 +1,118 @@
+ghost use Rattle.std.specs.Prelude.{◌≡◌, ◌≤◌, Option, IfOk, OnOk, OnErr, IsSome};
+ghost use Rattle.std.specs.Option.{option_copied};
+ghost use Rattle.machine.specs.Item.{OutOfMemory};
+ghost use Rattle.machine.specs.Turns.{fresh, step, unanswered, turn_of, turn_unanswered, tells_worn, FitsOutcome};
+
+use crate::operation::Machine;
+use s3_types::{Outcome, Request};
+use std::alloc::AllocError;
+
+/// A machine whose requests are sent again where no answer came: each is sent at most `retries + 1`
+/// times. SlowDown is no answer, and no reason to count a later sending as repeated.
+#[derive(Drop)]
+pub struct Retrying<M> {
+    pub machine: M,
+    /// How often a request may be sent again.
+    pub retries: u32,
+    /// How often the present request may still be sent again.
+    pub spare: u32,
+    /// Whether an earlier sending of the present request was lost.
+    pub repeated: bool,
+}
+
+/// What an outcome was for a machine.
+#[derive(Clone, Copy, Debug, PartialEq, Eq)]
+pub enum Turn {
+    /// No answer, and the request is sent again.
+    Again,
+    /// An answer.
+    Moved,
+    /// No answer, and the request is not sent again.
+    WornOut,
+}
+
+impl<M: Machine> Retrying<M> {
+    /// A machine of which nothing was sent yet. Takes no memory.
+    pub fn new(machine: M, retries: u32) -> Retrying<M>
+        ensures { result ≡ fresh machine retries }
+    {
+        Retrying {
+            machine,
+            retries,
+            spare: retries,
+            repeated: false,
+        }
+    }
+
+    /// The machine's present request. Takes no memory.
+    pub fn request(&self) -> Option<&Request>
+        ensures { option_copied result ≡ M.wants self.now.machine }
+    {
+        self.machine.request()
+    }
+
+    /// Takes the outcome of a sending of the present request. After want of memory nothing more is asked.
+    pub fn take(&mut self, outcome: &Outcome) -> Result<Turn, AllocError>
+        requires asked { IsSome (M.wants self.old.machine) }
+        requires fits { FitsOutcome M.fits self.old outcome.now }
+        ensures ok { OnOk result (self.new ≡ step M.after self.old outcome.now) }
+        ensures turn { IfOk result (λ turn. turn ≡ turn_of self.old outcome.now) }
+        ensures err { OnErr result (self.new.machine ≡ M.after self.old.machine OutOfMemory) }
+    {
+        match outcome {
+            Outcome::Answered(reply) => {
+                self.machine.take(reply, self.repeated)?;
+                self.spare = self.retries;
+                self.repeated = false;
+                Ok(Turn::Moved)
+            }
+            Outcome::Slow => self.unanswered(),
+            Outcome::RequestLost | Outcome::ReplyLost => {
+                self.repeated = true;
+                self.unanswered()
+            }
+        }
+    }
+
+    fn unanswered(&mut self) -> Result<Turn, AllocError>
+        requires asked { IsSome (M.wants self.old.machine) }
+        ensures ok { OnOk result (self.new ≡ unanswered M.after self.old self.old.repeated) }
+        ensures turn { IfOk result (λ turn. turn ≡ turn_unanswered self.old) }
+        ensures err { OnErr result (self.new.machine ≡ M.after self.old.machine OutOfMemory) }
+    {
+        if self.spare == 0 {
+            self.machine.worn()?;
+            self.spare = self.retries;
+            self.repeated = false;
+            Ok(Turn::WornOut)
+        } else {
+            self.spare -= 1;
+            Ok(Turn::Again)
+        }
+    }
+}
+
+impl<M> Retrying<M> {
+    /// The machine. Takes no memory.
+    pub fn machine(&self) -> &M
+        ensures { result.now ≡ self.now.machine }
+    {
+        &self.machine
+    }
+
+    /// Gives the machine back. Takes no memory.
+    pub fn into_inner(self) -> M
+        ensures { result ≡ self.machine }
+    {
+        self.machine
+    }
+}
+
+impl Turn {
+    /// Whether a request wore out.
+    pub fn is_worn(self) -> bool
+        ensures { result ≡ tells_worn self }
+    {
+        matches!(self, Turn::WornOut)
+    }
+}

@@ -1,0 +1,60 @@
+-- The fates of sendings.
+use Rattle.std.specs.Prelude.{◌≡◌, ℕ, zero, suc, ◌+◌, ◌<◌, ◌≤◌, Bool, true, false, Option, Some, None, IsSome, refl}
+use Rattle.std.specs.FinMap as map
+use Rattle.std.specs.Ordering.{nat_cmp}
+use Rattle.std.specs.Coded.{Coded, code_by, coded_ℕ}
+use Rattle.s3_types.specs.declared.fates.Fate.{Fate}
+use Rattle.s3_types.specs.declared.fates.Fate.TheVariants.{Answer, Slow, Before, After}
+
+-- the fates of the sendings that are named, by their numbers
+abbrev pub FateMap : Type 0
+FateMap = map.FinMap nat_cmp Fate
+
+-- the sending is answered
+abbrev pub is_answer : Fate → Bool
+is_answer Answer = true
+is_answer Slow = false
+is_answer Before = false
+is_answer After = false
+
+-- what is not named is answered
+abbrev pub fate_or : Option Fate → Fate
+fate_or (Some f) = f
+fate_or None = Answer
+
+abbrev pub fate_at : FateMap → ℕ → Fate
+fate_at m n = fate_or (map.get m n)
+
+-- so many sendings from `first` on have this fate
+unfoldable pub with_fates : FateMap → ℕ → Fate → ℕ → FateMap
+with_fates m first f zero = m
+with_fates m first f (suc n) = map.insert (with_fates m first f n) (first + n) f
+
+-- n is the least of so many sendings from `first` on that has a fate
+pub record IsFirstNamed (m : FateMap) (first count n : ℕ) : Type 0 where
+  pub from : first ≤ n
+  pub within : n < first + count
+  pub named : IsSome (map.get m n)
+  pub least : (k : ℕ) → first ≤ k → k < n → map.get m k ≡ None
+
+-- fates as numbers, by which proofs tell them apart
+abbrev pub to_number : Fate → ℕ
+to_number Answer = 0
+to_number Slow = 1
+to_number Before = 2
+to_number After = 3
+
+abbrev pub of_number : ℕ → Fate
+of_number zero = Answer
+of_number (suc zero) = Slow
+of_number (suc (suc zero)) = Before
+of_number (suc (suc (suc n))) = After
+
+abbrev pub there_and_back : (f : Fate) → of_number (to_number f) ≡ f
+there_and_back Answer = refl
+there_and_back Slow = refl
+there_and_back Before = refl
+there_and_back After = refl
+
+abbrev pub coded_fates : Coded FateMap
+coded_fates = map.code coded_ℕ (code_by ℕ coded_ℕ to_number of_number there_and_back)
