@@ -7,4 +7,3 @@ mod mem;
 
 pub use lossy::Lossy;
 pub use mem::MemStore;
-
