@@ -66,12 +66,13 @@ fn completions_are_checked_in_order(rt: HostRuntime) -> Result<(), Fail> {
 #[test]
 fn completions_join(rt: HostRuntime) -> Result<(), Fail> {
     let key = Key::read(rt.alloc(), b"a/b")?;
-    let cases: [(&[u32], &str); 2] = [
-        (&[1, 2], "26b10a702bd95f42e3c2737f5975aa20-2"),
-        (&[2], "d65bd455b967b3fe80cc629635debd70-1"),
+    let cases: [(&[u32], &str, &str); 2] = [
+        (&[1, 2], "abcd", "26b10a702bd95f42e3c2737f5975aa20-2"),
+        (&[2], "d", "d65bd455b967b3fe80cc629635debd70-1"),
     ];
-    for (numbers, tag) in cases {
+    for (numbers, bytes, tag) in cases {
         let made = completed(rt.alloc(), &key, numbers, 3)?;
+        assert_eq!(rt; made.bytes.as_slice(), bytes.as_bytes());
         assert_eq!(rt; format!(in rt.alloc(); "{}", made.tag)?.as_str(), tag);
     }
     Ok(())
