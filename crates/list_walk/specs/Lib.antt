@@ -1,3 +1,4 @@
+pub mod Appends
 pub mod Walk
 pub mod Kinds
 pub mod WalkLaws

@@ -1,6 +1,7 @@
-ghost use Rattle.std.specs.Prelude.{◌≡◌, ◌≤◌, [], ◌++◌, length, IfOk, OnOk, OnErr, Some};
+ghost use Rattle.std.specs.Prelude.{◌≡◌, ◌<◌, ◌≤◌, [], ◌++◌, length, IfOk, OnOk, OnErr, IsErrOf, Some};
 ghost use Rattle.std.specs.Option.{option_copied};
 ghost use Rattle.machine.specs.Item.{OutOfMemory};
+ghost use Rattle.list_walk.specs.Appends.{Appends};
 ghost use Rattle.list_walk.specs.Walk.{wanted, walked, paged, ended, outcome_of, Fits, IsReady, left, standing};
 ghost use Rattle.list_walk.specs.Kinds.{start, ask_keys, read_keys, after_keys, keys_from, keys_in};
 ghost use Rattle.list_walk.specs.WalkLaws.{walk_laws};
@@ -198,7 +199,9 @@ pub fn list_keys<S: ObjectStore>(
 ) -> Result<Option<KeyList>, DriveStop>
     requires { S.requests store.old ≤ length journal.old.entries }
     ensures keys { IfOk result (λ keys. keys ≡ keys_from (S.scene store.old) bucket prefix []) }
-    ensures same { IfOk result (λ keys. S.scene store.new ≡ S.scene store.old) }
+    ensures same { S.scene store.new ≡ S.scene store.old }
+    ensures fault { IsErrOf result DriveStop.StoreFault → S.losses store.old < S.losses store.new }
+    ensures journal { Appends actor event (S.scene store.old) journal.old.entries journal.new.entries }
 {
     let walk = match FlatWalk::new(alloc, bucket, prefix) {
         Ok(walk) => walk,

@@ -1,7 +1,8 @@
-ghost use Rattle.std.specs.Prelude.{◌≡◌, ◌≤◌, [], ◌++◌, length, IfOk, OnOk, OnErr, Some};
+ghost use Rattle.std.specs.Prelude.{◌≡◌, ◌<◌, ◌≤◌, [], ◌++◌, length, IfOk, OnOk, OnErr, IsErrOf, Some};
 ghost use Rattle.std.specs.Option.{option_copied};
 ghost use Rattle.s3_types.specs.Pages.{text_in};
 ghost use Rattle.machine.specs.Item.{OutOfMemory};
+ghost use Rattle.list_walk.specs.Appends.{Appends};
 ghost use Rattle.list_walk.specs.Walk.{wanted, walked, paged, ended, outcome_of, Fits, IsReady, left, standing};
 ghost use Rattle.list_walk.specs.Kinds.{start, ask_folder, read_folder, after_folder, folder_from};
 ghost use Rattle.list_walk.specs.WalkLaws.{walk_laws};
@@ -221,7 +222,9 @@ pub fn list_folder<S: ObjectStore>(
 ) -> Result<Option<EntryList>, DriveStop>
     requires { S.requests store.old ≤ length journal.old.entries }
     ensures entries { IfOk result (λ entries. entries ≡ folder_from (S.scene store.old) bucket prefix []) }
-    ensures same { IfOk result (λ entries. S.scene store.new ≡ S.scene store.old) }
+    ensures same { S.scene store.new ≡ S.scene store.old }
+    ensures fault { IsErrOf result DriveStop.StoreFault → S.losses store.old < S.losses store.new }
+    ensures journal { Appends actor event (S.scene store.old) journal.old.entries journal.new.entries }
 {
     let walk = match FolderWalk::new(alloc, bucket, prefix) {
         Ok(walk) => walk,

@@ -1,6 +1,7 @@
-ghost use Rattle.std.specs.Prelude.{◌≡◌, ◌≤◌, ◌++◌, length, IfOk, OnOk, OnErr, Some, None};
+ghost use Rattle.std.specs.Prelude.{◌≡◌, ◌<◌, ◌≤◌, ◌++◌, length, IfOk, OnOk, OnErr, IsErrOf, Some, None};
 ghost use Rattle.std.specs.Option.{option_copied};
 ghost use Rattle.machine.specs.Item.{OutOfMemory};
+ghost use Rattle.list_walk.specs.Appends.{Appends};
 ghost use Rattle.list_walk.specs.Walk.{wanted, walked, paged, ended, outcome_of, Fits, IsReady, left, standing};
 ghost use Rattle.list_walk.specs.Kinds.{start, ask_uploads, read_uploads, after_uploads, uploads_from};
 ghost use Rattle.list_walk.specs.WalkLaws.{walk_laws};
@@ -206,7 +207,9 @@ pub fn list_uploads<S: ObjectStore>(
 ) -> Result<Option<UploadList>, DriveStop>
     requires { S.requests store.old ≤ length journal.old.entries }
     ensures uploads { IfOk result (λ uploads. uploads ≡ uploads_from (S.scene store.old) bucket prefix None) }
-    ensures same { IfOk result (λ uploads. S.scene store.new ≡ S.scene store.old) }
+    ensures same { S.scene store.new ≡ S.scene store.old }
+    ensures fault { IsErrOf result DriveStop.StoreFault → S.losses store.old < S.losses store.new }
+    ensures journal { Appends actor event (S.scene store.old) journal.old.entries journal.new.entries }
 {
     let walk = match UploadWalk::new(alloc, bucket, prefix) {
         Ok(walk) => walk,

@@ -19,3 +19,8 @@ pub returns-clause-same : goal.returns-clause-same
 returns-clause-same g c =
     let d = c.in_ok-drive.ensures in
     d.is_run.scene ∙ scene_run folder_listing [] _ _ d.part d.is_run.follows
+
+pub returns-in_err-drive-clause-same : goal.returns-in_err-drive-clause-same
+returns-in_err-drive-clause-same g c =
+    let d = c.in_err-drive.ensures in
+    d.is_run.scene ∙ scene_run folder_listing [] _ _ d.part d.is_run.follows
