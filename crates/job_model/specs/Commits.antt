@@ -1,16 +1,15 @@
 -- What the driver's commit sends next, after the answers so far, and how it ends (Hadoop, S3A committer architecture: job commit).
 use Rattle.std.specs.Prelude.{◌≡◌, ℕ, zero, suc, ◌+◌, ◌<◌, nat_eq, Bool, true, false, cond, List, [], ◌∷◌, ◌++◌, map, Option, Some, None}
 use Rattle.std.specs.Ordering.{is_lt}
-use Rattle.serde_json.specs.Written.{compact_text}
 use Rattle.proof_base.specs.Order.{text_cmp}
 use Rattle.s3_types.specs.declared.request.Request.{Request}
 use Rattle.s3_types.specs.declared.request.Request.TheVariants.{PutObject, GetObject, DeleteObject, CompleteUpload, AbortUpload}
 use Rattle.magic_paths.specs.Layout as layout
 use Rattle.pending_json.specs.Pending.{Pending}
-use Rattle.pending_json.specs.Trees.{success_tree}
 use Rattle.pending_json.specs.declared.records.PendingSet.{PendingSet}
 use Rattle.job_model.specs.Files.{has_path}
-use Rattle.job_model.specs.Outputs.{Picks, files_of, wanted_paths}
+use Rattle.job_model.specs.Outputs.{Picks, files_of}
+use Rattle.job_model.specs.Headline.{mark_text}
 use Rattle.job_model.specs.Knowledge.{named_from}
 use Rattle.job_model.specs.declared.script.Script.{Script}
 use Rattle.job_model.specs.declared.ends.CommitEnd.{CommitEnd}
@@ -74,9 +73,6 @@ abort p = AbortUpload p.bucket p.destination p.upload
 
 abbrev pub deletion : Pending → Request
 deletion p = DeleteObject p.bucket p.destination
-
-abbrev pub mark_text : Script → Picks → List ℕ
-mark_text w picks = compact_text (success_tree (record { job = w.job; committer = w.committer; files = wanted_paths w picks; stamp = w.stamp }))
 
 abbrev pub commit_asks : Script → Sets → Commit → Option Request
 commit_asks w sets (Fetching t) = Some (GetObject w.dest.bucket (layout.set_key w.dest.key t))

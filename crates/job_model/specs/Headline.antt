@@ -27,12 +27,15 @@ pub record Between (w : Script) (opening : Shown) (picks : Picks) (v : Shown) : 
 abbrev pub mark_of : Script → Picks → SuccessMark
 mark_of w picks = record { job = w.job; committer = w.committer; files = wanted_paths w picks; stamp = w.stamp }
 
+abbrev pub mark_text : Script → Picks → List ℕ
+mark_text w picks = compact_text (success_tree (mark_of w picks))
+
 -- the whole job stands: exactly the kept files and all files of the picks, and the marker says so
 pub record Whole (w : Script) (opening : Shown) (picks : Picks) (c : Content) : Type 0 where
   pub picked : is_picked w picks ≡ true
   pub apart : is_clash w picks ≡ false
   pub files : Same (view w.dest c) (done w picks opening)
-  pub mark : (o : Object) → object_at c w.dest.bucket (success_key w.dest.key) ≡ Some o → o.bytes ≡ compact_text (success_tree (mark_of w picks))
+  pub mark : (o : Object) → object_at c w.dest.bucket (success_key w.dest.key) ≡ Some o → o.bytes ≡ mark_text w picks
 
 -- what holds of what is seen at a moment
 pub record Kept (w : Script) (opening : Content) (s : Seen) : Type 0 where
