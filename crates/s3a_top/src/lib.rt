@@ -2,12 +2,8 @@
 #![tactic(auto)]
 
 mod command;
-mod form;
 mod input;
 mod output;
-mod places;
-mod play;
-mod stage;
 mod top;
 
 pub use top::run;

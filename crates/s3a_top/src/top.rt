@@ -1,15 +1,12 @@
 ghost use Rattle.std.specs.Prelude.{◌≡◌, ◌≢◌, ◌<◌, ◌≤◌, ◌-◌, ◌^◌, ◌↔◌, ◌⊎◌, false, IfOk, IfErr, OnOk, OnErr};
 ghost use Rattle.s3a_top.specs.Statuses.{Tells, IsPlayed, IsOfJob, IsDue};
 ghost use Rattle.s3a_top.specs.Words.{is_job};
-ghost use Rattle.s3a_top.specs.Form.{IsForm};
+ghost use Rattle.first_form.specs.Form.{IsForm};
 
 use crate::command::is_job;
-use crate::form::{Form, read_form, script_of};
 use crate::input::{InputFault, read_input};
 use crate::output::write_output;
-use crate::places::Places;
-use crate::play::{opening, play};
-use crate::stage::Stage;
+use first_form::{Form, Places, Stage, opening, play, read_form, script_of};
 use job_model::{EndList, PickList, Report, report_text};
 use s3_types::{Bytes, Journal, Text};
 use shelf::{LoadFault, Shelf, Sink, Source};
@@ -127,7 +124,7 @@ fn text_of(alloc: Global, form: &Form, report: &Report) -> Result<Bytes, AllocEr
 
 /// The stage before the first event, and the places of the job.
 fn made_ready(alloc: Global, form: &Form) -> Result<(Stage, Places), AllocError>
-    requires { IsForm form.now.job form.now.dest form.now.path }
+    requires { IsForm form.now }
     ensures { IfOk result (λ ready. ready.0.service.next ≤ 1) }
 {
     let places = Places::new(alloc, &form.dest, &form.path)?;
@@ -137,7 +134,7 @@ fn made_ready(alloc: Global, form: &Form) -> Result<(Stage, Places), AllocError>
 
 /// Plays a job of the first form over an empty store.
 fn job<F: Shelf>(alloc: Global, shelf: &mut F, form: &Form) -> Work
-    requires form { IsForm form.now.job form.now.dest form.now.path }
+    requires form { IsForm form.now }
     requires count { F.faults shelf.old < 2 ^ 64 - 1 }
     ensures which { IsPlayed result.due }
     ensures shelf { Tells 5 result.due (F.faults shelf.old) (F.faults shelf.new) }
