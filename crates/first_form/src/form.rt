@@ -260,7 +260,9 @@ fn attempts(alloc: Global, path: Text, bytes: Bytes) -> Result<Attempts, AllocEr
 }
 
 /// The script whose text was read.
-pub fn script_of(alloc: Global, form: &Form) -> Result<Script, AllocError> {
+pub fn script_of(alloc: Global, form: &Form) -> Result<Script, AllocError>
+    ensures { IfOk result (λ s. s ≡ script_of form.now) }
+{
     Ok(Script {
         job: form.job.clone()?,
         dest: form.dest.clone()?,
