@@ -12,3 +12,4 @@ pub mod Operations
 pub mod Commits
 pub mod Turns
 pub mod Follows
+pub mod Promise

@@ -1,0 +1,14 @@
+pub mod Chain
+pub mod Explicit
+pub mod Firsts
+pub mod Followed
+pub mod Kept
+pub mod Lone
+pub mod Maps
+pub mod Obeyed
+pub mod OnePart
+pub mod Played
+pub mod Promise
+pub mod Shown
+pub mod Steps
+pub mod Texts

@@ -1,0 +1,4 @@
+pub mod Sendings
+pub mod Straight
+pub mod Run
+pub mod Laws

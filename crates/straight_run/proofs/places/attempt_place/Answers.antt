@@ -1,0 +1,15 @@
+use Rattle.std.proofs.Common.{◌≡◌, ◌≤◌, List, ℕ, length, sym, subst, ap}
+use Rattle.std.proofs.lemmas.Result.{IfOk-weaker}
+use Rattle.path_keys.specs.Paths.{Path}
+use Rattle.magic_paths.specs.Layout.{attempt_key}
+use Rattle.straight_run.proofs.Keys.{name_size, attempt_short}
+use Rattle.straight_run.proofs.places.attempt_place.Goals as goal
+
+pub attempt_dir-requires-clause-some : goal.attempt_dir-requires-clause-some
+attempt_dir-requires-clause-some c = (name_size c.args.dest.now.key c.requires).some
+
+pub attempt_dir-requires-clause-most : goal.attempt_dir-requires-clause-most
+attempt_dir-requires-clause-most c = (name_size c.args.dest.now.key c.requires).most
+
+pub returns-clause-short : goal.returns-clause-short
+returns-clause-short c = IfOk-weaker c.attempt_dir.result (λ (p : Path). p ≡ record { bucket = c.args.dest.now.bucket; key = attempt_key c.args.dest.now.key 0 0 }) (λ (p : Path). length p.key ≤ 460) (λ (p : Path) e. subst (λ (k : List ℕ). length k ≤ 460) (sym (ap (λ (q : Path). q.key) e)) (attempt_short c.args.dest.now.key c.requires)) c.attempt_dir.ensures

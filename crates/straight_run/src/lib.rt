@@ -1,0 +1,13 @@
+//! The run of a job of the first form over a new store, request by request.
+#![tactic(auto)]
+
+mod job;
+mod perform;
+mod places;
+mod requests;
+mod stage;
+
+pub use job::Job;
+pub use perform::{opening, play};
+pub use places::{AttemptPlaces, DriverPlaces, Places};
+pub use stage::Stage;

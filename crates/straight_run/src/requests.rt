@@ -1,0 +1,244 @@
+ghost use Rattle.std.specs.Prelude.{◌≡◌, ◌≤◌, true, false, [], ◌∷◌, length, Some, None, IfOk};
+ghost use Rattle.s3_types.specs.Tags.{is_plain_tag, plain_tag};
+ghost use Rattle.s3_types.specs.declared.request.Request.TheVariants.{ListPage};
+ghost use Rattle.pending_json.specs.Pending.{are_tags};
+ghost use Rattle.first_form.specs.Form.{IsForm};
+ghost use Rattle.straight_run.specs.Places.{places_at};
+ghost use Rattle.straight_facts.specs.Straight as straight;
+
+use first_form::Form;
+use crate::job::Job;
+use crate::places::Places;
+use etag::part_tag;
+use pending_json::{PendingList, PendingSet, PendingUpload, SuccessMark};
+use s3_types::{
+    Bytes, Committer, Key, LengthHeader, NamedPart, PageLimit, PartList, Request, Sequence, Tag,
+    TagList, Text, TextList,
+};
+use std::alloc::{AllocError, Global};
+
+/// The id of the only upload, which is the first that a new store draws.
+const UPLOAD: u64 = 1;
+
+/// Requests in the order in which they are sent.
+pub type RequestList = Sequence<Request>;
+
+fn three(
+    alloc: Global,
+    first: Request,
+    second: Request,
+    third: Request,
+) -> Result<RequestList, AllocError>
+    ensures { IfOk result (λ rs. rs ≡ first ∷ second ∷ third ∷ []) }
+{
+    let mut requests = RequestList::new(alloc);
+    requests.push(first)?;
+    requests.push(second)?;
+    requests.push(third)?;
+    Ok(requests)
+}
+
+/// The first page of all that is below a prefix.
+fn page_below(places: &Places, prefix: &Text) -> Result<Request, AllocError>
+    ensures { IfOk result (λ r. r ≡ ListPage places.now.bucket prefix.now false [] 1000) }
+{
+    Request::list_page(
+        &places.bucket,
+        prefix,
+        false,
+        &Text::empty(),
+        PageLimit::new(PageLimit::MOST),
+    )
+}
+
+/// The requests of the driver's set-up: it looks at the destination, deletes the marker of an earlier
+/// job, and lists what is below the magic directory.
+pub fn setup_requests(alloc: Global, job: &Job) -> Result<RequestList, AllocError>
+    requires { job.now.places ≡ places_at job.now.form.dest job.now.form.path }
+    ensures { IfOk result (λ rs. rs ≡ straight.setup_requests job.now.form) }
+{
+    let places = &job.places;
+    let head = Request::head_object(&places.bucket, &places.driver.dest)?;
+    let delete = Request::delete_object(&places.bucket, &places.driver.success)?;
+    let list = page_below(places, &places.driver.magic)?;
+    three(alloc, head, delete, list)
+}
+
+/// The tag of a part.
+fn tag_of(bytes: &[u8]) -> Tag
+    ensures tag { result ≡ plain_tag bytes.now }
+    ensures plain { is_plain_tag result ≡ true }
+{
+    let tag = part_tag(bytes);
+    let _digits = tag.digits();
+    tag
+}
+
+/// The tags of an upload of one part.
+fn one_tag(alloc: Global, bytes: &[u8]) -> Result<TagList, AllocError>
+    ensures tags { IfOk result (λ tags. tags ≡ plain_tag bytes.now ∷ []) }
+    ensures plain { IfOk result (λ tags. are_tags tags ≡ true) }
+{
+    let mut tags = TagList::new(alloc);
+    tags.push(tag_of(bytes))?;
+    Ok(tags)
+}
+
+/// The record of the file's upload, which has one part.
+fn pending_of(alloc: Global, job: &Job) -> Result<PendingUpload, AllocError>
+    requires { job.now.places ≡ places_at job.now.form.dest job.now.form.path }
+    ensures { IfOk result (λ p. p ≡ straight.pending_of job.now.form) }
+{
+    let bytes = job.form.bytes.as_slice();
+    let tags = one_tag(alloc, bytes)?;
+    let bucket = job.places.bucket.clone()?;
+    let file = job.places.file.clone()?;
+    let length = bytes.len() as u64;
+    Ok(PendingUpload::new(0, 0, bucket, file, UPLOAD, length, tags))
+}
+
+fn record_text(alloc: Global, job: &Job) -> Result<Bytes, AllocError>
+    requires { job.now.places ≡ places_at job.now.form.dest job.now.form.path }
+    ensures { IfOk result (λ text. text ≡ straight.record_text job.now.form) }
+{
+    let pending = pending_of(alloc, job)?;
+    pending.print(alloc)
+}
+
+/// The upload of the file's bytes: its creation and its one part.
+fn upload(job: &Job) -> Result<(Request, Request), AllocError>
+    requires { job.now.places ≡ places_at job.now.form.dest job.now.form.path }
+    ensures { IfOk result (λ p. p ≡ (straight.create_request job.now.form, straight.part_request job.now.form)) }
+{
+    let places = &job.places;
+    let create = Request::create_upload(&places.bucket, &places.file)?;
+    let part = Request::upload_part(&places.bucket, &places.file, UPLOAD, 1, &job.form.bytes)?;
+    Ok((create, part))
+}
+
+/// The put of the marker, which tells the file's length.
+fn marker(job: &Job) -> Result<Request, AllocError>
+    requires places { job.now.places ≡ places_at job.now.form.dest job.now.form.path }
+    requires length { length job.now.form.bytes ≤ 5242880 }
+    ensures { IfOk result (λ r. r ≡ straight.marker_request job.now.form) }
+{
+    let header = Some(LengthHeader::new(job.form.bytes.as_slice().len() as u64));
+    let key = &job.places.attempt.marker;
+    Request::put_object(&job.places.bucket, key, &Bytes::empty(), header)
+}
+
+/// The put of the record.
+fn record_put(alloc: Global, job: &Job) -> Result<Request, AllocError>
+    requires { job.now.places ≡ places_at job.now.form.dest job.now.form.path }
+    ensures { IfOk result (λ r. r ≡ straight.record_request job.now.form) }
+{
+    let text = record_text(alloc, job)?;
+    Request::put_object(&job.places.bucket, &job.places.attempt.pending, &text, None)
+}
+
+/// The requests of the attempt's write: an upload of the file with its one part, the marker and the
+/// record.
+pub fn write_requests(alloc: Global, job: &Job) -> Result<RequestList, AllocError>
+    requires places { job.now.places ≡ places_at job.now.form.dest job.now.form.path }
+    requires length { length job.now.form.bytes ≤ 5242880 }
+    ensures { IfOk result (λ rs. rs ≡ straight.write_requests job.now.form) }
+{
+    let (create, part) = upload(job)?;
+    let marker = marker(job)?;
+    let record = record_put(alloc, job)?;
+    let mut requests = three(alloc, create, part, marker)?;
+    requests.push(record)?;
+    Ok(requests)
+}
+
+fn set_text(alloc: Global, job: &Job) -> Result<Bytes, AllocError>
+    requires { job.now.places ≡ places_at job.now.form.dest job.now.form.path }
+    ensures { IfOk result (λ text. text ≡ straight.set_text job.now.form) }
+{
+    let mut commits = PendingList::new(alloc);
+    commits.push(pending_of(alloc, job)?)?;
+    let set = PendingSet {
+        job: job.form.job.clone()?,
+        task: 0,
+        attempt: 0,
+        commits,
+    };
+    set.print(alloc)
+}
+
+/// The put of the set, which publishes the file.
+fn set_put(alloc: Global, job: &Job) -> Result<Request, AllocError>
+    requires { job.now.places ≡ places_at job.now.form.dest job.now.form.path }
+    ensures { IfOk result (λ r. r ≡ straight.set_request job.now.form) }
+{
+    let text = set_text(alloc, job)?;
+    Request::put_object(&job.places.bucket, &job.places.set, &text, None)
+}
+
+/// The requests of the attempt's commit: it lists its directory, reads its record and puts the task's
+/// set.
+pub fn publish_requests(alloc: Global, job: &Job) -> Result<RequestList, AllocError>
+    requires { job.now.places ≡ places_at job.now.form.dest job.now.form.path }
+    ensures { IfOk result (λ rs. rs ≡ straight.publish_requests job.now.form) }
+{
+    let places = &job.places;
+    let list = page_below(places, &places.attempt.prefix)?;
+    let get = Request::get_object(&places.bucket, &places.attempt.pending)?;
+    let set = set_put(alloc, job)?;
+    three(alloc, list, get, set)
+}
+
+fn the_part(alloc: Global, bytes: &[u8]) -> Result<PartList, AllocError>
+    ensures { IfOk result (λ ps. ps ≡ record { number = 1; tag = plain_tag bytes.now } ∷ []) }
+{
+    let mut parts = PartList::new(alloc);
+    parts.push(NamedPart {
+        number: 1,
+        tag: tag_of(bytes),
+    })?;
+    Ok(parts)
+}
+
+/// The completion of the upload.
+fn completion(alloc: Global, job: &Job) -> Result<Request, AllocError>
+    requires { job.now.places ≡ places_at job.now.form.dest job.now.form.path }
+    ensures { IfOk result (λ r. r ≡ straight.complete_request job.now.form) }
+{
+    let parts = the_part(alloc, job.form.bytes.as_slice())?;
+    Request::complete_upload(alloc, &job.places.bucket, &job.places.file, UPLOAD, &parts)
+}
+
+fn marker_text(alloc: Global, form: &Form) -> Result<Bytes, AllocError>
+    ensures { IfOk result (λ text. text ≡ straight.marker_text form.now) }
+{
+    let mut files = TextList::new(alloc);
+    files.push(form.path.clone()?)?;
+    let mark = SuccessMark {
+        job: form.job.clone()?,
+        committer: Committer::Magic,
+        files,
+        stamp: None,
+    };
+    mark.print(alloc)
+}
+
+/// The put of the marker of a committed job.
+fn success_put(alloc: Global, job: &Job) -> Result<Request, AllocError>
+    requires { job.now.places ≡ places_at job.now.form.dest job.now.form.path }
+    ensures { IfOk result (λ r. r ≡ straight.success_request job.now.form) }
+{
+    let text = marker_text(alloc, &job.form)?;
+    Request::put_object(&job.places.bucket, &job.places.driver.success, &text, None)
+}
+
+/// The requests of the driver's commit: it reads the task's set, completes its upload and puts the
+/// marker of a committed job.
+pub fn commit_requests(alloc: Global, job: &Job) -> Result<RequestList, AllocError>
+    requires { job.now.places ≡ places_at job.now.form.dest job.now.form.path }
+    ensures { IfOk result (λ rs. rs ≡ straight.commit_requests job.now.form) }
+{
+    let get = Request::get_object(&job.places.bucket, &job.places.set)?;
+    let complete = completion(alloc, job)?;
+    let success = success_put(alloc, job)?;
+    three(alloc, get, complete, success)
+}
