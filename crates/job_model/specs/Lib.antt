@@ -12,3 +12,5 @@ pub mod Operations
 pub mod Commits
 pub mod Turns
 pub mod Follows
+pub mod ReportText
+pub mod Standing
