@@ -13,3 +13,5 @@ pub mod Commits
 pub mod Turns
 pub mod Follows
 pub mod Promise
+pub mod ReportText
+pub mod Standing

@@ -1,3 +1,6 @@
+ghost use Rattle.std.specs.Prelude.{Some};
+ghost use Rattle.job_model.specs.ReportText.{setup_text, task_text, part_word, commit_text, clean_text, outcome_text, fault_word};
+
 use s3_types::{Actor, Sequence, Text};
 use std::fmt;
 
@@ -16,6 +19,8 @@ pub enum SetupEnd {
 }
 
 impl fmt::Display for SetupEnd {
+    ghost output = { λ end. Some (setup_text end) };
+
     fn fmt<W: fmt::Write>(&self, f: &mut fmt::Formatter<W>) -> fmt::Result {
         match self {
             SetupEnd::Done => write!(f, "done"),
@@ -47,6 +52,8 @@ pub enum TaskEnd {
 }
 
 impl fmt::Display for TaskEnd {
+    ghost output = { λ end. Some (task_text end) };
+
     fn fmt<W: fmt::Write>(&self, f: &mut fmt::Formatter<W>) -> fmt::Result {
         match self {
             TaskEnd::Done => write!(f, "done"),
@@ -79,6 +86,8 @@ pub enum Stage {
 }
 
 impl fmt::Display for Stage {
+    ghost output = { λ stage. Some (part_word stage) };
+
     fn fmt<W: fmt::Write>(&self, f: &mut fmt::Formatter<W>) -> fmt::Result {
         match self {
             Stage::Read => write!(f, "read"),
@@ -103,6 +112,8 @@ pub enum CommitEnd {
 }
 
 impl fmt::Display for CommitEnd {
+    ghost output = { λ end. Some (commit_text end) };
+
     fn fmt<W: fmt::Write>(&self, f: &mut fmt::Formatter<W>) -> fmt::Result {
         match self {
             CommitEnd::Committed => write!(f, "committed"),
@@ -131,6 +142,8 @@ pub enum CleanEnd {
 }
 
 impl fmt::Display for CleanEnd {
+    ghost output = { λ end. Some (clean_text end) };
+
     fn fmt<W: fmt::Write>(&self, f: &mut fmt::Formatter<W>) -> fmt::Result {
         match self {
             CleanEnd::Done => write!(f, "done"),
@@ -152,6 +165,8 @@ pub enum OpEnd {
 }
 
 impl fmt::Display for OpEnd {
+    ghost output = { λ end. Some (outcome_text end) };
+
     fn fmt<W: fmt::Write>(&self, f: &mut fmt::Formatter<W>) -> fmt::Result {
         match self {
             OpEnd::Setup(end) => write!(f, "{end}"),
@@ -184,6 +199,8 @@ pub enum EventFault {
 }
 
 impl fmt::Display for EventFault {
+    ghost output = { λ fault. Some (fault_word fault) };
+
     fn fmt<W: fmt::Write>(&self, f: &mut fmt::Formatter<W>) -> fmt::Result {
         match self {
             EventFault::Dead => write!(f, "dead"),

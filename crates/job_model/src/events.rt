@@ -1,3 +1,7 @@
+ghost use Rattle.std.specs.Prelude.{Some};
+ghost use Rattle.job_model.specs.ReportText.{op_word, event_text};
+
+use crate::actor_name::ActorName;
 use s3_types::{Actor, Sequence};
 use std::fmt;
 
@@ -12,6 +16,8 @@ pub enum Op {
 }
 
 impl fmt::Display for Op {
+    ghost output = { λ op. Some (op_word op) };
+
     fn fmt<W: fmt::Write>(&self, f: &mut fmt::Formatter<W>) -> fmt::Result {
         match self {
             Op::Setup => write!(f, "setup"),
@@ -41,13 +47,30 @@ pub enum Event {
 }
 
 impl fmt::Display for Event {
+    ghost output = { λ event. Some (event_text event) };
+
     fn fmt<W: fmt::Write>(&self, f: &mut fmt::Formatter<W>) -> fmt::Result {
         match self {
-            Event::Do { actor, op } => write!(f, "do {actor} {op}"),
-            Event::Start { actor, op } => write!(f, "start {actor} {op}"),
-            Event::Step { actor, count } => write!(f, "step {actor} {count}"),
-            Event::Run { actor } => write!(f, "run {actor}"),
-            Event::Kill { actor } => write!(f, "kill {actor}"),
+            Event::Do { actor, op } => {
+                let actor = ActorName(*actor);
+                write!(f, "do {actor} {op}")
+            }
+            Event::Start { actor, op } => {
+                let actor = ActorName(*actor);
+                write!(f, "start {actor} {op}")
+            }
+            Event::Step { actor, count } => {
+                let actor = ActorName(*actor);
+                write!(f, "step {actor} {count}")
+            }
+            Event::Run { actor } => {
+                let actor = ActorName(*actor);
+                write!(f, "run {actor}")
+            }
+            Event::Kill { actor } => {
+                let actor = ActorName(*actor);
+                write!(f, "kill {actor}")
+            }
             Event::Mix { seed } => write!(f, "mix {seed}"),
         }
     }

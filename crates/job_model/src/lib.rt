@@ -2,6 +2,7 @@
 //! report of a run.
 #![tactic(auto)]
 
+mod actor_name;
 mod attempts;
 mod ends;
 mod events;

@@ -1,10 +1,18 @@
+ghost use Rattle.std.specs.Prelude.{◌≡◌, Some, IfOk};
+ghost use Rattle.job_model.specs.ReportText.{life_word, stage_word};
+ghost use Rattle.job_model.specs.Standing.{state_in, with_state, begun_state, Keeps};
+ghost use Rattle.job_model.specs.States.{stage_begun, stage_done, task_ended, ended, dead, Past, open_event, end_ops, told, after_event, nothing_past, past, actor_of};
+ghost use Rattle.job_model.specs.declared.script.Script.{Script};
+
 use crate::attempts::{AttemptName, Attempts};
 use crate::ends::{ActorEnd, CleanEnd, CommitEnd, EventEnd, OpEnd, SetupEnd, TaskEnd};
 use crate::events::{Event, Op};
+use crate::script::Script;
 use indexmap::IndexMap;
 use s3_types::Actor;
 use std::alloc::{AllocError, Global};
 use std::fmt;
+use std::marker::Model;
 
 /// Whether an actor has an operation to go on with.
 #[derive(Clone, Copy, Debug, PartialEq, Eq)]
@@ -15,6 +23,8 @@ pub enum Life {
 }
 
 impl fmt::Display for Life {
+    ghost output = { λ life. Some (life_word life) };
+
     fn fmt<W: fmt::Write>(&self, f: &mut fmt::Formatter<W>) -> fmt::Result {
         match self {
             Life::Idle => write!(f, "idle"),
@@ -39,6 +49,8 @@ pub enum ActorStage {
 }
 
 impl fmt::Display for ActorStage {
+    ghost output = { λ stage. Some (stage_word stage) };
+
     fn fmt<W: fmt::Write>(&self, f: &mut fmt::Formatter<W>) -> fmt::Result {
         match self {
             ActorStage::New => write!(f, "new"),
@@ -65,8 +77,24 @@ const FRESH: ActorState = ActorState {
     stage: ActorStage::New,
 };
 
+/// The actor that an event names, and the shell where it names none.
+fn actor_of(event: Event) -> Actor
+    ensures { result ≡ actor_of event }
+{
+    match event {
+        Event::Do { actor, op: _ }
+        | Event::Start { actor, op: _ }
+        | Event::Step { actor, count: _ }
+        | Event::Run { actor }
+        | Event::Kill { actor } => actor,
+        Event::Mix { seed: _ } => Actor::Shell,
+    }
+}
+
 /// The stage that the start of an operation gives.
-fn begun(actor: Actor, op: Op, stage: ActorStage) -> ActorStage {
+fn begun(actor: Actor, op: Op, stage: ActorStage) -> ActorStage
+    ensures { result ≡ stage_begun actor op stage }
+{
     match (actor, op) {
         (Actor::Driver, Op::Abort) => ActorStage::Aborted,
         (_, Op::Commit) => ActorStage::Committing,
@@ -75,46 +103,70 @@ fn begun(actor: Actor, op: Op, stage: ActorStage) -> ActorStage {
     }
 }
 
-/// The stage that an attempt's end gives.
-fn after_task(end: &TaskEnd, stage: ActorStage) -> ActorStage {
-    match (end, stage) {
-        (TaskEnd::Done, ActorStage::Writing) => ActorStage::Written,
-        (TaskEnd::Done, ActorStage::Committing) => ActorStage::Committed,
-        (TaskEnd::Done, _) => ActorStage::Aborted,
-        (TaskEnd::Kept, _) => stage,
-        (TaskEnd::NoMemory, _) => stage,
-        _ => ActorStage::Failed,
+/// The stage of an attempt that ended what it did.
+fn done(stage: ActorStage) -> ActorStage
+    ensures { result ≡ stage_done stage }
+{
+    match stage {
+        ActorStage::Writing => ActorStage::Written,
+        ActorStage::Committing => ActorStage::Committed,
+        _ => ActorStage::Aborted,
     }
 }
 
-/// The state that an operation's end gives.
-fn ended(end: &OpEnd, stage: ActorStage) -> ActorState {
+/// The state that the end of an attempt's operation gives.
+fn after_task(end: &TaskEnd, stage: ActorStage) -> ActorState
+    ensures { result ≡ task_ended end.now stage }
+{
     let (life, stage) = match end {
+        TaskEnd::Done => (Life::Idle, done(stage)),
+        TaskEnd::Kept => (Life::Idle, stage),
+        TaskEnd::NoMemory => (Life::Dead, stage),
+        _ => (Life::Idle, ActorStage::Failed),
+    };
+    ActorState { life, stage }
+}
+
+/// The state that an operation's end gives.
+fn ended(end: &OpEnd, stage: ActorStage) -> ActorState
+    ensures { result ≡ ended end.now stage }
+{
+    let (life, stage) = match end {
+        OpEnd::Task(end) => return after_task(end, stage),
         OpEnd::Setup(SetupEnd::Done) => (Life::Idle, ActorStage::Set),
         OpEnd::Commit(CommitEnd::Committed) => (Life::Idle, ActorStage::Committed),
         OpEnd::Setup(SetupEnd::NoMemory)
         | OpEnd::Commit(CommitEnd::NoMemory)
         | OpEnd::Clean(CleanEnd::NoMemory)
         | OpEnd::NoMemory => (Life::Dead, stage),
-        OpEnd::Task(TaskEnd::NoMemory) => (Life::Dead, stage),
         OpEnd::Setup(_) => (Life::Idle, ActorStage::New),
         OpEnd::Commit(_) => (Life::Idle, ActorStage::Failed),
         OpEnd::Clean(_) => (Life::Idle, stage),
-        OpEnd::Task(end) => (Life::Idle, after_task(end, stage)),
     };
     ActorState { life, stage }
 }
 
-/// The states of a run's actors.
+/// The states of a run's driver and declared attempts. Clauses see the driver's and the attempts' by
+/// their names.
 #[derive(Drop)]
 pub struct Standings {
     driver: ActorState,
     attempts: IndexMap<AttemptName, ActorState>,
 }
 
+impl Model for Standings {
+    ghost use Rattle.job_model.specs.Standing.{Kept};
+
+    ghost Value = { Kept };
+
+    ghost view = { λ s. record { driver = s.driver; attempts = s.attempts.entries } };
+}
+
 impl Standings {
-    /// All actors idle and new.
-    pub fn new(alloc: Global, attempts: &Attempts) -> Result<Standings, AllocError> {
+    /// The driver and each declared attempt idle and new.
+    pub fn new(alloc: Global, attempts: &Attempts) -> Result<Standings, AllocError>
+        ensures { IfOk result (λ standings. Keeps attempts.now nothing_past.state standings) }
+    {
         let mut states = IndexMap::new(alloc);
         for (name, _) in attempts.held() {
             states.insert(*name, FRESH)?;
@@ -125,83 +177,126 @@ impl Standings {
         })
     }
 
-    /// An actor's state. One that the script does not declare is idle and new.
-    pub fn of(&self, actor: Actor) -> ActorState {
+    /// The states after the first events of a script, which had these ends.
+    pub fn past(alloc: Global, script: &Script, ends: &[EventEnd]) -> Result<Standings, AllocError>
+        ensures { IfOk result (λ standings. Keeps script.now.attempts (past script.now ends.now).state standings) }
+    {
+        let mut standings = Standings::new(alloc, &script.attempts)?;
+        let events = script.events.as_slice();
+        for (index, end) in ends.iter().enumerate() {
+            let Some(event) = events.get(index) else {
+                return Ok(standings);
+            };
+            standings.after(*event, end);
+        }
+        Ok(standings)
+    }
+
+    /// An actor's state. One that is not kept is idle and new.
+    pub fn of(&self, actor: Actor) -> ActorState
+        ensures { result ≡ state_in self.now actor }
+    {
         match actor {
+            Actor::Driver => self.driver,
             Actor::Attempt { task, attempt } => {
                 match self.attempts.get(&AttemptName { task, attempt }) {
                     Some(state) => *state,
                     None => FRESH,
                 }
             }
-            _ => self.driver,
+            Actor::Shell => FRESH,
         }
     }
 
-    fn set(&mut self, actor: Actor, state: ActorState) {
+    /// The states after one more event. Whom the script does not declare has none that is kept.
+    pub fn after(&mut self, event: Event, end: &EventEnd)
+        ensures { (w : Script) (p : Past) → Keeps w.attempts p.state self.old
+            → Keeps w.attempts (after_event w p event end.now).state self.new }
+    {
+        if let EventEnd::Refused(_) = end {
+            return;
+        }
+        self.open(event);
+        self.finish(event, end);
+    }
+
+    /// Gives an actor a state; for one that is not kept nothing changes.
+    fn set(&mut self, actor: Actor, state: ActorState)
+        ensures { self.new ≡ with_state self.old actor state }
+    {
         match actor {
+            Actor::Driver => self.driver = state,
             Actor::Attempt { task, attempt } => {
                 if let Some(place) = self.attempts.get_mut(&AttemptName { task, attempt }) {
                     *place = state;
                 }
             }
-            _ => self.driver = state,
+            Actor::Shell => {}
         }
     }
 
-    fn begin(&mut self, actor: Actor, op: Op) {
+    fn begin(&mut self, actor: Actor, op: Op)
+        ensures { self.new ≡ with_state self.old actor (begun_state actor op (state_in self.old actor)) }
+    {
         let state = self.of(actor);
+        let stage = begun(actor, op, state.stage);
         self.set(
             actor,
             ActorState {
                 life: Life::Busy,
-                stage: begun(actor, op, state.stage),
+                stage,
             },
         );
     }
 
-    fn end(&mut self, actor: Actor, end: &OpEnd) {
+    fn kill(&mut self, actor: Actor)
+        ensures { self.new ≡ with_state self.old actor (dead (state_in self.old actor).stage) }
+    {
+        let state = self.of(actor);
+        self.set(
+            actor,
+            ActorState {
+                life: Life::Dead,
+                stage: state.stage,
+            },
+        );
+    }
+
+    fn end(&mut self, actor: Actor, end: &OpEnd)
+        ensures { self.new ≡ with_state self.old actor (ended end.now (state_in self.old actor).stage) }
+    {
         let state = self.of(actor);
         self.set(actor, ended(end, state.stage));
     }
 
-    fn end_all(&mut self, ends: &[ActorEnd]) {
+    fn end_all(&mut self, ends: &[ActorEnd])
+        ensures { (w : Script) (p : Past) → Keeps w.attempts p.state self.old
+            → Keeps w.attempts (end_ops p ends.now).state self.new }
+    {
         for actor_end in ends {
             self.end(actor_end.actor, &actor_end.end);
         }
     }
 
-    /// The states after one more event.
-    pub fn after(&mut self, event: Event, end: &EventEnd) {
-        if let EventEnd::Refused(_) = end {
-            return;
-        }
+    /// What an event does before its requests.
+    fn open(&mut self, event: Event)
+        ensures { (w : Script) (p : Past) → Keeps w.attempts p.state self.old
+            → Keeps w.attempts (open_event w p event).state self.new }
+    {
         match event {
             Event::Do { actor, op } | Event::Start { actor, op } => self.begin(actor, op),
-            Event::Kill { actor } => {
-                let state = self.of(actor);
-                self.set(
-                    actor,
-                    ActorState {
-                        life: Life::Dead,
-                        stage: state.stage,
-                    },
-                );
-            }
+            Event::Kill { actor } => self.kill(actor),
             _ => {}
         }
-        self.finish(event, end);
     }
 
-    fn finish(&mut self, event: Event, end: &EventEnd) {
+    /// What the ends of operations do.
+    fn finish(&mut self, event: Event, end: &EventEnd)
+        ensures { (w : Script) (p : Past) → Keeps w.attempts p.state self.old
+            → Keeps w.attempts (end_ops p (told event end.now)).state self.new }
+    {
         match end {
-            EventEnd::Ended(end) => match event {
-                Event::Do { actor, op: _ }
-                | Event::Start { actor, op: _ }
-                | Event::Step { actor, count: _ }
-                | Event::Run { actor } => self.end(actor, end),
-                _ => {}
-            },
+            EventEnd::Ended(end) => self.end(actor_of(event), end),
             EventEnd::Mixed(ends) => self.end_all(ends.as_slice()),
             _ => {}
         }
