@@ -2,6 +2,7 @@ ghost use Rattle.std.specs.Prelude.{◌≡◌, ◌≤◌, true, length, Some, If
 ghost use Rattle.std.specs.List.{list_all};
 ghost use Rattle.job_model.specs.Jobs.{is_job_id, is_id_byte};
 ghost use Rattle.first_form.specs.Form.{is_name_byte, is_name, is_file_byte, is_file_name, is_pending, Spells};
+ghost use Rattle.first_form.specs.Scripted.{attempts_of, the_events, script_of};
 
 use job_model::{AttemptName, Attempts, Event, EventList, Op, Script};
 use path_keys::{PathFault, S3Path};
@@ -223,7 +224,10 @@ const THE_ATTEMPT: Actor = Actor::Attempt {
     attempt: 0,
 };
 
-fn events(alloc: Global) -> Result<EventList, AllocError> {
+/// The set-up, the attempt's write and commit, and the job's commit.
+fn events(alloc: Global) -> Result<EventList, AllocError>
+    ensures { IfOk result (λ e. e ≡ the_events) }
+{
     let mut events = EventList::new(alloc);
     events.push(Event::Do {
         actor: Actor::Driver,
@@ -244,7 +248,10 @@ fn events(alloc: Global) -> Result<EventList, AllocError> {
     Ok(events)
 }
 
-fn attempts(alloc: Global, path: Text, bytes: Bytes) -> Result<Attempts, AllocError> {
+/// The one attempt with its one file.
+fn attempts(alloc: Global, form: &Form) -> Result<Attempts, AllocError>
+    ensures { IfOk result (λ a. a ≡ attempts_of form.now) }
+{
     let mut attempts = Attempts::new(alloc);
     attempts.declare(
         alloc,
@@ -253,9 +260,7 @@ fn attempts(alloc: Global, path: Text, bytes: Bytes) -> Result<Attempts, AllocEr
             attempt: 0,
         },
     )?;
-    if !attempts.last_has(&path) {
-        attempts.add_file(path, bytes)?;
-    }
+    attempts.add_file(form.path.clone()?, form.bytes.clone()?)?;
     Ok(attempts)
 }
 
@@ -263,6 +268,8 @@ fn attempts(alloc: Global, path: Text, bytes: Bytes) -> Result<Attempts, AllocEr
 pub fn script_of(alloc: Global, form: &Form) -> Result<Script, AllocError>
     ensures { IfOk result (λ s. s ≡ script_of form.now) }
 {
+    let attempts = attempts(alloc, form)?;
+    let events = events(alloc)?;
     Ok(Script {
         job: form.job.clone()?,
         dest: form.dest.clone()?,
@@ -273,7 +280,7 @@ pub fn script_of(alloc: Global, form: &Form) -> Result<Script, AllocError>
         retries: 3,
         block: 0,
         stamp: None,
-        attempts: attempts(alloc, form.path.clone()?, form.bytes.clone()?)?,
-        events: events(alloc)?,
+        attempts,
+        events,
     })
 }
