@@ -1,3 +1,7 @@
+pub mod FormDest
+pub mod FormLines
+pub mod FormPieces
+pub mod FormSpelled
 pub mod Keys
 pub mod Next
 pub mod Tagged
