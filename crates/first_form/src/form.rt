@@ -1,13 +1,14 @@
-ghost use Rattle.std.specs.Prelude.{◌≡◌, ◌≤◌, true, length, Some, IfOk, IfSome};
+ghost use Rattle.std.specs.Prelude.{◌≡◌, ◌≤◌, true, length, Some, IfOk, IfSome, option_map};
 ghost use Rattle.std.specs.List.{list_all};
 ghost use Rattle.job_model.specs.Jobs.{is_job_id, is_id_byte};
 ghost use Rattle.first_form.specs.Form.{is_name_byte, is_name, is_file_byte, is_file_name, is_pending, Spells};
+ghost use Rattle.first_form.specs.Reading.{behind, cut, line_in, file_in, parts_of, parts_in, dest_in, is_rest_of_line, form_of};
+ghost use Rattle.first_form.specs.Scripted.{attempts_of, the_events, script_of};
 
 use job_model::{AttemptName, Attempts, Event, EventList, Op, Script};
 use path_keys::{PathFault, S3Path};
 use s3_types::{Actor, Bytes, Committer, Mode, Text};
 use std::alloc::{AllocError, Global};
-use words::next_part;
 
 /// The most bytes of the one file, so that it is one part.
 const MOST_BYTES: usize = 5_242_880;
@@ -90,53 +91,72 @@ fn is_job_id(text: &[u8]) -> bool
     1 <= text.len() && text.len() <= 64 && are_id_bytes(text)
 }
 
-/// What stands between the destination and the file.
-const HEAD: &str = "committer magic\ntasks 1\nattempt 0.0\nfile ";
+/// The lines between the destination and the file.
+const HEAD: &str = "committer magic\ntasks 1\nattempt 0.0\n";
 
-/// What stands behind the file.
+/// The lines behind the file.
 const EVENTS: &str = "do driver setup\ndo 0.0 write\ndo 0.0 commit\ndo driver commit\n";
 
-/// What stands behind a text at the front.
-fn behind<'a>(front: &[u8], text: &'a [u8]) -> Option<&'a [u8]> {
-    if !text.starts_with(front) {
-        return None;
-    }
-    text.get(front.len()..)
+/// What stands behind a front.
+fn behind<'a>(front: &str, text: &'a str) -> Option<&'a str>
+    ensures { option_map (λ r. r.now) result ≡ behind front.now text.now }
+{
+    text.strip_prefix(front)
 }
 
-/// The first line, and what follows its LF.
-fn line(text: &[u8]) -> Option<(&[u8], &[u8])> {
-    match next_part(b'\n', text) {
-        (line, Some(rest)) => Some((line, rest)),
-        (_, None) => None,
-    }
+/// The first word, and what stands behind its blank.
+fn first_word(text: &str) -> Option<(&str, &str)>
+    ensures { option_map (λ p. (p.0.now, p.1.now)) result ≡ cut 32 text.now }
+{
+    text.split_once(' ')
+}
+
+/// The first line, and what stands behind its LF.
+fn first_line(text: &str) -> Option<(&str, &str)>
+    ensures { option_map (λ p. (p.0.now, p.1.now)) result ≡ cut 10 text.now }
+{
+    text.split_once('\n')
+}
+
+/// What the first line says behind a front, and the lines behind it.
+#[tactic(auto, unfolding(crate::specs::Reading::line_in))]
+fn line<'a>(front: &str, text: &'a str) -> Option<(&'a str, &'a str)>
+    ensures { option_map (λ p. (p.0.now, p.1.now)) result ≡ line_in front.now text.now }
+{
+    first_line(behind(front, text)?)
+}
+
+/// The file's path and bytes, and the lines behind them.
+#[tactic(auto, unfolding(crate::specs::Reading::file_in))]
+fn file(text: &str) -> Option<(&str, &str, &str)>
+    ensures { option_map (λ p. (p.0.now, p.1.now, p.2.now)) result ≡ file_in text.now }
+{
+    let (path, rest) = first_word(behind("file ", text)?)?;
+    let (bytes, rest) = line("text ", rest)?;
+    Some((path, bytes, rest))
 }
 
 /// What varies in the ten lines.
 #[derive(Clone, Copy)]
 struct Varying<'a> {
-    job: &'a [u8],
-    dest: &'a [u8],
-    path: &'a [u8],
-    bytes: &'a [u8],
-}
-
-fn file_parts(file: &[u8]) -> Option<(&[u8], &[u8])> {
-    let (path, rest) = next_part(b' ', file);
-    let bytes = behind(b"text ", rest?)?;
-    Some((path, bytes))
+    job: &'a str,
+    dest: &'a str,
+    path: &'a str,
+    bytes: &'a str,
 }
 
 /// The ten lines, but for what their words may be.
-fn ten_lines(text: &[u8]) -> Option<Varying<'_>> {
-    let (job, rest) = line(behind(b"job ", text)?)?;
-    let (dest, rest) = line(behind(b"dest ", rest)?)?;
-    let rest = behind(HEAD.as_bytes(), rest)?;
-    let (file, rest) = line(rest)?;
-    if rest != EVENTS.as_bytes() {
+#[tactic(auto, unfolding(crate::specs::Reading::parts_in))]
+fn ten_lines(text: &str) -> Option<Varying<'_>>
+    ensures { option_map parts_of result ≡ parts_in text.now }
+{
+    let (job, rest) = line("job ", text)?;
+    let (dest, rest) = line("dest ", rest)?;
+    let rest = behind(HEAD, rest)?;
+    let (path, bytes, rest) = file(rest)?;
+    if rest != EVENTS {
         return None;
     }
-    let (path, bytes) = file_parts(file)?;
     Some(Varying {
         job,
         dest,
@@ -146,16 +166,14 @@ fn ten_lines(text: &[u8]) -> Option<Varying<'_>> {
 }
 
 /// A destination whose key is one name.
-fn read_dest(alloc: Global, dest: &[u8]) -> Result<Option<S3Path>, AllocError>
-    ensures { IfOk result (λ o. IfSome o (λ p. is_name p.key ≡ true)) }
+#[tactic(auto, unfolding(crate::specs::Reading::dest_in))]
+fn read_dest(alloc: Global, dest: &str) -> Result<Option<S3Path>, AllocError>
+    ensures { IfOk result (λ o. o ≡ dest_in dest.now) }
 {
-    let Ok(text) = str::from_utf8(dest) else {
-        return Ok(None);
-    };
-    if text.ends_with('/') {
+    if dest.ends_with('/') {
         return Ok(None);
     }
-    match S3Path::read(alloc, text) {
+    match S3Path::read(alloc, dest) {
         Ok(path) => {
             if is_name(path.key().as_bytes()) {
                 return Ok(Some(path));
@@ -167,49 +185,30 @@ fn read_dest(alloc: Global, dest: &[u8]) -> Result<Option<S3Path>, AllocError>
     }
 }
 
-fn read_text(alloc: Global, bytes: &[u8]) -> Result<Option<Text>, AllocError>
-    ensures { IfOk result (λ o. IfSome o (λ t. t ≡ bytes.now)) }
+/// Whether a line may say these bytes of the file: few enough for one part, and no CR at their end.
+fn is_rest_of_line(bytes: &str) -> bool
+    ensures { result ≡ is_rest_of_line bytes.now }
 {
-    match str::from_utf8(bytes) {
-        Ok(text) => Ok(Some(Text::copied(alloc, text)?)),
-        Err(_) => Ok(None),
-    }
+    bytes.len() <= MOST_BYTES && !bytes.ends_with('\r')
 }
 
-fn ends_in_return(bytes: &[u8]) -> bool {
-    match bytes.last() {
-        Some(b) => *b == b'\r',
-        None => false,
-    }
-}
-
-/// What a script of the first form says, or None where the input is none.
-pub fn read_form(alloc: Global, input: &[u8]) -> Result<Option<Form>, AllocError>
-    ensures found { IfOk result (λ o. IfSome o (λ f. Spells input.now f)) }
-    ensures only { IfOk result (λ o. (f : Form) → Spells input.now f → o ≡ Some f) }
+/// What the parts say, or None where one may not be so.
+#[tactic(auto, unfolding(crate::specs::Reading::form_of))]
+fn form_of(alloc: Global, parts: Varying<'_>) -> Result<Option<Form>, AllocError>
+    ensures { IfOk result (λ o. o ≡ form_of (parts_of parts.entry)) }
 {
-    if str::from_utf8(input).is_err() {
-        return Ok(None);
-    }
-    let Some(parts) = ten_lines(input) else {
-        return Ok(None);
-    };
-    if !is_job_id(parts.job) || !is_file_name(parts.path) {
-        return Ok(None);
-    }
-    if parts.bytes.len() > MOST_BYTES || ends_in_return(parts.bytes) {
-        return Ok(None);
-    }
     let Some(dest) = read_dest(alloc, parts.dest)? else {
         return Ok(None);
     };
-    let Some(job) = read_text(alloc, parts.job)? else {
+    if !is_job_id(parts.job.as_bytes())
+        || !is_file_name(parts.path.as_bytes())
+        || !is_rest_of_line(parts.bytes)
+    {
         return Ok(None);
-    };
-    let Some(path) = read_text(alloc, parts.path)? else {
-        return Ok(None);
-    };
-    let bytes = Bytes::from_slice(alloc, parts.bytes)?;
+    }
+    let job = Text::copied(alloc, parts.job)?;
+    let path = Text::copied(alloc, parts.path)?;
+    let bytes = Bytes::from_slice(alloc, parts.bytes.as_bytes())?;
     Ok(Some(Form {
         job,
         dest,
@@ -218,12 +217,30 @@ pub fn read_form(alloc: Global, input: &[u8]) -> Result<Option<Form>, AllocError
     }))
 }
 
+/// What a script of the first form says, or None where the input is none: ten lines, each ended by an
+/// LF, with one blank between two words. Only want of memory is an error.
+pub fn read_form(alloc: Global, input: &[u8]) -> Result<Option<Form>, AllocError>
+    ensures found { IfOk result (λ o. IfSome o (λ f. Spells input.now f)) }
+    ensures only { IfOk result (λ o. (f : Form) → Spells input.now f → o ≡ Some f) }
+{
+    let Ok(text) = str::from_utf8(input) else {
+        return Ok(None);
+    };
+    match ten_lines(text) {
+        Some(parts) => form_of(alloc, parts),
+        None => Ok(None),
+    }
+}
+
 const THE_ATTEMPT: Actor = Actor::Attempt {
     task: 0,
     attempt: 0,
 };
 
-fn events(alloc: Global) -> Result<EventList, AllocError> {
+/// The set-up, the attempt's write and commit, and the job's commit.
+fn events(alloc: Global) -> Result<EventList, AllocError>
+    ensures { IfOk result (λ e. e ≡ the_events) }
+{
     let mut events = EventList::new(alloc);
     events.push(Event::Do {
         actor: Actor::Driver,
@@ -244,7 +261,10 @@ fn events(alloc: Global) -> Result<EventList, AllocError> {
     Ok(events)
 }
 
-fn attempts(alloc: Global, path: Text, bytes: Bytes) -> Result<Attempts, AllocError> {
+/// The one attempt with its one file.
+fn attempts(alloc: Global, form: &Form) -> Result<Attempts, AllocError>
+    ensures { IfOk result (λ a. a ≡ attempts_of form.now) }
+{
     let mut attempts = Attempts::new(alloc);
     attempts.declare(
         alloc,
@@ -253,9 +273,7 @@ fn attempts(alloc: Global, path: Text, bytes: Bytes) -> Result<Attempts, AllocEr
             attempt: 0,
         },
     )?;
-    if !attempts.last_has(&path) {
-        attempts.add_file(path, bytes)?;
-    }
+    attempts.add_file(form.path.clone()?, form.bytes.clone()?)?;
     Ok(attempts)
 }
 
@@ -263,6 +281,8 @@ fn attempts(alloc: Global, path: Text, bytes: Bytes) -> Result<Attempts, AllocEr
 pub fn script_of(alloc: Global, form: &Form) -> Result<Script, AllocError>
     ensures { IfOk result (λ s. s ≡ script_of form.now) }
 {
+    let attempts = attempts(alloc, form)?;
+    let events = events(alloc)?;
     Ok(Script {
         job: form.job.clone()?,
         dest: form.dest.clone()?,
@@ -273,7 +293,7 @@ pub fn script_of(alloc: Global, form: &Form) -> Result<Script, AllocError>
         retries: 3,
         block: 0,
         stamp: None,
-        attempts: attempts(alloc, form.path.clone()?, form.bytes.clone()?)?,
-        events: events(alloc)?,
+        attempts,
+        events,
     })
 }

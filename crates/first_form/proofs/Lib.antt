@@ -1,0 +1,4 @@
+pub mod FormDest
+pub mod FormLines
+pub mod FormPieces
+pub mod FormSpelled
