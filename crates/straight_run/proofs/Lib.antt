@@ -1,3 +1,5 @@
+pub mod Asked
 pub mod Keys
 pub mod Next
+pub mod Sent
 pub mod Tagged

@@ -1,2 +1,4 @@
 pub mod Places
 pub mod Standing
+pub mod Requests
+pub mod SoFar

@@ -1,6 +1,6 @@
 ghost use Rattle.std.specs.Prelude.{◌≡◌, ◌≤◌, [], length, IfOk, OnOk, OnErr};
 ghost use Rattle.first_form.specs.Form.{IsForm};
-ghost use Rattle.straight_run.specs.Places.{places_at};
+ghost use Rattle.straight_run.specs.Places.{job_of};
 ghost use Rattle.straight_facts.specs.Straight as straight;
 ghost use Rattle.straight_facts.specs.Run.{Stopped};
 ghost use Rattle.straight_run.specs.Standing.{Stands};
@@ -36,7 +36,7 @@ pub fn opening(alloc: Global, bucket: &Bucket) -> Result<Service, AllocError>
 /// The driver's set-up.
 fn set_up(alloc: Global, stage: &mut Stage, job: &Job) -> Result<(), AllocError>
     requires form { IsForm job.now.form }
-    requires places { job.now.places ≡ places_at job.now.form.dest job.now.form.path }
+    requires job { job.now ≡ job_of job.now.form }
     requires stands { Stands job.now.form 0 stage.old }
     ensures done { OnOk result (Stands job.now.form 1 stage.new) }
     ensures stopped { OnErr result (Stopped job.now.form stage.new.journal.entries stage.new.picks stage.new.ends) }
@@ -58,7 +58,7 @@ fn set_up(alloc: Global, stage: &mut Stage, job: &Job) -> Result<(), AllocError>
 /// The attempt's write.
 fn write(alloc: Global, stage: &mut Stage, job: &Job) -> Result<(), AllocError>
     requires form { IsForm job.now.form }
-    requires places { job.now.places ≡ places_at job.now.form.dest job.now.form.path }
+    requires job { job.now ≡ job_of job.now.form }
     requires stands { Stands job.now.form 1 stage.old }
     ensures done { OnOk result (Stands job.now.form 2 stage.new) }
     ensures stopped { OnErr result (Stopped job.now.form stage.new.journal.entries stage.new.picks stage.new.ends) }
@@ -78,7 +78,7 @@ fn write(alloc: Global, stage: &mut Stage, job: &Job) -> Result<(), AllocError>
 /// The attempt's commit.
 fn publish(alloc: Global, stage: &mut Stage, job: &Job) -> Result<(), AllocError>
     requires form { IsForm job.now.form }
-    requires places { job.now.places ≡ places_at job.now.form.dest job.now.form.path }
+    requires job { job.now ≡ job_of job.now.form }
     requires stands { Stands job.now.form 2 stage.old }
     ensures done { OnOk result (Stands job.now.form 3 stage.new) }
     ensures stopped { OnErr result (Stopped job.now.form stage.new.journal.entries stage.new.picks stage.new.ends) }
@@ -98,7 +98,7 @@ fn publish(alloc: Global, stage: &mut Stage, job: &Job) -> Result<(), AllocError
 /// The driver's commit.
 fn commit(alloc: Global, stage: &mut Stage, job: &Job) -> Result<(), AllocError>
     requires form { IsForm job.now.form }
-    requires places { job.now.places ≡ places_at job.now.form.dest job.now.form.path }
+    requires job { job.now ≡ job_of job.now.form }
     requires stands { Stands job.now.form 3 stage.old }
     ensures done { OnOk result (Stands job.now.form 4 stage.new) }
     ensures stopped { OnErr result (Stopped job.now.form stage.new.journal.entries stage.new.picks stage.new.ends) }
@@ -125,7 +125,7 @@ fn commit(alloc: Global, stage: &mut Stage, job: &Job) -> Result<(), AllocError>
 /// memory the stage has what was done until then.
 pub fn play(alloc: Global, stage: &mut Stage, job: &Job) -> Result<(), AllocError>
     requires form { IsForm job.now.form }
-    requires places { job.now.places ≡ places_at job.now.form.dest job.now.form.path }
+    requires job { job.now ≡ job_of job.now.form }
     requires stands { Stands job.now.form 0 stage.old }
     ensures done { OnOk result (Stands job.now.form 4 stage.new) }
     ensures stopped { OnErr result (Stopped job.now.form stage.new.journal.entries stage.new.picks stage.new.ends) }

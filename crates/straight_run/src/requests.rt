@@ -2,9 +2,7 @@ ghost use Rattle.std.specs.Prelude.{◌≡◌, ◌≤◌, true, false, [], ◌�
 ghost use Rattle.s3_types.specs.Tags.{is_plain_tag, plain_tag};
 ghost use Rattle.s3_types.specs.declared.request.Request.TheVariants.{ListPage};
 ghost use Rattle.pending_json.specs.Pending.{are_tags};
-ghost use Rattle.first_form.specs.Form.{IsForm};
-ghost use Rattle.straight_run.specs.Places.{places_at};
-ghost use Rattle.straight_facts.specs.Straight as straight;
+ghost use Rattle.straight_run.specs.Requests as requests;
 
 use first_form::Form;
 use crate::job::Job;
@@ -23,21 +21,6 @@ const UPLOAD: u64 = 1;
 /// Requests in the order in which they are sent.
 pub type RequestList = Sequence<Request>;
 
-fn three(
-    alloc: Global,
-    first: Request,
-    second: Request,
-    third: Request,
-) -> Result<RequestList, AllocError>
-    ensures { IfOk result (λ rs. rs ≡ first ∷ second ∷ third ∷ []) }
-{
-    let mut requests = RequestList::new(alloc);
-    requests.push(first)?;
-    requests.push(second)?;
-    requests.push(third)?;
-    Ok(requests)
-}
-
 /// The first page of all that is below a prefix.
 fn page_below(places: &Places, prefix: &Text) -> Result<Request, AllocError>
     ensures { IfOk result (λ r. r ≡ ListPage places.now.bucket prefix.now false [] 1000) }
@@ -54,14 +37,14 @@ fn page_below(places: &Places, prefix: &Text) -> Result<Request, AllocError>
 /// The requests of the driver's set-up: it looks at the destination, deletes the marker of an earlier
 /// job, and lists what is below the magic directory.
 pub fn setup_requests(alloc: Global, job: &Job) -> Result<RequestList, AllocError>
-    requires { job.now.places ≡ places_at job.now.form.dest job.now.form.path }
-    ensures { IfOk result (λ rs. rs ≡ straight.setup_requests job.now.form) }
+    ensures { IfOk result (λ rs. rs ≡ requests.setup_at job.now) }
 {
     let places = &job.places;
-    let head = Request::head_object(&places.bucket, &places.driver.dest)?;
-    let delete = Request::delete_object(&places.bucket, &places.driver.success)?;
-    let list = page_below(places, &places.driver.magic)?;
-    three(alloc, head, delete, list)
+    let mut requests = RequestList::new(alloc);
+    requests.push(Request::head_object(&places.bucket, &places.driver.dest)?)?;
+    requests.push(Request::delete_object(&places.bucket, &places.driver.success)?)?;
+    requests.push(page_below(places, &places.driver.magic)?)?;
+    Ok(requests)
 }
 
 /// The tag of a part.
@@ -86,8 +69,7 @@ fn one_tag(alloc: Global, bytes: &[u8]) -> Result<TagList, AllocError>
 
 /// The record of the file's upload, which has one part.
 fn pending_of(alloc: Global, job: &Job) -> Result<PendingUpload, AllocError>
-    requires { job.now.places ≡ places_at job.now.form.dest job.now.form.path }
-    ensures { IfOk result (λ p. p ≡ straight.pending_of job.now.form) }
+    ensures { IfOk result (λ p. p ≡ requests.pending_at job.now) }
 {
     let bytes = job.form.bytes.as_slice();
     let tags = one_tag(alloc, bytes)?;
@@ -98,29 +80,31 @@ fn pending_of(alloc: Global, job: &Job) -> Result<PendingUpload, AllocError>
 }
 
 fn record_text(alloc: Global, job: &Job) -> Result<Bytes, AllocError>
-    requires { job.now.places ≡ places_at job.now.form.dest job.now.form.path }
-    ensures { IfOk result (λ text. text ≡ straight.record_text job.now.form) }
+    ensures { IfOk result (λ text. text ≡ requests.record_text_at job.now) }
 {
     let pending = pending_of(alloc, job)?;
     pending.print(alloc)
 }
 
-/// The upload of the file's bytes: its creation and its one part.
-fn upload(job: &Job) -> Result<(Request, Request), AllocError>
-    requires { job.now.places ≡ places_at job.now.form.dest job.now.form.path }
-    ensures { IfOk result (λ p. p ≡ (straight.create_request job.now.form, straight.part_request job.now.form)) }
+/// The creation of the file's upload.
+fn creation(job: &Job) -> Result<Request, AllocError>
+    ensures { IfOk result (λ r. r ≡ requests.create_at job.now) }
+{
+    Request::create_upload(&job.places.bucket, &job.places.file)
+}
+
+/// Its one part.
+fn part(job: &Job) -> Result<Request, AllocError>
+    ensures { IfOk result (λ r. r ≡ requests.part_at job.now) }
 {
     let places = &job.places;
-    let create = Request::create_upload(&places.bucket, &places.file)?;
-    let part = Request::upload_part(&places.bucket, &places.file, UPLOAD, 1, &job.form.bytes)?;
-    Ok((create, part))
+    Request::upload_part(&places.bucket, &places.file, UPLOAD, 1, &job.form.bytes)
 }
 
 /// The put of the marker, which tells the file's length.
 fn marker(job: &Job) -> Result<Request, AllocError>
-    requires places { job.now.places ≡ places_at job.now.form.dest job.now.form.path }
-    requires length { length job.now.form.bytes ≤ 5242880 }
-    ensures { IfOk result (λ r. r ≡ straight.marker_request job.now.form) }
+    requires { length job.now.form.bytes ≤ 5242880 }
+    ensures { IfOk result (λ r. r ≡ requests.marker_at job.now) }
 {
     let header = Some(LengthHeader::new(job.form.bytes.as_slice().len() as u64));
     let key = &job.places.attempt.marker;
@@ -129,8 +113,7 @@ fn marker(job: &Job) -> Result<Request, AllocError>
 
 /// The put of the record.
 fn record_put(alloc: Global, job: &Job) -> Result<Request, AllocError>
-    requires { job.now.places ≡ places_at job.now.form.dest job.now.form.path }
-    ensures { IfOk result (λ r. r ≡ straight.record_request job.now.form) }
+    ensures { IfOk result (λ r. r ≡ requests.record_at job.now) }
 {
     let text = record_text(alloc, job)?;
     Request::put_object(&job.places.bucket, &job.places.attempt.pending, &text, None)
@@ -139,21 +122,19 @@ fn record_put(alloc: Global, job: &Job) -> Result<Request, AllocError>
 /// The requests of the attempt's write: an upload of the file with its one part, the marker and the
 /// record.
 pub fn write_requests(alloc: Global, job: &Job) -> Result<RequestList, AllocError>
-    requires places { job.now.places ≡ places_at job.now.form.dest job.now.form.path }
-    requires length { length job.now.form.bytes ≤ 5242880 }
-    ensures { IfOk result (λ rs. rs ≡ straight.write_requests job.now.form) }
+    requires { length job.now.form.bytes ≤ 5242880 }
+    ensures { IfOk result (λ rs. rs ≡ requests.write_at job.now) }
 {
-    let (create, part) = upload(job)?;
-    let marker = marker(job)?;
-    let record = record_put(alloc, job)?;
-    let mut requests = three(alloc, create, part, marker)?;
-    requests.push(record)?;
+    let mut requests = RequestList::new(alloc);
+    requests.push(creation(job)?)?;
+    requests.push(part(job)?)?;
+    requests.push(marker(job)?)?;
+    requests.push(record_put(alloc, job)?)?;
     Ok(requests)
 }
 
 fn set_text(alloc: Global, job: &Job) -> Result<Bytes, AllocError>
-    requires { job.now.places ≡ places_at job.now.form.dest job.now.form.path }
-    ensures { IfOk result (λ text. text ≡ straight.set_text job.now.form) }
+    ensures { IfOk result (λ text. text ≡ requests.set_text_at job.now) }
 {
     let mut commits = PendingList::new(alloc);
     commits.push(pending_of(alloc, job)?)?;
@@ -168,8 +149,7 @@ fn set_text(alloc: Global, job: &Job) -> Result<Bytes, AllocError>
 
 /// The put of the set, which publishes the file.
 fn set_put(alloc: Global, job: &Job) -> Result<Request, AllocError>
-    requires { job.now.places ≡ places_at job.now.form.dest job.now.form.path }
-    ensures { IfOk result (λ r. r ≡ straight.set_request job.now.form) }
+    ensures { IfOk result (λ r. r ≡ requests.set_at job.now) }
 {
     let text = set_text(alloc, job)?;
     Request::put_object(&job.places.bucket, &job.places.set, &text, None)
@@ -178,14 +158,14 @@ fn set_put(alloc: Global, job: &Job) -> Result<Request, AllocError>
 /// The requests of the attempt's commit: it lists its directory, reads its record and puts the task's
 /// set.
 pub fn publish_requests(alloc: Global, job: &Job) -> Result<RequestList, AllocError>
-    requires { job.now.places ≡ places_at job.now.form.dest job.now.form.path }
-    ensures { IfOk result (λ rs. rs ≡ straight.publish_requests job.now.form) }
+    ensures { IfOk result (λ rs. rs ≡ requests.publish_at job.now) }
 {
     let places = &job.places;
-    let list = page_below(places, &places.attempt.prefix)?;
-    let get = Request::get_object(&places.bucket, &places.attempt.pending)?;
-    let set = set_put(alloc, job)?;
-    three(alloc, list, get, set)
+    let mut requests = RequestList::new(alloc);
+    requests.push(page_below(places, &places.attempt.prefix)?)?;
+    requests.push(Request::get_object(&places.bucket, &places.attempt.pending)?)?;
+    requests.push(set_put(alloc, job)?)?;
+    Ok(requests)
 }
 
 fn the_part(alloc: Global, bytes: &[u8]) -> Result<PartList, AllocError>
@@ -201,15 +181,14 @@ fn the_part(alloc: Global, bytes: &[u8]) -> Result<PartList, AllocError>
 
 /// The completion of the upload.
 fn completion(alloc: Global, job: &Job) -> Result<Request, AllocError>
-    requires { job.now.places ≡ places_at job.now.form.dest job.now.form.path }
-    ensures { IfOk result (λ r. r ≡ straight.complete_request job.now.form) }
+    ensures { IfOk result (λ r. r ≡ requests.complete_at job.now) }
 {
     let parts = the_part(alloc, job.form.bytes.as_slice())?;
     Request::complete_upload(alloc, &job.places.bucket, &job.places.file, UPLOAD, &parts)
 }
 
 fn marker_text(alloc: Global, form: &Form) -> Result<Bytes, AllocError>
-    ensures { IfOk result (λ text. text ≡ straight.marker_text form.now) }
+    ensures { IfOk result (λ text. text ≡ requests.marker_text_at form.now) }
 {
     let mut files = TextList::new(alloc);
     files.push(form.path.clone()?)?;
@@ -224,8 +203,7 @@ fn marker_text(alloc: Global, form: &Form) -> Result<Bytes, AllocError>
 
 /// The put of the marker of a committed job.
 fn success_put(alloc: Global, job: &Job) -> Result<Request, AllocError>
-    requires { job.now.places ≡ places_at job.now.form.dest job.now.form.path }
-    ensures { IfOk result (λ r. r ≡ straight.success_request job.now.form) }
+    ensures { IfOk result (λ r. r ≡ requests.success_at job.now) }
 {
     let text = marker_text(alloc, &job.form)?;
     Request::put_object(&job.places.bucket, &job.places.driver.success, &text, None)
@@ -234,11 +212,11 @@ fn success_put(alloc: Global, job: &Job) -> Result<Request, AllocError>
 /// The requests of the driver's commit: it reads the task's set, completes its upload and puts the
 /// marker of a committed job.
 pub fn commit_requests(alloc: Global, job: &Job) -> Result<RequestList, AllocError>
-    requires { job.now.places ≡ places_at job.now.form.dest job.now.form.path }
-    ensures { IfOk result (λ rs. rs ≡ straight.commit_requests job.now.form) }
+    ensures { IfOk result (λ rs. rs ≡ requests.commit_at job.now) }
 {
-    let get = Request::get_object(&job.places.bucket, &job.places.set)?;
-    let complete = completion(alloc, job)?;
-    let success = success_put(alloc, job)?;
-    three(alloc, get, complete, success)
+    let mut requests = RequestList::new(alloc);
+    requests.push(Request::get_object(&job.places.bucket, &job.places.set)?)?;
+    requests.push(completion(alloc, job)?)?;
+    requests.push(success_put(alloc, job)?)?;
+    Ok(requests)
 }

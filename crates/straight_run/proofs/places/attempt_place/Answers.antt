@@ -2,7 +2,8 @@ use Rattle.std.proofs.Common.{◌≡◌, ◌≤◌, List, ℕ, length, sym, subs
 use Rattle.std.proofs.lemmas.Result.{IfOk-weaker}
 use Rattle.path_keys.specs.Paths.{Path}
 use Rattle.magic_paths.specs.Layout.{attempt_key}
-use Rattle.straight_run.proofs.Keys.{name_size, attempt_short}
+use Rattle.first_form.proofs.Keys.{name_size}
+use Rattle.straight_run.proofs.Keys.{attempt_short}
 use Rattle.straight_run.proofs.places.attempt_place.Goals as goal
 
 pub attempt_dir-requires-clause-some : goal.attempt_dir-requires-clause-some

@@ -1,5 +1,5 @@
 use Rattle.std.proofs.Common.{arith}
-use Rattle.straight_run.proofs.Keys.{name_size}
+use Rattle.first_form.proofs.Keys.{name_size}
 use Rattle.straight_run.proofs.places.dest_place.Goals as goal
 
 pub named_place-requires-clause-short : goal.named_place-requires-clause-short

@@ -1,4 +1,4 @@
-use Rattle.straight_run.proofs.Keys.{file_elements, file_short}
+use Rattle.first_form.proofs.Keys.{file_elements, file_short}
 use Rattle.straight_run.proofs.places.named_place.Goals as goal
 
 pub file_place-requires-clause-elements : goal.file_place-requires-clause-elements

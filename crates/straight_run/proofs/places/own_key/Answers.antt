@@ -1,6 +1,6 @@
 use Rattle.std.proofs.Common.{◌≡◌, true, List, ℕ, sym, subst, ◌∙◌}
 use Rattle.s3_types.specs.Names.{is_key_path}
-use Rattle.straight_run.proofs.Keys.{name_is_key}
+use Rattle.first_form.proofs.Keys.{name_is_key}
 use Rattle.straight_run.proofs.places.own_key.Goals as goal
 
 pub new-requires : goal.new-requires

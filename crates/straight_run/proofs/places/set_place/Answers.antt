@@ -1,4 +1,4 @@
-use Rattle.straight_run.proofs.Keys.{name_size}
+use Rattle.first_form.proofs.Keys.{name_size}
 use Rattle.straight_run.proofs.places.set_place.Goals as goal
 
 pub set_key-requires-clause-some : goal.set_key-requires-clause-some
