@@ -11,6 +11,8 @@ mod plan;
 mod report;
 mod script;
 mod standing;
+#[cfg(test)]
+mod tests;
 
 pub use attempts::{AttemptName, Attempts};
 pub use ends::{
