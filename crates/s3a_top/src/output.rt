@@ -1,4 +1,6 @@
 ghost use Rattle.std.specs.Prelude.{◌≡◌, ◌<◌, ◌^◌, ◌-◌, OnOk, OnErr};
+ghost use Rattle.shelf.specs.Devices.{Appends};
+ghost use Rattle.s3a_top.specs.Bytes.{WritesSome};
 
 use shelf::{Failed, Sink};
 
@@ -6,6 +8,8 @@ use shelf::{Failed, Sink};
 pub fn write_output<K: Sink>(out: &mut K, bytes: &[u8]) -> Result<(), Failed>
     ensures calm { OnOk result (K.faults out.new ≡ K.faults out.old) }
     ensures failed { OnErr result (K.faults out.old < 2 ^ 64 - 1 → K.faults out.old < K.faults out.new) }
+    ensures written { OnOk result (Appends (K.written out.old) (K.written out.new) bytes.now) }
+    ensures partly { OnErr result (WritesSome (K.written out.old) (K.written out.new) bytes.now) }
 {
     let mut rest = bytes;
     while !rest.is_empty() {
