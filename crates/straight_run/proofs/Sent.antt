@@ -1,5 +1,6 @@
 -- One more request that is sent, and the last.
-use Rattle.std.proofs.Common.{◌≡◌, ◌≢◌, ◌<◌, ◌≤◌, ℕ, zero, suc, ◌+◌, ◌^◌, true, List, [], ◌∷◌, ◌++◌, length, drop, take, refl, sym, ap, ◌∙◌, subst, arith, append_assoc, append-nil, length-append}
+use Rattle.std.proofs.Common.{◌≡◌, ◌≢◌, ◌<◌, ◌≤◌, ℕ, zero, suc, ◌+◌, ◌^◌, true, List, [], ◌∷◌, ◌++◌, length, drop, take, refl, sym, ap, ◌∙◌, subst, arith, append_assoc, append-nil, length-append, Result, Ok, Err}
+use Rattle.std.specs.Prelude.{OnErr, OnOk}
 use Rattle.std.specs.List.{list_all}
 use Rattle.std.proofs.lemmas.Bool.{and_parts}
 use Rattle.s3_types.specs.Store.{Content}
@@ -55,11 +56,14 @@ module _ (event : ℕ) (actor : Actor) (c : Content) (es : List Entry) (requests
   pub so_entries : (d : Content) (fs : List Entry) → SoFar event actor c es requests d fs [] → fs ≡ es ++ told event actor c requests
   so_entries d fs h = sym (append-nil fs) ∙ h.entries
 
-pub none_left : {X : Type 0} (xs : List X) (i : ℕ) → (i < length xs → ⊥) → drop i xs ≡ []
-none_left [] i h = drop_nothing i
-  where
-    drop_nothing : (i : ℕ) → drop i [] ≡ []
-    drop_nothing zero = refl
-    drop_nothing (suc i) = refl
-none_left (x ∷ xs) zero h = absurd (h (omega arith))
-none_left (x ∷ xs) (suc i) h = none_left xs i (λ l. h (omega (arith, l)))
+pub on_err : {A E P : Type 0} (r : Result A E) → P → OnErr r P
+on_err (Ok x) p = tt
+on_err (Err e) p = p
+
+pub on_err_with : {A E P Q : Type 0} (r : Result A E) → (P → Q) → OnErr r P → OnErr r Q
+on_err_with (Ok x) f p = tt
+on_err_with (Err e) f p = f p
+
+pub on_ok : {A E P Q : Type 0} (r : Result A E) → (P → Q) → OnOk r P → OnOk r Q
+on_ok (Ok x) f p = f p
+on_ok (Err e) f p = tt

@@ -1,8 +1,10 @@
 use Rattle.std.proofs.Common.{◌≡◌, ◌+◌, ◌∷◌, ◌∙◌, sym, ap, subst, List, drop}
 use Rattle.s3_types.specs.declared.request.Request.{Request}
+use Rattle.s3_types.specs.declared.journal.Entry.{Entry}
+use Rattle.straight_facts.specs.Sendings.{told, AreFirst}
 use Rattle.job_model.proofs.ReportLines.{drop_item}
 use Rattle.straight_run.specs.SoFar.{SoFar}
-use Rattle.straight_run.proofs.Sent.{so_more, so_first}
+use Rattle.straight_run.proofs.Sent.{so_more, so_first, on_err}
 use Rattle.straight_run.proofs.stage.send_all.Goals as goal
 
 pub loop-request-preserved : goal.loop-request-preserved
@@ -17,4 +19,10 @@ loop-request-preserved c =
     so_more c.args.event c.args.actor service entries requests c.loop-request.service c.send.new.service c.loop-request.journal.entries c.send.new.journal.entries c.in_ok-request.request (drop (c.loop-request.request-index + 1) requests) sent c.in_ok-send.ensures.left c.in_ok-send.ensures.entry
 
 pub returns-in_err-request-clause-first : goal.returns-in_err-request-clause-first
-returns-in_err-request-clause-first c = so_first c.args.event c.args.actor c.args.service.now c.args.journal.now.entries c.args.requests.now c.loop-request.service c.loop-request.journal.entries (drop c.loop-request.request-index c.args.requests.now) c.loop-request.invariant
+returns-in_err-request-clause-first c = on_err c.from_residual.result (so_first c.args.event c.args.actor c.args.service.now c.args.journal.now.entries c.args.requests.now c.loop-request.service c.loop-request.journal.entries (drop c.loop-request.request-index c.args.requests.now) c.loop-request.invariant)
+
+pub returns-in_err-send-clause-first : goal.returns-in_err-send-clause-first
+returns-in_err-send-clause-first c =
+    on_err c.from_residual-in_err-send.result
+      (subst (λ (l : List Entry). AreFirst c.args.journal.now.entries l (told c.args.event c.args.actor c.args.service.now c.args.requests.now)) (sym c.in_err-send.ensures.same)
+        (so_first c.args.event c.args.actor c.args.service.now c.args.journal.now.entries c.args.requests.now c.loop-request.service c.loop-request.journal.entries (drop c.loop-request.request-index c.args.requests.now) c.loop-request.invariant))
