@@ -20,7 +20,7 @@ use Rattle.first_form.specs.declared.form.Form.{Form}
 use Rattle.first_form.specs.Scripted.{the_attempt}
 use Rattle.straight_facts.specs.Sendings.{told, left, AreFirst}
 use Rattle.straight_facts.specs.Straight.{opening_at, opening_of, after_setup, after_write, after_publish, after_commit, setup_requests, write_requests, publish_requests, commit_requests, setup_entries, write_entries, publish_entries, commit_entries}
-use Rattle.straight_facts.specs.Run.{the_ends, the_pick, entries_to, entries_in, store_to, picks_to, Stopped}
+use Rattle.straight_facts.specs.Run.{the_ends, the_pick, entries_to, entries_in, store_to, picks_to, Stopped, Whole}
 use Rattle.straight_facts.proofs.Steps.{c0, c7, c10}
 use Rattle.straight_facts.proofs.Lone.{lone}
 use Rattle.straight_facts.proofs.Explicit.{setup_leaves, write_leaves, publish_leaves}
@@ -155,3 +155,6 @@ opening_is bucket old new name objects uploads o n m u h =
     ∙ ap (λ b. record { buckets = fin.insert fin.empty b (record { objects = objects; uploads = uploads }); next = 1; minimum = 5242880 }) n
     ∙ ap (λ (x : Objects). record { buckets = fin.insert fin.empty bucket (record { objects = x; uploads = uploads }); next = 1; minimum = 5242880 }) m
     ∙ ap (λ (x : Uploads). record { buckets = fin.insert fin.empty bucket (record { objects = fin.empty; uploads = x }); next = 1; minimum = 5242880 }) u
+
+pub is_whole : (f : Form) (s : Stage) → Stands f 4 s → Whole f s.journal.entries s.picks s.ends
+is_whole f s h = record { entries = h.entries; picks = h.picks; ends = h.ends }

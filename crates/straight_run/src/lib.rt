@@ -8,6 +8,6 @@ mod requests;
 mod stage;
 
 pub use job::Job;
-pub use perform::{opening, play};
+pub use perform::{begun, play};
 pub use places::{AttemptPlaces, DriverPlaces, Places};
 pub use stage::Stage;

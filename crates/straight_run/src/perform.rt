@@ -1,5 +1,8 @@
 ghost use Rattle.std.specs.Prelude.{◌≡◌, ◌≤◌, [], length, IfOk, OnOk, OnErr};
+ghost use Rattle.s3_types.specs.Moment.{moment};
+ghost use Rattle.job_model.specs.Promise.{Promised, Finished};
 ghost use Rattle.first_form.specs.Form.{IsForm};
+ghost use Rattle.first_form.specs.Scripted.{script_of};
 ghost use Rattle.straight_run.specs.Places.{job_of};
 ghost use Rattle.straight_facts.specs.Straight as straight;
 ghost use Rattle.straight_facts.specs.Run.{Stopped};
@@ -24,7 +27,7 @@ const ATTEMPT: Actor = Actor::Attempt {
 };
 
 /// A new store with one empty bucket.
-pub fn opening(alloc: Global, bucket: &Bucket) -> Result<Service, AllocError>
+fn opening(alloc: Global, bucket: &Bucket) -> Result<Service, AllocError>
     ensures { IfOk result (λ s. s ≡ straight.opening_at bucket.now) }
 {
     let mut service = Service::new(alloc, MINIMUM);
@@ -121,9 +124,8 @@ fn commit(alloc: Global, stage: &mut Stage, job: &Job) -> Result<(), AllocError>
         .push(EventEnd::Ended(OpEnd::Commit(CommitEnd::Committed)))
 }
 
-/// Plays the job: the set-up, the attempt's write and commit, and the job's commit. After want of
-/// memory the stage has what was done until then.
-pub fn play(alloc: Global, stage: &mut Stage, job: &Job) -> Result<(), AllocError>
+/// Plays the events of the job in their order.
+fn play_events(alloc: Global, stage: &mut Stage, job: &Job) -> Result<(), AllocError>
     requires form { IsForm job.now.form }
     requires job { job.now ≡ job_of job.now.form }
     requires stands { Stands job.now.form 0 stage.old }
@@ -134,4 +136,26 @@ pub fn play(alloc: Global, stage: &mut Stage, job: &Job) -> Result<(), AllocErro
     write(alloc, stage, job)?;
     publish(alloc, stage, job)?;
     commit(alloc, stage, job)
+}
+
+/// The stage of a job before its first event, over a new store with the destination's bucket.
+pub fn begun(alloc: Global, job: &Job) -> Result<Stage, AllocError>
+    requires { job.now ≡ job_of job.now.form }
+    ensures { IfOk result (λ stage. Stands job.now.form 0 stage) }
+{
+    let service = opening(alloc, &job.places.bucket)?;
+    Ok(Stage::new(alloc, service))
+}
+
+/// Plays the job: the set-up, the attempt's write and commit, and the job's commit. After want of
+/// memory the stage has what was done until then.
+pub fn play(alloc: Global, stage: &mut Stage, job: &Job) -> Result<(), AllocError>
+    requires form { IsForm job.now.form }
+    requires job { job.now ≡ job_of job.now.form }
+    requires stands { Stands job.now.form 0 stage.old }
+    ensures finished { OnOk result (Finished (script_of job.now.form) (straight.opening_of job.now.form) stage.new.journal.entries stage.new.picks stage.new.ends) }
+    ensures left { OnOk result (stage.new.service ≡ (moment (straight.opening_of job.now.form) stage.new.journal.entries (length stage.new.journal.entries)).content) }
+    ensures promised { OnErr result (Promised (script_of job.now.form) (straight.opening_of job.now.form) stage.new.journal.entries stage.new.picks stage.new.ends) }
+{
+    play_events(alloc, stage, job)
 }
