@@ -1,0 +1,17 @@
+//! The commands that make a store and its buckets, on a store that a shelf keeps: the words that say
+//! them, what the shelf's bytes are, and what is kept or answered.
+#![tactic(auto)]
+
+mod answers;
+mod command;
+mod held;
+mod minimum;
+
+mod work;
+
+pub use answers::{Answer, obey};
+pub use command::{Command, StoreCommand, read_command};
+pub use held::{Held, ShelfStop, load, save};
+pub use minimum::PartMinimum;
+
+pub use work::fault_text;
