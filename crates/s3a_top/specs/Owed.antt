@@ -1,21 +1,24 @@
 -- What a run of the program owes, by its words, what the shelf held and the input.
 use Rattle.std.specs.Prelude.{◌≡◌, ◌≢◌, ℕ, ◌⊎◌, ◌==◌, ◌++◌, List, [], ◌∷◌, length, codes, Option, Some, None, if◌then◌else◌}
+use Rattle.std.specs.Option.{unwrap_or}
 use Rattle.shelf.specs.Devices.{Appends, HoldsNow}
 use Rattle.s3_types.specs.Moment.{moment}
 use Rattle.s3_types.specs.declared.journal.Entry.{Entry}
 use Rattle.job_model.specs.Promise.{Promised, Finished}
+use Rattle.job_model.specs.ReportText.{report_text}
 use Rattle.job_model.specs.declared.ends.Pick.{Pick}
 use Rattle.job_model.specs.declared.ends.EventEnd.{EventEnd}
 use Rattle.store_commands.specs.Stores.{image_of, fault_text}
 use Rattle.store_commands.specs.declared.held.Held.{Held}
 use Rattle.store_commands.specs.declared.held.Held.TheVariants.{Nothing, Store, Faulty}
-use Rattle.store_commands.specs.declared.work.Work as works
-use Rattle.store_commands.specs.declared.work.Work.TheVariants.{Says, Saves}
+use Rattle.store_commands.specs.declared.work.Work.{Work}
+use Rattle.store_commands.specs.declared.work.Work.TheVariants.{Says as Tells, Saves}
 use Rattle.first_form.specs.declared.form.Form.{Form}
 use Rattle.first_form.specs.Form.{Spells}
 use Rattle.first_form.specs.Scripted.{script_of}
 use Rattle.straight_facts.specs.Straight.{opening_of}
 use Rattle.s3a_top.specs.Bytes.{WritesSome}
+use Rattle.s3a_top.specs.Statuses.{IsBroken}
 
 -- what a shelf holds, where it is told
 abbrev pub Told : Type 0
@@ -33,6 +36,10 @@ fixed_text due =
     else if due == 10 then Some (codes "not built" ++ 10 ∷ [])
     else None
 
+-- the text of a status, or else this
+abbrev pub said_text : ℕ → List ℕ → List ℕ
+said_text due text = unwrap_or (fixed_text due) text
+
 -- the text went out whole, or, where the sink failed, its first bytes
 pub record Writes (status : ℕ) (before after : Option (List ℕ)) (text : List ℕ) : Type 0 where
   pub whole : status ≢ 4 → Appends before after text
@@ -46,26 +53,27 @@ pub record IsIdle (es : List Entry) (ps : List Pick) (xs : List EventEnd) : Type
   pub picks : ps ≡ []
   pub ends : xs ≡ []
 
--- a device failed, or memory was wanting
-abbrev pub IsBroken : ℕ → Type 0
-IsBroken due = (due ≡ 3) ⊎ ((due ≡ 5) ⊎ (due ≡ 9))
-
 -- Of a job of the first form over a shelf that held nothing: the promise, and where it was done whole, that all its
--- events ended and the shelf holds the image of the store at the last moment.
-pub record OfForm (f : Form) (due : ℕ) (es : List Entry) (ps : List Pick) (xs : List EventEnd) (before now : Told) : Type 0 where
+-- events ended, that the shelf holds the image of the store at the last moment, and the report.
+pub record OfForm (f : Form) (due : ℕ) (es : List Entry) (ps : List Pick) (xs : List EventEnd) (before now : Told) (Says : List ℕ → Type 0) : Type 0 where
   pub due : (due ≡ 0) ⊎ IsBroken due
   pub promised : Promised (script_of f) (opening_of f) es ps xs
   pub finished : due ≡ 0 → Finished (script_of f) (opening_of f) es ps xs
   pub saved : due ≡ 0 → HoldsNow before now (image_of (moment (opening_of f) es (length es)).content)
+  pub report : due ≡ 0 → Says (report_text 0 (length es) ps xs (script_of f))
 
--- Of a job by what the shelf held: its script is played where nothing was, and is not built where it is of another form
--- or a store was held; bytes that are no image are told.
-abbrev pub JobDue : Held → List ℕ → ℕ → Type 0
-JobDue Nothing input due = ((f : Form) → Spells input f → ⊥) → (due ≡ 10) ⊎ IsBroken due
-JobDue (Store c) input due = (due ≡ 10) ⊎ IsBroken due
-JobDue (Faulty number place) input due = (due ≡ 7) ⊎ IsBroken due
+-- of a job over a shelf that held nothing, where the input is told: it is played where it is of the first form, and else not built
+pub record OfInput (left : Option (List ℕ)) (due : ℕ) (es : List Entry) (ps : List Pick) (xs : List EventEnd) (before now : Told) (Says : List ℕ → Type 0) : Type 0 where
+  pub form : (bytes : List ℕ) → left ≡ Some bytes → (f : Form) → Spells bytes f → OfForm f due es ps xs before now Says
+  pub none : (bytes : List ℕ) → left ≡ Some bytes → ((f : Form) → Spells bytes f → ⊥) → (due ≡ 10) ⊎ IsBroken due
 
--- of a command of the store by what is to be done
-abbrev pub StoreDue : works.Work → ℕ → Told → Told → Type 0
-StoreDue (Says said text) due before now = (due ≡ said) ⊎ IsBroken due
-StoreDue (Saves c) due before now = ((due ≡ 0) × HoldsNow before now (image_of c)) ⊎ IsBroken due
+-- of a job, by what the shelf held: over a store it is not built, and bytes that are no image are told
+abbrev pub JobOwes : Held → Option (List ℕ) → ℕ → List Entry → List Pick → List EventEnd → Told → Told → (List ℕ → Type 0) → Type 0
+JobOwes Nothing left due es ps xs before now Says = OfInput left due es ps xs before now Says
+JobOwes (Store c) left due es ps xs before now Says = (due ≡ 10) ⊎ IsBroken due
+JobOwes (Faulty number place) left due es ps xs before now Says = ((due ≡ 7) × Says (fault_text number place)) ⊎ IsBroken due
+
+-- of a command of the store, by what is to be done: it is said, or the store is kept
+abbrev pub StoreOwes : Work → ℕ → Told → Told → (List ℕ → Type 0) → Type 0
+StoreOwes (Tells status text) due before now Says = ((due ≡ status) × Says text) ⊎ IsBroken due
+StoreOwes (Saves c) due before now Says = ((due ≡ 0) × Says [] × HoldsNow before now (image_of c)) ⊎ IsBroken due

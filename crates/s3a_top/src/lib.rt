@@ -1,7 +1,6 @@
 //! All that the program does, over its words, its input, the store's keeping and its output.
 #![tactic(auto)]
 
-mod command;
 mod input;
 mod output;
 mod top;
