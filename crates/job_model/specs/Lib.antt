@@ -12,5 +12,6 @@ pub mod Operations
 pub mod Commits
 pub mod Turns
 pub mod Follows
+pub mod Fate
 pub mod ReportText
 pub mod Standing
