@@ -1,5 +1,6 @@
 -- The script that a text of the first form stands for.
 use Rattle.std.specs.Prelude.{false, List, [], ◌∷◌, None}
+use Rattle.std.specs.FinMap as fin
 use Rattle.s3_types.specs.declared.request.Actor.{Actor}
 use Rattle.s3_types.specs.declared.request.Actor.TheVariants.{Driver, Attempt}
 use Rattle.s3_types.specs.declared.request.Committer.TheVariants.{Magic}
@@ -34,6 +35,7 @@ script_of f = record {
   retries = 3;
   block = 0;
   stamp = None;
+  fates = fin.empty;
   attempts = attempts_of f;
   events = the_events;
 }

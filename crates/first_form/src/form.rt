@@ -7,7 +7,7 @@ ghost use Rattle.first_form.specs.Scripted.{attempts_of, the_events, script_of};
 
 use job_model::{AttemptName, Attempts, Event, EventList, Op, Script};
 use path_keys::{PathFault, S3Path};
-use s3_types::{Actor, Bytes, Committer, Mode, Text};
+use s3_types::{Actor, Bytes, Committer, Fates, Mode, Text};
 use std::alloc::{AllocError, Global};
 
 /// The most bytes of the one file, so that it is one part.
@@ -293,6 +293,7 @@ pub fn script_of(alloc: Global, form: &Form) -> Result<Script, AllocError>
         retries: 3,
         block: 0,
         stamp: None,
+        fates: Fates::new(alloc),
         attempts,
         events,
     })

@@ -12,6 +12,7 @@ pub mod Operations
 pub mod Commits
 pub mod Turns
 pub mod Follows
+pub mod Fate
 pub mod Promise
 pub mod ReportText
 pub mod Standing

@@ -6,6 +6,7 @@ use Rattle.s3_types.specs.Moment.{is_unanswered, IsHonest}
 use Rattle.s3_types.specs.declared.request.Actor.TheVariants.{Driver}
 use Rattle.s3_types.specs.declared.journal.Entry.{Entry}
 use Rattle.job_model.specs.Outputs.{Picks}
+use Rattle.job_model.specs.Fate.{AreFated}
 use Rattle.job_model.specs.Replay.{Seen, seen, is_driver, is_marking, is_marked}
 use Rattle.job_model.specs.Headline.{Always}
 use Rattle.job_model.specs.States.{past, missing, commit_event, told}
@@ -92,6 +93,8 @@ pub record Promised (w : Script) (opening : Content) (journal : List Entry) (ps 
   pub always : Always w (commit_event w xs) opening journal
   -- each answer is the one that was due
   pub honest : IsHonest opening journal
+  -- each sending has the outcome that the script names for it
+  pub fated : AreFated w journal
   -- events, turns and operations are as the script says
   pub plays : Plays w opening.minimum xs journal
   pub picks : ArePicked ps (all_picks w opening journal xs)

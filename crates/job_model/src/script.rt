@@ -1,7 +1,7 @@
 use crate::attempts::Attempts;
 use crate::events::EventList;
 use path_keys::S3Path;
-use s3_types::{Committer, Mode, Text};
+use s3_types::{Committer, Fates, Mode, Text};
 
 /// A job script: the job's head, its attempts with their files, and the events of its run.
 #[derive(Drop)]
@@ -22,6 +22,8 @@ pub struct Script {
     pub block: u64,
     /// A number that `_SUCCESS` is to carry.
     pub stamp: Option<u64>,
+    /// What becomes of each sending, by its number from 1.
+    pub fates: Fates,
     pub attempts: Attempts,
     pub events: EventList,
 }

@@ -8,7 +8,7 @@ use crate::report::{Report, report_text};
 use crate::script::Script;
 use crate::standing::{ActorStage, Life, Standings};
 use path_keys::S3Path;
-use s3_types::{Actor, Committer, Journal, Mode, Text};
+use s3_types::{Actor, Committer, Fates, Journal, Mode, Text};
 use std::alloc::{AllocError, Global};
 use std::test::Fail;
 
@@ -88,6 +88,7 @@ fn script(alloc: Global) -> Result<Script, Fail> {
         retries: 3,
         block: 0,
         stamp: None,
+        fates: Fates::new(alloc),
         attempts: attempts(alloc)?,
         events: EventList::from_vec(events.to_vec(alloc)?),
     })

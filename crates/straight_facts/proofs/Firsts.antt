@@ -1,10 +1,15 @@
 -- The first entries of a journal keep what holds of all.
-use Rattle.std.proofs.Common.{◌≡◌, ◌≤◌, ◌&&◌, ℕ, zero, suc, ◌+◌, Bool, true, nat_le, List, [], ◌∷◌, ◌++◌, length, take, Option, Some, None, refl, sym, ap, ◌∙◌, arith}
+use Rattle.std.proofs.Common.{◌≡◌, ◌≤◌, ◌&&◌, ℕ, zero, suc, ◌+◌, Bool, true, nat_le, List, [], ◌∷◌, ◌++◌, length, take, Option, Some, None, not, subst, refl, sym, ap, ◌∙◌, arith}
 use Rattle.std.specs.List.{list_all}
 use Rattle.std.proofs.Math.Seq.{take-append_seam}
 use Rattle.std.proofs.lemmas.Bool.{and_parts, leb-true}
 use Rattle.s3_types.specs.Store.{Scene}
-use Rattle.s3_types.specs.Moment.{AreHonest, effect}
+use Rattle.s3_types.specs.Moment.{AreHonest, effect, is_unanswered}
+use Rattle.s3_types.specs.Foretold.{fate_of, IsForetold, AreForetold}
+use Rattle.s3_types.specs.declared.fates.Fate.{Fate}
+use Rattle.s3_types.specs.declared.fates.Fate.TheVariants.{Answer}
+use Rattle.s3_types.specs.declared.journal.Outcome.{Outcome}
+use Rattle.s3_types.specs.declared.journal.Outcome.TheVariants.{Answered, Slow, RequestLost, ReplyLost}
 use Rattle.s3_types.specs.declared.request.Actor.{Actor}
 use Rattle.s3_types.specs.declared.journal.Entry.{Entry}
 use Rattle.job_model.specs.Commits.{Sets}
@@ -42,7 +47,26 @@ first_rising [] (suc n) h = tt
 first_rising (e ∷ es) zero h = tt
 first_rising (e ∷ es) (suc n) h = (first_from e.event es n h.0, first_rising es n h.1)
 
+pub first_foretold : (told : ℕ → Option Fate) (k : ℕ) (es : List Entry) (n : ℕ) → AreForetold told k es → AreForetold told k (take n es)
+first_foretold told k [] zero h = tt
+first_foretold told k [] (suc n) h = tt
+first_foretold told k (e ∷ es) zero h = tt
+first_foretold told k (e ∷ es) (suc n) h = (h.0, first_foretold told (k + 1) es n h.1)
+
 -- ---- by tests
+
+as_answered : (o : Outcome) → not (is_unanswered o) ≡ true → fate_of o ≡ Answer
+as_answered (Answered r) h = refl
+as_answered Slow h = absurd cc
+as_answered RequestLost h = absurd cc
+as_answered ReplyLost h = absurd cc
+
+-- all were answered, as it was told
+pub all_answered : (told : ℕ → Option Fate) → ((n : ℕ) → told n ≡ Some Answer) → (k : ℕ) (es : List Entry) → list_all (λ e. not (is_unanswered e.outcome)) es ≡ true → AreForetold told k es
+all_answered told h k [] t = tt
+all_answered told h k (e ∷ es) t =
+    let p = and_parts (not (is_unanswered e.outcome)) _ t in
+    (subst (λ o. IsForetold o e.outcome) (sym (h k)) (as_answered e.outcome p.0), all_answered told h (k + 1) es p.1)
 
 pub up_to : (k : ℕ) (es : List Entry) → list_all (λ e. nat_le e.event k) es ≡ true → AllUpTo k es
 up_to k [] h = tt

@@ -14,6 +14,10 @@ use Rattle.job_model.specs.Replay.{Seen, seen, see, see_all, nothing_seen, is_ma
 use Rattle.job_model.specs.Headline.{Always, Kept}
 use Rattle.job_model.specs.States.{commit_event}
 use Rattle.job_model.specs.Follows.{Plays, CommitIs}
+use Rattle.job_model.specs.Fate.{fate, AreFated}
+use Rattle.s3_types.specs.Fates.{fate_or}
+use Rattle.std.specs.FinMap.{get-empty}
+use Rattle.std.specs.Ordering.{nat_cmp}
 use Rattle.job_model.specs.Promise.{picks_below, picked, seen_last, all_picks, commit_end, is_mark_answered, ArePicked, CommitEnded, Promised, Finished}
 use Rattle.job_model.specs.declared.script.Script.{Script}
 use Rattle.job_model.specs.declared.ends.Pick.{Pick}
@@ -30,7 +34,7 @@ use Rattle.straight_facts.proofs.Maps.{text_same}
 use Rattle.straight_facts.proofs.Lone.{content_is}
 use Rattle.straight_facts.proofs.Steps.{c0, c13, opens, plain}
 use Rattle.straight_facts.proofs.Explicit.{setup_said, write_said, publish_said, commit_said, all_said, setup_told, write_told, publish_told, commit_told, commit_leaves, all_lead, Leads, leads, leads_nowhere, honest_from}
-use Rattle.straight_facts.proofs.Firsts.{first_honest}
+use Rattle.straight_facts.proofs.Firsts.{first_honest, first_foretold, all_answered}
 use Rattle.straight_facts.proofs.Kept.{kept_at}
 use Rattle.straight_facts.proofs.Obeyed.{set_done, task_done, committed}
 use Rattle.straight_facts.proofs.Played.{played0, played1, played2, played3, played4}
@@ -123,6 +127,9 @@ module _ (f : Form) (h : IsForm f) where
   honest : (n : ℕ) → IsHonest c (take n all)
   honest n = first_honest (opening c) all n (honest_from (opening c) (c0 f) (c13 f) all (opens f) (all_lead f some))
 
+  fated : (n : ℕ) → AreFated w (take n all)
+  fated n = first_foretold (λ i. Some (fate w i)) 1 all n (all_answered (λ i. Some (fate w i)) (λ i. ap (λ o. Some (fate_or o)) (get-empty nat_cmp i)) 1 all refl)
+
   last_content : (after_all (opening c) all).content ≡ c13 f
   last_content = leads_to (opening c) (c0 f) (c13 f) all (opens f) (all_lead f some)
 
@@ -177,6 +184,7 @@ module _ (f : Form) (h : IsForm f) where
   whole_promised = record {
     always = λ m l. always 13 m l;
     honest = honest 13;
+    fated = fated 13;
     plays = played4 f some few;
     picks = ([], all_picked_sym);
     ended = ends_so;
@@ -205,6 +213,7 @@ module _ (f : Form) (h : IsForm f) where
   part_promised xs n ps a b p q = record {
     always = λ m l. subst (λ k. Kept w c (see_all w k start (take m (take n all)))) (sym a) (always n m l);
     honest = honest n;
+    fated = fated n;
     plays = p;
     picks = told_picks xs (take n all) ps (by q);
     ended = no_end xs (take n all) b;

@@ -1,5 +1,6 @@
 -- Entries of a journal, and the job that the examples are of.
 use Rattle.std.specs.Prelude.{ℕ, List, [], ◌∷◌, ◌++◌, Some, None, codes, false, length}
+use Rattle.std.specs.FinMap as fin
 use Rattle.s3_types.specs.Tags.{Spelled}
 use Rattle.s3_types.specs.declared.request.Actor.{Actor}
 use Rattle.s3_types.specs.declared.request.Actor.TheVariants.{Driver}
@@ -37,6 +38,7 @@ job tasks retries attempts events = record {
   retries = retries;
   block = 0;
   stamp = None;
+  fates = fin.empty;
   attempts = attempts;
   events = events;
 }

@@ -9,6 +9,7 @@ use Rattle.s3_types.specs.declared.journal.Outcome.TheVariants.{ReplyLost}
 use Rattle.s3_types.specs.declared.journal.Entry.{Entry}
 use Rattle.job_model.specs.Outputs.{wanted_at, keeps, is_decided}
 use Rattle.job_model.specs.Replay.{Seen, seen}
+use Rattle.job_model.specs.Fate.{AreFated}
 use Rattle.job_model.specs.States.{past, commit_event, idle, missing}
 use Rattle.job_model.specs.Turns.{of_event}
 use Rattle.job_model.specs.Follows.{first_worn, CommitIs}
@@ -86,6 +87,8 @@ pub record OneFile : Type 0 where
   -- driver and attempt are committed then
   pub driver : (past (script 3) all_ends).state Driver ≡ idle stage.Committed
   pub attempt_state : (past (script 3) all_ends).state worker ≡ idle stage.Committed
+  -- every sending is answered, as the script has it that names none
+  pub fated : AreFated (script 3) journal
   -- before the task's commit it is missing, then not
   pub missing_before : missing (script 3) (past (script 3) (Ended (ends.Setup setups.Done) ∷ Ended (ends.Task tasks.Done) ∷ [])).state ≡ Some 0
   pub missing_after : missing (script 3) (past (script 3) three_ends).state ≡ None
@@ -97,8 +100,9 @@ lost_journal = before_mark ++ entry 4 Driver put_mark ReplyLost ∷ entry 4 Driv
 abbrev pub lost_at : ℕ → Seen
 lost_at m = seen (script 1) (Some 4) opening lost_journal m
 
--- the marker stands by the first of them, and the commit ends with a fault at the marker
+-- the marker stands by the first of them, and the commit ends with a fault at the marker; the script would have to name the losses
 pub record LostMark : Type 0 where
+  pub unfated : AreFated (script 1) lost_journal → ⊥
   pub unmarked : (lost_at 12).put_mark ≡ false
   pub marked : (lost_at 13).put_mark ≡ true
   pub marked_again : (lost_at 14).put_mark ≡ true
