@@ -56,7 +56,7 @@ pub record IsIdle (es : List Entry) (ps : List Pick) (xs : List EventEnd) : Type
 -- Of a job of the first form over a shelf that held nothing: the promise, and where it was done whole, that all its
 -- events ended, that the shelf holds the image of the store at the last moment, and the report.
 pub record OfForm (f : Form) (due : ℕ) (es : List Entry) (ps : List Pick) (xs : List EventEnd) (before now : Told) (Says : List ℕ → Type 0) : Type 0 where
-  pub due : (due ≡ 0) ⊎ IsBroken due
+  pub which : (due ≡ 0) ⊎ IsBroken due
   pub promised : Promised (script_of f) (opening_of f) es ps xs
   pub finished : due ≡ 0 → Finished (script_of f) (opening_of f) es ps xs
   pub saved : due ≡ 0 → HoldsNow before now (image_of (moment (opening_of f) es (length es)).content)
@@ -73,7 +73,7 @@ JobOwes Nothing left due es ps xs before now Says = OfInput left due es ps xs be
 JobOwes (Store c) left due es ps xs before now Says = (due ≡ 10) ⊎ IsBroken due
 JobOwes (Faulty number place) left due es ps xs before now Says = ((due ≡ 7) × Says (fault_text number place)) ⊎ IsBroken due
 
--- of a command of the store, by what is to be done: it is said, or the store is kept
+-- of a command of the store, by what is to be done: its text is said, where its status has no text of its own, or the store is kept
 abbrev pub StoreOwes : Work → ℕ → Told → Told → (List ℕ → Type 0) → Type 0
-StoreOwes (Tells status text) due before now Says = ((due ≡ status) × Says text) ⊎ IsBroken due
+StoreOwes (Tells status text) due before now Says = ((due ≡ status) × (fixed_text status ≡ None → Says text)) ⊎ IsBroken due
 StoreOwes (Saves c) due before now Says = ((due ≡ 0) × Says [] × HoldsNow before now (image_of c)) ⊎ IsBroken due
