@@ -5,9 +5,10 @@ use Rattle.std.specs.Str.{all_ascii_digits}
 use Rattle.std.specs.Str.Parse.{digits_value, ParsesUnsigned}
 use Rattle.std.proofs.lemmas.Bool.{and_parts, leb-true, le-leb, false_from_ne_true}
 use Rattle.std.proofs.lemmas.Bool.Decides.{nat_tests}
+use Rattle.std.proofs.lemmas.Option.{cond_some}
 use Rattle.std.proofs.lemmas.Str.Parse.{IsNumeralModel, numerals_by_value, tells_all_ascii_digits, digits_value_short, parse_gives}
-use Rattle.std.proofs.lemmas.Fmt.{digits_decimal, digits_value-decimal, decimal-digits_value, decimal_nonempty, decimal_digit, first_decimal}
-use Rattle.store_commands.specs.Commands.{is_number, number_in}
+use Rattle.std.proofs.lemmas.Fmt.{digits_decimal, digits_value-decimal, decimal-digits_value, decimal_nonempty, decimal_digit, first_decimal, length-decimal-le}
+use Rattle.store_commands.specs.Commands.{is_number, number_in, WritesDecimals}
 
 own : IsNumeralModel (λ ds. all_ascii_digits ds ≡ true) (digits_value 10)
 own = numerals_by_value (λ ds. all_ascii_digits ds ≡ true) tells_all_ascii_digits
@@ -77,3 +78,22 @@ decimal_written n word h e few =
       first = λ z. lone_zero n h z;
     } in
     subst (λ (w : List ℕ). number_in w ≡ Some n) e (rw (is_word (decimal n) is, value) refl)
+
+-- what a word writes is its decimal text
+written_number : (word : List ℕ) (n : ℕ) → number_in word ≡ Some n → (n < 10 ^ 18) × (decimal n ≡ word)
+unfolding number_in
+written_number word n h =
+    let found = cond_some (is_number word) (digits_value 10 word) n h in
+    let is = word_parts word found.0 in
+    subst (λ (m : ℕ). (m < 10 ^ 18) × (decimal m ≡ word)) found.1 (small word is, written word is)
+
+short_text : (n : ℕ) → n < 10 ^ 18 → length (decimal n) ≤ 18
+short_text n h = length-decimal-le 18 n (omega arith) h (omega arith)
+
+number_written : (word : List ℕ) (n : ℕ) → (n < 10 ^ 18) × (decimal n ≡ word) → number_in word ≡ Some n
+number_written word n h =
+    let few : length word ≤ 18 = subst (λ (w : List ℕ). length w ≤ 18) h.1 (short_text n h.0) in
+    decimal_written n word (omega (arith, h.0)) h.1 few
+
+pub writes_decimals : (word : List ℕ) → WritesDecimals word
+writes_decimals word n = (λ h. written_number word n h, λ h. number_written word n h)

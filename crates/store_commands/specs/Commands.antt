@@ -1,6 +1,7 @@
 -- What the program's words say: the folder, the name of a command, and its operand.
-use Rattle.std.specs.Prelude.{ℕ, ◌==◌, ◌&&◌, ◌||◌, nat_le, nat_eq, not, Bool, List, [], ◌∷◌, length, slice_index, codes, bytes_eq, Option, Some, None, option_map, option_and_then, if◌then◌else◌}
+use Rattle.std.specs.Prelude.{◌≡◌, ◌↔◌, ◌<◌, ◌^◌, ℕ, ◌==◌, ◌&&◌, ◌||◌, nat_le, nat_eq, not, Bool, List, [], ◌∷◌, length, slice_index, codes, bytes_eq, Option, Some, None, option_map, option_and_then, if◌then◌else◌}
 use Rattle.std.specs.List.{list_all, starts_with}
+use Rattle.std.specs.Fmt.{decimal}
 use Rattle.std.specs.Str.{all_ascii_digits}
 use Rattle.std.specs.Str.Parse.{digits_value}
 use Rattle.store_image.specs.Content.{is_minimum}
@@ -16,6 +17,10 @@ is_number word = nat_le 1 (length word) && nat_le (length word) 18 && all_ascii_
 -- the number that a word writes
 unfoldable pub number_in : List ℕ → Option ℕ
 number_in word = if is_number word then Some (digits_value 10 word) else None
+
+-- a word writes a number exactly where it is the decimal text of one below 10^18
+abbrev pub WritesDecimals : List ℕ → Type 0
+WritesDecimals word = (n : ℕ) → (number_in word ≡ Some n) ↔ ((n < 10 ^ 18) × (decimal n ≡ word))
 
 -- the least size of a part that a word writes: 1 to 5,242,880
 unfoldable pub minimum_in : List ℕ → Option ℕ

@@ -1,6 +1,6 @@
 ghost use Rattle.std.specs.Prelude.{◌≡◌, ℕ, Some, None, IfOk};
 ghost use Rattle.std.specs.List.{list_all};
-ghost use Rattle.store_commands.specs.Commands.{number_in, minimum_in, is_plain, alone, with_operand, said, command_of};
+ghost use Rattle.store_commands.specs.Commands.{number_in, WritesDecimals, minimum_in, is_plain, alone, with_operand, said, command_of};
 
 use crate::minimum::PartMinimum;
 use s3_types::Text;
@@ -15,11 +15,12 @@ pub enum StoreCommand {
     MakeBucket { name: Text },
 }
 
-/// A command.
+/// What the program is told to do.
 #[derive(Drop)]
 pub enum Command {
     /// Plays a script that is read from the input.
     Job,
+    /// Makes a store or a bucket.
     Store(StoreCommand),
 }
 
@@ -29,7 +30,8 @@ const MOST_DIGITS: usize = 18;
 /// The number that a word writes: the word is the number's own text.
 #[tactic(auto, unfolding(crate::specs::Commands::number_in))]
 fn number_in(alloc: Global, word: &str) -> Result<Option<u64>, AllocError>
-    ensures { IfOk result (λ o. o ≡ number_in word.now) }
+    ensures exact { IfOk result (λ o. o ≡ number_in word.now) }
+    ensures decimal { WritesDecimals word.now }
 {
     if word.len() > MOST_DIGITS {
         return Ok(None);

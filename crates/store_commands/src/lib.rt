@@ -6,12 +6,13 @@ mod answers;
 mod command;
 mod held;
 mod minimum;
-
 mod work;
 
 pub use answers::{Answer, obey};
 pub use command::{Command, StoreCommand, read_command};
 pub use held::{Held, ShelfStop, load, save};
 pub use minimum::PartMinimum;
-
 pub use work::fault_text;
+
+#[cfg(test)]
+mod tests;

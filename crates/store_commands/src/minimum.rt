@@ -24,6 +24,7 @@ impl PartMinimum {
     /// The greatest minimum, which is that of Amazon S3, in bytes.
     pub const MOST: u64 = 5_242_880;
 
+    /// A minimum of so many bytes.
     pub fn new(bytes: u64) -> PartMinimum
         requires some { 1 ≤ bytes }
         requires most { bytes ≤ 5242880 }
