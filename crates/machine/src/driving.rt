@@ -1,9 +1,9 @@
-ghost use Rattle.std.specs.Prelude.{◌≡◌, ℕ, ◌≤◌, length, OnOk, OnErr, IfOk};
+ghost use Rattle.std.specs.Prelude.{◌≡◌, ℕ, ◌+◌, ◌^◌, ◌<◌, ◌≤◌, [], ◌∷◌, ◌++◌, length, OnOk, OnErr, IfOk};
 ghost use Rattle.machine.specs.Drove.{Drove, DueFits, Sent, SentNone};
 
 use crate::operation::Machine;
 use crate::retrying::{Retrying, Turn};
-use s3_types::{Actor, Entry, Journal, ObjectStore};
+use s3_types::{Actor, Entry, Journal, ObjectStore, Outcome, Request};
 use std::alloc::{AllocError, Global};
 
 /// Why driving stopped short.
@@ -12,6 +12,20 @@ pub enum DriveStop {
     /// A request wore out.
     StoreFault,
     NoMemory,
+}
+
+/// Appends the entry of a sending where there is room for it.
+fn write_down(journal: &mut Journal, event: u32, actor: Actor, request: Request, outcome: Outcome)
+    requires room { 0 < journal.old.room }
+    requires few { length journal.old.entries + 1 < 2 ^ 62 }
+    ensures { journal.new.entries ≡ journal.old.entries ++ record { event = event; actor = actor; request = request; outcome = outcome } ∷ [] }
+{
+    journal.push(Entry {
+        event,
+        actor,
+        request,
+        outcome,
+    });
 }
 
 /// Sends the present request once, if there is one, and appends its entry, whose place is taken before
@@ -40,12 +54,7 @@ pub fn send<M: Machine, S: ObjectStore>(
     journal.reserve()?;
     let outcome = store.request(&request)?;
     let turn = machine.take(&outcome);
-    journal.push(Entry {
-        event,
-        actor,
-        request,
-        outcome,
-    });
+    write_down(journal, event, actor, request, outcome);
     Ok(Some(turn?))
 }
 
