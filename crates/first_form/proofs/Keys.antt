@@ -85,4 +85,3 @@ file_elements p h = file_at p (file_parts p h)
 
 pub file_short : (p : List ℕ) → is_file_name p ≡ true → length p ≤ 408
 file_short p h = let f = file_parts p h in omega (arith, f.most)
-

@@ -102,6 +102,7 @@ input_owes (Some bytes) after all due es ps xs before now S r form none = record
   where
     some_is : (x y : List ℕ) → Some x ≡ Some y → x ≡ y
     some_is x y h = cc
+
     whole : (b : List ℕ) → Some bytes ≡ Some b → (f : Form) → Spells b f → all ≡ b
     whole b e f h =
         let s : bytes ≡ b = some_is bytes b e in
@@ -109,8 +110,10 @@ input_owes (Some bytes) after all due es ps xs before now S r form none = record
       where
         less : (b : List ℕ) (f : Form) → Spells b f → length b ≤ 67108865
         less b f h = let l = spelled_short b f h in omega (arith, l)
+
     parts : (b : List ℕ) → Some bytes ≡ Some b → (f : Form) → Spells all f → all ≡ b
     parts b e f h = r.0 ∙ short_whole 67108865 bytes (subst (λ (l : List ℕ). length l < 67108865) r.0 (spelled_short all f h)) ∙ some_is bytes b e
+
     as_broken : (due ≡ 10) ⊎ (due ≡ 9) → (due ≡ 10) ⊎ IsBroken due
     as_broken (inl x) = inl x
     as_broken (inr x) = inr (inr (inr x))

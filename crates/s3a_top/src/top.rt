@@ -227,12 +227,7 @@ fn faulty(alloc: Global, number: u8, place: u64) -> Work
 }
 
 /// Plays a job over what the shelf was found to hold.
-fn play_over<Q: Source, F: Shelf>(
-    alloc: Global,
-    input: &mut Q,
-    shelf: &mut F,
-    held: Held,
-) -> Work
+fn play_over<Q: Source, F: Shelf>(alloc: Global, input: &mut Q, shelf: &mut F, held: Held) -> Work
     requires source_count { Q.faults input.old < 2 ^ 64 - 1 }
     requires shelf_count { F.faults shelf.old < 2 ^ 64 - 1 }
     ensures owed { JobOwes held (Q.left input.old) result.due result.journal.entries result.picks result.ends (F.held shelf.old) (F.held shelf.new) (λ t. result.text ≡ t) }

@@ -51,12 +51,7 @@ fn keep<F: Shelf>(alloc: Global, shelf: &mut F, service: &Service) -> Answer
 /// Does what a command says on the store that the shelf was found to hold. The status is 0 where a store
 /// was kept; 1 where the command was refused; 5 where the shelf failed; 7 where the shelf's bytes are no
 /// image; and 9 where memory was wanting. In each but 0 the shelf holds what it held.
-pub fn obey<F: Shelf>(
-    alloc: Global,
-    shelf: &mut F,
-    command: &StoreCommand,
-    held: Held,
-) -> Answer
+pub fn obey<F: Shelf>(alloc: Global, shelf: &mut F, command: &StoreCommand, held: Held) -> Answer
     requires count { F.faults shelf.old < 2 ^ 64 - 1 }
     requires below { IsBelowLast held }
     ensures answer { IsAnswer (work_of command.now held) result }

@@ -75,11 +75,7 @@ fn alone(name: &str) -> Option<Command>
 
 /// What a name says with an operand.
 #[tactic(auto, unfolding(crate::specs::Commands::with_operand))]
-fn with_operand(
-    alloc: Global,
-    name: &str,
-    operand: &Text,
-) -> Result<Option<Command>, AllocError>
+fn with_operand(alloc: Global, name: &str, operand: &Text) -> Result<Option<Command>, AllocError>
     ensures { IfOk result (λ o. o ≡ with_operand name.now operand.now) }
 {
     match name {

@@ -41,15 +41,13 @@ static WORDS: [(&[&str], &str); 30] = [
 ];
 
 /// The image of a store with no bucket, where a part has at least 4 bytes.
-static EMPTY: &[u8] =
-    b"S3AIMG01\
+static EMPTY: &[u8] = b"S3AIMG01\
     \x00\x00\x00\x00\x00\x00\x00\x04\
     \x00\x00\x00\x00\x00\x00\x00\x01\
     \x00\x00\x00\x00\x00\x00\x00\x00";
 
 /// The image of a store with the empty bucket `lake`, where a part has at least 5,242,880 bytes.
-static LAKE: &[u8] =
-    b"S3AIMG01\
+static LAKE: &[u8] = b"S3AIMG01\
     \x00\x00\x00\x00\x00\x50\x00\x00\
     \x00\x00\x00\x00\x00\x00\x00\x01\
     \x00\x00\x00\x00\x00\x00\x00\x01\
@@ -149,7 +147,15 @@ fn bytes_that_are_no_image_are_left(rt: HostRuntime) -> Result<(), Fail> {
     let held = Bytes::from_slice(alloc, short)?;
     let mut shelf = MemShelf::new(alloc, Some(held), CallList::new(alloc));
     let found = load(alloc, &mut shelf);
-    assert!(rt; matches!(&found, Ok(Held::Faulty { number: 2, place: 24 })));
+    assert!(rt;
+        matches!(
+            &found,
+            Ok(Held::Faulty {
+                number: 2,
+                place: 24
+            })
+        )
+    );
     let init = run(alloc, &mut shelf, &["f", "init"])?;
     assert!(rt; says(&init, 7, "image fault 2 at 24\n"));
     let bucket = run(alloc, &mut shelf, &["f", "mb", "lake"])?;

@@ -219,27 +219,31 @@ module _ (f : Form) (some : 1 ≤ length f.dest.key) (file : is_file_path f.path
 
   stage12 : (s : Seen) → Going f (c12 f) s → Chain f s from13
   unfolding success_request
-  stage12 s h =
-      ( going f (opening_of f) (opening_shows f) s h.pick (λ p. inr (shown_of f s (c12 f) (file_alone f) h.content v12 p)) h.begun h.put_mark
-      , stage13 (see (script_of f) (Some 4) s (by 4 Driver (success_request f) (Stored (plain_tag (marker_text f))))) (goes_to f (c12 f) (c13 f) s 4 Driver (success_request f) (Stored (plain_tag (marker_text f))) h.content (step13 f)) (rw h.begun refl) h.pick )
+  stage12 s h = (
+    going f (opening_of f) (opening_shows f) s h.pick (λ p. inr (shown_of f s (c12 f) (file_alone f) h.content v12 p)) h.begun h.put_mark,
+    stage13 (see (script_of f) (Some 4) s (by 4 Driver (success_request f) (Stored (plain_tag (marker_text f))))) (goes_to f (c12 f) (c13 f) s 4 Driver (success_request f) (Stored (plain_tag (marker_text f))) h.content (step13 f)) (rw h.begun refl) h.pick,
+  )
 
   stage11 : (s : Seen) → Going f (c10 f) s → Chain f s from12
   unfolding complete_request
-  stage11 s h =
-      ( going f (opening_of f) (opening_shows f) s h.pick (λ p. inl (shown_of f s (c10 f) nothing h.content v10 p)) h.begun h.put_mark
-      , stage12 (see (script_of f) (Some 4) s (by 4 Driver (complete_request f) (Completed (joined_tag (plain_tag f.bytes ∷ []))))) (going_step f (c10 f) (c12 f) s 4 Driver (complete_request f) (Completed (joined_tag (plain_tag f.bytes ∷ []))) h (step12 f) refl refl) )
+  stage11 s h = (
+    going f (opening_of f) (opening_shows f) s h.pick (λ p. inl (shown_of f s (c10 f) nothing h.content v10 p)) h.begun h.put_mark,
+    stage12 (see (script_of f) (Some 4) s (by 4 Driver (complete_request f) (Completed (joined_tag (plain_tag f.bytes ∷ []))))) (going_step f (c10 f) (c12 f) s 4 Driver (complete_request f) (Completed (joined_tag (plain_tag f.bytes ∷ []))) h (step12 f) refl refl),
+  )
 
   stage10 : (s : Seen) → Before f (c10 f) s → s.last 0 ≡ Some 0 → Chain f s from11
   unfolding fetch_request
-  stage10 s h l =
-      ( early f (opening_of f) (opening_shows f) s (shown_of f s (c10 f) nothing h.content v10) h.begun h.put_mark
-      , stage11 (see (script_of f) (Some 4) s (by 4 Driver (fetch_request f) (Found (set_text f) None))) (commit_step f (c10 f) (c10 f) s (fetch_request f) (Found (set_text f) None) Driver h (step11 f) refl refl (rw (text_same f.dest.bucket, text_same (layout.set_key f.dest.key 0)) l)) )
+  stage10 s h l = (
+    early f (opening_of f) (opening_shows f) s (shown_of f s (c10 f) nothing h.content v10) h.begun h.put_mark,
+    stage11 (see (script_of f) (Some 4) s (by 4 Driver (fetch_request f) (Found (set_text f) None))) (commit_step f (c10 f) (c10 f) s (fetch_request f) (Found (set_text f) None) Driver h (step11 f) refl refl (rw (text_same f.dest.bucket, text_same (layout.set_key f.dest.key 0)) l)),
+  )
 
   stage9 : (s : Seen) → Before f (c7 f) s → Chain f s from10
   unfolding set_request
-  stage9 s h =
-      ( early f (opening_of f) (opening_shows f) s (shown_of f s (c7 f) nothing h.content v7) h.begun h.put_mark
-      , stage10 (see (script_of f) (Some 4) s (by 3 the_attempt (set_request f) (Stored (plain_tag (set_text f))))) (before_step f (c7 f) (c10 f) s 3 the_attempt (set_request f) (Stored (plain_tag (set_text f))) h (step10 f) refl refl) (rw (text_same f.dest.bucket, text_same (layout.set_key f.dest.key 0)) refl) )
+  stage9 s h = (
+    early f (opening_of f) (opening_shows f) s (shown_of f s (c7 f) nothing h.content v7) h.begun h.put_mark,
+    stage10 (see (script_of f) (Some 4) s (by 3 the_attempt (set_request f) (Stored (plain_tag (set_text f))))) (before_step f (c7 f) (c10 f) s 3 the_attempt (set_request f) (Stored (plain_tag (set_text f))) h (step10 f) refl refl) (rw (text_same f.dest.bucket, text_same (layout.set_key f.dest.key 0)) refl),
+  )
 
   stage8 : (s : Seen) → Before f (c7 f) s → Chain f s from9
   unfolding read_request

@@ -64,6 +64,7 @@ module _ (x : List ℕ) (b : BucketContent) (n : ℕ) where
   pub part_step : (k : List ℕ) (i m : ℕ) (y : List ℕ) → Step (lone x b n) (UploadPart x k i m y) (answer_in b n 5242880 (UploadPart x k i m y)) (lone x (apply_in b n 5242880 (UploadPart x k i m y)) n)
   unfolding reply_to store_after lone
   part_step k i m y = record { store = refl; reply = answered x b n (UploadPart x k i m y); left = applied x b n (UploadPart x k i m y) refl }
+
   pub complete_step : (k : List ℕ) (i : ℕ) (ns : List NamedPart) → Step (lone x b n) (CompleteUpload x k i ns) (answer_in b n 5242880 (CompleteUpload x k i ns)) (lone x (apply_in b n 5242880 (CompleteUpload x k i ns)) n)
   unfolding reply_to store_after lone
   complete_step k i ns = record { store = refl; reply = answered x b n (CompleteUpload x k i ns); left = applied x b n (CompleteUpload x k i ns) refl }

@@ -101,6 +101,7 @@ module _ (f : Form) (some : 1 ≤ length f.dest.key) (few : length f.bytes ≤ 5
       at_first Driver d h = as_begun (λ x. OpFollows (setting f) Driver x (by_actor Driver es)) begun_setup d h p
       at_first (Attempt t u) d h = not_none d h
       at_first Shell d h = not_none d h
+
       by : (ev : Event) → Do Driver ops.Setup ≡ ev → (a : Actor) (d : Doing) → (open_event (script_of f) (past (script_of f) []) ev).doing a ≡ Some d → OpFollows (setting f) a d (by_actor a es)
       by ev e a d h = at_first a d (subst (λ y. (open_event (script_of f) (past (script_of f) []) y).doing a ≡ Some d) (sym e) h)
 

@@ -161,12 +161,15 @@ module _ (f : Form) (h : IsForm f) where
     where
       same : (k : ℕ) → Some 4 ≡ Some k → 4 ≡ k
       same k a = cc
+
       event_of : Option (ℕ × CommitEnd) → ℕ
       event_of (Some p) = p.0
       event_of None = 0
+
       end_of : Option (ℕ × CommitEnd) → CommitEnd
       end_of (Some p) = p.1
       end_of None = commits.Committed
+
       here : CommitEnded w c all the_ends 4 4 commits.Committed
       here = record {
         due = inr (refl, ap (λ o. is_clash_of o) last_pick);
@@ -176,6 +179,7 @@ module _ (f : Form) (h : IsForm f) where
         where
           is_clash_of : Option ℕ → Bool
           is_clash_of o = is_clash w (λ t. o)
+
       by : (k : ℕ) → 4 ≡ k → (j : ℕ) → 4 ≡ j → (e : CommitEnd) → commits.Committed ≡ e → CommitEnded w c all the_ends k j e
       by k a j b e d = subst (λ x. CommitEnded w c all the_ends k j x) d (subst (λ n. CommitEnded w c all the_ends k n commits.Committed) b (subst (λ n. CommitEnded w c all the_ends n 4 commits.Committed) a here))
 
@@ -241,7 +245,7 @@ module _ (f : Form) (h : IsForm f) where
       by : es ≡ all → ps ≡ the_pick ∷ [] → xs ≡ the_ends → Finished w c es ps xs
       by a b d =
           subst (λ l. Finished w c l ps xs) (sym a) (subst (λ l. Finished w c all l xs) (sym b) (subst (λ l. Finished w c all (the_pick ∷ []) l) (sym d)
-            (record { promised = whole_promised; events = refl; picks = sym all_picked })))
+          (record { promised = whole_promised; events = refl; picks = sym all_picked })))
 
   -- the store that is left is that of the last moment
   pub last_store : (es : List Entry) → es ≡ entries_to f 4 → (moment c es (length es)).content ≡ after_commit f
@@ -253,15 +257,18 @@ module _ (f : Form) (h : IsForm f) where
     where
       whole : es ≡ entries_to f 4 → (n : ℕ) → es ≡ take n all → take n all ≡ all
       whole a n b = sym b ∙ a ∙ entries_said
+
       told : (n : ℕ) → es ≡ take n all → (ps ≡ []) ⊎ ((ps ≡ the_pick ∷ []) × (take n all ≡ all))
       told n b = so h.picks
         where
           so : (ps ≡ []) ⊎ ((ps ≡ the_pick ∷ []) × (es ≡ entries_to f 4)) → (ps ≡ []) ⊎ ((ps ≡ the_pick ∷ []) × (take n all ≡ all))
           so (inl e) = inl e
           so (inr e) = inr (e.0, whole e.1 n b)
+
       at : (n : ℕ) (ends : List EventEnd) → xs ≡ ends → commit_event w ends ≡ Some 4 → commit_end w ends ≡ None → es ≡ take n all → Plays w 5242880 ends es → Promised w c es ps xs
       at n ends d a b e p =
           subst (λ l. Promised w c es ps l) (sym d) (subst (λ l. Promised w c l ps ends) (sym e) (part_promised ends n ps a b (subst (Plays w 5242880 ends) e p) (told n e)))
+
       by : (k : ℕ) → k < 4 → es ≡ entries_to f k ++ take h.sent (entries_in f k) → xs ≡ take k the_ends → Promised w c es ps xs
       by zero l e d =
           let said : es ≡ take h.sent (setup_said f) = e ∙ ap (take h.sent) (setup_told f some) in

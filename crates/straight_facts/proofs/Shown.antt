@@ -52,6 +52,7 @@ apart dest p q some n = by (eq_by_cmp text_cmp (below dest p) (below dest q)) re
       where
         tail : 47 ∷ p ≡ 47 ∷ q → p ≡ q
         tail e = cc
+
     by : (b : Bool) → eq_by_cmp text_cmp (below dest p) (below dest q) ≡ b → eq_by_cmp text_cmp (below dest p) (below dest q) ≡ false
     by false h = h
     by true h = absurd (true≢false (sym (same (text_exact _ _ (tied _ h))) ∙ n))
@@ -69,6 +70,7 @@ hidden dest q k o x some e h p = ap (λ j. shows dest (insert o j x) p) e ∙ by
         by_eq : (b : Bool) → text_eq p q ≡ b → text_eq p q ≡ false
         by_eq false r = r
         by_eq true r = absurd (true≢false (sym t ∙ ap is_file_path (same_path p q r) ∙ h))
+
     by : (b : Bool) → is_file_path p ≡ b → shows dest (insert o (below dest q) x) p ≡ shows dest o p
     by false t = rw t refl
     by true t = ap (λ y. cond (is_file_path p) (option_map (λ (z : Object). z.bytes) y) None) (get_other text_total o (below dest q) (below dest p) x (apart dest p q some (other t)))

@@ -127,7 +127,7 @@ module _ (f : Form) where
   step5 = said c4 _ c5 _ _ _ (part_step f.dest.bucket (record { objects = empty; uploads = live_made }) 2 (file_key f) 1 1 f.bytes)
       (ap (λ o. part_answer o 1 f.bytes) (is_live upload_made refl))
       (ap (λ (m : Uploads). lone f.dest.bucket (record { objects = empty; uploads = m }) 2)
-          (ap (λ o. part_put live_made 1 o 1 f.bytes) (is_live upload_made refl) ∙ put_twice nat_cmp_total nat_cmp-IsAntisymmetric empty 1 upload_made upload_sent))
+      (ap (λ o. part_put live_made 1 o 1 f.bytes) (is_live upload_made refl) ∙ put_twice nat_cmp_total nat_cmp-IsAntisymmetric empty 1 upload_made upload_sent))
 
   pub step6 : Step c5 (marker_request f) (Stored (plain_tag [])) c6
   unfolding marker_request with_marker
@@ -183,9 +183,9 @@ module _ (f : Form) where
   step12 =
       let whole : joined (live live_sent (file_key f) 1) the_parts 5242880 ≡ Ok f.bytes = ap (λ o. joined o the_parts 5242880) (is_live upload_sent refl) ∙ is_joined in
       said c10 _ c12 _ _ _ (complete_step f.dest.bucket (record { objects = with_set; uploads = live_sent }) 2 (file_key f) 1 the_parts)
-        (ap (complete_answer the_parts) whole)
-        (ap (λ r. lone f.dest.bucket (completed (record { objects = with_set; uploads = live_sent }) (file_key f) 1 r) 2) whole
-         ∙ ap (λ (m : Uploads). lone f.dest.bucket (record { objects = with_file; uploads = m }) 2) (insert_remove nat_cmp_total nat_cmp-IsAntisymmetric empty 1 upload_sent (get-empty nat_cmp 1)))
+      (ap (complete_answer the_parts) whole)
+      (ap (λ r. lone f.dest.bucket (completed (record { objects = with_set; uploads = live_sent }) (file_key f) 1 r) 2) whole
+      ∙ ap (λ (m : Uploads). lone f.dest.bucket (record { objects = with_file; uploads = m }) 2) (insert_remove nat_cmp_total nat_cmp-IsAntisymmetric empty 1 upload_sent (get-empty nat_cmp 1)))
 
 -- ---- the listing of the attempt's directory: its marker, and its record behind it
 
@@ -228,9 +228,9 @@ module _ (f : Form) (some : 1 ≤ length f.dest.key) where
   unfolding look_request
   step8 = said (c7 f) (c7 f) (c7 f) _ _ _ (list_step f.dest.bucket (record { objects = with_record f; uploads = live_sent f }) 2 (attempt_prefix f) [] false 1000)
       (two_listed (attempt_prefix f) (marker_key f) (record_key f) _ _ (with_record f) both_there
-        (ap (begins (attempt_prefix f)) marker_at ∙ begins_self (attempt_prefix f) f.path)
-        (ap (begins (attempt_prefix f)) record_at ∙ begins_self (attempt_prefix f) (f.path ++ codes ".pending"))
-        (ap (λ k. is_lt (text_cmp [] k)) marker_at ∙ some_key f.path)
-        (ap (λ k. is_lt (text_cmp [] k)) record_at ∙ some_key (f.path ++ codes ".pending"))
-        ((eq_by_cmp_equiv text_total).symm (marker_key f) (record_key f) ∙ ap is_eq record_behind))
+      (ap (begins (attempt_prefix f)) marker_at ∙ begins_self (attempt_prefix f) f.path)
+      (ap (begins (attempt_prefix f)) record_at ∙ begins_self (attempt_prefix f) (f.path ++ codes ".pending"))
+      (ap (λ k. is_lt (text_cmp [] k)) marker_at ∙ some_key f.path)
+      (ap (λ k. is_lt (text_cmp [] k)) record_at ∙ some_key (f.path ++ codes ".pending"))
+      ((eq_by_cmp_equiv text_total).symm (marker_key f) (record_key f) ∙ ap is_eq record_behind))
       refl

@@ -36,14 +36,14 @@ module _ (event : ℕ) (actor : Actor) (c : Content) (es : List Entry) (requests
   so_more d d' fs fs' r rest h e g = record {
     store = (and_parts (is_store r) _ h.store).1;
     few =
-      let n : d'.next ≤ d.next + 1 = subst (λ (x : Content). x.next ≤ d.next + 1) (sym e) (after_rises d r) in
-      let m : d.next + length (r ∷ rest) < 2 ^ 63 = h.few in
-      omega (arith, n, m);
+        let n : d'.next ≤ d.next + 1 = subst (λ (x : Content). x.next ≤ d.next + 1) (sym e) (after_rises d r) in
+        let m : d.next + length (r ∷ rest) < 2 ^ 63 = h.few in
+        omega (arith, n, m);
     leaves = ap (λ x. left x rest) e ∙ h.leaves;
     grown =
-      let l : length fs' ≡ length fs + 1 = ap length g ∙ length-append fs (entry_of event actor d r ∷ []) in
-      let m : length es ≤ length fs = h.grown in
-      omega (arith, l, m);
+        let l : length fs' ≡ length fs + 1 = ap length g ∙ length-append fs (entry_of event actor d r ∷ []) in
+        let m : length es ≤ length fs = h.grown in
+        omega (arith, l, m);
     entries = ap (λ (l : List Entry). l ++ told event actor d' rest) g ∙ ap (λ x. (fs ++ entry_of event actor d r ∷ []) ++ told event actor x rest) e ∙ append_assoc fs (entry_of event actor d r ∷ []) (told event actor (store_after d r) rest) ∙ h.entries;
   }
 

@@ -127,9 +127,9 @@ stop_last f s rs es ps xs h e a p d =
       few = omega arith;
       sent = length part;
       entries =
-        a ∙ ap (λ l. s.journal.entries ++ l) (sym (take_all (length part) part (omega arith)))
-        ∙ ap (λ l. l ++ take (length part) part) h.entries
-        ∙ ap (λ l. entries_to f 3 ++ take (length part) l) (ap (λ c. told 4 Driver c rs) h.store ∙ e.entries);
+          a ∙ ap (λ l. s.journal.entries ++ l) (sym (take_all (length part) part (omega arith)))
+          ∙ ap (λ l. l ++ take (length part) part) h.entries
+          ∙ ap (λ l. entries_to f 3 ++ take (length part) l) (ap (λ c. told 4 Driver c rs) h.store ∙ e.entries);
       picks = inr (p ∙ ap (λ l. l ++ the_pick ∷ []) h.picks, a ∙ ap (λ l. l ++ told 4 Driver s.service rs) h.entries ∙ ap (λ c. entries_to f 3 ++ told 4 Driver c rs) h.store ∙ ap (λ l. entries_to f 3 ++ l) e.entries);
       ends = d ∙ h.ends;
     }

@@ -2,8 +2,8 @@ ghost use Rattle.std.specs.Prelude.{◌≡◌, IfOk};
 ghost use Rattle.first_form.specs.Form.{IsForm};
 ghost use Rattle.straight_run.specs.Places.{job_of};
 
-use first_form::Form;
 use crate::places::Places;
+use first_form::Form;
 use std::alloc::{AllocError, Global};
 
 /// A job of the first form with the places of its objects.

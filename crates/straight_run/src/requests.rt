@@ -4,10 +4,10 @@ ghost use Rattle.s3_types.specs.declared.request.Request.TheVariants.{ListPage};
 ghost use Rattle.pending_json.specs.Pending.{are_tags};
 ghost use Rattle.straight_run.specs.Requests as requests;
 
-use first_form::Form;
 use crate::job::Job;
 use crate::places::Places;
 use etag::part_tag;
+use first_form::Form;
 use pending_json::{PendingList, PendingSet, PendingUpload, SuccessMark};
 use s3_types::{
     Bytes, Committer, Key, LengthHeader, NamedPart, PageLimit, PartList, Request, Sequence, Tag,

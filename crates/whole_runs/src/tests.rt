@@ -170,10 +170,10 @@ fn other_input_is_not_built(rt: HostRuntime) -> Result<(), Fail> {
 }
 
 /// The image of an empty store whose parts have at least 4 bytes, in hex.
-static EMPTY_STORE: &str = "533341494d473031000000000000000400000000000000010000000000000000";
+const EMPTY_STORE: &str = "533341494d473031000000000000000400000000000000010000000000000000";
 
 /// The image of a store of the same minimum with the empty bucket `lake`.
-static LAKE_STORE: &str =
+const LAKE_STORE: &str =
     "533341494d47303100000000000000040000000000000001000000000000000100046c616b6500000000000000000000000000000000";
 
 fn held(alloc: Global, image: &str) -> Result<Option<Bytes>, AllocError> {
@@ -187,10 +187,28 @@ fn held(alloc: Global, image: &str) -> Result<Option<Bytes>, AllocError> {
 /// then.
 static STORES: [(&str, &str, u8, &str, &str); 9] = [
     ("lake init 4", "", 0, "", EMPTY_STORE),
-    ("lake init 4", EMPTY_STORE, 1, "refused exists\n", EMPTY_STORE),
+    (
+        "lake init 4",
+        EMPTY_STORE,
+        1,
+        "refused exists\n",
+        EMPTY_STORE,
+    ),
     ("lake mb lake", EMPTY_STORE, 0, "", LAKE_STORE),
-    ("lake mb lake", LAKE_STORE, 1, "refused bucket-exists\n", LAKE_STORE),
-    ("lake mb ab", EMPTY_STORE, 1, "refused bad-name\n", EMPTY_STORE),
+    (
+        "lake mb lake",
+        LAKE_STORE,
+        1,
+        "refused bucket-exists\n",
+        LAKE_STORE,
+    ),
+    (
+        "lake mb ab",
+        EMPTY_STORE,
+        1,
+        "refused bad-name\n",
+        EMPTY_STORE,
+    ),
     ("lake job", EMPTY_STORE, 10, "not built\n", EMPTY_STORE),
     ("lake job", SHORT, 7, "image fault 2 at 24\n", SHORT),
     ("lake init", SHORT, 7, "image fault 2 at 24\n", SHORT),
@@ -198,7 +216,7 @@ static STORES: [(&str, &str, u8, &str, &str); 9] = [
 ];
 
 /// The first 31 of the 32 bytes of the empty store.
-static SHORT: &str = "533341494d4730310000000000000004000000000000000100000000000000";
+const SHORT: &str = "533341494d4730310000000000000004000000000000000100000000000000";
 
 #[test]
 fn stores_and_buckets_are_made_or_refused(rt: HostRuntime) -> Result<(), Fail> {

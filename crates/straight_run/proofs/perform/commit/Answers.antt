@@ -28,15 +28,15 @@ pub returns-in_err-push-clause-stopped : goal.returns-in_err-push-clause-stopped
 returns-in_err-push-clause-stopped c =
     let asked : c.as_slice.result.now ≡ commit_requests c.args.job.now.form = c.as_slice.ensures ∙ c.in_ok-requests.ensures ∙ commit_is c.args.job.now c.requires.job in
     on_err c.from_residual-in_err-push.result (subst (λ (ps : List Pick). Stopped c.args.job.now.form c.send_all.new.journal.entries ps c.args.stage.now.ends) (sym c.in_err-push.ensures.err)
-      (stop_within c.args.job.now.form 3 c.args.stage.now c.requires.stands 4 Driver c.as_slice.result.now (event_commit c.args.job.now.form c.as_slice.result.now asked) c.send_all.new.journal.entries
-        (all_sent c.args.job.now.form 3 c.args.stage.now c.requires.stands 4 Driver c.as_slice.result.now (event_commit c.args.job.now.form c.as_slice.result.now asked) c.send_all.new.journal.entries c.in_ok-send_all.ensures.entries)))
+    (stop_within c.args.job.now.form 3 c.args.stage.now c.requires.stands 4 Driver c.as_slice.result.now (event_commit c.args.job.now.form c.as_slice.result.now asked) c.send_all.new.journal.entries
+    (all_sent c.args.job.now.form 3 c.args.stage.now c.requires.stands 4 Driver c.as_slice.result.now (event_commit c.args.job.now.form c.as_slice.result.now asked) c.send_all.new.journal.entries c.in_ok-send_all.ensures.entries)))
 
 pub returns-clause-done : goal.returns-clause-done
 returns-clause-done c =
     let asked : c.as_slice.result.now ≡ commit_requests c.args.job.now.form = c.as_slice.ensures ∙ c.in_ok-requests.ensures ∙ commit_is c.args.job.now c.requires.job in
     on_ok c.push-2.result (λ pushed. next_stands c.args.job.now.form 3 c.args.stage.now c.requires.stands 4 Driver c.as_slice.result.now (event_commit c.args.job.now.form c.as_slice.result.now asked)
-      (record { service = c.send_all.new.service; journal = c.send_all.new.journal; picks = c.push.new.self; ends = c.push-2.new.self }) _ c.in_ok-send_all.ensures.left c.in_ok-send_all.ensures.entries
-      (c.in_ok-push.ensures.ok ∙ ap (λ (l : List Pick). l ++ the_pick ∷ []) c.requires.stands.picks) pushed refl) c.push-2.ensures.ok
+    (record { service = c.send_all.new.service; journal = c.send_all.new.journal; picks = c.push.new.self; ends = c.push-2.new.self }) _ c.in_ok-send_all.ensures.left c.in_ok-send_all.ensures.entries
+    (c.in_ok-push.ensures.ok ∙ ap (λ (l : List Pick). l ++ the_pick ∷ []) c.requires.stands.picks) pushed refl) c.push-2.ensures.ok
 
 pub returns-clause-stopped : goal.returns-clause-stopped
 returns-clause-stopped c =

@@ -28,11 +28,11 @@ pub returns-clause-done : goal.returns-clause-done
 returns-clause-done c =
     let asked : c.as_slice.result.now ≡ write_requests c.args.job.now.form = c.as_slice.ensures ∙ c.in_ok-requests.ensures ∙ write_is c.args.job.now c.requires.job in
     on_ok c.push.result (λ pushed. next_stands c.args.job.now.form 1 c.args.stage.now c.requires.stands 2 the_attempt c.as_slice.result.now (event_write c.args.job.now.form c.as_slice.result.now asked)
-      (record { service = c.send_all.new.service; journal = c.send_all.new.journal; picks = c.args.stage.now.picks; ends = c.push.new.self }) _ c.in_ok-send_all.ensures.left c.in_ok-send_all.ensures.entries c.requires.stands.picks pushed refl) c.push.ensures.ok
+    (record { service = c.send_all.new.service; journal = c.send_all.new.journal; picks = c.args.stage.now.picks; ends = c.push.new.self }) _ c.in_ok-send_all.ensures.left c.in_ok-send_all.ensures.entries c.requires.stands.picks pushed refl) c.push.ensures.ok
 
 pub returns-clause-stopped : goal.returns-clause-stopped
 returns-clause-stopped c =
     let asked : c.as_slice.result.now ≡ write_requests c.args.job.now.form = c.as_slice.ensures ∙ c.in_ok-requests.ensures ∙ write_is c.args.job.now c.requires.job in
     on_err_with c.push.result (λ same. subst (λ (xs : List EventEnd). Stopped c.args.job.now.form c.send_all.new.journal.entries c.args.stage.now.picks xs) (sym same)
-      (stop_within c.args.job.now.form 1 c.args.stage.now c.requires.stands 2 the_attempt c.as_slice.result.now (event_write c.args.job.now.form c.as_slice.result.now asked) c.send_all.new.journal.entries
-        (all_sent c.args.job.now.form 1 c.args.stage.now c.requires.stands 2 the_attempt c.as_slice.result.now (event_write c.args.job.now.form c.as_slice.result.now asked) c.send_all.new.journal.entries c.in_ok-send_all.ensures.entries))) c.push.ensures.err
+    (stop_within c.args.job.now.form 1 c.args.stage.now c.requires.stands 2 the_attempt c.as_slice.result.now (event_write c.args.job.now.form c.as_slice.result.now asked) c.send_all.new.journal.entries
+    (all_sent c.args.job.now.form 1 c.args.stage.now c.requires.stands 2 the_attempt c.as_slice.result.now (event_write c.args.job.now.form c.as_slice.result.now asked) c.send_all.new.journal.entries c.in_ok-send_all.ensures.entries))) c.push.ensures.err
