@@ -1,6 +1,7 @@
-//! `bench N [times]`: fills a bucket with N objects, ten below each common prefix, and lists a page of keys
-//! from its middle and a page of common prefixes. It prints how many there were of each and, where the
-//! second word is `times`, how many nanoseconds each took.
+//! `bench N [times [SIZE]]`: fills a bucket with N objects of SIZE bytes, 1 where it is absent, ten below
+//! each common prefix, lists a page of keys from its middle and a page of common prefixes, makes the
+//! store's image and copies it. It prints how many objects, entries and bytes there were of each and, where
+//! there is a second word, how many nanoseconds each took.
 #![tactic(auto)]
 
 use anyhow::{Context, Result};
@@ -10,11 +11,15 @@ use std::alloc::{AllocError, Global};
 use std::env;
 use std::rt::{Clock, Env};
 use std::time::{Duration, Instant};
+use store_image::encode;
 
 /// How many objects there are where no number is given, and at most.
 const FEW: u32 = 1_000;
 
 const MOST: u32 = 1_000_000;
+
+/// The most bytes of an object.
+const MOST_BYTES: u32 = 16_777_216;
 
 /// How many common prefixes the page of them has at most.
 const PREFIXES: u16 = 100;
@@ -27,6 +32,7 @@ const ROUNDS: u64 = 50;
 struct Asked {
     objects: u32,
     times: bool,
+    size: u32,
 }
 
 /// How many things were made or listed, and how long that took.
@@ -42,9 +48,15 @@ fn read_words(rt: &(impl Env + AllocGlobal)) -> Result<Asked> {
         Some(word) => word.parse::<u32>().context("the number of objects")?,
         None => FEW,
     };
+    let times = words.next().is_some();
+    let size = match words.next() {
+        Some(word) => word.parse::<u32>().context("the size of an object")?,
+        None => 1,
+    };
     Ok(Asked {
         objects: objects.clamp(1, MOST),
-        times: words.next().is_some(),
+        times,
+        size: size.clamp(1, MOST_BYTES),
     })
 }
 
@@ -62,17 +74,26 @@ fn key_text(alloc: Global, number: u32) -> Result<Text, AllocError> {
     Text::new(alloc, text)
 }
 
-fn put_of(alloc: Global, bucket: &Bucket, number: u32) -> Result<Request> {
+/// So many bytes.
+fn filled(alloc: Global, size: u32) -> Result<Bytes, AllocError> {
+    let mut bytes = Vec::new(alloc);
+    for _ in 0..size {
+        bytes.push(b'x')?;
+    }
+    Bytes::new(alloc, bytes)
+}
+
+fn put_of(alloc: Global, bucket: &Bucket, number: u32, size: u32) -> Result<Request> {
     let text = key_text(alloc, number)?;
     let key = Key::read(alloc, text.as_bytes())?;
-    let bytes = Bytes::from_slice(alloc, b"x")?;
+    let bytes = filled(alloc, size)?;
     Ok(Request::put_object(bucket, &key, &bytes, None)?)
 }
 
-fn puts(alloc: Global, bucket: &Bucket, objects: u32) -> Result<Vec<Request>> {
+fn puts(alloc: Global, bucket: &Bucket, asked: Asked) -> Result<Vec<Request>> {
     let mut requests = Vec::new(alloc);
-    for number in 0..objects {
-        requests.push(put_of(alloc, bucket, number)?)?;
+    for number in 0..asked.objects {
+        requests.push(put_of(alloc, bucket, number, asked.size)?)?;
     }
     Ok(requests)
 }
@@ -117,6 +138,32 @@ fn time_page(rt: &impl Clock, service: &mut Service, request: &Request) -> Resul
     })
 }
 
+fn time_image(
+    rt: &impl Clock,
+    alloc: Global,
+    service: &Service,
+    image: &mut Vec<u8>,
+) -> Result<Timed> {
+    let start = Instant::now(rt)?;
+    encode(alloc, service, image)?;
+    let took = start.elapsed(rt)?;
+    Ok(Timed {
+        count: image.len() as u64,
+        took,
+    })
+}
+
+fn time_copy(rt: &impl Clock, alloc: Global, image: &[u8]) -> Result<Timed> {
+    let mut copy = Vec::new(alloc);
+    let start = Instant::now(rt)?;
+    copy.extend_from_slice(image)?;
+    let took = start.elapsed(rt)?;
+    Ok(Timed {
+        count: copy.len() as u64,
+        took,
+    })
+}
+
 /// A time in nanoseconds, or the most that 64 bits can tell.
 fn whole_nanos(took: Duration) -> u64 {
     u64::try_from(took.as_nanos()).unwrap_or(u64::MAX)
@@ -135,13 +182,17 @@ fn show(rt: &impl Print, what: &str, timed: Timed, times: bool) -> Result<()> {
 }
 
 fn measured<R: Clock + Print>(rt: &R, alloc: Global, asked: Asked) -> Result<()> {
-    let Asked { objects, times } = asked;
+    let Asked {
+        objects,
+        times,
+        size: _,
+    } = asked;
     let name = Text::copied(alloc, "lake")?;
     let bucket = Bucket::read(alloc, name.as_bytes())?;
     let mut service = Service::new(alloc, 5_242_880);
     send(&mut service, &Request::make_bucket(&name)?)?;
 
-    let requests = puts(alloc, &bucket, objects)?;
+    let requests = puts(alloc, &bucket, asked)?;
     let put = time_puts(rt, &mut service, requests.as_slice())?;
     show(rt, "put", put, times)?;
 
@@ -153,7 +204,20 @@ fn measured<R: Clock + Print>(rt: &R, alloc: Global, asked: Asked) -> Result<()>
 
     let few = PageLimit::new(PREFIXES);
     let folded = Request::list_page(&bucket, &none, true, &none, few)?;
-    show(rt, "prefixes", time_page(rt, &mut service, &folded)?, times)
+    show(rt, "prefixes", time_page(rt, &mut service, &folded)?, times)?;
+    show_image(rt, alloc, &service, times)
+}
+
+fn show_image<R: Clock + Print>(
+    rt: &R,
+    alloc: Global,
+    service: &Service,
+    times: bool,
+) -> Result<()> {
+    let mut image = Vec::new(alloc);
+    let made = time_image(rt, alloc, service, &mut image)?;
+    show(rt, "image", made, times)?;
+    show(rt, "copy", time_copy(rt, alloc, image.as_slice())?, times)
 }
 
 fn main(rt: HostRuntime) -> Result<()> {

@@ -17,6 +17,7 @@ use Rattle.job_model.specs.declared.events.Event.{Event}
 use Rattle.job_model.specs.declared.ends.Pick.{Pick}
 use Rattle.job_model.specs.declared.ends.ActorEnd.{ActorEnd}
 use Rattle.job_model.specs.declared.ends.EventEnd.{EventEnd}
+use Rattle.job_model.specs.declared.ends.SetupEnd.TheVariants as setups
 use Rattle.job_model.specs.declared.ends.CommitEnd.{CommitEnd}
 use Rattle.job_model.specs.declared.ends.CommitEnd.TheVariants as commits
 use Rattle.job_model.specs.declared.ends.OpEnd.{OpEnd}
@@ -68,6 +69,39 @@ commit_end_from n (ev ∷ evs) (x ∷ xs) = ended_here n (first_commit (told ev 
 -- the event in which the driver's commit ended, and how
 abbrev pub commit_end : Script → List EventEnd → Option (ℕ × CommitEnd)
 commit_end w xs = commit_end_from 1 w.events xs
+
+-- ---- the verdict on a run
+
+-- 0 where the job's commit ended Committed, 8 where a request of it wore out, 9 where memory was wanting, and else 1
+abbrev pub commit_verdict : Option (ℕ × CommitEnd) → ℕ
+commit_verdict (Some (j, commits.Committed)) = 0
+commit_verdict (Some (j, commits.StoreFault s)) = 8
+commit_verdict (Some (j, commits.NoMemory)) = 9
+commit_verdict _ = 1
+
+-- of the last set-up the same, but that it commits nothing
+abbrev pub setup_verdict : ℕ → OpEnd → ℕ
+setup_verdict n (ends.Setup setups.StoreFault) = 8
+setup_verdict n (ends.Setup setups.NoMemory) = 9
+setup_verdict n (ends.Setup _) = 1
+setup_verdict n _ = n
+
+abbrev pub setups_verdict : ℕ → List ActorEnd → ℕ
+setups_verdict n [] = n
+setups_verdict n (x ∷ xs) = setups_verdict (setup_verdict n x.end) xs
+
+abbrev pub last_setup : ℕ → List Event → List EventEnd → ℕ
+last_setup n evs [] = n
+last_setup n [] (x ∷ xs) = n
+last_setup n (ev ∷ evs) (x ∷ xs) = last_setup (setups_verdict n (told ev x)) evs xs
+
+abbrev pub verdict_by : Option ℕ → Script → List EventEnd → ℕ
+verdict_by (Some k) w xs = commit_verdict (commit_end w xs)
+verdict_by None w xs = last_setup 1 w.events xs
+
+-- what decides is the driver's commit where one was begun, and else its last set-up
+abbrev pub verdict : Script → List EventEnd → ℕ
+verdict w xs = verdict_by (commit_event w xs) w xs
 
 -- the put of the marker of a committed job was answered
 abbrev pub is_mark_answered : Script → List Entry → Bool

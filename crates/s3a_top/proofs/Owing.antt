@@ -70,13 +70,14 @@ module _ (before now : Told) (S : List ℕ → Type 0) where
     which = inr b;
     promised = nothing_promised f h es ps xs i;
     finished = λ z. not_zero due b z;
+    committed = λ z. not_zero due b z;
     saved = λ z. not_zero due b z;
     report = λ z. not_zero due b z;
   }
 
   -- a run that sent something and stopped
   pub form_stopped : (f : Form) (due : ℕ) (es : List Entry) (ps : List Pick) (xs : List EventEnd) → IsBroken due → Promised (script_of f) (opening_of f) es ps xs → OfForm f due es ps xs before now S
-  form_stopped f due es ps xs b p = record { which = inr b; promised = p; finished = λ z. not_zero due b z; saved = λ z. not_zero due b z; report = λ z. not_zero due b z }
+  form_stopped f due es ps xs b p = record { which = inr b; promised = p; finished = λ z. not_zero due b z; committed = λ z. not_zero due b z; saved = λ z. not_zero due b z; report = λ z. not_zero due b z }
 
   pub input_broken : (left : Option (List ℕ)) (due : ℕ) (es : List Entry) (ps : List Pick) (xs : List EventEnd) → IsBroken due → IsIdle es ps xs → OfInput left due es ps xs before now S
   input_broken left due es ps xs b i = record { form = λ bytes e f h. form_broken f h.form due es ps xs b i; none = λ bytes e n. inr b }
@@ -181,7 +182,7 @@ module _ (due status : ℕ) (text : List ℕ) (old new : Option (List ℕ)) (w :
   zero_out t z e = out_is t (ap fixed_text z) e
 
   form_out : (f : Form) (es : List Entry) (ps : List Pick) (xs : List EventEnd) (before now : Told) → OfForm f due es ps xs before now (λ t. text ≡ t) → OfForm f due es ps xs before now (Writes status old new)
-  form_out f es ps xs before now h = record { which = h.which; promised = h.promised; finished = h.finished; saved = h.saved; report = λ z. zero_out _ z (h.report z) }
+  form_out f es ps xs before now h = record { which = h.which; promised = h.promised; finished = h.finished; committed = h.committed; saved = h.saved; report = λ z. zero_out _ z (h.report z) }
 
   pub job_out : (held : Held) (left : Option (List ℕ)) (es : List Entry) (ps : List Pick) (xs : List EventEnd) (before now : Told) → JobOwes held left due es ps xs before now (λ t. text ≡ t) → JobOwes held left due es ps xs before now (Writes status old new)
   job_out Nothing left es ps xs before now h = record { form = λ bytes e f s. form_out f es ps xs before now (h.form bytes e f s); none = h.none }

@@ -4,7 +4,7 @@ use Rattle.std.specs.Option.{unwrap_or}
 use Rattle.shelf.specs.Devices.{Appends, HoldsNow}
 use Rattle.s3_types.specs.Moment.{moment}
 use Rattle.s3_types.specs.declared.journal.Entry.{Entry}
-use Rattle.job_model.specs.Promise.{Promised, Finished}
+use Rattle.job_model.specs.Promise.{verdict, Promised, Finished}
 use Rattle.job_model.specs.ReportText.{report_text}
 use Rattle.job_model.specs.declared.ends.Pick.{Pick}
 use Rattle.job_model.specs.declared.ends.EventEnd.{EventEnd}
@@ -59,8 +59,14 @@ pub record OfForm (f : Form) (due : ℕ) (es : List Entry) (ps : List Pick) (xs 
   pub which : (due ≡ 0) ⊎ IsBroken due
   pub promised : Promised (script_of f) (opening_of f) es ps xs
   pub finished : due ≡ 0 → Finished (script_of f) (opening_of f) es ps xs
+  pub committed : due ≡ 0 → verdict (script_of f) xs ≡ 0
   pub saved : due ≡ 0 → HoldsNow before now (image_of (moment (opening_of f) es (length es)).content)
   pub report : due ≡ 0 → Says (report_text 0 (length es) ps xs (script_of f))
+
+-- Where memory was wanting the shelf holds what it held, or else a job of the first form was played whole and saved, and
+-- only its report found no memory.
+abbrev pub IsUnsaid : List Entry → List Pick → List EventEnd → Told → Told → Type 0
+IsUnsaid es ps xs before now = (now ≡ before) ⊎ ((f : Form) × Finished (script_of f) (opening_of f) es ps xs × HoldsNow before now (image_of (moment (opening_of f) es (length es)).content))
 
 -- of a job over a shelf that held nothing, where the input is told: it is played where it is of the first form, and else not built
 pub record OfInput (left : Option (List ℕ)) (due : ℕ) (es : List Entry) (ps : List Pick) (xs : List EventEnd) (before now : Told) (Says : List ℕ → Type 0) : Type 0 where

@@ -1,6 +1,6 @@
 ghost use Rattle.std.specs.Prelude.{◌≡◌, ◌≢◌, ℕ, List, ◌<◌, ◌≤◌, ◌-◌, ◌^◌, ◌⊎◌, Some, None, Option, length, IfOk, IfErr, OnOk, OnErr, option_map};
 ghost use Rattle.s3_types.specs.Moment.{moment};
-ghost use Rattle.job_model.specs.Promise.{Finished};
+ghost use Rattle.job_model.specs.Promise.{verdict, Finished};
 ghost use Rattle.job_model.specs.ReportText.{report_text};
 ghost use Rattle.store_commands.specs.Commands.{command_of};
 ghost use Rattle.store_commands.specs.Stores.{found, work_of};
@@ -13,7 +13,7 @@ ghost use Rattle.first_form.specs.Form.{IsForm, Spells};
 ghost use Rattle.first_form.specs.Scripted as scripted;
 ghost use Rattle.straight_facts.specs.Straight.{opening_of};
 ghost use Rattle.s3a_top.specs.Statuses.{IsPlayed, IsOfJob, IsOfCommand, IsDue};
-ghost use Rattle.s3a_top.specs.Owed.{fixed_text, said_text, Writes, IsIdle, OfForm, OfInput, JobOwes, StoreOwes};
+ghost use Rattle.s3a_top.specs.Owed.{fixed_text, said_text, Writes, IsIdle, IsUnsaid, OfForm, OfInput, JobOwes, StoreOwes};
 
 use crate::input::{InputFault, read_input};
 use crate::output::write_output;
@@ -145,11 +145,13 @@ fn reported(alloc: Global, form: &Form, stage: Stage) -> Work
 fn saved<F: Shelf>(alloc: Global, shelf: &mut F, form: &Form, stage: Stage) -> Work
     requires count { F.faults shelf.old < 2 ^ 64 - 1 }
     requires finished { Finished (scripted.script_of form.now) (opening_of form.now) stage.journal.entries stage.picks stage.ends }
+    requires committed { verdict (scripted.script_of form.now) stage.ends ≡ 0 }
     requires left { stage.service ≡ (moment (opening_of form.now) stage.journal.entries (length stage.journal.entries)).content }
     ensures form { OfForm form.now result.due result.journal.entries result.picks result.ends (F.held shelf.old) (F.held shelf.new) (λ t. result.text ≡ t) }
     ensures which { IsPlayed result.due }
     ensures shelf { Tells 5 result.due (F.faults shelf.old) (F.faults shelf.new) }
     ensures kept { result.due ≡ 5 → F.held shelf.new ≡ F.held shelf.old }
+    ensures wanting { result.due ≡ 9 → IsUnsaid result.journal.entries result.picks result.ends (F.held shelf.old) (F.held shelf.new) }
 {
     match save(alloc, shelf, &stage.service) {
         Ok(()) => reported(alloc, form, stage),
@@ -166,6 +168,7 @@ fn play_form<F: Shelf>(alloc: Global, shelf: &mut F, form: Form) -> Work
     ensures which { IsPlayed result.due }
     ensures shelf { Tells 5 result.due (F.faults shelf.old) (F.faults shelf.new) }
     ensures kept { result.due ≡ 5 → F.held shelf.new ≡ F.held shelf.old }
+    ensures wanting { result.due ≡ 9 → IsUnsaid result.journal.entries result.picks result.ends (F.held shelf.old) (F.held shelf.new) }
 {
     let Ok(job) = Job::new(alloc, form) else {
         return nothing(alloc, NO_MEMORY);
@@ -188,6 +191,7 @@ fn play_read<F: Shelf>(alloc: Global, shelf: &mut F, input: &[u8]) -> Work
     ensures which { IsPlayed result.due ⊎ (result.due ≡ 10) }
     ensures shelf { Tells 5 result.due (F.faults shelf.old) (F.faults shelf.new) }
     ensures kept { result.due ≢ 0 → result.due ≢ 9 → F.held shelf.new ≡ F.held shelf.old }
+    ensures wanting { result.due ≡ 9 → IsUnsaid result.journal.entries result.picks result.ends (F.held shelf.old) (F.held shelf.new) }
 {
     match read_form(alloc, input) {
         Ok(Some(form)) => play_form(alloc, shelf, form),
@@ -206,6 +210,7 @@ fn read_and_play<Q: Source, F: Shelf>(alloc: Global, input: &mut Q, shelf: &mut 
     ensures read { Tells 3 result.due (Q.faults input.old) (Q.faults input.new) }
     ensures shelf { Tells 5 result.due (F.faults shelf.old) (F.faults shelf.new) }
     ensures kept { result.due ≢ 0 → result.due ≢ 9 → F.held shelf.new ≡ F.held shelf.old }
+    ensures wanting { result.due ≡ 9 → IsUnsaid result.journal.entries result.picks result.ends (F.held shelf.old) (F.held shelf.new) }
 {
     match read_input(alloc, input) {
         Ok(bytes) => play_read(alloc, shelf, bytes.as_slice()),
@@ -236,6 +241,7 @@ fn play_over<Q: Source, F: Shelf>(alloc: Global, input: &mut Q, shelf: &mut F, h
     ensures read { Tells 3 result.due (Q.faults input.old) (Q.faults input.new) }
     ensures shelf { Tells 5 result.due (F.faults shelf.old) (F.faults shelf.new) }
     ensures kept { result.due ≢ 0 → result.due ≢ 9 → F.held shelf.new ≡ F.held shelf.old }
+    ensures wanting { result.due ≡ 9 → IsUnsaid result.journal.entries result.picks result.ends (F.held shelf.old) (F.held shelf.new) }
 {
     match held {
         Held::Nothing => read_and_play(alloc, input, shelf),
@@ -253,6 +259,7 @@ fn obeyed<F: Shelf>(alloc: Global, shelf: &mut F, command: &StoreCommand, held: 
     ensures which { IsOfCommand result.due × (result.due ≢ 3) }
     ensures shelf { Tells 5 result.due (F.faults shelf.old) (F.faults shelf.new) }
     ensures kept { result.due ≢ 0 → F.held shelf.new ≡ F.held shelf.old }
+    ensures wanting { result.due ≡ 9 → IsUnsaid result.journal.entries result.picks result.ends (F.held shelf.old) (F.held shelf.new) }
 {
     let answer = obey(alloc, shelf, command, held);
     said(alloc, answer.due, answer.text)
@@ -277,6 +284,7 @@ fn do_command<Q: Source, F: Shelf>(
     ensures read { Tells 3 result.due (Q.faults input.old) (Q.faults input.new) }
     ensures shelf { Tells 5 result.due (F.faults shelf.old) (F.faults shelf.new) }
     ensures kept { result.due ≢ 0 → result.due ≢ 9 → F.held shelf.new ≡ F.held shelf.old }
+    ensures wanting { result.due ≡ 9 → IsUnsaid result.journal.entries result.picks result.ends (F.held shelf.old) (F.held shelf.new) }
 {
     match command {
         Command::Job => play_over(alloc, input, shelf, held),
@@ -301,6 +309,7 @@ fn load_and_do<Q: Source, F: Shelf>(
     ensures read { Tells 3 result.due (Q.faults input.old) (Q.faults input.new) }
     ensures shelf { Tells 5 result.due (F.faults shelf.old) (F.faults shelf.new) }
     ensures kept { result.due ≢ 0 → result.due ≢ 9 → F.held shelf.new ≡ F.held shelf.old }
+    ensures wanting { result.due ≡ 9 → IsUnsaid result.journal.entries result.picks result.ends (F.held shelf.old) (F.held shelf.new) }
 {
     match load(alloc, shelf) {
         Ok(held) => do_command(alloc, command, input, shelf, held),
@@ -322,6 +331,7 @@ fn do_work<Q: Source, F: Shelf>(alloc: Global, words: &[Text], input: &mut Q, sh
     ensures read { Tells 3 result.due (Q.faults input.old) (Q.faults input.new) }
     ensures shelf { Tells 5 result.due (F.faults shelf.old) (F.faults shelf.new) }
     ensures kept { result.due ≢ 0 → result.due ≢ 9 → F.held shelf.new ≡ F.held shelf.old }
+    ensures wanting { result.due ≡ 9 → IsUnsaid result.journal.entries result.picks result.ends (F.held shelf.old) (F.held shelf.new) }
 {
     match read_command(alloc, words) {
         Ok(Some(command)) => load_and_do(alloc, &command, input, shelf),
@@ -380,6 +390,7 @@ pub fn run<Q: Source, F: Shelf, K: Sink>(
     ensures read { Tells 3 result.due (Q.faults input.old) (Q.faults input.new) }
     ensures shelf { Tells 5 result.due (F.faults shelf.old) (F.faults shelf.new) }
     ensures kept { result.due ≢ 0 → result.due ≢ 9 → F.held shelf.new ≡ F.held shelf.old }
+    ensures wanting { result.due ≡ 9 → IsUnsaid result.journal.entries result.picks result.ends (F.held shelf.old) (F.held shelf.new) }
 
     // What a job and the other commands owe, where the shelf and the input tell their bytes.
     ensures job { (h : Option (List ℕ)) → command_of words.now ≡ Some commands.Job → F.held shelf.old ≡ Some h → JobOwes (found h) (Q.left input.old) result.due result.journal.entries result.picks result.ends (F.held shelf.old) (F.held shelf.new) (Writes result.status (K.written out.old) (K.written out.new)) }

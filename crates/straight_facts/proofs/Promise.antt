@@ -18,7 +18,7 @@ use Rattle.job_model.specs.Fate.{fate, AreFated}
 use Rattle.s3_types.specs.Fates.{fate_or}
 use Rattle.std.specs.FinMap.{get-empty}
 use Rattle.std.specs.Ordering.{nat_cmp}
-use Rattle.job_model.specs.Promise.{picks_below, picked, seen_last, all_picks, commit_end, is_mark_answered, ArePicked, CommitEnded, Promised, Finished}
+use Rattle.job_model.specs.Promise.{verdict, picks_below, picked, seen_last, all_picks, commit_end, is_mark_answered, ArePicked, CommitEnded, Promised, Finished}
 use Rattle.job_model.specs.declared.script.Script.{Script}
 use Rattle.job_model.specs.declared.ends.Pick.{Pick}
 use Rattle.job_model.specs.declared.ends.EventEnd.{EventEnd}
@@ -283,3 +283,6 @@ module _ (f : Form) (h : IsForm f) where
           let said : es ≡ ((setup_said f ++ write_said f) ++ publish_said f) ++ take h.sent (commit_said f) = e ∙ ap (λ x. ((x ++ write_entries f) ++ publish_entries f) ++ take h.sent (commit_entries f)) (setup_told f some) ∙ ap (λ x. ((setup_said f ++ x) ++ publish_entries f) ++ take h.sent (commit_entries f)) (write_told f some) ∙ ap (λ x. ((setup_said f ++ write_said f) ++ x) ++ take h.sent (commit_entries f)) (publish_told f some) ∙ ap (λ x. ((setup_said f ++ write_said f) ++ publish_said f) ++ take h.sent x) (commit_told f some) in
           at (10 + cut h.sent 3) (set_done ∷ task_done ∷ task_done ∷ []) d refl refl (said ∙ cut3 f h.sent) (subst (Plays w 5242880 (set_done ∷ task_done ∷ task_done ∷ [])) (sym said) (played3 f some few h.sent))
       by (suc (suc (suc (suc k)))) l e d = absurd (omega (arith, l))
+
+pub is_committed : (f : Form) (es : List Entry) (ps : List Pick) (xs : List EventEnd) → Whole f es ps xs → verdict (script_of f) xs ≡ 0
+is_committed f es ps xs h = ap (verdict (script_of f)) h.ends

@@ -2,7 +2,7 @@
 use Rattle.std.specs.Prelude.{◌≡◌, List, length}
 use Rattle.s3_types.specs.Moment.{moment}
 use Rattle.s3_types.specs.declared.journal.Entry.{Entry}
-use Rattle.job_model.specs.Promise.{Promised, Finished}
+use Rattle.job_model.specs.Promise.{verdict, Promised, Finished}
 use Rattle.job_model.specs.declared.ends.Pick.{Pick}
 use Rattle.job_model.specs.declared.ends.EventEnd.{EventEnd}
 use Rattle.first_form.specs.declared.form.Form.{Form}
@@ -22,3 +22,7 @@ WholeLeaves = (f : Form) → IsForm f → (es : List Entry) → es ≡ entries_t
 -- stopped for want of memory it keeps the promise too
 abbrev pub StoppedKeeps : Type 0
 StoppedKeeps = (f : Form) → IsForm f → (es : List Entry) (ps : List Pick) (xs : List EventEnd) → Stopped f es ps xs → Promised (script_of f) (opening_of f) es ps xs
+
+-- played to its end it is committed
+abbrev pub WholeCommits : Type 0
+WholeCommits = (f : Form) (es : List Entry) (ps : List Pick) (xs : List EventEnd) → Whole f es ps xs → verdict (script_of f) xs ≡ 0

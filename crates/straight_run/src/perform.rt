@@ -1,6 +1,6 @@
 ghost use Rattle.std.specs.Prelude.{◌≡◌, ◌≤◌, [], length, IfOk, OnOk, OnErr};
 ghost use Rattle.s3_types.specs.Moment.{moment};
-ghost use Rattle.job_model.specs.Promise.{Promised, Finished};
+ghost use Rattle.job_model.specs.Promise.{verdict, Promised, Finished};
 ghost use Rattle.first_form.specs.Form.{IsForm};
 ghost use Rattle.first_form.specs.Scripted.{script_of};
 ghost use Rattle.straight_run.specs.Places.{job_of};
@@ -154,6 +154,7 @@ pub fn play(alloc: Global, stage: &mut Stage, job: &Job) -> Result<(), AllocErro
     requires job { job.now ≡ job_of job.now.form }
     requires stands { Stands job.now.form 0 stage.old }
     ensures finished { OnOk result (Finished (script_of job.now.form) (straight.opening_of job.now.form) stage.new.journal.entries stage.new.picks stage.new.ends) }
+    ensures committed { OnOk result (verdict (script_of job.now.form) stage.new.ends ≡ 0) }
     ensures left { OnOk result (stage.new.service ≡ (moment (straight.opening_of job.now.form) stage.new.journal.entries (length stage.new.journal.entries)).content) }
     ensures promised { OnErr result (Promised (script_of job.now.form) (straight.opening_of job.now.form) stage.new.journal.entries stage.new.picks stage.new.ends) }
 {
