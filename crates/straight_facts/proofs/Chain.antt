@@ -1,15 +1,13 @@
 -- The promise of a job of the first form, along its thirteen requests.
-use Rattle.std.proofs.Common.{◌≡◌, ◌≤◌, ◌⊎◌, ℕ, zero, suc, ◌-◌, ◌==◌, nat_le, nat_eq, Bool, true, false, cond, not, ◌&&◌, ◌||◌, List, [], ◌∷◌, ◌++◌, length, take, drop, slice_index, Option, Some, None, codes, refl, sym, ap, ◌∙◌, arith, subst, append_assoc, length-append, inl, inr, bytes_eq}
+use Rattle.std.proofs.Common.{◌≡◌, ◌≤◌, ℕ, ◌==◌, nat_le, nat_eq, true, false, cond, ◌&&◌, List, [], ◌∷◌, ◌++◌, length, Option, Some, None, codes, refl, sym, ap, ◌∙◌, arith, append_assoc, length-append, inl, inr}
 use Rattle.std.specs.List.{list_all}
 use Rattle.std.specs.Fmt.{decimal}
-use Rattle.std.specs.FinMap.{get, empty}
-use Rattle.std.proofs.lemmas.Bool.{and_parts, leb-true, true≢false, false≢true}
+use Rattle.std.specs.FinMap.{empty}
+use Rattle.std.proofs.lemmas.Bool.{and_parts}
 use Rattle.std.proofs.lemmas.Bool.Decides.{nat_tests}
 use Rattle.proof_base.specs.Order.{text_eq, text_total}
-use Rattle.s3_types.specs.Store.{Content, Objects, Uploads, Scene, new_bucket}
+use Rattle.s3_types.specs.Store.{Content, Objects, Uploads}
 use Rattle.s3_types.specs.Tags.{plain_tag, joined_tag}
-use Rattle.s3_types.specs.Pages.{begins}
-use Rattle.s3_types.specs.declared.object.Object.{Object}
 use Rattle.s3_types.specs.declared.request.Actor.{Actor}
 use Rattle.s3_types.specs.declared.request.Actor.TheVariants.{Driver}
 use Rattle.s3_types.specs.declared.request.Request.{Request}
@@ -22,16 +20,16 @@ use Rattle.magic_paths.specs.Layout as layout
 use Rattle.job_model.specs.View.{Shown, is_folder, is_file_path, view, object_at}
 use Rattle.job_model.specs.Outputs.{Picks}
 use Rattle.job_model.specs.Replay.{Seen, see, nothing_seen, is_driver, is_marking, begins_commit}
-use Rattle.job_model.specs.Headline.{Kept, mark_text}
+use Rattle.job_model.specs.Headline.{mark_text}
 use Rattle.first_form.specs.declared.form.Form.{Form}
-use Rattle.first_form.specs.Form.{IsForm, is_file_name, is_file_byte, is_name_byte}
+use Rattle.first_form.specs.Form.{is_file_name, is_file_byte}
 use Rattle.first_form.specs.Scripted.{script_of, the_attempt}
-use Rattle.straight_facts.specs.Straight.{opening_of, opening_at, file_key, marker_key, record_key, marker_text, the_picks, record_text, set_text, head_request, clear_request, list_request, create_request, part_request, marker_request, record_request, look_request, read_request, set_request, fetch_request, complete_request, success_request}
+use Rattle.straight_facts.specs.Straight.{opening_of, marker_key, record_key, marker_text, record_text, set_text, head_request, clear_request, list_request, create_request, part_request, marker_request, record_request, look_request, read_request, set_request, fetch_request, complete_request, success_request}
 use Rattle.straight_facts.proofs.Maps.{text_same, get_put}
 use Rattle.straight_facts.proofs.Texts.{below_is}
-use Rattle.straight_facts.proofs.Lone.{lone, Step, content_is}
+use Rattle.straight_facts.proofs.Lone.{lone, Step}
 use Rattle.straight_facts.proofs.Steps.{marker_entry, record_entry, plain, c0, c4, c5, c6, c7, c10, c12, c13, opens, live_made, live_sent, with_marker, with_record, with_set, with_file, with_success, step1, step2, step3, step4, step5, step6, step7, step8, step9, step10, step11, step12, step13}
-use Rattle.straight_facts.proofs.Explicit.{by, setup_said, write_said, write_rest, publish_said, publish_rest, commit_said, all_said}
+use Rattle.straight_facts.proofs.Explicit.{by, all_said}
 use Rattle.straight_facts.proofs.Shown.{shows, view_lone, object_lone, shows_nothing, hidden, shown, magic_hidden, success_hidden}
 use Rattle.straight_facts.proofs.Kept.{goes_to, file_alone, early, going, over, KeptAll, Before, Going, before_step, going_step, commit_step}
 

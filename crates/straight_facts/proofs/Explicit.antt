@@ -1,6 +1,6 @@
 -- The journal of a job of the first form, written out.
-use Rattle.std.proofs.Common.{◌≡◌, ◌≤◌, ℕ, Bool, true, false, List, [], ◌∷◌, ◌++◌, length, Some, None, refl, sym, ap, ◌∙◌, subst}
-use Rattle.s3_types.specs.Store.{Content, Scene, opening}
+use Rattle.std.proofs.Common.{◌≡◌, ◌≤◌, ℕ, false, List, [], ◌∷◌, ◌++◌, length, None, refl, sym, ap, ◌∙◌}
+use Rattle.s3_types.specs.Store.{Content, Scene}
 use Rattle.s3_types.specs.Moment.{AreHonest, effect}
 use Rattle.s3_types.specs.Tags.{plain_tag, joined_tag}
 use Rattle.s3_types.specs.declared.request.Actor.{Actor}
@@ -14,7 +14,7 @@ use Rattle.s3_types.specs.declared.journal.Entry.{Entry}
 use Rattle.first_form.specs.declared.form.Form.{Form}
 use Rattle.first_form.specs.Scripted.{the_attempt}
 use Rattle.straight_facts.specs.Sendings.{told, left, store_after, reply_to}
-use Rattle.straight_facts.specs.Straight.{opening_of, setup_entries, write_entries, publish_entries, commit_entries, after_setup, after_write, after_publish, after_commit, record_text, set_text, marker_text, head_request, clear_request, list_request, create_request, part_request, marker_request, record_request, look_request, read_request, set_request, fetch_request, complete_request, success_request, setup_requests, write_requests, publish_requests, commit_requests}
+use Rattle.straight_facts.specs.Straight.{setup_entries, write_entries, publish_entries, commit_entries, after_setup, after_write, after_publish, after_commit, record_text, set_text, marker_text, head_request, clear_request, list_request, create_request, part_request, marker_request, record_request, look_request, read_request, set_request, fetch_request, complete_request, success_request, setup_requests, write_requests, publish_requests, commit_requests}
 use Rattle.straight_facts.proofs.Lone.{Step, answer_is, content_is}
 use Rattle.straight_facts.proofs.Steps.{c0, c4, c5, c6, c7, c10, c12, c13, opens, step1, step2, step3, step4, step5, step6, step7, step8, step9, step10, step11, step12, step13, marker_entry, record_entry}
 

@@ -1,5 +1,5 @@
 -- The first entries of a journal keep what holds of all.
-use Rattle.std.proofs.Common.{◌≡◌, ◌≤◌, ◌&&◌, ℕ, zero, suc, ◌+◌, Bool, true, nat_le, List, [], ◌∷◌, ◌++◌, length, take, Option, Some, None, not, subst, refl, sym, ap, ◌∙◌, arith}
+use Rattle.std.proofs.Common.{◌≡◌, ◌≤◌, ◌&&◌, ℕ, zero, suc, ◌+◌, Bool, true, nat_le, List, [], ◌∷◌, ◌++◌, length, take, Option, Some, not, subst, refl, sym, ap, ◌∙◌, arith}
 use Rattle.std.specs.List.{list_all}
 use Rattle.std.proofs.Math.Seq.{take-append_seam}
 use Rattle.std.proofs.lemmas.Bool.{and_parts, leb-true}

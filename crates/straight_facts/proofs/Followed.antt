@@ -1,22 +1,17 @@
 -- Each operation of a job of the first form sends what is asked next, and ends as it should.
-use Rattle.std.proofs.Common.{◌≡◌, ◌≤◌, ℕ, ◌+◌, Bool, true, false, cond, List, [], ◌∷◌, ◌++◌, length, map, Option, Some, None, refl, sym, ap, ◌∙◌, subst, codes}
+use Rattle.std.proofs.Common.{◌≡◌, ◌≤◌, ℕ, true, false, cond, List, [], ◌∷◌, length, Some, None, refl, sym, ap, ◌∙◌, subst, codes}
 use Rattle.serde_json.specs.Written.{compact_text}
 use Rattle.proof_base.specs.Order.{text_eq}
-use Rattle.s3_types.specs.Tags.{plain_tag}
-use Rattle.s3_types.specs.declared.request.Actor.{Actor}
 use Rattle.s3_types.specs.declared.request.Actor.TheVariants.{Driver}
-use Rattle.s3_types.specs.declared.request.Request.{Request}
 use Rattle.s3_types.specs.declared.request.Request.TheVariants.{PutObject}
 use Rattle.s3_types.specs.declared.journal.Entry.{Entry}
 use Rattle.magic_paths.specs.Layout as layout
 use Rattle.pending_json.specs.Trees.{set_tree}
 use Rattle.job_model.specs.Files.{File}
-use Rattle.job_model.specs.Blocks.{block_of, parts_of}
-use Rattle.job_model.specs.Knowledge.{Drawn, Known, knows}
-use Rattle.job_model.specs.declared.ends.OpEnd.{OpEnd}
+use Rattle.job_model.specs.Knowledge.{Known, knows}
 use Rattle.job_model.specs.Operations.{Setup, Heading, SetupOver, Task, Creating, Sending, Looking, Reading, TaskOver, Who, sending, looked, looked_at, least_missing, has_key, in_order, reading, set_of, drawn_for, keys_on, pending_of}
 use Rattle.job_model.specs.Operations as operations
-use Rattle.job_model.specs.Commits.{Sets, Commit, Fetching, CommitOver}
+use Rattle.job_model.specs.Commits.{Fetching}
 use Rattle.job_model.specs.Follows.{Setting, Running, Operation, TheSetup, TheTask, TheCommit, Follows, feed, over_of, asks}
 use Rattle.job_model.specs.declared.ends.OpEnd.TheVariants as ends
 use Rattle.job_model.specs.declared.ends.SetupEnd.TheVariants as setups
@@ -27,7 +22,7 @@ use Rattle.first_form.specs.Scripted.{script_of, the_attempt}
 use Rattle.straight_facts.specs.Straight.{file_of, the_who, file_key, marker_key, record_key, drawn_of, the_set, record_text, set_text, marker_text, head_request, clear_request, list_request, create_request, part_request, marker_request, record_request, look_request, read_request, set_request, fetch_request, complete_request, success_request}
 use Rattle.straight_facts.proofs.Maps.{text_same}
 use Rattle.straight_facts.proofs.Texts.{longer_other}
-use Rattle.straight_facts.proofs.Steps.{marker_entry, record_entry, record_is}
+use Rattle.straight_facts.proofs.Steps.{record_is}
 use Rattle.straight_facts.proofs.Explicit.{setup_said, write_said, write_rest, publish_said, publish_rest, commit_said}
 use Rattle.straight_facts.proofs.OnePart.{one_part}
 

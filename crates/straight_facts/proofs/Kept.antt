@@ -1,30 +1,24 @@
 -- The promise of a job of the first form, moment by moment.
-use Rattle.std.proofs.Common.{◌≡◌, ◌≤◌, ◌⊎◌, ℕ, zero, suc, Bool, true, false, cond, not, ◌&&◌, ◌||◌, nat_eq, List, [], ◌∷◌, ◌++◌, length, take, Option, Some, None, is_some, codes, refl, sym, ap, ◌∙◌, arith, subst, inl, inr}
-use Rattle.std.specs.Option.{option_map, unwrap_or}
+use Rattle.std.proofs.Common.{◌≡◌, ◌≤◌, ◌⊎◌, ℕ, zero, suc, Bool, true, false, cond, not, ◌&&◌, List, [], ◌∷◌, ◌++◌, length, take, Option, Some, None, is_some, refl, sym, ap, ◌∙◌, arith, inl, inr}
 use Rattle.std.specs.Map.{lookup}
 use Rattle.std.proofs.lemmas.Bool.{true≢false, false≢true}
-use Rattle.std.specs.FinMap.{get, empty}
-use Rattle.proof_base.specs.Order.{text_eq, text_total}
-use Rattle.s3_types.specs.Store.{Content, Objects, Uploads, Scene, new_bucket}
-use Rattle.s3_types.specs.Moment.{effect, is_effective}
+use Rattle.proof_base.specs.Order.{text_eq}
+use Rattle.s3_types.specs.Store.{Content}
 use Rattle.s3_types.specs.declared.object.Object.{Object}
 use Rattle.s3_types.specs.declared.request.Actor.{Actor}
 use Rattle.s3_types.specs.declared.request.Request.{Request}
 use Rattle.s3_types.specs.declared.reply.Reply.{Reply}
-use Rattle.s3_types.specs.declared.journal.Outcome.TheVariants.{Answered}
 use Rattle.s3_types.specs.declared.journal.Entry.{Entry}
 use Rattle.magic_paths.specs.Layout as layout
 use Rattle.job_model.specs.View.{Shown, view, object_at}
-use Rattle.job_model.specs.Outputs.{Picks, wanted, wanted_at, files_picked, is_decided, is_picked, is_clash, has_twice, done, keeps, or_else}
-use Rattle.job_model.specs.Replay.{Seen, see, see_all, seen, nothing_seen, is_driver, is_marking, is_marked, begins_commit}
-use Rattle.job_model.specs.Headline.{Same, Between, Whole, Kept, mark_text}
+use Rattle.job_model.specs.Outputs.{Picks, wanted_at, files_picked, is_decided, is_picked, is_clash, has_twice, done, keeps, or_else}
+use Rattle.job_model.specs.Replay.{Seen, see, see_all, is_driver, is_marking, begins_commit}
+use Rattle.job_model.specs.Headline.{Between, Kept, mark_text}
 use Rattle.job_model.specs.declared.script.Script.{Script}
 use Rattle.first_form.specs.declared.form.Form.{Form}
 use Rattle.first_form.specs.Scripted.{script_of}
 use Rattle.straight_facts.specs.Sendings.{store_after}
-use Rattle.straight_facts.specs.Straight.{marker_text, the_picks}
-use Rattle.straight_facts.proofs.Lone.{lone, Step, content_is}
-use Rattle.straight_facts.proofs.Shown.{shows, view_lone, object_lone}
+use Rattle.straight_facts.proofs.Lone.{Step, content_is}
 use Rattle.straight_facts.proofs.Explicit.{by}
 
 -- ---- what is wanted once the one attempt is picked

@@ -1,9 +1,9 @@
 -- A store of one bucket: what it answers, and what a request leaves of it.
-use Rattle.std.proofs.Common.{◌≡◌, ℕ, ◌+◌, Bool, true, false, cond, List, Option, Some, None, refl, ap, ◌∙◌, subst}
+use Rattle.std.proofs.Common.{◌≡◌, ℕ, ◌+◌, Bool, true, cond, List, Option, Some, refl, ap, ◌∙◌}
 use Rattle.std.specs.FinMap.{insert, get, empty}
-use Rattle.proof_base.specs.Order.{text_cmp, text_total}
-use Rattle.s3_types.specs.Store.{Objects, Uploads, BucketContent, Buckets, Content, Scene}
-use Rattle.s3_types.specs.Answer.{answer_at, answer_in, apply_at, apply_in, draws, bucket_of, answer, apply, answer_store, apply_store}
+use Rattle.proof_base.specs.Order.{text_total}
+use Rattle.s3_types.specs.Store.{BucketContent, Buckets, Content, Scene}
+use Rattle.s3_types.specs.Answer.{answer_at, answer_in, apply_at, apply_in, draws, bucket_of, answer, apply}
 use Rattle.s3_types.specs.declared.request.Request.{Request}
 use Rattle.s3_types.specs.declared.request.Request.TheVariants.{MakeBucket, PutObject, GetObject, HeadObject, DeleteObject, DeleteObjects, CopyObject, ListPage, CreateUpload, UploadPart, CompleteUpload, AbortUpload, ListParts, ListUploads, ClusterPut, ClusterRename, ClusterGet, ClusterDelete, ClusterList}
 use Rattle.s3_types.specs.declared.request.NamedPart.{NamedPart}

@@ -1,16 +1,14 @@
 -- The events of a job of the first form are obeyed.
-use Rattle.std.proofs.Common.{◌≡◌, ◌≤◌, ◌<◌, ◌⊎◌, ℕ, zero, suc, ◌+◌, Bool, true, false, List, [], ◌∷◌, ◌++◌, length, take, slice_get, Option, Some, None, refl, sym, ap, ◌∙◌, subst, arith, cond, nat_eq, ◌&&◌, inl, inr}
+use Rattle.std.proofs.Common.{◌≡◌, ◌≤◌, ℕ, zero, suc, Bool, true, false, List, [], ◌∷◌, ◌++◌, length, slice_get, Some, None, refl, sym, ap, ◌∙◌, subst, arith, cond, nat_eq, ◌&&◌, inr}
 use Rattle.std.proofs.lemmas.Bool.{true≢false, false≢true}
 use Rattle.std.proofs.lemmas.Bool.Decides.{nat_tests}
 use Rattle.s3_types.specs.declared.request.Actor.{Actor}
 use Rattle.s3_types.specs.declared.request.Actor.TheVariants.{Driver, Attempt, Shell}
 use Rattle.s3_types.specs.declared.journal.Entry.{Entry}
-use Rattle.job_model.specs.States.{Doing, Past, past, after_event, open_event, refusal}
-use Rattle.job_model.specs.Turns.{until, by_actor, is_busy}
-use Rattle.job_model.specs.Follows.{Setting, OpFollows, Obeyed, AllObeyed, Unended}
-use Rattle.job_model.specs.declared.script.Script.{Script}
+use Rattle.job_model.specs.States.{Doing, Past, past, after_event}
+use Rattle.job_model.specs.Turns.{by_actor, is_busy}
+use Rattle.job_model.specs.Follows.{OpFollows, Obeyed}
 use Rattle.job_model.specs.declared.events.Op.TheVariants as ops
-use Rattle.job_model.specs.declared.events.Event.{Event}
 use Rattle.job_model.specs.declared.events.Event.TheVariants.{Do}
 use Rattle.job_model.specs.declared.ends.OpEnd.{OpEnd}
 use Rattle.job_model.specs.declared.ends.OpEnd.TheVariants as ends
@@ -22,9 +20,8 @@ use Rattle.job_model.specs.declared.ends.EventEnd.TheVariants.{Ended, Refused}
 use Rattle.job_model.specs.declared.ends.EventFault.{EventFault}
 use Rattle.job_model.specs.declared.ends.ActorEnd.{ActorEnd}
 use Rattle.first_form.specs.declared.form.Form.{Form}
-use Rattle.first_form.specs.Scripted.{script_of, the_attempt, the_events}
-use Rattle.straight_facts.specs.Run.{the_ends}
-use Rattle.straight_facts.proofs.Explicit.{setup_said, write_said, publish_said, commit_said, all_said}
+use Rattle.first_form.specs.Scripted.{script_of, the_attempt}
+use Rattle.straight_facts.proofs.Explicit.{setup_said, write_said, publish_said, commit_said}
 use Rattle.straight_facts.proofs.Followed.{setting, setup_follows, setup_ends, write_follows, write_ends, publish_follows, publish_ends, commit_follows, commit_ends, published_from, committed_from, publish_over, commit_over}
 
 -- ---- the four ends

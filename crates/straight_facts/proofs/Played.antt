@@ -1,31 +1,27 @@
 -- The script of the first form is played as it says, however far the run came.
-use Rattle.std.proofs.Common.{◌≡◌, ◌≤◌, ◌<◌, ℕ, zero, suc, ◌+◌, Bool, true, false, List, [], ◌∷◌, ◌++◌, length, take, slice_get, Option, Some, None, refl, sym, ap, ◌∙◌, subst, arith, nat_eq, ◌&&◌}
-use Rattle.std.proofs.lemmas.Bool.{true≢false, false≢true}
+use Rattle.std.proofs.Common.{◌≡◌, ◌≤◌, ℕ, zero, suc, ◌+◌, true, false, List, [], ◌∷◌, ◌++◌, length, take, slice_get, Some, None, refl, sym, subst, arith, nat_eq, ◌&&◌}
+use Rattle.std.proofs.lemmas.Bool.{false≢true}
 use Rattle.s3_types.specs.declared.request.Actor.{Actor}
 use Rattle.s3_types.specs.declared.request.Actor.TheVariants.{Driver, Attempt, Shell}
 use Rattle.s3_types.specs.declared.journal.Entry.{Entry}
-use Rattle.proof_base.specs.Order.{text_eq}
-use Rattle.pending_json.specs.declared.records.PendingSet.{PendingSet}
-use Rattle.job_model.specs.Replay.{is_driver, is_reading}
-use Rattle.job_model.specs.States.{Doing, Past, past, open_event}
+use Rattle.job_model.specs.States.{Doing, past, open_event}
 use Rattle.job_model.specs.Turns.{until, by_actor, IsRising}
 use Rattle.job_model.specs.Commits.{Sets, Shares, picks_of, Fetching}
 use Rattle.job_model.specs.Operations.{Heading, Creating, Looking}
-use Rattle.job_model.specs.Follows.{Setting, TheSetup, TheTask, TheCommit, Follows, OpFollows, Obeyed, AllObeyed, Unended, AllRead, IsSetReply, AllUpTo, Plays}
-use Rattle.job_model.specs.declared.script.Script.{Script}
+use Rattle.job_model.specs.Follows.{TheSetup, TheTask, TheCommit, Follows, OpFollows, Obeyed, AllObeyed, Unended, AllRead, AllUpTo, Plays}
 use Rattle.job_model.specs.declared.events.Op.TheVariants as ops
 use Rattle.job_model.specs.declared.events.Event.{Event}
 use Rattle.job_model.specs.declared.events.Event.TheVariants.{Do}
 use Rattle.job_model.specs.declared.ends.EventEnd.{EventEnd}
 use Rattle.first_form.specs.declared.form.Form.{Form}
 use Rattle.first_form.specs.Scripted.{script_of, the_attempt, the_events}
-use Rattle.straight_facts.specs.Straight.{file_of, drawn_of, the_set, set_text, head_request, clear_request, list_request, create_request, part_request, marker_request, record_request, look_request, read_request, set_request, fetch_request, complete_request, success_request}
+use Rattle.straight_facts.specs.Straight.{file_of, drawn_of, the_set, set_text, head_request, clear_request, list_request, fetch_request, complete_request, success_request}
 use Rattle.straight_facts.specs.Run.{the_ends}
 use Rattle.straight_facts.proofs.Explicit.{setup_said, write_said, publish_said, commit_said, all_said}
-use Rattle.straight_facts.proofs.Firsts.{first_follow, first_read, first_rising, up_to, rises, rising}
+use Rattle.straight_facts.proofs.Firsts.{first_follow, first_read, first_rising, up_to, rising}
 use Rattle.std.proofs.lemmas.List.{take_all}
 use Rattle.straight_facts.proofs.Followed.{setting, at, setup_follows, write_follows, publish_follows, commit_follows, published_from, committed_from}
-use Rattle.straight_facts.proofs.Obeyed.{no_zero, none_begun, none_begun_twice, second_other, set_done, task_done, committed, begun_setup, begun_write, begun_publish, begun_commit, to_setup, to_write, to_publish, to_commit, obeyed_setup, obeyed_write, obeyed_publish, obeyed_commit}
+use Rattle.straight_facts.proofs.Obeyed.{no_zero, none_begun, none_begun_twice, second_other, set_done, task_done, begun_setup, begun_write, begun_publish, begun_commit, to_setup, to_write, to_publish, to_commit, obeyed_setup, obeyed_write, obeyed_publish, obeyed_commit}
 
 some_same : {X : Type 0} (x y : X) → Some x ≡ Some y → x ≡ y
 some_same x y h = cc

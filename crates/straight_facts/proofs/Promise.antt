@@ -1,24 +1,23 @@
 -- A job of the first form keeps what a run promises, however far it came.
-use Rattle.std.proofs.Common.{◌≡◌, ◌≤◌, ◌<◌, ◌⊎◌, ℕ, zero, suc, ◌+◌, ◌-◌, nat_le, Bool, true, false, cond, not, ◌&&◌, ◌||◌, List, [], ◌∷◌, ◌++◌, length, take, Option, Some, None, is_some, refl, sym, ap, ◌∙◌, arith, subst, append_assoc, inl, inr}
-use Rattle.std.proofs.lemmas.Bool.{and_parts, leb-true, true≢false, false≢true}
+use Rattle.std.proofs.Common.{◌≡◌, ◌≤◌, ◌<◌, ◌⊎◌, ℕ, zero, suc, ◌+◌, Bool, true, ◌&&◌, List, [], ◌∷◌, ◌++◌, length, take, Option, Some, None, is_some, refl, sym, ap, ◌∙◌, arith, subst, inl, inr}
+use Rattle.std.proofs.lemmas.Bool.{and_parts, leb-true}
 use Rattle.std.proofs.lemmas.List.{take_all}
 use Rattle.s3_types.specs.Store.{Content, Scene, opening}
 use Rattle.s3_types.specs.Moment.{effect, after_all, moment, IsHonest}
-use Rattle.s3_types.specs.declared.object.Object.{Object}
 use Rattle.s3_types.specs.declared.journal.Outcome.TheVariants.{Answered}
 use Rattle.s3_types.specs.declared.journal.Entry.{Entry}
 use Rattle.magic_paths.specs.Layout as layout
 use Rattle.job_model.specs.View.{object_at}
-use Rattle.job_model.specs.Outputs.{Picks, is_clash}
-use Rattle.job_model.specs.Replay.{Seen, seen, see, see_all, nothing_seen, is_marked}
-use Rattle.job_model.specs.Headline.{Always, Kept}
+use Rattle.job_model.specs.Outputs.{is_clash}
+use Rattle.job_model.specs.Replay.{Seen, see, see_all, nothing_seen, is_marked}
+use Rattle.job_model.specs.Headline.{Kept}
 use Rattle.job_model.specs.States.{commit_event}
-use Rattle.job_model.specs.Follows.{Plays, CommitIs}
+use Rattle.job_model.specs.Follows.{Plays}
 use Rattle.job_model.specs.Fate.{fate, AreFated}
 use Rattle.s3_types.specs.Fates.{fate_or}
 use Rattle.std.specs.FinMap.{get-empty}
 use Rattle.std.specs.Ordering.{nat_cmp}
-use Rattle.job_model.specs.Promise.{verdict, picks_below, picked, seen_last, all_picks, commit_end, is_mark_answered, ArePicked, CommitEnded, Promised, Finished}
+use Rattle.job_model.specs.Promise.{verdict, picks_below, picked, all_picks, commit_end, is_mark_answered, ArePicked, CommitEnded, Promised, Finished}
 use Rattle.job_model.specs.declared.script.Script.{Script}
 use Rattle.job_model.specs.declared.ends.Pick.{Pick}
 use Rattle.job_model.specs.declared.ends.EventEnd.{EventEnd}
@@ -28,15 +27,15 @@ use Rattle.first_form.specs.declared.form.Form.{Form}
 use Rattle.first_form.specs.Form.{IsForm}
 use Rattle.first_form.specs.Scripted.{script_of}
 use Rattle.straight_facts.specs.Sendings.{store_after}
-use Rattle.straight_facts.specs.Straight.{opening_of, opening_at, after_commit, setup_entries, write_entries, publish_entries, commit_entries, marker_text, head_request, clear_request, list_request, create_request, part_request, marker_request, record_request, look_request, read_request, set_request, fetch_request, complete_request, success_request}
-use Rattle.straight_facts.specs.Run.{the_ends, the_pick, entries_to, entries_in, store_to, Stopped, Whole}
+use Rattle.straight_facts.specs.Straight.{opening_of, opening_at, after_commit, write_entries, publish_entries, commit_entries, marker_text, head_request, clear_request, list_request, create_request, part_request, marker_request, record_request, look_request, read_request, set_request, fetch_request, complete_request, success_request}
+use Rattle.straight_facts.specs.Run.{the_ends, the_pick, entries_to, entries_in, Stopped, Whole}
 use Rattle.straight_facts.proofs.Maps.{text_same}
 use Rattle.straight_facts.proofs.Lone.{content_is}
 use Rattle.straight_facts.proofs.Steps.{c0, c13, opens, plain}
 use Rattle.straight_facts.proofs.Explicit.{setup_said, write_said, publish_said, commit_said, all_said, setup_told, write_told, publish_told, commit_told, commit_leaves, all_lead, Leads, leads, leads_nowhere, honest_from}
 use Rattle.straight_facts.proofs.Firsts.{first_honest, first_foretold, all_answered}
 use Rattle.straight_facts.proofs.Kept.{kept_at}
-use Rattle.straight_facts.proofs.Obeyed.{set_done, task_done, committed}
+use Rattle.straight_facts.proofs.Obeyed.{set_done, task_done}
 use Rattle.straight_facts.proofs.Played.{played0, played1, played2, played3, played4}
 use Rattle.straight_facts.proofs.Chain.{is_shown, all_kept, marker_stands}
 

@@ -1,24 +1,18 @@
 -- What the destination of a job of the first form shows of a store of one bucket.
-use Rattle.std.proofs.Common.{◌≡◌, ◌≤◌, ℕ, Bool, true, false, cond, not, ◌&&◌, ◌||◌, ◌==◌, List, [], ◌∷◌, ◌++◌, length, Option, Some, None, codes, refl, sym, ap, ◌∙◌, arith, subst, append_assoc, bytes_eq}
-use Rattle.std.specs.List.{list_all}
+use Rattle.std.proofs.Common.{◌≡◌, ◌≤◌, ℕ, Bool, true, false, cond, not, ◌&&◌, List, ◌∷◌, length, Option, Some, None, codes, refl, sym, ap, ◌∙◌, arith, subst, bytes_eq}
 use Rattle.std.specs.Option.{option_map}
 use Rattle.std.specs.Ordering.{eq_by_cmp}
-use Rattle.std.specs.Fmt.{decimal}
 use Rattle.std.specs.FinMap.{insert, get, empty, get-empty}
-use Rattle.std.proofs.lemmas.Bool.{and_parts, true≢false, false≢true}
+use Rattle.std.proofs.lemmas.Bool.{true≢false}
 use Rattle.std.proofs.lemmas.Bool.Decides.{nat_tests}
 use Rattle.std.proofs.lemmas.List.{append_cancel_left}
 use Rattle.proof_base.specs.Order.{text_cmp, text_eq, text_total, text_ties}
 use Rattle.proof_base.proofs.Tree.{tied}
-use Rattle.s3_types.specs.Store.{Objects, Uploads, Content}
+use Rattle.s3_types.specs.Store.{Objects, Uploads}
 use Rattle.s3_types.specs.Pages.{begins}
 use Rattle.s3_types.specs.declared.object.Object.{Object}
 use Rattle.path_keys.specs.Paths.{Path, below}
-use Rattle.magic_paths.specs.Layout as layout
 use Rattle.job_model.specs.View.{Shown, is_folder, is_file_path, object_in, object_at, view}
-use Rattle.first_form.specs.declared.form.Form.{Form}
-use Rattle.first_form.specs.Form.{is_file_name, is_file_byte}
-use Rattle.straight_facts.specs.Straight.{marker_key, record_key, file_key}
 use Rattle.straight_facts.proofs.Maps.{get_put, get_other, text_exact, text_same}
 use Rattle.straight_facts.proofs.Texts.{below_is}
 use Rattle.straight_facts.proofs.Lone.{lone, at_lone}

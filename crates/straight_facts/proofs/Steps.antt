@@ -1,26 +1,23 @@
 -- The thirteen requests of a job of the first form, one after the other: what each is answered and what it leaves.
-use Rattle.std.proofs.Common.{◌≡◌, ◌≤◌, ℕ, ◌+◌, Bool, true, false, cond, nat_lt, List, [], ◌∷◌, ◌++◌, length, take, map, Option, Some, None, Result, Ok, Err, refl, sym, ap, ◌∙◌, arith, codes}
-use Rattle.std.specs.List.{filter, flat_map}
-use Rattle.std.specs.Option.{unwrap_or}
-use Rattle.std.specs.FinMap.{insert, get, empty, remove, entries, get-empty, entries-insert}
+use Rattle.std.proofs.Common.{◌≡◌, ◌≤◌, ℕ, true, false, cond, List, [], ◌∷◌, ◌++◌, length, map, Some, None, Ok, refl, sym, ap, ◌∙◌, arith, codes}
+use Rattle.std.specs.List.{filter}
+use Rattle.std.specs.FinMap.{insert, get, empty, entries, get-empty, entries-insert}
 use Rattle.std.specs.FinMap.{nat_cmp-IsAntisymmetric}
-use Rattle.std.specs.FinMap.Entries.{put, by_order}
+use Rattle.std.specs.FinMap.Entries.{put}
 use Rattle.std.specs.Cmp.{nat_cmp_total, eq_by_cmp_equiv}
 use Rattle.std.specs.declared.cmp.Ordering.TheVariants.{Greater}
 use Rattle.std.proofs.Common.{length-append, append_assoc, append-nil}
 use Rattle.std.specs.Ordering.{nat_cmp, is_lt, eq_by_cmp, is_eq}
 use Rattle.proof_base.specs.Order.{text_cmp, text_eq, text_total}
 use Rattle.proof_base.proofs.Tree.{entries_empty, insert_remove}
-use Rattle.s3_types.specs.Store.{Objects, Upload, Uploads, Parts, BucketContent, Content, new_bucket}
-use Rattle.s3_types.specs.Answer.{answer_in, apply_in, found, head, part_answer, part_put, complete_answer, completed, with_uploads}
-use Rattle.s3_types.specs.Multipart.{live, with_key, with_part, joined, is_sent, has_tag, tag_eq, bytes_of}
+use Rattle.s3_types.specs.Store.{Objects, Upload, Uploads, Content, new_bucket}
+use Rattle.s3_types.specs.Answer.{found, head, part_answer, part_put, complete_answer, completed}
+use Rattle.s3_types.specs.Multipart.{live, with_key, joined, tag_eq}
 use Rattle.s3_types.specs.Pages as pages
 use Rattle.s3_types.specs.Pages.{begins}
 use Rattle.s3_types.specs.Tags.{plain_tag, joined_tag}
 use Rattle.s3_types.specs.declared.object.Object.{Object}
-use Rattle.s3_types.specs.declared.reply.Reply.{Reply}
 use Rattle.s3_types.specs.declared.reply.Reply.TheVariants.{Stored, Object as Found, Deleted, Page, Upload as Drawn, Part, Completed, Refused}
-use Rattle.s3_types.specs.declared.reply.Refusal.{Refusal}
 use Rattle.s3_types.specs.declared.reply.Refusal.TheVariants.{NoSuchKey}
 use Rattle.s3_types.specs.declared.reply.PageEntry.{PageEntry}
 use Rattle.s3_types.specs.declared.reply.PageEntry.TheVariants.{Object as Single}

@@ -1,5 +1,5 @@
 -- What a job of the first form sends to a new store, operation by operation.
-use Rattle.std.specs.Prelude.{ℕ, false, List, [], ◌∷◌, ◌++◌, length, Option, Some, None}
+use Rattle.std.specs.Prelude.{ℕ, false, List, [], ◌∷◌, length, Some, None}
 use Rattle.std.specs.FinMap as fin
 use Rattle.serde_json.specs.Written.{compact_text}
 use Rattle.s3_types.specs.Store.{Content, new_bucket}
