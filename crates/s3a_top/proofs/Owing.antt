@@ -1,20 +1,17 @@
 -- What is owed where a device failed or memory was wanting, and how it is passed on.
-use Rattle.std.proofs.Common.{◌≡◌, ◌≢◌, ◌≤◌, ◌<◌, ◌⊎◌, ℕ, zero, suc, ◌+◌, ◌-◌, ◌^◌, Bool, true, List, [], ◌∷◌, ◌++◌, length, take, drop, Option, Some, None, codes, refl, sym, ap, ◌∙◌, subst, arith, inl, inr, length-append, Result, Ok, Err}
+use Rattle.std.proofs.Common.{◌≡◌, ◌≢◌, ◌≤◌, ◌<◌, ◌⊎◌, ℕ, zero, suc, List, [], ◌∷◌, length, take, Option, Some, None, refl, sym, ap, ◌∙◌, subst, arith, inl, inr, length-append}
 use Rattle.std.proofs.lemmas.Bool.{and_parts, leb-true}
 use Rattle.std.proofs.lemmas.List.{take_all}
 use Rattle.std.specs.Option.{unwrap_or}
-use Rattle.shelf.specs.Devices.{HoldsNow}
-use Rattle.s3_types.specs.Names.{is_bucket}
-use Rattle.s3_types.specs.Moment.{moment}
 use Rattle.s3_types.specs.declared.journal.Entry.{Entry}
-use Rattle.job_model.specs.Promise.{Promised, Finished}
+use Rattle.job_model.specs.Promise.{Promised}
 use Rattle.job_model.specs.declared.ends.Pick.{Pick}
 use Rattle.job_model.specs.declared.ends.EventEnd.{EventEnd}
 use Rattle.s3_types.specs.Store.{Content}
 use Rattle.store_commands.specs.Stores.{work_of, init_work, bucket_work, made_in, kept_unless}
 use Rattle.store_commands.specs.declared.command.StoreCommand.{StoreCommand}
 use Rattle.store_commands.specs.declared.command.StoreCommand.TheVariants.{Init, MakeBucket}
-use Rattle.store_commands.specs.Outcomes.{IsAnswer, IsSaved, silent}
+use Rattle.store_commands.specs.Outcomes.{IsAnswer, IsSaved}
 use Rattle.store_commands.specs.declared.answers.Answer.{Answer}
 use Rattle.store_commands.specs.declared.held.Held.{Held}
 use Rattle.store_commands.specs.declared.held.Held.TheVariants.{Nothing, Store, Faulty}

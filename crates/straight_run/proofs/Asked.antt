@@ -1,5 +1,5 @@
 -- The requests of a job at its places are those of the run.
-use Rattle.std.proofs.Common.{◌≡◌, ℕ, List, [], ◌∷◌, None, refl, sym, ap, ◌∙◌}
+use Rattle.std.proofs.Common.{◌≡◌, ℕ, List, [], ◌∷◌, None, sym, ap, ◌∙◌}
 use Rattle.serde_json.specs.Written.{compact_text}
 use Rattle.magic_paths.specs.Layout as layout
 use Rattle.pending_json.specs.Trees.{success_tree}

@@ -1,5 +1,5 @@
 -- From one event of a run to the next, and where it stops.
-use Rattle.std.proofs.Common.{◌≡◌, ◌<◌, ◌≤◌, ◌⊎◌, ℕ, zero, suc, ◌+◌, ◌^◌, List, [], ◌∷◌, ◌++◌, length, take, refl, sym, ap, ◌∙◌, subst, arith, append-nil, inl, inr, Some, None, Option, codes, map}
+use Rattle.std.proofs.Common.{◌≡◌, ◌<◌, ◌≤◌, ℕ, suc, ◌+◌, ◌^◌, List, [], ◌∷◌, ◌++◌, length, take, refl, sym, ap, ◌∙◌, arith, append-nil, inl, inr, map}
 use Rattle.std.specs.FinMap as fin
 use Rattle.std.specs.FinMap.{entries-insert}
 use Rattle.std.specs.FinMap.Entries.{put}
@@ -7,7 +7,7 @@ use Rattle.std.proofs.lemmas.List.{take_all}
 use Rattle.proof_base.specs.Order.{text_cmp, text_total}
 use Rattle.proof_base.proofs.Tree.{entries_empty}
 use Rattle.serde_json.specs.Written.{compact_text}
-use Rattle.s3_types.specs.Store.{Content, Objects, Uploads, new_content, new_bucket}
+use Rattle.s3_types.specs.Store.{Content, Objects, Uploads, new_content}
 use Rattle.s3_types.specs.declared.request.Actor.{Actor}
 use Rattle.s3_types.specs.declared.request.Actor.TheVariants.{Driver}
 use Rattle.s3_types.specs.declared.request.Request.{Request}
@@ -21,7 +21,6 @@ use Rattle.first_form.specs.Scripted.{the_attempt}
 use Rattle.straight_facts.specs.Sendings.{told, left, AreFirst}
 use Rattle.straight_facts.specs.Straight.{opening_at, opening_of, after_setup, after_write, after_publish, after_commit, setup_requests, write_requests, publish_requests, commit_requests, setup_entries, write_entries, publish_entries, commit_entries}
 use Rattle.straight_facts.specs.Run.{the_ends, the_pick, entries_to, entries_in, store_to, picks_to, Stopped, Whole}
-use Rattle.straight_facts.proofs.Steps.{c0, c7, c10}
 use Rattle.straight_facts.proofs.Lone.{lone}
 use Rattle.straight_facts.proofs.Explicit.{setup_leaves, write_leaves, publish_leaves}
 use Rattle.straight_run.specs.declared.job.Job.{Job}

@@ -1,6 +1,5 @@
 -- The requests of a job, by its places.
 use Rattle.std.specs.Prelude.{false, List, [], ◌∷◌, length, ℕ, Some, None}
-use Rattle.std.specs.FinMap as fin
 use Rattle.serde_json.specs.Written.{compact_text}
 use Rattle.s3_types.specs.Tags.{plain_tag}
 use Rattle.s3_types.specs.declared.request.Request.{Request}

@@ -1,4 +1,4 @@
-use Rattle.std.proofs.Common.{◌≡◌, inr}
+use Rattle.std.proofs.Common.{inr}
 use Rattle.store_commands.specs.Stores.{found}
 use Rattle.s3a_top.proofs.Owing.{job_broken}
 use Rattle.s3a_top.proofs.top.do_work.Goals as goal

@@ -1,4 +1,4 @@
-use Rattle.std.proofs.Common.{◌≡◌, inr}
+use Rattle.std.proofs.Common.{inr}
 use Rattle.s3a_top.proofs.Owing.{form_broken}
 use Rattle.s3a_top.proofs.top.play_form.Goals as goal
 

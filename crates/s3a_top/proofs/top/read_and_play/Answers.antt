@@ -1,4 +1,4 @@
-use Rattle.std.proofs.Common.{◌≡◌, List, ℕ, inl, inr, sym, subst}
+use Rattle.std.proofs.Common.{List, ℕ, inl, inr, sym, subst}
 use Rattle.s3a_top.specs.Bytes.{IsRead}
 use Rattle.s3a_top.proofs.Owing.{input_owes, input_broken}
 use Rattle.s3a_top.proofs.top.read_and_play.Goals as goal

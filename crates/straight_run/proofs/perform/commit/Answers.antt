@@ -1,9 +1,7 @@
 use Rattle.s3_types.specs.declared.request.Actor.TheVariants.{Driver}
-use Rattle.std.proofs.Common.{◌≡◌, ◌∙◌, ◌≤◌, List, [], ◌∷◌, ◌++◌, refl, sym, ap, subst, arith, length}
-use Rattle.s3_types.specs.declared.request.Request.{Request}
+use Rattle.std.proofs.Common.{◌≡◌, ◌∙◌, List, [], ◌∷◌, ◌++◌, refl, sym, ap, subst, arith}
 use Rattle.straight_facts.specs.Straight.{commit_requests}
 use Rattle.first_form.proofs.Keys.{name_size}
-use Rattle.job_model.specs.declared.ends.EventEnd.{EventEnd}
 use Rattle.job_model.specs.declared.ends.Pick.{Pick}
 use Rattle.straight_facts.specs.Run.{Stopped, the_pick}
 use Rattle.straight_run.proofs.Asked.{commit_is}

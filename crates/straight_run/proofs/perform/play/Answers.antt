@@ -1,5 +1,4 @@
-use Rattle.std.proofs.Common.{◌≡◌, ◌∙◌, sym}
-use Rattle.straight_facts.specs.Run.{Whole}
+use Rattle.std.proofs.Common.{◌∙◌, sym}
 use Rattle.straight_facts.proofs.Promise.{finished, stopped, last_store, is_committed}
 use Rattle.straight_run.proofs.Sent.{on_ok, on_err_with}
 use Rattle.straight_run.proofs.Stood.{is_whole}

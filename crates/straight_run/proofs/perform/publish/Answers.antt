@@ -1,11 +1,9 @@
 use Rattle.first_form.specs.Scripted.{the_attempt}
-use Rattle.std.proofs.Common.{◌≡◌, ◌∙◌, ◌≤◌, List, [], ◌∷◌, ◌++◌, refl, sym, ap, subst, arith, length}
-use Rattle.s3_types.specs.declared.request.Request.{Request}
+use Rattle.std.proofs.Common.{◌≡◌, ◌∙◌, List, refl, sym, subst, arith}
 use Rattle.straight_facts.specs.Straight.{publish_requests}
 use Rattle.first_form.proofs.Keys.{name_size}
 use Rattle.job_model.specs.declared.ends.EventEnd.{EventEnd}
-use Rattle.job_model.specs.declared.ends.Pick.{Pick}
-use Rattle.straight_facts.specs.Run.{Stopped, the_pick}
+use Rattle.straight_facts.specs.Run.{Stopped}
 use Rattle.straight_run.proofs.Asked.{publish_is}
 use Rattle.straight_run.proofs.Sent.{on_err, on_err_with, on_ok}
 use Rattle.straight_run.proofs.Stood.{event_publish, small2, room_for, stop_before, stop_within, all_sent, next_stands}
