@@ -1,0 +1,261 @@
+-- A run falls into tries, and wore out exactly where one of them did.
+use Rattle.std.proofs.Common.{◌≡◌, ℕ, zero, suc, ◌+◌, ◌-◌, ◌<◌, ◌≤◌, ◌==◌, Bool, true, false, ◌||◌, List, [], ◌∷◌, ◌++◌, length, Option, Some, None, Result, Ok, Err, refl, sym, ap, subst, ◌∙◌, arith, append_assoc, append-nil}
+use Rattle.std.proofs.lemmas.Bool.{false≢true}
+use Rattle.std.proofs.lemmas.Bool.Decides.{nat_tests}
+use Rattle.s3_types.specs.Moment.{is_unanswered}
+use Rattle.s3_types.specs.declared.request.Request.{Request}
+use Rattle.s3_types.specs.declared.journal.Outcome.{Outcome}
+use Rattle.s3_types.specs.declared.journal.Outcome.TheVariants.{Answered, Slow, RequestLost, ReplyLost}
+use Rattle.s3_types.specs.declared.journal.Entry.{Entry}
+use Rattle.machine.specs.Item.{Item}
+use Rattle.machine.specs.Turns.{Follows, run, step, wears, has_worn, unanswered_if}
+use Rattle.machine.specs.Tries.{AreUnanswered, Try, IsTry, AreTries, IsClosed, spare_after, answer_in, sendings_of, is_worn, some_worn, IsBrokenOff, HasUnanswered, Tried}
+use Rattle.machine.specs.declared.retrying.Retrying.{Retrying}
+use Rattle.machine.specs.declared.driving.DriveStop.{DriveStop}
+use Rattle.machine.specs.declared.driving.DriveStop.TheVariants.{StoreFault, NoMemory}
+
+-- the request that is present is the first of these
+abbrev Leads : Option Request → List Try → List Entry → Type 0
+Leads o (t ∷ ts) rest = o ≡ Some t.request
+Leads o [] (e ∷ es) = o ≡ Some e.request
+Leads o [] [] = Unit {0}
+
+-- the request that is present behind these, where that is known
+abbrev Ends : List Entry → List Try → Option Request → Option Request → Type 0
+Ends (e ∷ es) ts now later = later ≡ Some e.request
+Ends [] [] now later = later ≡ now
+Ends [] (t ∷ ts) now later = Unit {0}
+
+-- entries as tries, between the request that is present before them and the one that is present behind them
+pub record Grouped (retries spare : ℕ) (part : List Entry) (worn : Bool) (now later : Option Request) : Type 0 where
+  pub tries : List Try
+  pub rest : List Entry
+  pub entries : part ≡ sendings_of tries ++ rest
+  pub each : AreTries retries spare tries
+  pub broken_off : IsBrokenOff (spare_after retries spare tries) rest
+  pub wore : worn ≡ some_worn tries
+  pub first : Leads now tries rest
+  pub last : Ends rest tries now later
+
+nothing : (retries spare : ℕ) (o : Option Request) → Grouped retries spare [] false o o
+nothing retries spare o = record { tries = []; rest = []; entries = refl; each = tt; broken_off = tt; wore = refl; first = tt; last = refl }
+
+same_spare : (n : ℕ) (ts : List Try) → spare_after n n ts ≡ n
+same_spare n [] = refl
+same_spare n (t ∷ ts) = refl
+
+ends_behind : (rest : List Entry) (ts : List Try) (x : Try) (now o later : Option Request) → Ends rest ts o later → Ends rest (x ∷ ts) now later
+ends_behind [] ts x now o later h = tt
+ends_behind (e ∷ es) ts x now o later h = h
+
+ends_alike : (rest : List Entry) (ts : List Try) (x y : Try) (now later : Option Request) → Ends rest (x ∷ ts) now later → Ends rest (y ∷ ts) now later
+ends_alike [] ts x y now later h = tt
+ends_alike (e ∷ es) ts x y now later h = h
+
+-- a try of one sending
+another : (retries spare : ℕ) (e : Entry) (es : List Entry) (here worn : Bool) (now o later : Option Request) (x : Try)
+    → x.unanswered ++ answer_in x.answered ≡ e ∷ [] → IsTry spare x → now ≡ Some x.request → is_worn x.answered ≡ here
+    → Grouped retries retries es worn o later → Grouped retries spare (e ∷ es) (here || worn) now later
+another retries spare e es here worn now o later x is k asked h g = record {
+  tries = x ∷ g.tries;
+  rest = g.rest;
+  entries = ap (λ l. e ∷ l) g.entries ∙ sym (ap (λ l. (l ++ sendings_of g.tries) ++ g.rest) is);
+  each = (k, g.each);
+  broken_off = subst (λ n. IsBrokenOff n g.rest) (same_spare retries g.tries) g.broken_off;
+  wore = ap (λ b. b || worn) (sym h) ∙ ap (λ b. is_worn x.answered || b) g.wore;
+  first = asked;
+  last = ends_behind g.rest g.tries x now o later g.last;
+}
+
+-- one loss more
+closed_more : (spare : ℕ) (r : Request) (n : ℕ) (a : Option Entry) → 0 < spare → IsClosed (spare - 1) r n a → IsClosed spare r (suc n) a
+closed_more spare r n (Some e) p k = let l : suc n ≤ spare = omega (arith, k.2) in (k.0, k.1, l)
+closed_more spare r n None p k = omega arith
+
+one_less : (n spare : ℕ) → 0 < spare → n ≤ spare - 1 → suc n ≤ spare
+one_less n spare p h = omega arith
+
+same_request : (o : Option Request) (a b : Request) → o ≡ Some a → o ≡ Some b → a ≡ b
+same_request o a b h k = cc
+
+-- a sending without an answer in front of a try that may lose one less
+again_by : (retries spare : ℕ) (e : Entry) (es : List Entry) (worn : Bool) (now later : Option Request) → 0 < spare → is_unanswered e.outcome ≡ true → now ≡ Some e.request
+    → (ts : List Try) (rest : List Entry) → es ≡ sendings_of ts ++ rest → AreTries retries (spare - 1) ts → IsBrokenOff (spare_after retries (spare - 1) ts) rest
+    → worn ≡ some_worn ts → Leads now ts rest → Ends rest ts now later → Grouped retries spare (e ∷ es) worn now later
+again_by retries spare e es worn now later p u asked [] [] is k broken wore first last =
+    let few : 1 ≤ spare = omega arith in
+    record { tries = []; rest = e ∷ []; entries = ap (λ l. e ∷ l) is; each = tt; broken_off = ((refl, u, tt), few); wore = wore; first = asked; last = last ∙ asked }
+again_by retries spare e es worn now later p u asked [] (y ∷ ys) is k broken wore first last =
+    let same : y.request ≡ e.request = same_request now y.request e.request first asked in
+    record {
+      tries = [];
+      rest = e ∷ y ∷ ys;
+      entries = ap (λ l. e ∷ l) is;
+      each = tt;
+      broken_off = ((refl, u, subst (λ r. AreUnanswered r (y ∷ ys)) same broken.0), one_less (length (y ∷ ys)) spare p broken.1);
+      wore = wore;
+      first = asked;
+      last = last ∙ ap Some same;
+    }
+again_by retries spare e es worn now later p u asked (x ∷ ts) rest is k broken wore first last =
+    let same : e.request ≡ x.request = same_request now e.request x.request asked first in
+    let y : Try = record { request = x.request; unanswered = e ∷ x.unanswered; answered = x.answered } in
+    record {
+      tries = y ∷ ts;
+      rest = rest;
+      entries = ap (λ l. e ∷ l) is;
+      each = (record { lost = (same, u, k.0.lost); closed = closed_more spare x.request (length x.unanswered) x.answered p k.0.closed }, k.1);
+      broken_off = broken;
+      wore = wore;
+      first = first;
+      last = ends_alike rest ts x y now later last;
+    }
+
+again : (retries spare : ℕ) (e : Entry) (es : List Entry) (worn : Bool) (now later : Option Request) → 0 < spare → is_unanswered e.outcome ≡ true → now ≡ Some e.request
+    → Grouped retries (spare - 1) es worn now later → Grouped retries spare (e ∷ es) worn now later
+again retries spare e es worn now later p u asked g = again_by retries spare e es worn now later p u asked g.tries g.rest g.entries g.each g.broken_off g.wore g.first g.last
+
+is_none : (n : ℕ) → (n == 0) ≡ true → n ≡ 0
+is_none n h = grind (arith, nat_tests)
+
+is_some : (n : ℕ) → (n == 0) ≡ false → 0 < n
+is_some n h = grind (arith, nat_tests)
+
+-- nothing is broken off where no request is present at the end
+none_left : (rest : List Entry) (ts : List Try) (now later : Option Request) → Ends rest ts now later → later ≡ None → rest ≡ []
+none_left [] ts now later h n = refl
+none_left (e ∷ es) ts now later h n = cc
+
+-- a try that wore out is a row of losses
+window_by : (retries spare : ℕ) (ts : List Try) (rest : List Entry) (r : Request) (lost : List Entry) (a : Option Entry) → spare ≡ retries → AreUnanswered r lost → IsClosed spare r (length lost) a
+    → (is_worn a || some_worn ts) ≡ true → (some_worn ts ≡ true → HasUnanswered (retries + 1) (sendings_of ts ++ rest)) → HasUnanswered (retries + 1) (((lost ++ answer_in a) ++ sendings_of ts) ++ rest)
+window_by retries spare ts rest r lost None e u k h ih = record {
+  request = r;
+  before = [];
+  these = lost;
+  behind = sendings_of ts ++ rest;
+  is = ap (λ l. (l ++ sendings_of ts) ++ rest) (append-nil lost) ∙ append_assoc lost (sendings_of ts) rest;
+  count = k ∙ ap (λ n. n + 1) e;
+  lost = u;
+}
+window_by retries spare ts rest r lost (Some y) e u k h ih =
+    let w = ih h in
+    record {
+      request = w.request;
+      before = (lost ++ y ∷ []) ++ w.before;
+      these = w.these;
+      behind = w.behind;
+      is = append_assoc (lost ++ y ∷ []) (sendings_of ts) rest ∙ ap (λ l. (lost ++ y ∷ []) ++ l) w.is ∙ sym (append_assoc (lost ++ y ∷ []) w.before (w.these ++ w.behind));
+      count = w.count;
+      lost = w.lost;
+    }
+
+window : (retries spare : ℕ) (ts : List Try) (rest : List Entry) → AreTries retries spare ts → spare ≡ retries → some_worn ts ≡ true → HasUnanswered (retries + 1) (sendings_of ts ++ rest)
+window retries spare [] rest k e h = absurd (false≢true h)
+window retries spare (x ∷ ts) rest k e h = window_by retries spare ts rest x.request x.unanswered x.answered e k.0.lost k.0.closed h (λ i. window retries retries ts rest k.1 refl i)
+
+-- ---- of a machine
+
+module _ {M : Type 0} (wants : M → Option Request) (after : M → Item → M) where
+  -- the entries of a run from t on, as tries
+  abbrev pub GroupedFrom : Retrying M → List Entry → Type 0
+  GroupedFrom t part = Grouped t.retries t.spare part (has_worn after t part) (wants t.machine) (wants (run after t part).machine)
+
+  by_spare : (t : Retrying M) (e : Entry) (es : List Entry) (b z : Bool) → (t.spare == 0) ≡ z → is_unanswered e.outcome ≡ true → wants t.machine ≡ Some e.request → GroupedFrom (unanswered_if z after t b) es
+      → Grouped t.retries t.spare (e ∷ es) (z || has_worn after (unanswered_if z after t b) es) (wants t.machine) (wants (run after (unanswered_if z after t b) es).machine)
+  by_spare t e es b true is u asked g =
+      let x : Try = record { request = e.request; unanswered = e ∷ []; answered = None } in
+      let n : t.spare ≡ 0 = is_none t.spare is in
+      let one : length (e ∷ []) ≡ t.spare + 1 = omega arith in
+      another t.retries t.spare e es true _ _ _ _ x refl (record { lost = (refl, u, tt); closed = one }) asked refl g
+  by_spare t e es b false is u asked g = again t.retries t.spare e es _ _ _ (is_some t.spare is) u asked g
+
+  by_outcome : (t : Retrying M) (e : Entry) (es : List Entry) (o : Outcome) → e.outcome ≡ o → wants t.machine ≡ Some e.request → GroupedFrom (step after t o) es
+      → Grouped t.retries t.spare (e ∷ es) (wears t o || has_worn after (step after t o) es) (wants t.machine) (wants (run after (step after t o) es).machine)
+  by_outcome t e es (Answered r) is asked g =
+      let x : Try = record { request = e.request; unanswered = []; answered = Some e } in
+      let few : 0 ≤ t.spare = omega arith in
+      another t.retries t.spare e es false _ _ _ _ x refl (record { lost = tt; closed = (refl, ap is_unanswered is, few) }) asked refl g
+  by_outcome t e es Slow is asked g = by_spare t e es t.repeated (t.spare == 0) refl (ap is_unanswered is) asked g
+  by_outcome t e es RequestLost is asked g = by_spare t e es true (t.spare == 0) refl (ap is_unanswered is) asked g
+  by_outcome t e es ReplyLost is asked g = by_spare t e es true (t.spare == 0) refl (ap is_unanswered is) asked g
+
+  grouped : (t : Retrying M) (part : List Entry) → Follows wants after t part → GroupedFrom t part
+  grouped t [] f = nothing t.retries t.spare (wants t.machine)
+  grouped t (e ∷ es) f = by_outcome t e es e.outcome refl f.0 (grouped (step after t e.outcome) es f.1)
+
+  -- ---- more losses in a row than are spared wear a request out
+
+  worn_spare : (t : Retrying M) (b : Bool) (es behind : List Entry) (z : Bool) → (t.spare == 0) ≡ z → t.spare < suc (length es)
+      → ((t' : Retrying M) → t'.spare < length es → has_worn after t' (es ++ behind) ≡ true) → (z || has_worn after (unanswered_if z after t b) (es ++ behind)) ≡ true
+  worn_spare t b es behind true is l ih = refl
+  worn_spare t b es behind false is l ih =
+      let p : 0 < t.spare = is_some t.spare is in
+      let m : t.spare - 1 < length es = omega arith in
+      ih (unanswered_if false after t b) m
+
+  worn_outcome : (t : Retrying M) (es behind : List Entry) (o : Outcome) → is_unanswered o ≡ true → t.spare < suc (length es)
+      → ((t' : Retrying M) → t'.spare < length es → has_worn after t' (es ++ behind) ≡ true) → (wears t o || has_worn after (step after t o) (es ++ behind)) ≡ true
+  worn_outcome t es behind (Answered r) u l ih = absurd (false≢true u)
+  worn_outcome t es behind Slow u l ih = worn_spare t t.repeated es behind (t.spare == 0) refl l ih
+  worn_outcome t es behind RequestLost u l ih = worn_spare t true es behind (t.spare == 0) refl l ih
+  worn_outcome t es behind ReplyLost u l ih = worn_spare t true es behind (t.spare == 0) refl l ih
+
+  worn_here : (t : Retrying M) (r : Request) (these behind : List Entry) → AreUnanswered r these → t.spare < length these → has_worn after t (these ++ behind) ≡ true
+  worn_here t r [] behind u l = let no : ⊥ = omega arith in absurd no
+  worn_here t r (e ∷ es) behind u l = worn_outcome t es behind e.outcome u.1 l (λ t' l'. worn_here t' r es behind u.2 l')
+
+  or_true : (a b : Bool) → b ≡ true → (a || b) ≡ true
+  or_true true b h = refl
+  or_true false b h = h
+
+  kept_if : (z : Bool) (t : Retrying M) (b : Bool) → t.spare ≤ t.retries → ((unanswered_if z after t b).retries ≡ t.retries) × ((unanswered_if z after t b).spare ≤ t.retries)
+  kept_if true t b h = let k : t.retries ≤ t.retries = omega arith in (refl, k)
+  kept_if false t b h = let k : t.spare - 1 ≤ t.retries = omega arith in (refl, k)
+
+  kept : (t : Retrying M) (o : Outcome) → t.spare ≤ t.retries → ((step after t o).retries ≡ t.retries) × ((step after t o).spare ≤ t.retries)
+  kept t (Answered r) h = let k : t.retries ≤ t.retries = omega arith in (refl, k)
+  kept t Slow h = kept_if (t.spare == 0) t t.repeated h
+  kept t RequestLost h = kept_if (t.spare == 0) t true h
+  kept t ReplyLost h = kept_if (t.spare == 0) t true h
+
+  worn_behind : (t : Retrying M) (r : Request) (before these behind : List Entry) → t.spare ≤ t.retries → AreUnanswered r these → length these ≡ t.retries + 1 → has_worn after t (before ++ (these ++ behind)) ≡ true
+  worn_behind t r [] these behind l u n = let m : t.spare < length these = omega arith in worn_here t r these behind u m
+  worn_behind t r (e ∷ es) these behind l u n =
+      let k = kept t e.outcome l in
+      or_true (wears t e.outcome) _ (worn_behind (step after t e.outcome) r es these behind (subst (λ m. (step after t e.outcome).spare ≤ m) (sym k.0) k.1) u (n ∙ ap (λ m. m + 1) (sym k.0)))
+
+  -- ---- what driving tells of it
+
+  pub tried_short : {T : Type 0} (t : Retrying M) (part : List Entry) → Follows wants after t part → Tried {T = T} t.retries t.spare part (Err NoMemory)
+  tried_short t part f =
+      let g = grouped t part f in
+      record { tries = g.tries; rest = g.rest; entries = g.entries; each = g.each; broken_off = g.broken_off; told = tt; fault = λ _. tt }
+
+  pub tried_worn : {T : Type 0} (t : Retrying M) (part : List Entry) → Follows wants after t part → wants (run after t part).machine ≡ None → has_worn after t part ≡ true → Tried {T = T} t.retries t.spare part (Err StoreFault)
+  tried_worn t part f over h =
+      let g = grouped t part f in
+      record {
+        tries = g.tries;
+        rest = g.rest;
+        entries = g.entries;
+        each = g.each;
+        broken_off = g.broken_off;
+        told = (sym g.wore ∙ h, none_left g.rest g.tries _ _ g.last over);
+        fault = λ same. subst (HasUnanswered (t.retries + 1)) (sym g.entries) (window t.retries t.spare g.tries g.rest g.each same (sym g.wore ∙ h));
+      }
+
+  pub tried_whole : {T : Type 0} (x : T) (t : Retrying M) (part : List Entry) → Follows wants after t part → wants (run after t part).machine ≡ None → has_worn after t part ≡ false → Tried t.retries t.spare part (Ok x)
+  tried_whole x t part f over h =
+      let g = grouped t part f in
+      record {
+        tries = g.tries;
+        rest = g.rest;
+        entries = g.entries;
+        each = g.each;
+        broken_off = g.broken_off;
+        told = (sym g.wore ∙ h, none_left g.rest g.tries _ _ g.last over);
+        fault = λ same w.
+            let l : t.spare ≤ t.retries = omega arith in
+            false≢true (sym h ∙ ap (has_worn after t) w.is ∙ worn_behind t w.request w.before w.these w.behind l w.lost w.count);
+      }

@@ -1,0 +1,96 @@
+-- A run's sendings, request by request, as its journal shows them.
+use Rattle.std.specs.Prelude.{◌≡◌, ℕ, ◌+◌, ◌≤◌, Bool, true, false, ◌||◌, List, [], ◌∷◌, ◌++◌, length, Option, Some, None, Result, Ok, Err}
+use Rattle.s3_types.specs.Moment.{is_unanswered}
+use Rattle.s3_types.specs.declared.request.Request.{Request}
+use Rattle.s3_types.specs.declared.journal.Entry.{Entry}
+use Rattle.machine.specs.declared.driving.DriveStop.{DriveStop}
+use Rattle.machine.specs.declared.driving.DriveStop.TheVariants.{StoreFault, NoMemory}
+
+-- sendings of this request, none of which got an answer
+abbrev pub AreUnanswered : Request → List Entry → Type 0
+AreUnanswered r [] = Unit {0}
+AreUnanswered r (e ∷ es) = (e.request ≡ r) × (is_unanswered e.outcome ≡ true) × AreUnanswered r es
+
+-- a request as long as it was asked: its sendings that got no answer, and the one that got one; it wore out where there is none
+pub record Try : Type 0 where
+  pub request : Request
+  pub unanswered : List Entry
+  pub answered : Option Entry
+
+-- at most so many sendings got no answer, and then one did; or one more got none, and the request wore out
+abbrev pub IsClosed : ℕ → Request → ℕ → Option Entry → Type 0
+IsClosed most r lost (Some e) = (e.request ≡ r) × (is_unanswered e.outcome ≡ false) × (lost ≤ most)
+IsClosed most r lost None = lost ≡ most + 1
+
+-- a try that may lose so many sendings before it wears out
+pub record IsTry (most : ℕ) (t : Try) : Type 0 where
+  pub lost : AreUnanswered t.request t.unanswered
+  pub closed : IsClosed most t.request (length t.unanswered) t.answered
+
+-- tries one after another: the first may lose `spare` sendings, and each other one `retries`
+abbrev pub AreTries : ℕ → ℕ → List Try → Type 0
+AreTries retries spare [] = Unit {0}
+AreTries retries spare (t ∷ ts) = IsTry spare t × AreTries retries retries ts
+
+-- what the try after all these may lose
+abbrev pub spare_after : ℕ → ℕ → List Try → ℕ
+spare_after retries spare [] = spare
+spare_after retries spare (t ∷ ts) = retries
+
+-- the sending with the answer
+abbrev pub answer_in : Option Entry → List Entry
+answer_in (Some e) = e ∷ []
+answer_in None = []
+
+-- all sendings of these tries
+abbrev pub sendings_of : List Try → List Entry
+sendings_of [] = []
+sendings_of (t ∷ ts) = (t.unanswered ++ answer_in t.answered) ++ sendings_of ts
+
+-- there was no answer
+abbrev pub is_worn : Option Entry → Bool
+is_worn (Some e) = false
+is_worn None = true
+
+-- a request wore out
+abbrev pub some_worn : List Try → Bool
+some_worn [] = false
+some_worn (t ∷ ts) = is_worn t.answered || some_worn ts
+
+-- a try that was broken off: sendings of one request, at most so many, none of which got an answer
+abbrev pub IsBrokenOff : ℕ → List Entry → Type 0
+IsBrokenOff most [] = Unit {0}
+IsBrokenOff most (e ∷ es) = AreUnanswered e.request (e ∷ es) × (length (e ∷ es) ≤ most)
+
+-- StoreFault where a request wore out, and want of memory alone breaks off
+abbrev pub IsToldBy : {T : Type 0} → Bool → List Entry → Result T DriveStop → Type 0
+IsToldBy worn rest (Ok x) = (worn ≡ false) × (rest ≡ [])
+IsToldBy worn rest (Err StoreFault) = (worn ≡ true) × (rest ≡ [])
+IsToldBy worn rest (Err NoMemory) = Unit {0}
+
+-- so many neighbours among these entries are sendings of one request, and none got an answer
+pub record HasUnanswered (many : ℕ) (part : List Entry) : Type 0 where
+  pub request : Request
+  pub before : List Entry
+  pub these : List Entry
+  pub behind : List Entry
+  pub is : part ≡ before ++ (these ++ behind)
+  pub count : length these ≡ many
+  pub lost : AreUnanswered request these
+
+-- StoreFault exactly where this holds, unless memory was wanting
+abbrev pub IsFaultWhere : {T : Type 0} → Type 0 → Result T DriveStop → Type 0
+IsFaultWhere p (Ok x) = p → ⊥
+IsFaultWhere p (Err StoreFault) = p
+IsFaultWhere p (Err NoMemory) = Unit {0}
+
+-- a run's entries are tries one after another, and at last one that was broken off
+pub record Tried {T : Type 0} (retries spare : ℕ) (part : List Entry) (result : Result T DriveStop) : Type 0 where
+  pub tries : List Try
+  pub rest : List Entry
+  pub entries : part ≡ sendings_of tries ++ rest
+  pub each : AreTries retries spare tries
+  pub broken_off : IsBrokenOff (spare_after retries spare tries) rest
+  pub told : IsToldBy (some_worn tries) rest result
+  -- where the first request was not sent before
+  pub fault : spare ≡ retries → IsFaultWhere (HasUnanswered (retries + 1) part) result
