@@ -1,2 +1,5 @@
 pub mod Elements
+pub mod Ends
+pub mod Kept
 pub mod Lengths
+pub mod Walked

@@ -63,3 +63,53 @@ fn marker_and_prefix(rt: HostRuntime) -> Result<(), Fail> {
     assert_eq!(rt; text.as_str(), "out/__magic/");
     Ok(())
 }
+
+/// The final path's bucket and key, or the refusal's name.
+fn final_text(alloc: Global, text: &str) -> Result<String, PathFault> {
+    let path = S3Path::read(alloc, text)?;
+    Ok(match final_path(alloc, &path) {
+        Ok(last) => format!(in alloc;
+            "{} {}",
+            last.bucket().as_text().as_str(),
+            last.key().as_str()
+        )?,
+        Err(refusal) => format!(in alloc; "{refusal:?}")?,
+    })
+}
+
+#[test]
+fn final_paths(rt: HostRuntime) -> Result<(), Fail> {
+    for (text, told) in [
+        ("s3a://lake/out/__magic/a/b.txt", "lake out/b.txt"),
+        (
+            "s3a://lake/out/__magic/tasks/0_0/__base/d=1/x",
+            "lake out/d=1/x",
+        ),
+        ("s3a://lake/__magic/x", "lake x"),
+        ("s3a://lake/out/__magic/__base/x", "lake out/x"),
+        (
+            "s3a://lake/out/__magic/a/__base/b/__base/c",
+            "lake out/b/__base/c",
+        ),
+        ("s3a://lake/out/__magic/a/__magic/b", "lake out/b"),
+        (
+            "s3a://lake/out/__magic/a/__base/__magic/b",
+            "lake out/__magic/b",
+        ),
+        ("s3a://lake/__base/out/__magic/a/b", "lake __base/out/b"),
+        ("s3a://lake/out/__magic/a/__base2/b", "lake out/b"),
+        (
+            "s3a://lake/out/__magic/a/__base/b/__base",
+            "lake out/b/__base",
+        ),
+        ("s3a://lake", "NotMagic"),
+        ("s3a://lake/out/x", "NotMagic"),
+        ("s3a://lake/out/__magic2/x", "NotMagic"),
+        ("s3a://lake/out/a__magic/__base/x", "NotMagic"),
+        ("s3a://lake/out/__magic", "NothingAfter"),
+        ("s3a://lake/out/__magic/a/__base", "NothingAfter"),
+    ] {
+        assert_eq!(rt; final_text(rt.alloc(), text)?.as_str(), told, "{text}");
+    }
+    Ok(())
+}

@@ -1,4 +1,4 @@
-ghost use Rattle.std.specs.Prelude.{◌≡◌, IfOk, string_bytes};
+ghost use Rattle.std.specs.Prelude.{◌≡◌, ◌++◌, IfOk, string_bytes};
 ghost use Rattle.magic_paths.specs.Layout.{attempt_key, set_key, success_key, magic_prefix};
 
 use std::alloc::{AllocError, Global};
@@ -30,4 +30,10 @@ pub fn prefix_text(alloc: Global, dest: &str) -> Result<String, AllocError>
     ensures { IfOk result (λ text. string_bytes text ≡ magic_prefix dest.now) }
 {
     format!(in alloc; "{dest}/__magic/")
+}
+
+pub fn final_text(alloc: Global, front: &str, kept: &str) -> Result<String, AllocError>
+    ensures { IfOk result (λ text. string_bytes text ≡ front.now ++ kept.now) }
+{
+    format!(in alloc; "{front}{kept}")
 }

@@ -9,6 +9,7 @@ mod split;
 
 pub use fault::PathFault;
 pub use path::S3Path;
+pub use split::first_element;
 
 #[cfg(test)]
 mod tests;

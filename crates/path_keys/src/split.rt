@@ -1,4 +1,4 @@
-ghost use Rattle.std.specs.Prelude.{◌≡◌, ◌∷◌, option_map};
+ghost use Rattle.std.specs.Prelude.{◌≡◌, ◌∷◌, ◌++◌, IfSome, option_map};
 ghost use Rattle.words.specs.Parts.{parts_of, parts_after};
 ghost use Rattle.s3_types.specs.Names as names;
 ghost use Rattle.path_keys.specs.Paths.{without_scheme};
@@ -20,9 +20,10 @@ pub fn trimmed(text: &str) -> &str
     }
 }
 
-/// What stands before the first `/`, and what stands behind it, where there is one.
+/// What stands before the first `/`, and what stands behind it, where there is one. Takes no memory.
 pub fn first_element(text: &str) -> (&str, Option<&str>)
-    ensures { parts_of 47 text.now ≡ result.0.now ∷ parts_after 47 (option_map (λ r. r.now) result.1) }
+    ensures parts { parts_of 47 text.now ≡ result.0.now ∷ parts_after 47 (option_map (λ r. r.now) result.1) }
+    ensures whole { IfSome result.1 (λ r. text.now ≡ result.0.now ++ 47 ∷ r.now) }
 {
     match text.split_once('/') {
         Some((front, behind)) => (front, Some(behind)),
