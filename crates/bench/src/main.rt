@@ -1,10 +1,14 @@
 //! `bench N [times [SIZE]]`: fills a bucket with N objects of SIZE bytes, 1 where it is absent, ten below
 //! each common prefix, lists a page of keys from its middle and a page of common prefixes, makes the
-//! store's image and copies it. It prints how many objects, entries and bytes there were of each and, where
-//! there is a second word, how many nanoseconds each took.
+//! store's image and copies it, and reads a task's set of pending uploads. It prints how many objects,
+//! entries, bytes and uploads there were of each and, where there is a second word, how many nanoseconds
+//! each took.
 #![tactic(auto)]
 
+mod records;
+
 use anyhow::{Context, Result};
+use records::{commits_read, set_text};
 use s3_service::{Service, is_store_request};
 use s3_types::{Bucket, Bytes, Key, PageLimit, Reply, Request, Text};
 use std::alloc::{AllocError, Global};
@@ -24,7 +28,7 @@ const MOST_BYTES: u32 = 16_777_216;
 /// How many common prefixes the page of them has at most.
 const PREFIXES: u16 = 100;
 
-/// How often a page is listed, to be timed.
+/// How often a page is listed or a set read, to be timed.
 const ROUNDS: u64 = 50;
 
 /// What the words ask for.
@@ -138,6 +142,21 @@ fn time_page(rt: &impl Clock, service: &mut Service, request: &Request) -> Resul
     })
 }
 
+/// Reads a set of pending uploads again and again, and takes the mean time.
+fn time_records(rt: &impl Clock, alloc: Global) -> Result<Timed> {
+    let text = set_text(alloc)?;
+    let mut count = 0;
+    let start = Instant::now(rt)?;
+    for _ in 0..ROUNDS {
+        count = commits_read(alloc, &text)?;
+    }
+    let took = start.elapsed(rt)?;
+    Ok(Timed {
+        count,
+        took: Duration::from_nanos(whole_nanos(took) / ROUNDS),
+    })
+}
+
 fn time_image(
     rt: &impl Clock,
     alloc: Global,
@@ -223,5 +242,6 @@ fn show_image<R: Clock + Print>(
 fn main(rt: HostRuntime) -> Result<()> {
     let alloc = rt.alloc();
     let asked = read_words(&rt)?;
-    measured(&rt, alloc, asked)
+    measured(&rt, alloc, asked)?;
+    show(&rt, "commits", time_records(&rt, alloc)?, asked.times)
 }

@@ -1,1 +1,10 @@
 pub mod Floats
+pub mod Least
+pub mod Loop
+pub mod Members
+pub mod Ordered
+pub mod Parsed
+pub mod Printed
+pub mod Relations
+pub mod RoundTrip
+pub mod Values

@@ -1,2 +1,6 @@
+pub mod Fault
+pub mod Fields
 pub mod Pending
+pub mod Reading
+pub mod Records
 pub mod Trees

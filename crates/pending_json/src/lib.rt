@@ -3,13 +3,55 @@
 //! `SuccessData`; the fields are this profile's.)
 #![tactic(auto)]
 
+ghost use Rattle.std.specs.Prelude.{◌≡◌, ℕ, List, Ok, Err, Some};
+ghost use Rattle.serde_json.specs.Data.{Data, Items, Members, array, object};
+ghost use Rattle.serde_json.specs.Find.{get, get_item};
+ghost use Rattle.serde_json.specs.Written.{compact_text};
+ghost use Rattle.pending_json.specs.declared.records.PendingSet.{PendingSet};
+ghost use Rattle.pending_json.specs.declared.records.SuccessMark.{SuccessMark};
+ghost use Rattle.pending_json.specs.declared.fault.RecordFault.TheVariants.{ExtraField};
+ghost use Rattle.pending_json.specs.declared.table.Table.{Table};
+ghost use Rattle.pending_json.specs.Fields.{only_fields};
+ghost use Rattle.pending_json.specs.Pending.{Pending};
+ghost use Rattle.pending_json.specs.Reading.{is_field_of, pending_of, set_of, success_of};
+ghost use Rattle.pending_json.specs.Records.{IsPending, IsSet, IsMark, IsLeastOther, Spell};
+ghost use Rattle.pending_json.specs.Trees.{pending_tree, set_tree, success_tree};
+
+mod fault;
+mod fields;
+mod parsing;
 mod pending;
+mod pending_reading;
 mod printing;
 mod records;
+mod set_reading;
+mod success_reading;
+mod table;
+mod tags;
+mod texts;
 mod trees;
 
+pub use fault::RecordFault;
 pub use pending::PendingUpload;
 pub use records::{PendingList, PendingSet, SuccessMark};
+
+/// The text that each record prints is read as that record: a fact of what the texts mean, whatever
+/// memory there is.
+pub fn read_again()
+    ensures uploads { (p : Pending) → IsPending p → pending_of (compact_text (pending_tree p)) ≡ Ok p }
+    ensures sets { (s : PendingSet) → IsSet s → set_of (compact_text (set_tree s)) ≡ Ok s }
+    ensures marks { (m : SuccessMark) → IsMark m → success_of (compact_text (success_tree m)) ≡ Ok m }
+{}
+
+/// The field that ExtraField names is the least by its bytes of those that no such record has: of a
+/// text that is an object, and of an object in a list that is a field of it.
+pub fn extra_field_is_least()
+    ensures whole { (table : Table) (bytes : List ℕ) (ms : Members) (name : List ℕ) → Spell bytes (object ms)
+        → only_fields (is_field_of table) ms ≡ Err (ExtraField name) → IsLeastOther table (object ms) name }
+    ensures listed { (table : Table) (bytes : List ℕ) (d : Data) (list : List ℕ) (ds : Items) (i : ℕ) (ms : Members) (name : List ℕ) → Spell bytes d
+        → get list d ≡ Some (array ds) → get_item i ds ≡ Some (object ms)
+        → only_fields (is_field_of table) ms ≡ Err (ExtraField name) → IsLeastOther table (object ms) name }
+{}
 
 #[cfg(test)]
 mod tests;

@@ -88,3 +88,34 @@ fn marks(rt: HostRuntime) -> Result<(), Fail> {
     assert_eq!(rt; text.as_slice(), STAMPED.as_bytes());
     Ok(())
 }
+
+#[test]
+fn uploads_and_sets_again(rt: HostRuntime) -> Result<(), Fail> {
+    let alloc = rt.alloc();
+    let upload = PendingUpload::read(alloc, PENDING.as_bytes())?;
+    let text = upload.print(alloc)?;
+    assert_eq!(rt; text.as_slice(), PENDING.as_bytes());
+    let set = PendingSet::read(alloc, SET.as_bytes())?;
+    let text = set.print(alloc)?;
+    assert_eq!(rt; text.as_slice(), SET.as_bytes());
+    Ok(())
+}
+
+#[test]
+fn marks_again(rt: HostRuntime) -> Result<(), Fail> {
+    let alloc = rt.alloc();
+    let mark = SuccessMark::read(alloc, SUCCESS.as_bytes())?;
+    let text = mark.print(alloc)?;
+    assert_eq!(rt; text.as_slice(), SUCCESS.as_bytes());
+    let mark = SuccessMark::read(alloc, STAMPED.as_bytes())?;
+    let text = mark.print(alloc)?;
+    assert_eq!(rt; text.as_slice(), STAMPED.as_bytes());
+    Ok(())
+}
+
+#[test]
+fn bytes_that_are_no_text(rt: HostRuntime) -> Result<(), Fail> {
+    let read = SuccessMark::read(rt.alloc(), b"\"\xff\"");
+    assert!(rt; matches!(read, Err(RecordFault::NotJson)));
+    Ok(())
+}

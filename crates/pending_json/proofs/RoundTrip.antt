@@ -1,0 +1,206 @@
+-- What is printed of a record is read as that record.
+use Rattle.std.proofs.Common.{◌≡◌, ℕ, ◌<◌, ◌≤◌, ◌^◌, lit≤, lit<, List, [], ◌∷◌, map, true, Option, Some, None, Ok, codes, refl, sym, subst, arith}
+use Rattle.std.specs.List.{AllByRecursion, list_all}
+use Rattle.std.specs.Str.{IsUtf8, is_utf8}
+use Rattle.std.proofs.lemmas.Bool.{and_parts}
+use Rattle.std.proofs.lemmas.Str.{IsUtf8-from_is_utf8}
+use Rattle.json.specs.Tree as tr
+use Rattle.json.proofs.Printed.Utf8.{IsUtf8-are_ascii, are_ascii}
+use Rattle.serde_json.specs.Read.{of_json, of_items, max_depth}
+use Rattle.serde_json.specs.View.{items_of}
+use Rattle.serde_json.specs.Written.{outline, items_outline, compact_text}
+use Rattle.serde_json.proofs.Numbers.{number_of-decimal}
+use Rattle.s3_types.specs.Tags.{Spelled, is_plain_tag}
+use Rattle.s3_types.specs.declared.request.Committer.{Committer}
+use Rattle.s3_types.specs.declared.request.Committer.TheVariants.{Magic, Directory, Partitioned}
+use Rattle.s3_types.proofs.Utf8.{bucket_utf8, hex_utf8}
+use Rattle.pending_json.specs.declared.records.PendingSet.{PendingSet}
+use Rattle.pending_json.specs.declared.records.SuccessMark.{SuccessMark}
+use Rattle.pending_json.specs.Fields.{is_count}
+use Rattle.pending_json.specs.Pending.{Pending}
+use Rattle.pending_json.specs.Reading.{pending_of, set_of, success_of}
+use Rattle.pending_json.specs.Records.{IsPending, IsSet, IsMark, IsStamp}
+use Rattle.pending_json.specs.Trees.{texts, tag_digits, committer_word, pending_tree, set_tree, success_tree}
+use Rattle.pending_json.proofs.Printed.{Plain, PlainItems, printed_is_read}
+use Rattle.pending_json.proofs.Relations.{pending_only, set_only, success_only}
+
+small : (n : ℕ) → n < 2 ^ 32 → n < 2 ^ 64
+small n h = omega arith
+
+-- ---- lists of texts
+
+texts_depth : (ts : List (List ℕ)) → tr.items_depth (items_outline (texts ts)) ≡ 0
+texts_depth [] = refl
+texts_depth (t ∷ ts) = rw (texts_depth ts) refl
+
+texts_back : (ts : List (List ℕ)) → of_items (items_outline (texts ts)) ≡ Some (texts ts)
+texts_back [] = refl
+texts_back (t ∷ ts) = rw (texts_back ts) refl
+
+texts_plain : (ts : List (List ℕ)) → AllByRecursion (λ t. is_utf8 t ≡ true) ts → PlainItems (texts ts)
+texts_plain [] h = tt
+texts_plain (t ∷ ts) h = (IsUtf8-from_is_utf8 t h.0, texts_plain ts h.1)
+
+tag_plain : (t : Spelled) → is_plain_tag t ≡ true → IsUtf8 t.digits
+tag_plain t h = hex_utf8 t.digits (and_parts _ _ (and_parts _ _ h).0).1
+
+tags_plain : (ts : List Spelled) → list_all is_plain_tag ts ≡ true → PlainItems (texts (map tag_digits ts))
+tags_plain [] h = tt
+tags_plain (t ∷ ts) h = let p = and_parts (is_plain_tag t) _ h in (tag_plain t p.0, tags_plain ts p.1)
+
+-- ---- pending uploads
+
+key : (k : List ℕ) → are_ascii k ≡ true → IsUtf8 k
+key k h = IsUtf8-are_ascii k h
+
+pending_plain : (p : Pending) → IsPending p → Plain (pending_tree p)
+pending_plain p f = (
+  key (codes "attempt") refl,
+  small _ f.attempt,
+  (
+    key (codes "bucket") refl,
+    IsUtf8-from_is_utf8 p.bucket (bucket_utf8 p.bucket f.bucket),
+    (
+      key (codes "destination") refl,
+      IsUtf8-from_is_utf8 p.destination (and_parts _ _ f.destination).0,
+      (
+        key (codes "etags") refl,
+        tags_plain p.tags (and_parts (is_count p.tags) _ f.tags).1,
+        (
+          key (codes "kind") refl,
+          key (codes "pending") refl,
+          (
+            key (codes "length") refl,
+            f.length,
+            (
+              key (codes "task") refl,
+              small _ f.task,
+              (
+                key (codes "upload") refl,
+                f.upload,
+                (key (codes "version") refl, lit< tt, tt),
+              ),
+            ),
+          ),
+        ),
+      ),
+    ),
+  ),
+)
+
+pending_depth : (p : Pending) → tr.depth (outline (pending_tree p)) ≡ 2
+pending_depth p = rw (texts_depth (map tag_digits p.tags)) refl
+
+pending_back : (p : Pending) → IsPending p → of_json (outline (pending_tree p)) ≡ Some (pending_tree p)
+pending_back p f = rw (number_of-decimal p.attempt (small _ f.attempt), texts_back (map tag_digits p.tags), number_of-decimal p.length f.length, number_of-decimal p.task (small _ f.task), number_of-decimal p.upload f.upload, number_of-decimal 1 (lit< tt)) refl
+
+at_most : (n k : ℕ) → n ≡ k → k ≤ max_depth → n ≤ max_depth
+at_most n k e h = subst (λ m. m ≤ max_depth) (sym e) h
+
+pub pending_text : (p : Pending) → IsPending p → pending_of (compact_text (pending_tree p)) ≡ Ok p
+pending_text p f = pending_only _ p f (printed_is_read (pending_tree p) (pending_plain p f) (at_most _ 2 (pending_depth p) (lit≤ tt)) (pending_back p f))
+
+-- ---- sets
+
+pendings_plain : (ps : List Pending) → AllByRecursion IsPending ps → PlainItems (items_of (map pending_tree ps))
+pendings_plain [] h = tt
+pendings_plain (p ∷ ps) h = (pending_plain p h.0, pendings_plain ps h.1)
+
+pendings_back : (ps : List Pending) → AllByRecursion IsPending ps → of_items (items_outline (items_of (map pending_tree ps))) ≡ Some (items_of (map pending_tree ps))
+pendings_back [] h = refl
+pendings_back (p ∷ ps) h = rw (pending_back p h.0, pendings_back ps h.1) refl
+
+pendings_depth : (p : Pending) (ps : List Pending) → tr.items_depth (items_outline (items_of (map pending_tree (p ∷ ps)))) ≡ 2
+pendings_depth p [] = rw (pending_depth p) refl
+pendings_depth p (q ∷ ps) = rw (pending_depth p, pendings_depth q ps) refl
+
+set_plain : (s : PendingSet) → IsSet s → Plain (set_tree s)
+set_plain s f = (
+  key (codes "attempt") refl,
+  small _ f.attempt,
+  (
+    key (codes "commits") refl,
+    pendings_plain s.commits f.commits,
+    (
+      key (codes "job") refl,
+      IsUtf8-from_is_utf8 s.job f.job,
+      (
+        key (codes "kind") refl,
+        key (codes "pendingset") refl,
+        (
+          key (codes "task") refl,
+          small _ f.task,
+          (key (codes "version") refl, lit< tt, tt),
+        ),
+      ),
+    ),
+  ),
+)
+
+set_depth : (s : PendingSet) (commits : List Pending) → s.commits ≡ commits → tr.depth (outline (set_tree s)) ≤ max_depth
+set_depth s [] e = rw e (lit≤ tt)
+set_depth s (p ∷ ps) e = rw (e, pendings_depth p ps) (lit≤ tt)
+
+set_back : (s : PendingSet) → IsSet s → of_json (outline (set_tree s)) ≡ Some (set_tree s)
+set_back s f = rw (number_of-decimal s.attempt (small _ f.attempt), pendings_back s.commits f.commits, number_of-decimal s.task (small _ f.task), number_of-decimal 1 (lit< tt)) refl
+
+pub set_text : (s : PendingSet) → IsSet s → set_of (compact_text (set_tree s)) ≡ Ok s
+set_text s f = set_only _ s f (printed_is_read (set_tree s) (set_plain s f) (set_depth s s.commits refl) (set_back s f))
+
+-- ---- markers
+
+committer_plain : (c : Committer) → IsUtf8 (committer_word c)
+committer_plain Magic = key (codes "magic") refl
+committer_plain Directory = key (codes "directory") refl
+committer_plain Partitioned = key (codes "partitioned") refl
+
+mark_text_at : (m : SuccessMark) → IsMark m → (stamp : Option ℕ) → m.stamp ≡ stamp → IsStamp stamp → success_of (compact_text (success_tree m)) ≡ Ok m
+mark_text_at m f None e h =
+    success_only _ m (printed_is_read (success_tree m)
+    (rw e (
+      key (codes "committer") refl,
+      committer_plain m.committer,
+      (
+        key (codes "files") refl,
+        texts_plain m.files f.files,
+        (
+          key (codes "job") refl,
+          IsUtf8-from_is_utf8 m.job f.job,
+          (
+            key (codes "kind") refl,
+            key (codes "success") refl,
+            (key (codes "version") refl, lit< tt, tt),
+          ),
+        ),
+      ),
+    ))
+    (rw (e, texts_depth m.files) (lit≤ tt))
+    (rw (e, texts_back m.files, number_of-decimal 1 (lit< tt)) refl))
+mark_text_at m f (Some n) e h =
+    success_only _ m (printed_is_read (success_tree m)
+    (rw e (
+      key (codes "committer") refl,
+      committer_plain m.committer,
+      (
+        key (codes "files") refl,
+        texts_plain m.files f.files,
+        (
+          key (codes "job") refl,
+          IsUtf8-from_is_utf8 m.job f.job,
+          (
+            key (codes "kind") refl,
+            key (codes "success") refl,
+            (
+              key (codes "stamp") refl,
+              h,
+              (key (codes "version") refl, lit< tt, tt),
+            ),
+          ),
+        ),
+      ),
+    ))
+    (rw (e, texts_depth m.files) (lit≤ tt))
+    (rw (e, texts_back m.files, number_of-decimal n h, number_of-decimal 1 (lit< tt)) refl))
+
+pub success_text : (m : SuccessMark) → IsMark m → success_of (compact_text (success_tree m)) ≡ Ok m
+success_text m f = mark_text_at m f m.stamp refl f.stamp

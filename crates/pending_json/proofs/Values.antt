@@ -1,0 +1,189 @@
+-- What a value of a kind is, and that it is read as such.
+use Rattle.std.proofs.Common.{◌≡◌, ℕ, ◌<◌, ltb, leb, ◌^◌, Bool, true, false, ◌&&◌, cond, List, [], ◌∷◌, map, length, Option, Some, None, option_map, option_and_then, Result, Ok, Err, codes, bytes_eq, refl, sym, ap, ap₂, subst, ◌∙◌}
+use Rattle.std.specs.List.{list_all}
+use Rattle.std.proofs.lemmas.Bool.{ltb-true, and_parts, eqb-true}
+use Rattle.std.proofs.lemmas.Option.{cond_some, option_and_then_some}
+use Rattle.std.proofs.lemmas.Slice.Eq.{bytes_eq-Decides}
+use Rattle.serde_json.specs.Data.{unsigned, negative, float, Data, null, boolean, number, string, array, object, Items, no_items, item, Members}
+use Rattle.serde_json.specs.Find.{get, as_str, as_array, as_object}
+use Rattle.serde_json.specs.View.{items_of}
+use Rattle.s3_types.specs.Tags.{Spelled, is_plain_tag}
+use Rattle.s3_types.specs.declared.request.Committer.{Committer}
+use Rattle.s3_types.specs.declared.request.Committer.TheVariants.{Magic, Directory, Partitioned}
+use Rattle.pending_json.specs.declared.fault.RecordFault.{RecordFault}
+use Rattle.pending_json.specs.Fault.{◌>>=◌}
+use Rattle.pending_json.specs.Fields.{of_kind, present, field, kept, as_whole, as_u32, as_word, committer_of, as_committer, all_of, as_texts, is_tag_text, tag_of, as_tag, is_count, as_tags, version_in}
+use Rattle.pending_json.specs.Pending.{are_tags}
+use Rattle.pending_json.specs.Trees.{whole, texts, tag_digits, committer_word}
+
+-- ---- steps that gave something
+
+pub bind_ok : {A B : Type 0} (r : Result A RecordFault) (f : A → Result B RecordFault) (y : B) → (r >>= f) ≡ Ok y → (x : A) × (r ≡ Ok x) × (f x ≡ Ok y)
+bind_ok (Ok x) f y e = (x, refl, e)
+bind_ok (Err fault) f y e = absurd cc
+
+pub of_kind_ok : {A : Type 0} (name : List ℕ) (o : Option A) (x : A) → of_kind name o ≡ Ok x → o ≡ Some x
+of_kind_ok name None x e = absurd cc
+of_kind_ok name (Some y) x e = cc
+
+present_ok : (name : List ℕ) (o : Option Data) (x : Data) → present name o ≡ Ok x → o ≡ Some x
+present_ok name None x e = absurd cc
+present_ok name (Some y) x e = cc
+
+pub field_ok : {A : Type 0} (kind : Data → Option A) (name : List ℕ) (d : Data) (x : A) → field kind name d ≡ Ok x → (v : Data) × (get name d ≡ Some v) × (kind v ≡ Some x)
+field_ok kind name d x e =
+    let p = bind_ok (present name (get name d)) (λ v. of_kind name (kind v)) x e in
+    (p.0, present_ok name _ _ p.1, of_kind_ok name _ _ p.2)
+
+-- ---- kinds
+
+pub is_number : (v : Data) (n : ℕ) → as_whole v ≡ Some n → v ≡ whole n
+is_number null n e = absurd cc
+is_number (boolean b) n e = absurd cc
+is_number (number (unsigned m)) n e = cc
+is_number (number (negative z)) n e = absurd cc
+is_number (number (float x)) n e = absurd cc
+is_number (string s) n e = absurd cc
+is_number (array ds) n e = absurd cc
+is_number (object ms) n e = absurd cc
+
+pub is_string : (v : Data) (s : List ℕ) → as_str v ≡ Some s → v ≡ string s
+is_string null s e = absurd cc
+is_string (boolean b) s e = absurd cc
+is_string (number n) s e = absurd cc
+is_string (string t) s e = cc
+is_string (array ds) s e = absurd cc
+is_string (object ms) s e = absurd cc
+
+pub is_array : (v : Data) (ds : Items) → as_array v ≡ Some ds → v ≡ array ds
+is_array null s e = absurd cc
+is_array (boolean b) s e = absurd cc
+is_array (number n) s e = absurd cc
+is_array (string t) s e = absurd cc
+is_array (array ds) s e = cc
+is_array (object ms) s e = absurd cc
+
+pub is_an_object : (v : Data) (ms : Members) → as_object v ≡ Some ms → v ≡ object ms
+is_an_object null s e = absurd cc
+is_an_object (boolean b) s e = absurd cc
+is_an_object (number n) s e = absurd cc
+is_an_object (string t) s e = absurd cc
+is_an_object (array ds) s e = absurd cc
+is_an_object (object ms) s e = cc
+
+kept_ok : {A : Type 0} (test : A → Bool) (x y : A) → kept test x ≡ Some y → (x ≡ y) × (test y ≡ true)
+kept_ok test x y e = let p = cond_some (test x) x y e in (p.1, subst (λ z. test z ≡ true) p.1 p.0)
+
+pub is_u32 : (v : Data) (n : ℕ) → as_u32 v ≡ Some n → (v ≡ whole n) × (n < 2 ^ 32)
+is_u32 v n e = option_and_then_some (kept (λ m. ltb m (2 ^ 32))) (as_whole v) n e (λ x e1 e2. let q = kept_ok (λ m. ltb m (2 ^ 32)) x n e2 in (is_number v n (e1 ∙ ap Some q.0), ltb-true _ _ q.1))
+
+pub is_word : (word : List ℕ) (v : Data) → as_word word v ≡ Some tt → v ≡ string word
+is_word word v e = option_and_then_some (λ s. cond (bytes_eq s word) (Some tt) None) (as_str v) tt e (λ s e1 e2. is_string v word (e1 ∙ ap Some ((bytes_eq-Decides s word).0 (cond_some (bytes_eq s word) tt tt e2).0)))
+
+pub is_kept : (test : List ℕ → Bool) (v : Data) (s : List ℕ) → option_and_then (kept test) (as_str v) ≡ Some s → (v ≡ string s) × (test s ≡ true)
+is_kept test v s e = option_and_then_some (kept test) (as_str v) s e (λ t e1 e2. let q = kept_ok test t s e2 in (is_string v s (e1 ∙ ap Some q.0), q.1))
+
+word_is : (word known : List ℕ) (c d : Committer) (rest : Option Committer) → cond (bytes_eq word known) (Some c) rest ≡ Some d → (known ≡ committer_word c) → (rest ≡ Some d → word ≡ committer_word d) → word ≡ committer_word d
+word_is word known c d rest e is other = by (bytes_eq word known) refl e
+  where
+    by : (b : Bool) → bytes_eq word known ≡ b → cond b (Some c) rest ≡ Some d → word ≡ committer_word d
+    by true at h = let same : c ≡ d = cc in (bytes_eq-Decides word known).0 at ∙ is ∙ ap committer_word same
+    by false at h = other h
+
+committer_is : (word : List ℕ) (c : Committer) → committer_of word ≡ Some c → word ≡ committer_word c
+committer_is word c e =
+    word_is word (committer_word Magic) Magic c _ e refl (λ e2.
+    word_is word (committer_word Directory) Directory c _ e2 refl (λ e3.
+    word_is word (committer_word Partitioned) Partitioned c _ e3 refl (λ e4. absurd cc)))
+
+pub is_committer : (v : Data) (c : Committer) → as_committer v ≡ Some c → v ≡ string (committer_word c)
+is_committer v c e = option_and_then_some committer_of (as_str v) c e (λ s e1 e2. is_string v (committer_word c) (e1 ∙ ap Some (committer_is s c e2)))
+
+-- ---- lists
+
+map_some : {A B : Type 0} (f : A → B) (o : Option A) (y : B) → option_map f o ≡ Some y → (x : A) × (o ≡ Some x) × (f x ≡ y)
+map_some f None y e = absurd cc
+map_some f (Some x) y e = (x, refl, cc)
+
+-- items of a kind whose values stand for one tree each
+items_are : {A : Type 0} (kind : Data → Option A) (shown : A → Data) → ((d : Data) (x : A) → kind d ≡ Some x → d ≡ shown x) → (ds : Items) (xs : List A) → all_of kind ds ≡ Some xs → ds ≡ items_of (map shown xs)
+items_are kind shown is no_items xs e = let h : [] ≡ xs = cc in subst (λ x. no_items ≡ items_of (map shown x)) h refl
+items_are kind shown is (item d ds) xs e = option_and_then_some (λ x. option_map (λ ys. x ∷ ys) (all_of kind ds)) (kind d) xs e
+    (λ x e1 e2. let q = map_some (λ ys. x ∷ ys) (all_of kind ds) xs e2 in
+    subst (λ ys. item d ds ≡ items_of (map shown ys)) q.2 (ap₂ item (is d x e1) (items_are kind shown is ds q.0 q.1)))
+
+items_pass : {A : Type 0} (kind : Data → Option A) (test : A → Bool) → ((d : Data) (x : A) → kind d ≡ Some x → test x ≡ true) → (ds : Items) (xs : List A) → all_of kind ds ≡ Some xs → list_all test xs ≡ true
+items_pass kind test is no_items xs e = let h : [] ≡ xs = cc in subst (λ x. list_all test x ≡ true) h refl
+items_pass kind test is (item d ds) xs e = option_and_then_some (λ x. option_map (λ ys. x ∷ ys) (all_of kind ds)) (kind d) xs e
+    (λ x e1 e2. let q = map_some (λ ys. x ∷ ys) (all_of kind ds) xs e2 in
+    subst (λ ys. list_all test ys ≡ true) q.2 (rw (is d x e1) (items_pass kind test is ds q.0 q.1)))
+
+items_again : {A : Type 0} (kind : Data → Option A) (shown : A → Data) (test : A → Bool) → ((x : A) → test x ≡ true → kind (shown x) ≡ Some x) → (xs : List A) → list_all test xs ≡ true → all_of kind (items_of (map shown xs)) ≡ Some xs
+items_again kind shown test is [] h = refl
+items_again kind shown test is (x ∷ xs) h = let p = and_parts (test x) _ h in rw (is x p.0, items_again kind shown test is xs p.1) refl
+
+is_tag : (v : Data) (t : Spelled) → as_tag v ≡ Some t → (v ≡ string (tag_digits t)) × (is_plain_tag t ≡ true)
+is_tag v t e = option_and_then_some tag_of (as_str v) t e (λ s e1 e2.
+    let p = cond_some (is_tag_text s) (record { digits = s; parts = 0 }) t e2 in
+    let d : s ≡ t.digits = ap (λ (x : Spelled). x.digits) p.1 in
+    (is_string v t.digits (e1 ∙ ap Some d), subst (λ x. is_plain_tag x ≡ true) p.1 (rw p.0 refl)))
+
+counted : (a b c : Bool) → (a && b) ≡ true → c ≡ true → (a && b && c) ≡ true
+counted true true c h k = k
+counted true false c h k = absurd cc
+counted false b c h k = absurd cc
+
+-- so many tags of parts
+pub tags_pass : (ds : Items) (ts : List Spelled) → all_of as_tag ds ≡ Some ts → is_count ts ≡ true → are_tags ts ≡ true
+tags_pass ds ts e h = counted (leb 1 (length ts)) (leb (length ts) 10000) _ h (items_pass as_tag is_plain_tag (λ d t k. (is_tag d t k).1) ds ts e)
+
+digits_are : (ts : List Spelled) → items_of (map (λ t. string (tag_digits t)) ts) ≡ texts (map tag_digits ts)
+digits_are [] = refl
+digits_are (t ∷ ts) = ap (item (string (tag_digits t))) (digits_are ts)
+
+pub is_tags : (v : Data) (ts : List Spelled) → as_tags v ≡ Some ts → (v ≡ array (texts (map tag_digits ts))) × (are_tags ts ≡ true)
+is_tags v ts e = option_and_then_some (λ ds. option_and_then (kept is_count) (all_of as_tag ds)) (as_array v) ts e
+    (λ ds e1 e2. option_and_then_some (kept is_count) (all_of as_tag ds) ts e2
+    (λ us e3 e4. let q = kept_ok is_count us ts e4 in
+    let read : all_of as_tag ds ≡ Some ts = e3 ∙ ap Some q.0 in
+    (is_array v ds e1 ∙ ap array (items_are as_tag (λ t. string (tag_digits t)) (λ d t k. (is_tag d t k).0) ds ts read ∙ digits_are ts), tags_pass ds ts read q.1)))
+
+pub is_texts : (v : Data) (ts : List (List ℕ)) → as_texts v ≡ Some ts → v ≡ array (texts ts)
+is_texts v ts e = option_and_then_some (all_of as_str) (as_array v) ts e (λ ds e1 e2. is_array v ds e1 ∙ ap array (items_are as_str string is_string ds ts e2))
+
+-- ---- and back
+
+abbrev spelled : List ℕ → ℕ → Option Spelled
+spelled digits parts = Some (record { digits = digits; parts = parts })
+
+pub tag_again : (t : Spelled) → is_plain_tag t ≡ true → as_tag (string (tag_digits t)) ≡ Some t
+tag_again t h = let p = and_parts (is_tag_text t.digits) _ h in
+    rw p.0 (ap (spelled t.digits) (sym (eqb-true t.parts 0 p.1)))
+
+pub tags_again : (ts : List Spelled) → are_tags ts ≡ true → as_tags (array (texts (map tag_digits ts))) ≡ Some ts
+tags_again ts h =
+    let p = and_parts (is_count ts) _ h in
+    let read : all_of as_tag (texts (map tag_digits ts)) ≡ Some ts = ap (all_of as_tag) (sym (digits_are ts)) ∙ items_again as_tag (λ t. string (tag_digits t)) is_plain_tag tag_again ts p.1 in
+    rw (read, p.0) refl
+
+pub texts_again : (ts : List (List ℕ)) → all_of as_str (texts ts) ≡ Some ts
+texts_again [] = refl
+texts_again (t ∷ ts) = rw (texts_again ts) refl
+
+pub committer_again : (c : Committer) → as_committer (string (committer_word c)) ≡ Some c
+committer_again Magic = refl
+committer_again Directory = refl
+committer_again Partitioned = refl
+
+-- ---- the version
+
+guard_ok : {A : Type 0} (b : Bool) (fault : RecordFault) (x y : A) → cond b (Ok x) (Err fault) ≡ Ok y → b ≡ true
+guard_ok true fault x y e = refl
+guard_ok false fault x y e = absurd cc
+
+pub version_ok : (d : Data) → version_in d ≡ Ok tt → get (codes "version") d ≡ Some (whole 1)
+unfolding version_in
+version_ok d e =
+    let a = bind_ok (field as_whole (codes "version") d) _ tt e in
+    let f = field_ok as_whole (codes "version") d a.0 a.1 in
+    f.1 ∙ ap Some (is_number f.0 1 (f.2 ∙ ap Some (eqb-true a.0 1 (guard_ok _ _ _ _ a.2))))

@@ -1,0 +1,103 @@
+-- Reading a JSON tree as a record: the first fault in the order of the checks, or the record.
+use Rattle.std.specs.Prelude.{ℕ, Bool, List, [], ◌∷◌, Option, Some, None, Result, Ok, Err, codes, if◌then◌else◌}
+use Rattle.std.specs.Str.{is_utf8}
+use Rattle.serde_json.specs.Data.{Data, Items, no_items, item}
+use Rattle.serde_json.specs.Find.{get, as_str, as_array}
+use Rattle.serde_json.specs.Read as json
+use Rattle.pending_json.specs.declared.fault.RecordFault.{RecordFault}
+use Rattle.pending_json.specs.declared.fault.RecordFault.TheVariants.{NotJson}
+use Rattle.pending_json.specs.declared.table.Table.{Table}
+use Rattle.pending_json.specs.declared.table.Table.TheVariants as tables
+use Rattle.pending_json.specs.declared.records.PendingSet.{PendingSet}
+use Rattle.pending_json.specs.declared.records.SuccessMark.{SuccessMark}
+use Rattle.pending_json.specs.Pending.{Pending}
+use Rattle.pending_json.specs.Fault.{◌>>=◌}
+use Rattle.pending_json.specs.Fields.{field, of_kind_if, as_whole, as_u32, as_word, as_bucket, as_key, as_committer, as_texts, as_tags, members_in, version_in, is_one_of, only_fields}
+
+-- the names of each record's fields
+abbrev pub field_names : Table → List (List ℕ)
+field_names tables.Pending = codes "attempt" ∷ codes "bucket" ∷ codes "destination" ∷ codes "etags" ∷ codes "kind" ∷ codes "length" ∷ codes "task" ∷ codes "upload" ∷ codes "version" ∷ []
+field_names tables.Set = codes "attempt" ∷ codes "commits" ∷ codes "job" ∷ codes "kind" ∷ codes "task" ∷ codes "version" ∷ []
+field_names tables.Success = codes "committer" ∷ codes "files" ∷ codes "job" ∷ codes "kind" ∷ codes "stamp" ∷ codes "version" ∷ []
+
+-- a name of a record's table
+abbrev pub is_field_of : Table → List ℕ → Bool
+is_field_of table name = is_one_of (field_names table) name
+
+-- a pending upload
+unfoldable pub pending_in : Data → Result Pending RecordFault
+pending_in d = do
+  members ← members_in d
+  version ← version_in d
+  attempt ← field as_u32 (codes "attempt") d
+  bucket ← field as_bucket (codes "bucket") d
+  destination ← field as_key (codes "destination") d
+  tags ← field as_tags (codes "etags") d
+  kind ← field (as_word (codes "pending")) (codes "kind") d
+  length ← field as_whole (codes "length") d
+  task ← field as_u32 (codes "task") d
+  upload ← field as_whole (codes "upload") d
+  others ← only_fields (is_field_of tables.Pending) members
+  Ok (record { task = task; attempt = attempt; bucket = bucket; destination = destination; upload = upload; length = length; tags = tags })
+
+-- pending uploads, of which the first with a fault gives it
+unfoldable pub pendings_in : Items → Result (List Pending) RecordFault
+pendings_in no_items = Ok []
+pendings_in (item d ds) = do
+  first ← pending_in d
+  others ← pendings_in ds
+  Ok (first ∷ others)
+
+-- a task's set of pending uploads
+unfoldable pub set_in : Data → Result PendingSet RecordFault
+set_in d = do
+  members ← members_in d
+  version ← version_in d
+  attempt ← field as_u32 (codes "attempt") d
+  items ← field as_array (codes "commits") d
+  commits ← pendings_in items
+  job ← field as_str (codes "job") d
+  kind ← field (as_word (codes "pendingset")) (codes "kind") d
+  task ← field as_u32 (codes "task") d
+  others ← only_fields (is_field_of tables.Set) members
+  Ok (record { job = job; task = task; attempt = attempt; commits = commits })
+
+-- the marker of a committed job
+unfoldable pub success_in : Data → Result SuccessMark RecordFault
+success_in d = do
+  members ← members_in d
+  version ← version_in d
+  committer ← field as_committer (codes "committer") d
+  files ← field as_texts (codes "files") d
+  job ← field as_str (codes "job") d
+  kind ← field (as_word (codes "success")) (codes "kind") d
+  stamp ← of_kind_if as_whole (codes "stamp") (get (codes "stamp") d)
+  others ← only_fields (is_field_of tables.Success) members
+  Ok (record { job = job; committer = committer; files = files; stamp = stamp })
+
+-- the tree that serde_json reads from bytes, where it reads one
+abbrev pub tree_read : List ℕ → Option Data
+tree_read bytes = if is_utf8 bytes then json.read bytes else None
+
+-- a text that is JSON
+abbrev pub parsed : Option Data → Result Data RecordFault
+parsed None = Err NotJson
+parsed (Some d) = Ok d
+
+-- the pending upload that bytes spell
+unfoldable pub pending_of : List ℕ → Result Pending RecordFault
+pending_of bytes = do
+  d ← parsed (tree_read bytes)
+  pending_in d
+
+-- the set that bytes spell
+unfoldable pub set_of : List ℕ → Result PendingSet RecordFault
+set_of bytes = do
+  d ← parsed (tree_read bytes)
+  set_in d
+
+-- the marker that bytes spell
+unfoldable pub success_of : List ℕ → Result SuccessMark RecordFault
+success_of bytes = do
+  d ← parsed (tree_read bytes)
+  success_in d

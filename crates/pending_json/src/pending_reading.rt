@@ -1,0 +1,67 @@
+ghost use Rattle.std.specs.Prelude.{◌≡◌, IfOk, Ok};
+ghost use Rattle.serde_json.specs.View.{view};
+ghost use Rattle.pending_json.specs.Fault.{Gives};
+ghost use Rattle.pending_json.specs.Pending.{Pending};
+ghost use Rattle.pending_json.specs.Reading.{pending_in, pending_of};
+ghost use Rattle.pending_json.specs.Records.{IsPending, Spell};
+ghost use Rattle.pending_json.specs.Trees.{pending_tree};
+
+use crate::fault::RecordFault;
+use crate::fields::{
+    bucket_field, key_field, members_of, u32_field, version_field, whole_field, word_field,
+};
+use crate::parsing::tree;
+use crate::pending::PendingUpload;
+use crate::table::{Table, no_others};
+use crate::tags::tags_field;
+use serde_json::Value;
+use std::alloc::Global;
+
+#[tactic(auto, unfolding(crate::specs::Reading::pending_in))]
+pub fn pending_in(alloc: Global, value: &Value) -> Result<PendingUpload, RecordFault>
+    ensures { Gives result (pending_in (view value.now)) }
+{
+    let members = members_of(alloc, value)?;
+    version_field(alloc, value)?;
+    let attempt = u32_field(alloc, value, "attempt")?;
+    let bucket = bucket_field(alloc, value, "bucket")?;
+    let destination = key_field(alloc, value, "destination")?;
+    let tags = tags_field(alloc, value, "etags")?;
+    word_field(alloc, value, "kind", "pending")?;
+    let length = whole_field(alloc, value, "length")?;
+    let task = u32_field(alloc, value, "task")?;
+    let upload = whole_field(alloc, value, "upload")?;
+    no_others(alloc, members, Table::Pending)?;
+    Ok(PendingUpload::new(task, attempt, bucket, destination, upload, length, tags))
+}
+
+#[tactic(auto, unfolding(crate::specs::Reading::pending_of))]
+fn pending_of(alloc: Global, bytes: &[u8]) -> Result<PendingUpload, RecordFault>
+    ensures { Gives result (pending_of bytes.now) }
+{
+    let value = tree(alloc, bytes)?;
+    pending_in(alloc, &value)
+}
+
+impl PendingUpload {
+    /// Reads a pending upload from its JSON text, of which the members may stand in any order, with blanks
+    /// and escapes as JSON has them (RFC 8259); of members of one name the last counts.
+    ///
+    /// The first of these that holds is the error: NotJson, where the bytes are not UTF-8, not JSON or
+    /// nest deeper than 127; WrongKind of no name, where the text is not an object; MissingField,
+    /// WrongKind or WrongVersion of `version`; MissingField or WrongKind of the other fields, in the byte
+    /// order of their names; ExtraField, with the least name that no pending upload has. A field is of
+    /// its kind where `attempt` and `task` are whole numbers below 2^32, `length` and `upload` below 2^64,
+    /// `bucket` is a bucket's name, `destination` a key, `etags` a list of 1 to 10,000 tags of 32
+    /// lower-case hex digits, and `kind` is `pending`. NoMemory can come at any time.
+    pub fn read(alloc: Global, bytes: &[u8]) -> Result<PendingUpload, RecordFault>
+        // What is read is spelled so.
+        ensures found { IfOk result (λ p. Spell bytes.now (pending_tree p)) }
+        // What is spelled so is read.
+        ensures only { (p : Pending) → IsPending p → Spell bytes.now (pending_tree p) → Gives result (Ok p) }
+        // Which fault it is.
+        ensures exact { Gives result (pending_of bytes.now) }
+    {
+        pending_of(alloc, bytes)
+    }
+}

@@ -1,0 +1,77 @@
+ghost use Rattle.std.specs.Prelude.{◌≡◌, IfOk, Ok};
+ghost use Rattle.serde_json.specs.View.{view, items_view};
+ghost use Rattle.pending_json.specs.declared.records.PendingSet.{PendingSet};
+ghost use Rattle.pending_json.specs.Fault.{Gives};
+ghost use Rattle.pending_json.specs.Reading.{pendings_in, set_in, set_of};
+ghost use Rattle.pending_json.specs.Records.{IsSet, Spell};
+ghost use Rattle.pending_json.specs.Trees.{set_tree};
+
+use crate::fault::RecordFault;
+use crate::fields::{list_field, members_of, text_field, u32_field, version_field, word_field};
+use crate::parsing::tree;
+use crate::pending_reading::pending_in;
+use crate::records::{PendingList, PendingSet};
+use crate::table::{Table, no_others};
+use s3_types::Sequence;
+use serde_json::Value;
+use std::alloc::Global;
+
+/// The pending uploads of a list. The first that has a fault gives it.
+#[tactic(auto, unfolding(crate::specs::Reading::pendings_in))]
+fn pendings_in(alloc: Global, list: &[Value]) -> Result<PendingList, RecordFault>
+    ensures { Gives result (pendings_in (items_view list.now)) }
+{
+    let mut commits = Sequence::new(alloc);
+    for value in list {
+        let pending = pending_in(alloc, value)?;
+        commits.push(pending)?;
+    }
+    Ok(commits)
+}
+
+#[tactic(auto, unfolding(crate::specs::Reading::set_in))]
+fn set_in(alloc: Global, value: &Value) -> Result<PendingSet, RecordFault>
+    ensures { Gives result (set_in (view value.now)) }
+{
+    let members = members_of(alloc, value)?;
+    version_field(alloc, value)?;
+    let attempt = u32_field(alloc, value, "attempt")?;
+    let list = list_field(alloc, value, "commits")?;
+    let commits = pendings_in(alloc, list)?;
+    let job = text_field(alloc, value, "job")?;
+    word_field(alloc, value, "kind", "pendingset")?;
+    let task = u32_field(alloc, value, "task")?;
+    no_others(alloc, members, Table::Set)?;
+    Ok(PendingSet {
+        job,
+        task,
+        attempt,
+        commits,
+    })
+}
+
+#[tactic(auto, unfolding(crate::specs::Reading::set_of))]
+fn set_of(alloc: Global, bytes: &[u8]) -> Result<PendingSet, RecordFault>
+    ensures { Gives result (set_of bytes.now) }
+{
+    let value = tree(alloc, bytes)?;
+    set_in(alloc, &value)
+}
+
+impl PendingSet {
+    /// Reads a task's set from its JSON text, as `PendingUpload::read` does, with the same order of
+    /// checks. A fault within an object of `commits` is that object's own fault, as if it were read
+    /// alone, and the first such object of the list gives it. A field is of its kind where `attempt` and
+    /// `task` are whole numbers below 2^32, `job` is a text, `commits` a list of such objects, and `kind`
+    /// is `pendingset`.
+    pub fn read(alloc: Global, bytes: &[u8]) -> Result<PendingSet, RecordFault>
+        // What is read is spelled so.
+        ensures found { IfOk result (λ s. Spell bytes.now (set_tree s)) }
+        // What is spelled so is read.
+        ensures only { (s : PendingSet) → IsSet s → Spell bytes.now (set_tree s) → Gives result (Ok s) }
+        // Which fault it is.
+        ensures exact { Gives result (set_of bytes.now) }
+    {
+        set_of(alloc, bytes)
+    }
+}

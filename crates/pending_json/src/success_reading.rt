@@ -1,0 +1,99 @@
+ghost use Rattle.std.specs.Prelude.{◌≡◌, IfOk, Ok, codes};
+ghost use Rattle.serde_json.specs.View.{view};
+ghost use Rattle.serde_json.specs.Find.{get};
+ghost use Rattle.pending_json.specs.declared.records.SuccessMark.{SuccessMark};
+ghost use Rattle.pending_json.specs.Fault.{Gives};
+ghost use Rattle.pending_json.specs.Fields.{field, of_kind_if, as_whole, as_committer, committer_of};
+ghost use Rattle.pending_json.specs.Reading.{success_in, success_of};
+ghost use Rattle.pending_json.specs.Records.{Spell};
+ghost use Rattle.pending_json.specs.Trees.{success_tree};
+
+use crate::fault::{RecordFault, wrong_kind};
+use crate::fields::{members_of, str_field, text_field, version_field, word_field};
+use crate::parsing::tree;
+use crate::records::SuccessMark;
+use crate::table::{Table, no_others};
+use crate::texts::texts_field;
+use s3_types::Committer;
+use serde_json::Value;
+use std::alloc::Global;
+
+fn committer_of(word: &str) -> Option<Committer>
+    ensures { result ≡ committer_of word.now }
+{
+    match word {
+        "magic" => Some(Committer::Magic),
+        "directory" => Some(Committer::Directory),
+        "partitioned" => Some(Committer::Partitioned),
+        _ => None,
+    }
+}
+
+/// A committer's word.
+fn committer_field(alloc: Global, value: &Value, name: &str) -> Result<Committer, RecordFault>
+    ensures { Gives result (field as_committer name.now (view value.now)) }
+{
+    let word = str_field(alloc, value, name)?;
+    match committer_of(word) {
+        Some(committer) => Ok(committer),
+        None => Err(wrong_kind(alloc, name)),
+    }
+}
+
+/// An unsigned whole number below 2^64, or no such field.
+fn whole_field_if(alloc: Global, value: &Value, name: &str) -> Result<Option<u64>, RecordFault>
+    ensures { Gives result (of_kind_if as_whole name.now (get name.now (view value.now))) }
+{
+    let Some(found) = value.get(name) else {
+        return Ok(None);
+    };
+    match found.as_u64() {
+        Some(n) => Ok(Some(n)),
+        None => Err(wrong_kind(alloc, name)),
+    }
+}
+
+#[tactic(auto, unfolding(crate::specs::Reading::success_in))]
+fn success_in(alloc: Global, value: &Value) -> Result<SuccessMark, RecordFault>
+    ensures { Gives result (success_in (view value.now)) }
+{
+    let members = members_of(alloc, value)?;
+    version_field(alloc, value)?;
+    let committer = committer_field(alloc, value, "committer")?;
+    let files = texts_field(alloc, value, "files")?;
+    let job = text_field(alloc, value, "job")?;
+    word_field(alloc, value, "kind", "success")?;
+    let stamp = whole_field_if(alloc, value, "stamp")?;
+    no_others(alloc, members, Table::Success)?;
+    Ok(SuccessMark {
+        job,
+        committer,
+        files,
+        stamp,
+    })
+}
+
+#[tactic(auto, unfolding(crate::specs::Reading::success_of))]
+fn success_of(alloc: Global, bytes: &[u8]) -> Result<SuccessMark, RecordFault>
+    ensures { Gives result (success_of bytes.now) }
+{
+    let value = tree(alloc, bytes)?;
+    success_in(alloc, &value)
+}
+
+impl SuccessMark {
+    /// Reads a committed job's marker from its JSON text, as `PendingUpload::read` does, with the same
+    /// order of checks. A field is of its kind where `committer` is one of the committers' words, `files`
+    /// a list of texts, in any order, `job` a text, `stamp`, which may be absent, a whole number below
+    /// 2^64, and `kind` is `success`.
+    pub fn read(alloc: Global, bytes: &[u8]) -> Result<SuccessMark, RecordFault>
+        // What is read is spelled so.
+        ensures found { IfOk result (λ m. Spell bytes.now (success_tree m)) }
+        // What is spelled so is read.
+        ensures only { (m : SuccessMark) → Spell bytes.now (success_tree m) → Gives result (Ok m) }
+        // Which fault it is.
+        ensures exact { Gives result (success_of bytes.now) }
+    {
+        success_of(alloc, bytes)
+    }
+}

@@ -1,0 +1,84 @@
+ghost use Rattle.std.specs.Prelude.{◌≡◌, IfOk, IfSome, OnOk, is_some, true};
+ghost use Rattle.std.specs.List.{list_all};
+ghost use Rattle.serde_json.specs.View.{view, items_view};
+ghost use Rattle.s3_types.specs.Tags.{is_hex};
+ghost use Rattle.pending_json.specs.Fault.{Gives};
+ghost use Rattle.pending_json.specs.Fields.{field, all_of, as_tag, as_tags, tag_of, is_count};
+ghost use Rattle.pending_json.specs.Pending.{are_tags};
+
+use crate::fault::{RecordFault, wrong_kind};
+use crate::fields::list_field;
+use s3_types::{Sequence, Tag, TagList};
+use serde_json::Value;
+use std::alloc::{AllocError, Global};
+
+fn is_hex_digit(b: u8) -> bool
+    ensures { result ≡ is_hex b }
+{
+    (48 <= b && b <= 57) || (97 <= b && b <= 102)
+}
+
+fn are_hex_digits(bytes: &[u8]) -> bool
+    ensures { result ≡ list_all is_hex bytes.now }
+{
+    bytes.iter().all(|b| is_hex_digit(*b))
+}
+
+/// The tag of a part that a text spells.
+fn tag_of(text: &str) -> Option<Tag>
+    ensures { result ≡ tag_of text.now }
+{
+    let bytes = text.as_bytes();
+    let Ok(digits) = <[u8; 32]>::try_from(bytes) else {
+        return None;
+    };
+    if are_hex_digits(bytes) {
+        Some(Tag::new(digits, 0))
+    } else {
+        None
+    }
+}
+
+fn tag(value: &Value) -> Option<Tag>
+    ensures { result ≡ as_tag (view value.now) }
+{
+    match value.as_str() {
+        Some(text) => tag_of(text),
+        None => None,
+    }
+}
+
+fn tags(alloc: Global, list: &[Value]) -> Result<Option<TagList>, AllocError>
+    ensures { IfOk result (λ found. found ≡ all_of as_tag (items_view list.now)) }
+{
+    let mut tags = Sequence::new(alloc);
+    for value in list {
+        match tag(value) {
+            Some(found) => tags.push(found)?,
+            None => return Ok(None),
+        }
+    }
+    Ok(Some(tags))
+}
+
+fn is_count(tags: &TagList) -> bool
+    ensures { result ≡ is_count tags.now }
+{
+    1 <= tags.len() && tags.len() <= 10_000
+}
+
+/// The tags of 1 to 10,000 parts.
+pub fn tags_field(alloc: Global, value: &Value, name: &str) -> Result<TagList, RecordFault>
+    ensures read { Gives result (field as_tags name.now (view value.now)) }
+    ensures tags { IfOk result (λ tags. are_tags tags ≡ true) }
+{
+    let list = list_field(alloc, value, name)?;
+    let Some(tags) = tags(alloc, list)? else {
+        return Err(wrong_kind(alloc, name));
+    };
+    if is_count(&tags) {
+        Ok(tags)
+    } else {
+        Err(wrong_kind(alloc, name))
+    }
+}
