@@ -1,5 +1,5 @@
 -- A run goes on by one sending.
-use Rattle.std.proofs.Common.{◌≡◌, ℕ, zero, suc, take, ◌+◌, ◌-◌, ◌*◌, ◌<◌, ◌≤◌, ◌==◌, Bool, true, false, ◌||◌, List, [], ◌∷◌, ◌++◌, length, Option, Some, None, refl, sym, ap, subst, ◌∙◌, arith, if◌then◌else◌}
+use Rattle.std.proofs.Common.{◌≡◌, ℕ, zero, suc, take, ◌+◌, ◌*◌, ◌<◌, ◌≤◌, ◌==◌, Bool, true, false, ◌||◌, List, [], ◌∷◌, ◌++◌, length, Option, Some, refl, sym, ap, subst, ◌∙◌, arith, if◌then◌else◌}
 use Rattle.std.specs.Prelude.{IsTrue}
 use Rattle.s3_types.specs.Store.{Scene}
 use Rattle.s3_types.specs.Answer.{answer, apply}
@@ -12,12 +12,12 @@ use Rattle.s3_types.specs.declared.reply.Reply.{Reply}
 use Rattle.s3_types.specs.declared.journal.Outcome.{Outcome}
 use Rattle.s3_types.specs.declared.journal.Outcome.TheVariants.{Answered, Slow, RequestLost, ReplyLost}
 use Rattle.s3_types.specs.declared.journal.Entry.{Entry}
-use Rattle.machine.specs.Item.{Item, Got, WornOut, OutOfMemory, Standing, Faulted}
+use Rattle.machine.specs.Item.{Item, Got, WornOut, Standing}
 use Rattle.machine.specs.Laws.{Laws}
 use Rattle.machine.specs.Turns.{Follows, run, step, wears, has_worn, unanswered, unanswered_if, AreBy, turn_of, tells_worn}
 use Rattle.std.proofs.Common.{append_assoc, length-append}
 use Rattle.std.proofs.lemmas.Bool.Decides.{nat_tests}
-use Rattle.machine.specs.declared.retrying.Turn.TheVariants.{Again, Moved, WornOut as Worn}
+use Rattle.machine.specs.declared.retrying.Turn.TheVariants.{Again, WornOut as Worn}
 use Rattle.machine.specs.Drove.{IsRun, IsSent, Driving, standing_after}
 use Rattle.machine.specs.declared.retrying.Retrying.{Retrying}
 

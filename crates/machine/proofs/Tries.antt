@@ -1,5 +1,5 @@
 -- A run falls into tries, and wore out exactly where one of them did.
-use Rattle.std.proofs.Common.{◌≡◌, ℕ, zero, suc, ◌+◌, ◌-◌, ◌<◌, ◌≤◌, ◌==◌, Bool, true, false, ◌||◌, List, [], ◌∷◌, ◌++◌, length, Option, Some, None, Result, Ok, Err, refl, sym, ap, subst, ◌∙◌, arith, append_assoc, append-nil}
+use Rattle.std.proofs.Common.{◌≡◌, ℕ, suc, ◌+◌, ◌-◌, ◌<◌, ◌≤◌, ◌==◌, Bool, true, false, ◌||◌, List, [], ◌∷◌, ◌++◌, length, Option, Some, None, Ok, Err, refl, sym, ap, subst, ◌∙◌, arith, append_assoc, append-nil}
 use Rattle.std.proofs.lemmas.Bool.{false≢true}
 use Rattle.std.proofs.lemmas.Bool.Decides.{nat_tests}
 use Rattle.s3_types.specs.Moment.{is_unanswered}
@@ -11,7 +11,6 @@ use Rattle.machine.specs.Item.{Item}
 use Rattle.machine.specs.Turns.{Follows, run, step, wears, has_worn, unanswered_if}
 use Rattle.machine.specs.Tries.{AreUnanswered, Try, IsTry, AreTries, IsClosed, spare_after, answer_in, sendings_of, is_worn, some_worn, IsBrokenOff, HasUnanswered, Tried}
 use Rattle.machine.specs.declared.retrying.Retrying.{Retrying}
-use Rattle.machine.specs.declared.driving.DriveStop.{DriveStop}
 use Rattle.machine.specs.declared.driving.DriveStop.TheVariants.{StoreFault, NoMemory}
 
 -- the request that is present is the first of these

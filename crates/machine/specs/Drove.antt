@@ -11,6 +11,7 @@ use Rattle.s3_types.specs.declared.reply.Reply.{Reply}
 use Rattle.s3_types.specs.declared.journal.Entry.{Entry}
 use Rattle.machine.specs.Item.{Item, Standing, Faulted}
 use Rattle.machine.specs.Turns.{Follows, run, step, has_worn, turn_of, AreBy}
+use Rattle.machine.specs.Tries.{Tried}
 use Rattle.machine.specs.declared.retrying.Retrying.{Retrying}
 use Rattle.machine.specs.declared.retrying.Turn.{Turn}
 use Rattle.machine.specs.declared.driving.DriveStop.{DriveStop}
@@ -74,6 +75,7 @@ pub record Drove {M T : Type 0} (wants : M → Option Request) (after : M → It
   pub appended : new ≡ old ++ part
   pub is_run : IsRun wants after actor event t s part s'
   pub foretold : AreForetold told (first + 1) part
+  pub tried : Tried t.retries t.spare part result
   pub ended : Ended (IsOver wants after ready standing t part t' s') before now result
 
 -- the same in the middle of it

@@ -59,7 +59,8 @@ pub fn send<M: Machine, S: ObjectStore>(
 }
 
 /// Drives a machine that is alone until it asks nothing more. It appends one entry for each sending.
-/// StoreFault comes exactly where a request wore out in this call.
+/// Each request is sent at most `retries + 1` times. StoreFault comes exactly where a request wore out:
+/// `retries + 1` sendings of it in a row got no answer.
 pub fn drive<M: Machine, S: ObjectStore>(
     alloc: Global,
     machine: &mut Retrying<M>,

@@ -2,6 +2,8 @@ use Rattle.std.proofs.Common.{◌≡◌, ◌+◌, ◌∙◌, ap, sym, subst, ◌
 use Rattle.machine.specs.Turns.{step, tells_worn}
 use Rattle.s3_types.specs.Foretold.{IsForetold}
 use Rattle.machine.proofs.Runs.{told_more, driving_more, falls_step, told, is_run_more, work}
+use Rattle.machine.proofs.Tries.{tried_short}
+use Rattle.machine.proofs.Ends.{drove_worn, drove_whole}
 use Rattle.machine.proofs.driving.drive.Goals as goal
 
 pub sending-preserved : goal.sending-preserved
@@ -26,15 +28,28 @@ returns-in-Err g c =
         appended = h.0 ∙ k.appended;
         is_run = record { by = k.is_run.by; honest = k.is_run.honest; follows = k.is_run.follows; scene = h.1 ∙ k.is_run.scene };
         foretold = k.foretold;
+        tried = tried_short g.M.Machine.wants g.M.Machine.after c.args.machine.now k.part k.is_run.follows;
         ended = tt;
       }
       | inr h ↦
           let n : g.S.ObjectStore.requests c.sending.store + 1 ≡ g.S.ObjectStore.requests c.args.store.now + 1 + length k.part = omega (arith, k.number) in
+          let r = is_run_more _ _ _ _ _ _ k.part _ _ h.0 _ k.there k.is_run h.1 in
           record {
             part = k.part ++ h.0 ∷ [];
             appended = h.2 ∙ ap (λ v. v ++ h.0 ∷ []) k.appended ∙ append_assoc _ k.part (h.0 ∷ []);
-            is_run = is_run_more _ _ _ _ _ _ k.part _ _ h.0 _ k.there k.is_run h.1;
+            is_run = r;
             foretold = told_more _ _ k.part h.0 k.foretold (subst (λ v. IsForetold v h.0.outcome) (k.same _ ∙ ap (g.S.ObjectStore.foretold c.args.store.now) n) h.3);
+            tried = tried_short g.M.Machine.wants g.M.Machine.after c.args.machine.now (k.part ++ h.0 ∷ []) r.follows;
             ended = tt;
           }
     ]
+
+pub returns-then-worn : goal.returns-then-worn
+returns-then-worn g c =
+    let h = rw c.in-Ok-None.field-0-is at c.in-Ok-None.ensures.sent in
+    drove_worn g.M.Machine.wants g.M.Machine.after g.M.Machine.ready g.M.Machine.standing c.args.actor c.args.event c.args.machine.now c.sending.machine _ _ _ _ _ _ _ _ _ _ _ _ _ _ _ c.sending.invariant h.0 h.1 h.2 h.3 h.4 c.if-worn.true
+
+pub returns-else-worn : goal.returns-else-worn
+returns-else-worn g c =
+    let h = rw c.in-Ok-None.field-0-is at c.in-Ok-None.ensures.sent in
+    drove_whole g.M.Machine.wants g.M.Machine.after g.M.Machine.ready g.M.Machine.standing c.args.actor c.args.event tt c.args.machine.now c.sending.machine _ _ _ _ _ _ _ _ _ _ _ _ _ _ _ c.sending.invariant h.0 h.1 h.2 h.3 h.4 c.if-worn.false
