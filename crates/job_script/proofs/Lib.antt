@@ -1,0 +1,9 @@
+pub mod Ends
+pub mod Hex
+pub mod Losses
+pub mod Only
+pub mod Steps
+pub mod SoundHead
+pub mod SoundAttempts
+pub mod SoundEvents
+pub mod Sound

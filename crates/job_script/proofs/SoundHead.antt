@@ -1,0 +1,272 @@
+-- The bounds of what head lines say.
+use Rattle.std.proofs.Common.{◌≡◌, ℕ, ◌+◌, ◌<◌, ◌≤◌, ◌^◌, ◌==◌, Bool, true, false, List, [], ◌∷◌, ◌++◌, length, Option, Some, None, Result, Ok, Err, cond, refl, sym, ap, subst, ◌∙◌, arith, inl, inr}
+use Rattle.std.specs.Prelude.{◌⊎◌, ◌&&◌, nat_le, nat_lt, not}
+use Rattle.std.specs.FinMap.{get}
+use Rattle.std.proofs.lemmas.Bool.{and_parts, leb-true, ltb-true}
+use Rattle.words.specs.Parts.{parts_of, parts_from}
+use Rattle.line_words.specs.Numbers.{number_in}
+use Rattle.line_words.specs.Shapes.{one, two_and_more, at_most_one}
+use Rattle.s3_types.specs.Fates.{FateMap, with_fates, is_answer}
+use Rattle.s3_types.specs.Names.{is_bucket, trimmed}
+use Rattle.s3_types.specs.declared.fates.Fate.{Fate}
+use Rattle.s3_types.proofs.Spans.{get_with_fates}
+use Rattle.path_keys.specs.Paths.{Path, is_key, path_in, path_of, named, named_if, bucket_in, key_of, without_scheme, first_fault}
+use Rattle.path_keys.specs.declared.fault.PathFault.{PathFault}
+use Rattle.path_keys.proofs.Faults.{key_is, key_of_text}
+use Rattle.job_model.specs.Jobs.{is_job_id}
+use Rattle.job_script.specs.declared.fault.ScriptFault.{ScriptFault}
+use Rattle.job_script.specs.declared.fault.ScriptFault.TheVariants.{BadLine, RepeatedName, BadPath, DestIsRoot, TooLarge, BadNumber}
+use Rattle.job_script.specs.declared.draft.Head.{Head}
+use Rattle.job_script.specs.declared.draft.Loss.{Loss}
+use Rattle.job_script.specs.declared.kinds.HeadWord.{HeadWord}
+use Rattle.job_script.specs.declared.kinds.HeadWord.TheVariants as head
+use Rattle.job_script.specs.Fault.{need, check, free}
+use Rattle.job_script.specs.Kinds.{fates, committers, modes, answers, named as named_in}
+use Rattle.job_script.specs.Paths.{is_dest_key}
+use Rattle.job_script.specs.HeadLines.{head_at, job_at, dest_at, committer_at, tasks_at, mode_at, unique_at, retries_at, block_at, stamp_at, loss_at, loss_of, named_at, count_of, has_one, as_path}
+use Rattle.job_script.specs.Legal.{IsDest, AreFates}
+use Rattle.job_script.proofs.Steps.{parted, same_ok, needed, checked, number_bounds, named_all}
+
+-- the bounds of what the head lines said so far
+pub record IsSoundHead (h : Head) : Type 0 where
+  pub job : (id : List ℕ) → h.job ≡ Some id → is_job_id id ≡ true
+  pub dest : (dest : Path) → h.dest ≡ Some dest → IsDest dest
+  pub tasks : (n : ℕ) → h.tasks ≡ Some n → n ≤ 1000
+  pub retries : (n : ℕ) → h.retries ≡ Some n → n ≤ 9
+  pub block : (n : ℕ) → h.block ≡ Some n → n ≤ 67108864
+  pub stamp : (n : ℕ) → h.stamp ≡ Some n → n < 10 ^ 18
+  pub fates : AreFates h.fates
+
+of_some : {A : Type 0} (P : A → Type 0) (x y : A) → P x → Some x ≡ Some y → P y
+of_some P x y p h = let e : x ≡ y = cc in subst P e p
+
+-- ---- the destination
+
+as_path_ok : (n : ℕ) (r : Result Path PathFault) (p : Path) → as_path n r ≡ Ok p → r ≡ Ok p
+as_path_ok n (Ok q) p h = ap Ok (same_ok q p h)
+as_path_ok n (Err f) p h = absurd cc
+
+record Both (bucket key : Result (List ℕ) PathFault) (p : Path) : Type 0 where
+  pub bucket_is : bucket ≡ Ok p.bucket
+  pub key_is : key ≡ Ok p.key
+
+same_path : (x y : Path) → (let r : Result Path PathFault = Ok x in r ≡ Ok y) → x ≡ y
+same_path x y h = cc
+
+both : (bucket key : Result (List ℕ) PathFault) (p : Path) → path_of bucket key ≡ Ok p → Both bucket key p
+both (Err f) key p h = absurd cc
+both (Ok b) (Err f) p h = absurd cc
+both (Ok b) (Ok k) p h =
+    let e = same_path (record { bucket = b; key = k }) p h in
+    record { bucket_is = ap (λ (q : Path). Ok q.bucket) e; key_is = ap (λ (q : Path). Ok q.key) e }
+
+bucket_at : (b : Bool) (name x : List ℕ) (f : PathFault) → cond b (Ok name) (Err f) ≡ Ok x → (b ≡ true) × (name ≡ x)
+bucket_at true name x f h = (refl, cc)
+bucket_at false name x f h = absurd cc
+
+bucket_sound : (name x : List ℕ) → bucket_in name ≡ Ok x → is_bucket x ≡ true
+bucket_sound name x h = let p = bucket_at (is_bucket name) name x _ h in subst (λ (l : List ℕ). is_bucket l ≡ true) p.1 p.0
+
+-- what stands behind the first part of a text is nothing or the parts of a text
+behind : (s : ℕ) (part text : List ℕ) (first : List ℕ) (more : List (List ℕ)) → parts_from s part text ≡ first ∷ more → (more ≡ []) ⊎ ((rest : List ℕ) × (more ≡ parts_of s rest))
+unfolding parts_from
+behind s part [] first more h = inl cc
+behind s part (x ∷ xs) first more h = by (x == s) refl (λ k. behind s (part ++ x ∷ []) xs first more k)
+  where
+    by : (b : Bool) → (x == s) ≡ b → (parts_from s (part ++ x ∷ []) xs ≡ first ∷ more → (more ≡ []) ⊎ ((rest : List ℕ) × (more ≡ parts_of s rest))) → (more ≡ []) ⊎ ((rest : List ℕ) × (more ≡ parts_of s rest))
+    by true e old = let k : part ∷ parts_of s xs ≡ first ∷ more = rw e at h in inr (xs, cc)
+    by false e old = old (rw e at h)
+
+checked_at : (f : Option PathFault) (b : Bool) (key x : List ℕ) (g : PathFault) → f ≡ None → cond b (Ok key) (Err g) ≡ Ok x → (b ≡ true) × (key ≡ x)
+checked_at f b key x g e h = bucket_at b key x g h
+
+key_at : (rest x : List ℕ) (f : Option PathFault) → f ≡ first_fault (parts_of 47 rest) → key_of (parts_of 47 rest) ≡ Ok x → is_key x ≡ true
+key_at rest x None e h =
+    let k = sym (key_of_text rest None e) ∙ h in
+    let p = bucket_at (nat_le (length rest) 1023) rest x _ k in
+    subst (λ (l : List ℕ). is_key l ≡ true) p.1 (key_is rest e (leb-true (length rest) 1023 p.0))
+key_at rest x (Some f) e h = let k = sym (key_of_text rest (Some f) e) ∙ h in absurd cc
+
+empty_key : (x : List ℕ) → key_of [] ≡ Ok x → is_key x ≡ true
+empty_key [] h = refl
+empty_key (y ∷ ys) h = absurd cc
+
+key_sound : (elements : List (List ℕ)) (x : List ℕ) → (elements ≡ []) ⊎ ((rest : List ℕ) × (elements ≡ parts_of 47 rest)) → key_of elements ≡ Ok x → is_key x ≡ true
+key_sound elements x (inl e) h = empty_key x (sym (ap key_of e) ∙ h)
+key_sound elements x (inr r) h = key_at r.0 x (first_fault (parts_of 47 r.0)) refl (sym (ap key_of r.1) ∙ h)
+
+named_sound : (text : List ℕ) (parts : List (List ℕ)) (p : Path) → parts_of 47 text ≡ parts → named parts ≡ Ok p → (is_bucket p.bucket ≡ true) × (is_key p.key ≡ true)
+named_sound text [] p e h = absurd cc
+named_sound text (name ∷ elements) p e h =
+    let b = both (bucket_in name) (key_of elements) p h in
+    (bucket_sound name p.bucket b.bucket_is, key_sound elements p.key (behind 47 [] text name elements e) b.key_is)
+
+path_at : (o : Option (List ℕ)) (p : Path) → named_if o ≡ Ok p → (is_bucket p.bucket ≡ true) × (is_key p.key ≡ true)
+path_at None p h = absurd cc
+path_at (Some rest) p h = named_sound (trimmed rest) (parts_of 47 (trimmed rest)) p refl h
+
+-- a path that was read has a bucket and a key
+pub path_sound : (text : List ℕ) (p : Path) → path_in text ≡ Ok p → (is_bucket p.bucket ≡ true) × (is_key p.key ≡ true)
+path_sound text p h = path_at (without_scheme text) p h
+
+-- ---- the fates
+
+count_bounds : (third : Option (List ℕ)) (e : ScriptFault) (x : ℕ) → need (count_of third) e ≡ Ok x → (1 ≤ x) × (x ≤ 1000)
+count_bounds None e x h = let k : 1 ≡ x = cc in (omega (arith, k), omega (arith, k))
+count_bounds (Some word) e x h = number_bounds 1 1000 word e x h
+
+-- the bounds of a row of sendings
+pub record IsLoss (l : Loss) : Type 0 where
+  pub first : 1 ≤ l.first
+  pub last : l.first + l.count ≤ 1000000001
+  pub lost : is_answer l.fate ≡ false
+
+loss_sound : (n : ℕ) (values : List (List ℕ)) (l : Loss) → loss_of n values ≡ Ok l → IsLoss l
+unfolding loss_of
+loss_sound n values l h =
+    let a = parted (need (two_and_more values) (BadLine n)) _ _ h in
+    let b = parted (need (at_most_one a.value.2) (BadLine n)) _ _ a.next in
+    let c = parted (need (named_in fates a.value.1) (BadLine n)) _ _ b.next in
+    let d = parted (need (number_in 1 1000000000 a.value.0) (BadNumber n)) _ _ c.next in
+    let f = parted (need (count_of b.value) (BadNumber n)) _ _ d.next in
+    let g = parted (check (nat_le (d.value + f.value) 1000000001) (BadNumber n)) _ _ f.next in
+    let first = number_bounds 1 1000000000 a.value.0 (BadNumber n) d.value d.first in
+    let last : d.value + f.value ≤ 1000000001 = leb-true _ _ (checked _ (BadNumber n) _ g.first) in
+    let lost = named_all (λ fate. is_answer fate ≡ false) fates a.value.1 c.value (refl, (refl, (refl, tt))) (needed _ (BadLine n) _ c.first) in
+    subst IsLoss (same_ok (record { first = d.value; fate = c.value; count = f.value }) l g.next) (record { first = first.0; last = last; lost = lost })
+
+fate_at : (b : Bool) (f x : Fate) (o : Option Fate) (P : Type 0) → (b ≡ true → P) → (is_answer f ≡ false) → (o ≡ Some x → P × (is_answer x ≡ false)) → cond b (Some f) o ≡ Some x → P × (is_answer x ≡ false)
+fate_at true f x o P new lost old h = (new refl, of_some (λ y. is_answer y ≡ false) f x lost h)
+fate_at false f x o P new lost old h = old h
+
+in_row : (first count n : ℕ) → 1 ≤ first → first + count ≤ 1000000001 → (nat_le first n && nat_lt n (first + count)) ≡ true → (1 ≤ n) × (n ≤ 1000000000)
+in_row first count n low high h =
+    let p = and_parts (nat_le first n) _ h in
+    let l : first ≤ n = leb-true _ _ p.0 in
+    let m : n < first + count = ltb-true _ _ p.1 in
+    (omega (arith, l, low), omega (arith, m, high))
+
+fates_sound : (m : FateMap) (l : Loss) → IsLoss l → AreFates m → AreFates (with_fates m l.first l.fate l.count)
+fates_sound m l is old n fate h =
+    let k = sym (get_with_fates m l.first l.fate l.count n) ∙ h in
+    let r = fate_at (nat_le l.first n && nat_lt n (l.first + l.count)) l.fate fate (get m n) ((1 ≤ n) × (n ≤ 1000000000)) (in_row l.first l.count n is.first is.last) is.lost (λ g. let o = old n fate g in ((o.0, o.1), o.2)) k in
+    (r.0.0, r.0.1, r.1)
+
+-- ---- each line
+
+job_sound : (n : ℕ) (h k : Head) (values : List (List ℕ)) → job_at n h values ≡ Ok k → IsSoundHead h → IsSoundHead k
+unfolding job_at
+job_sound n h k values e s =
+    let a = parted (need (one values) (BadLine n)) _ _ e in
+    let b = parted (check (is_job_id a.value) (BadLine n)) _ _ a.next in
+    let c = parted (free h.job (RepeatedName n)) _ _ b.next in
+    subst IsSoundHead (same_ok (record h { job = Some a.value }) k c.next)
+    (record { job = λ id i. of_some (λ x. is_job_id x ≡ true) a.value id (checked _ (BadLine n) _ b.first) i; dest = s.dest; tasks = s.tasks; retries = s.retries; block = s.block; stamp = s.stamp; fates = s.fates })
+
+dest_sound : (n : ℕ) (h k : Head) (values : List (List ℕ)) → dest_at n h values ≡ Ok k → IsSoundHead h → IsSoundHead k
+unfolding dest_at
+dest_sound n h k values e s =
+    let a = parted (need (one values) (BadLine n)) _ _ e in
+    let b = parted (as_path n (path_in a.value)) _ _ a.next in
+    let c = parted (check (nat_lt 0 (length b.value.key)) DestIsRoot) _ _ b.next in
+    let d = parted (check (is_dest_key b.value.key) (BadPath n)) _ _ c.next in
+    let f = parted (free h.dest (RepeatedName n)) _ _ d.next in
+    let p = path_sound a.value b.value (as_path_ok n (path_in a.value) b.value b.first) in
+    subst IsSoundHead (same_ok (record h { dest = Some b.value }) k f.next)
+    (record { job = s.job; dest = λ x i. of_some IsDest b.value x (record { bucket = p.0; key = p.1; below = checked _ (BadPath n) _ d.first }) i; tasks = s.tasks; retries = s.retries; block = s.block; stamp = s.stamp; fates = s.fates })
+
+committer_sound : (n : ℕ) (h k : Head) (values : List (List ℕ)) → committer_at n h values ≡ Ok k → IsSoundHead h → IsSoundHead k
+unfolding committer_at
+committer_sound n h k values e s =
+    let a = parted (need (one values) (BadLine n)) _ _ e in
+    let b = parted (need (named_in committers a.value) (BadLine n)) _ _ a.next in
+    let c = parted (free h.committer (RepeatedName n)) _ _ b.next in
+    subst IsSoundHead (same_ok (record h { committer = Some b.value }) k c.next)
+    (record { job = s.job; dest = s.dest; tasks = s.tasks; retries = s.retries; block = s.block; stamp = s.stamp; fates = s.fates })
+
+tasks_sound : (n : ℕ) (h k : Head) (values : List (List ℕ)) → tasks_at n h values ≡ Ok k → IsSoundHead h → IsSoundHead k
+unfolding tasks_at
+tasks_sound n h k values e s =
+    let a = parted (need (one values) (BadLine n)) _ _ e in
+    let b = parted (need (number_in 0 1000 a.value) (BadNumber n)) _ _ a.next in
+    let c = parted (free h.tasks (RepeatedName n)) _ _ b.next in
+    let bounds = number_bounds 0 1000 a.value (BadNumber n) b.value b.first in
+    subst IsSoundHead (same_ok (record h { tasks = Some b.value }) k c.next)
+    (record { job = s.job; dest = s.dest; tasks = λ x i. of_some (λ y. y ≤ 1000) b.value x bounds.1 i; retries = s.retries; block = s.block; stamp = s.stamp; fates = s.fates })
+
+mode_sound : (n : ℕ) (h k : Head) (values : List (List ℕ)) → mode_at n h values ≡ Ok k → IsSoundHead h → IsSoundHead k
+unfolding mode_at
+mode_sound n h k values e s =
+    let a = parted (need (one values) (BadLine n)) _ _ e in
+    let b = parted (need (named_in modes a.value) (BadLine n)) _ _ a.next in
+    let c = parted (free h.mode (RepeatedName n)) _ _ b.next in
+    subst IsSoundHead (same_ok (record h { mode = Some (n, b.value) }) k c.next)
+    (record { job = s.job; dest = s.dest; tasks = s.tasks; retries = s.retries; block = s.block; stamp = s.stamp; fates = s.fates })
+
+unique_sound : (n : ℕ) (h k : Head) (values : List (List ℕ)) → unique_at n h values ≡ Ok k → IsSoundHead h → IsSoundHead k
+unfolding unique_at
+unique_sound n h k values e s =
+    let a = parted (need (one values) (BadLine n)) _ _ e in
+    let b = parted (need (named_in answers a.value) (BadLine n)) _ _ a.next in
+    let c = parted (free h.unique (RepeatedName n)) _ _ b.next in
+    subst IsSoundHead (same_ok (record h { unique = Some (n, b.value) }) k c.next)
+    (record { job = s.job; dest = s.dest; tasks = s.tasks; retries = s.retries; block = s.block; stamp = s.stamp; fates = s.fates })
+
+retries_sound : (n : ℕ) (h k : Head) (values : List (List ℕ)) → retries_at n h values ≡ Ok k → IsSoundHead h → IsSoundHead k
+unfolding retries_at
+retries_sound n h k values e s =
+    let a = parted (need (one values) (BadLine n)) _ _ e in
+    let b = parted (need (number_in 0 9 a.value) (BadNumber n)) _ _ a.next in
+    let c = parted (free h.retries (RepeatedName n)) _ _ b.next in
+    let bounds = number_bounds 0 9 a.value (BadNumber n) b.value b.first in
+    subst IsSoundHead (same_ok (record h { retries = Some b.value }) k c.next)
+    (record { job = s.job; dest = s.dest; tasks = s.tasks; retries = λ x i. of_some (λ y. y ≤ 9) b.value x bounds.1 i; block = s.block; stamp = s.stamp; fates = s.fates })
+
+block_sound : (n : ℕ) (h k : Head) (values : List (List ℕ)) → block_at n h values ≡ Ok k → IsSoundHead h → IsSoundHead k
+unfolding block_at
+block_sound n h k values e s =
+    let a = parted (need (one values) (BadLine n)) _ _ e in
+    let b = parted (need (number_in 1 67108864 a.value) (BadNumber n)) _ _ a.next in
+    let c = parted (free h.block (RepeatedName n)) _ _ b.next in
+    let bounds = number_bounds 1 67108864 a.value (BadNumber n) b.value b.first in
+    subst IsSoundHead (same_ok (record h { block = Some b.value }) k c.next)
+    (record { job = s.job; dest = s.dest; tasks = s.tasks; retries = s.retries; block = λ x i. of_some (λ y. y ≤ 67108864) b.value x bounds.1 i; stamp = s.stamp; fates = s.fates })
+
+stamp_sound : (n : ℕ) (h k : Head) (values : List (List ℕ)) → stamp_at n h values ≡ Ok k → IsSoundHead h → IsSoundHead k
+unfolding stamp_at
+stamp_sound n h k values e s =
+    let a = parted (need (one values) (BadLine n)) _ _ e in
+    let b = parted (need (number_in 0 999999999999999999 a.value) (BadNumber n)) _ _ a.next in
+    let c = parted (free h.stamp (RepeatedName n)) _ _ b.next in
+    let bounds = number_bounds 0 999999999999999999 a.value (BadNumber n) b.value b.first in
+    let below : b.value < 10 ^ 18 = omega (arith, bounds.1) in
+    subst IsSoundHead (same_ok (record h { stamp = Some b.value }) k c.next)
+    (record { job = s.job; dest = s.dest; tasks = s.tasks; retries = s.retries; block = s.block; stamp = λ x i. of_some (λ y. y < 10 ^ 18) b.value x below i; fates = s.fates })
+
+named_ok : (n : ℕ) (l : Loss) (m after : FateMap) → named_at n l m ≡ Ok after → IsLoss l → AreFates m → AreFates after
+unfolding named_at
+named_ok n l m after e is old =
+    let a = parted (check (not (has_one m l.first l.count)) (RepeatedName n)) _ _ e in
+    subst AreFates (same_ok (with_fates m l.first l.fate l.count) after a.next) (fates_sound m l is old)
+
+losses_sound : (n : ℕ) (h k : Head) (values : List (List ℕ)) → loss_at n h values ≡ Ok k → IsSoundHead h → IsSoundHead k
+unfolding loss_at
+losses_sound n h k values e s =
+    let a = parted (loss_of n values) _ _ e in
+    let b = parted (named_at n a.value h.fates) _ _ a.next in
+    let c = parted (check (nat_lt h.losses 10000) TooLarge) _ _ b.next in
+    subst IsSoundHead (same_ok (record h { fates = b.value; losses = h.losses + 1 }) k c.next)
+    (record { job = s.job; dest = s.dest; tasks = s.tasks; retries = s.retries; block = s.block; stamp = s.stamp; fates = named_ok n a.value h.fates b.value b.first (loss_sound n values a.value a.first) s.fates })
+
+-- a head line keeps the bounds
+pub head_sound : (n : ℕ) (word : HeadWord) (h k : Head) (values : List (List ℕ)) → head_at n word h values ≡ Ok k → IsSoundHead h → IsSoundHead k
+head_sound n head.Job h k values e s = job_sound n h k values e s
+head_sound n head.Dest h k values e s = dest_sound n h k values e s
+head_sound n head.Committer h k values e s = committer_sound n h k values e s
+head_sound n head.Tasks h k values e s = tasks_sound n h k values e s
+head_sound n head.Mode h k values e s = mode_sound n h k values e s
+head_sound n head.Unique h k values e s = unique_sound n h k values e s
+head_sound n head.Retries h k values e s = retries_sound n h k values e s
+head_sound n head.Block h k values e s = block_sound n h k values e s
+head_sound n head.Stamp h k values e s = stamp_sound n h k values e s
+head_sound n head.Loss h k values e s = losses_sound n h k values e s

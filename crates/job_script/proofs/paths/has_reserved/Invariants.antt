@@ -1,0 +1,11 @@
+use Rattle.std.proofs.Common.{◌≡◌, length}
+use Rattle.std.specs.List.{list_any}
+use Rattle.words.specs.Parts.{parts_of}
+use Rattle.job_script.specs.Paths.{is_reserved}
+use Rattle.job_script.proofs.paths.has_reserved.Given as goal
+
+abbrev pub invariant-loop-more : goal.invariant-loop-more
+invariant-loop-more l = list_any is_reserved (parts_of 47 l.key) ≡ list_any is_reserved (parts_of 47 l.rest)
+
+abbrev pub decreases-loop-more : goal.decreases-loop-more
+decreases-loop-more l = length l.rest

@@ -1,0 +1,49 @@
+-- What an attempt's line and a file's line say.
+use Rattle.std.specs.Prelude.{ℕ, ◌+◌, not, List, [], ◌∷◌, ◌++◌, length, Option, Some, None, Result, Ok, nat_le, nat_lt, if◌then◌else◌}
+use Rattle.words.specs.Parts.{parts_of}
+use Rattle.line_words.specs.Numbers.{number_in}
+use Rattle.line_words.specs.Shapes.{one, two, two_and_more}
+use Rattle.job_model.specs.Files.{has_path}
+use Rattle.job_model.specs.Attempts.{declares, last_files, with_file}
+use Rattle.job_model.specs.declared.attempts.AttemptName.{AttemptName}
+use Rattle.job_script.specs.declared.fault.ScriptFault.{ScriptFault}
+use Rattle.job_script.specs.declared.fault.ScriptFault.TheVariants.{BadLine, RepeatedName, BadPath, HiddenPath, TooLarge, BadNumber}
+use Rattle.job_script.specs.declared.draft.Draft.{Draft}
+use Rattle.job_script.specs.Fault.{◌>>=◌, need, check}
+use Rattle.job_script.specs.Kinds.{first_of}
+use Rattle.job_script.specs.Paths.{is_path, is_hidden}
+use Rattle.job_script.specs.Content.{content_at}
+
+-- T.A
+unfoldable pub name_at : ℕ → List ℕ → Result AttemptName ScriptFault
+name_at n word = do
+  parts ← need (two (parts_of 46 word)) (BadLine n)
+  task ← need (number_in 0 999 parts.0) (BadNumber n)
+  attempt ← need (number_in 0 99 parts.1) (BadNumber n)
+  Ok (record { task = task; attempt = attempt })
+
+-- the line of an attempt whose task is not below the number of tasks
+abbrev pub outside_at : ℕ → Option ℕ → AttemptName → Option ℕ
+outside_at n None name = None
+outside_at n (Some tasks) name = if nat_lt name.task tasks then None else Some n
+
+-- attempt T.A
+unfoldable pub attempt_at : ℕ → Draft → List (List ℕ) → Result Draft ScriptFault
+attempt_at n d values = do
+  word ← need (one values) (BadLine n)
+  name ← name_at n word
+  new ← check (not (declares d.attempts name)) (RepeatedName n)
+  few ← check (nat_lt (length d.attempts) 2000) TooLarge
+  Ok (record d { attempts = d.attempts ++ (name, []) ∷ []; outside = first_of d.outside (outside_at n d.head.tasks name) })
+
+-- file PATH and what its bytes are
+unfoldable pub file_at : ℕ → Draft → List (List ℕ) → Result Draft ScriptFault
+file_at n d values = do
+  words ← need (two_and_more values) (BadLine n)
+  bytes ← content_at n words.1 words.2
+  stated ← check (is_path words.0) (BadPath n)
+  seen ← check (not (is_hidden words.0)) (HiddenPath n)
+  new ← check (not (has_path (last_files d.attempts) words.0)) (RepeatedName n)
+  few ← check (nat_lt d.files 20000) TooLarge
+  short ← check (nat_le (d.bytes + length bytes) 67108864) TooLarge
+  Ok (record d { attempts = with_file d.attempts words.0 bytes; files = d.files + 1; bytes = d.bytes + length bytes })

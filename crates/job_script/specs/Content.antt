@@ -1,0 +1,43 @@
+-- The bytes of a file.
+use Rattle.std.specs.Prelude.{ℕ, ◌+◌, ◌*◌, ◌-◌, List, [], ◌∷◌, length, Option, Some, None, Result, Ok, Err, nat_le, nat_lt, codes, bytes_eq, option_map, option_and_then, replicate, if◌then◌else◌, ◌&&◌}
+use Rattle.line_words.specs.Numbers.{number_in}
+use Rattle.line_words.specs.Shapes.{one, two, text}
+use Rattle.job_script.specs.declared.fault.ScriptFault.{ScriptFault}
+use Rattle.job_script.specs.declared.fault.ScriptFault.TheVariants.{BadLine, BadNumber}
+use Rattle.job_script.specs.Fault.{◌>>=◌, need}
+
+-- the value of a hex digit in either case
+abbrev pub hex_digit : ℕ → Option ℕ
+hex_digit b = if nat_le 48 b && nat_le b 57 then Some (b - 48) else (if nat_le 97 b && nat_le b 102 then Some (b - 87) else (if nat_le 65 b && nat_le b 70 then Some (b - 55) else None))
+
+-- the bytes of hex digits, two a byte
+unfoldable pub unhex : List ℕ → Option (List ℕ)
+unhex [] = Some []
+unhex (a ∷ []) = None
+unhex (a ∷ b ∷ rest) = option_and_then (λ x. option_and_then (λ y. option_map (λ bytes. (x * 16 + y) ∷ bytes) (unhex rest)) (hex_digit b)) (hex_digit a)
+
+-- hex digits, or `-` for no bytes
+abbrev pub hex_bytes : List ℕ → Option (List ℕ)
+hex_bytes digits = if bytes_eq digits (codes "-") then Some [] else (if nat_lt 0 (length digits) then unhex digits else None)
+
+-- text REST
+unfoldable pub text_at : ℕ → List (List ℕ) → Result (List ℕ) ScriptFault
+text_at n words = need (text words) (BadLine n)
+
+-- hex DIGITS
+unfoldable pub hex_at : ℕ → List (List ℕ) → Result (List ℕ) ScriptFault
+hex_at n words = do
+  digits ← need (one words) (BadLine n)
+  need (hex_bytes digits) (BadLine n)
+
+-- fill N BYTE
+unfoldable pub fill_at : ℕ → List (List ℕ) → Result (List ℕ) ScriptFault
+fill_at n words = do
+  numbers ← need (two words) (BadLine n)
+  count ← need (number_in 0 67108864 numbers.0) (BadNumber n)
+  byte ← need (number_in 0 255 numbers.1) (BadNumber n)
+  Ok (replicate count byte)
+
+-- what `text`, `hex` or `fill` with these words behind it is
+unfoldable pub content_at : ℕ → List ℕ → List (List ℕ) → Result (List ℕ) ScriptFault
+content_at n form words = if bytes_eq form (codes "text") then text_at n words else (if bytes_eq form (codes "hex") then hex_at n words else (if bytes_eq form (codes "fill") then fill_at n words else Err (BadLine n)))

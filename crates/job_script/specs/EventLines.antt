@@ -1,0 +1,101 @@
+-- What an event's line says.
+use Rattle.std.specs.Prelude.{ℕ, Bool, true, false, List, [], ◌∷◌, ◌++◌, length, Option, Result, Ok, nat_lt, codes, bytes_eq, if◌then◌else◌}
+use Rattle.line_words.specs.Numbers.{number_in}
+use Rattle.line_words.specs.Shapes.{one, two}
+use Rattle.job_model.specs.Attempts.{Declared, declares}
+use Rattle.s3_types.specs.declared.request.Actor.{Actor}
+use Rattle.s3_types.specs.declared.request.Actor.TheVariants as actor
+use Rattle.job_model.specs.declared.events.Op.{Op}
+use Rattle.job_model.specs.declared.events.Event.{Event}
+use Rattle.job_model.specs.declared.events.Event.TheVariants as event
+use Rattle.job_script.specs.declared.fault.ScriptFault.{ScriptFault}
+use Rattle.job_script.specs.declared.fault.ScriptFault.TheVariants.{BadLine, UnknownActor, TooLarge, BadNumber}
+use Rattle.job_script.specs.declared.draft.Draft.{Draft}
+use Rattle.job_script.specs.declared.kinds.EventWord.{EventWord}
+use Rattle.job_script.specs.declared.kinds.EventWord.TheVariants as words
+use Rattle.job_script.specs.Fault.{◌>>=◌, need, check}
+use Rattle.job_script.specs.Kinds.{named, driver_ops, attempt_ops}
+use Rattle.job_script.specs.AttemptLines.{name_at}
+
+-- the word `driver`
+abbrev pub is_driver : List ℕ → Bool
+is_driver word = bytes_eq word (codes "driver")
+
+-- `driver`, or T.A
+unfoldable pub actor_at : ℕ → List ℕ → Result Actor ScriptFault
+actor_at n word = if is_driver word then Ok actor.Driver else (name_at n word >>= λ name. Ok (actor.Attempt name.task name.attempt))
+
+-- the driver, or a declared attempt
+abbrev pub is_known : List Declared → Actor → Bool
+is_known attempts actor.Driver = true
+is_known attempts (actor.Attempt task attempt) = declares attempts (record { task = task; attempt = attempt })
+is_known attempts actor.Shell = false
+
+-- an operation of the actor that a word names
+abbrev pub op_of : List ℕ → List ℕ → Option Op
+op_of actor word = if is_driver actor then named driver_ops word else named attempt_ops word
+
+-- ACTOR OP, of the driver or a declared attempt
+unfoldable pub order_at : ℕ → Draft → List (List ℕ) → Result (Actor × Op) ScriptFault
+order_at n d values = do
+  words ← need (two values) (BadLine n)
+  op ← need (op_of words.0 words.1) (BadLine n)
+  actor ← actor_at n words.0
+  known ← check (is_known d.attempts actor) (UnknownActor n)
+  Ok (actor, op)
+
+-- ACTOR, the driver or a declared attempt
+unfoldable pub alone_at : ℕ → Draft → List (List ℕ) → Result Actor ScriptFault
+alone_at n d values = do
+  word ← need (one values) (BadLine n)
+  actor ← actor_at n word
+  known ← check (is_known d.attempts actor) (UnknownActor n)
+  Ok actor
+
+-- do ACTOR OP
+unfoldable pub do_at : ℕ → Draft → List (List ℕ) → Result Event ScriptFault
+do_at n d values = order_at n d values >>= λ order. Ok (event.Do order.0 order.1)
+
+-- start ACTOR OP
+unfoldable pub start_at : ℕ → Draft → List (List ℕ) → Result Event ScriptFault
+start_at n d values = order_at n d values >>= λ order. Ok (event.Start order.0 order.1)
+
+-- step ACTOR N
+unfoldable pub step_at : ℕ → Draft → List (List ℕ) → Result Event ScriptFault
+step_at n d values = do
+  words ← need (two values) (BadLine n)
+  actor ← actor_at n words.0
+  count ← need (number_in 1 1000000 words.1) (BadNumber n)
+  known ← check (is_known d.attempts actor) (UnknownActor n)
+  Ok (event.Step actor count)
+
+-- run ACTOR
+unfoldable pub run_at : ℕ → Draft → List (List ℕ) → Result Event ScriptFault
+run_at n d values = alone_at n d values >>= λ actor. Ok (event.Run actor)
+
+-- kill ACTOR
+unfoldable pub kill_at : ℕ → Draft → List (List ℕ) → Result Event ScriptFault
+kill_at n d values = alone_at n d values >>= λ actor. Ok (event.Kill actor)
+
+-- mix SEED
+unfoldable pub mix_at : ℕ → List (List ℕ) → Result Event ScriptFault
+mix_at n values = do
+  word ← need (one values) (BadLine n)
+  seed ← need (number_in 0 2147483647 word) (BadNumber n)
+  Ok (event.Mix seed)
+
+-- the event of a line of this kind
+abbrev pub event_at : ℕ → EventWord → Draft → List (List ℕ) → Result Event ScriptFault
+event_at n words.Do d values = do_at n d values
+event_at n words.Start d values = start_at n d values
+event_at n words.Step d values = step_at n d values
+event_at n words.Run d values = run_at n d values
+event_at n words.Kill d values = kill_at n d values
+event_at n words.Mix d values = mix_at n values
+
+-- one more event
+unfoldable pub event_line_at : ℕ → EventWord → Draft → List (List ℕ) → Result Draft ScriptFault
+event_line_at n word d values = do
+  event ← event_at n word d values
+  few ← check (nat_lt (length d.events) 100000) TooLarge
+  Ok (record d { events = d.events ++ event ∷ [] })

@@ -1,0 +1,113 @@
+-- What the bytes of a script mean.
+use Rattle.std.specs.Prelude.{ℕ, ◌+◌, ◌==◌, Bool, true, false, List, [], ◌∷◌, length, Option, Some, None, Result, Ok, Err, nat_le, ⊤, if◌then◌else◌}
+use Rattle.std.specs.Str.{is_utf8}
+use Rattle.words.specs.Lines.{lines_of}
+use Rattle.line_words.specs.Words.{words_of}
+use Rattle.std.specs.FinMap as map
+use Rattle.s3_types.specs.declared.request.Committer.{Committer}
+use Rattle.s3_types.specs.declared.request.Committer.TheVariants as committer
+use Rattle.s3_types.specs.declared.request.Mode.{Mode}
+use Rattle.s3_types.specs.declared.request.Mode.TheVariants as mode
+use Rattle.job_script.specs.declared.fault.ScriptFault.{ScriptFault}
+use Rattle.job_script.specs.declared.fault.ScriptFault.TheVariants.{NotUtf8, BadLine, UnknownWord, MissingHead, UnknownActor, TooLarge}
+use Rattle.job_script.specs.declared.draft.Draft.{Draft}
+use Rattle.job_script.specs.declared.draft.Head.{Head}
+use Rattle.job_script.specs.declared.draft.Group.TheVariants as group
+use Rattle.job_model.specs.declared.script.Script.{Script}
+use Rattle.job_script.specs.declared.kinds.Kind.{Kind}
+use Rattle.job_script.specs.declared.kinds.Kind.TheVariants as kind
+use Rattle.job_script.specs.Fault.{◌>>=◌, need, check}
+use Rattle.job_script.specs.Kinds.{kind_of, enters}
+use Rattle.job_script.specs.HeadLines.{head_at}
+use Rattle.job_script.specs.AttemptLines.{attempt_at, file_at}
+use Rattle.job_script.specs.EventLines.{event_line_at}
+
+-- an empty line, and one that begins with #
+abbrev pub is_skipped : List ℕ → Bool
+is_skipped [] = true
+is_skipped (x ∷ xs) = x == 35
+
+-- what a line of this kind with these values behind its first word adds
+unfoldable pub said_at : ℕ → Kind → Draft → List (List ℕ) → Result Draft ScriptFault
+said_at n (kind.Head word) d values = head_at n word d.head values >>= λ head. Ok (record d { head = head })
+said_at n kind.Attempt d values = attempt_at n d values
+said_at n kind.File d values = file_at n d values
+said_at n (kind.Event word) d values = event_line_at n word d values
+
+-- what a line of words adds: its kind, then its group, then the rest
+unfoldable pub words_at : ℕ → Draft → List (List ℕ) → Result Draft ScriptFault
+words_at n d [] = Err (UnknownWord n)
+words_at n d (word ∷ values) = do
+  kind ← need (kind_of word) (UnknownWord n)
+  group ← need (enters kind d.group) (BadLine n)
+  said_at n kind (record d { group = group }) values
+
+-- what a line adds
+abbrev pub line_at : ℕ → Draft → List ℕ → Result Draft ScriptFault
+line_at n d text = if is_skipped text then Ok d else words_at n d (words_of text)
+
+-- the lines from the n-th on, after those before; the first faulty one gives the fault
+unfoldable pub lines_at : ℕ → Draft → List (List ℕ) → Result Draft ScriptFault
+lines_at n d [] = Ok d
+lines_at n d (text ∷ texts) = do
+  next ← line_at n d text
+  lines_at (n + 1) next texts
+
+-- before the first line
+abbrev pub no_head : Head
+no_head = record { job = None; dest = None; committer = None; tasks = None; mode = None; unique = None; retries = None; block = None; stamp = None; fates = map.empty; losses = 0 }
+
+-- before the first line
+abbrev pub nothing : Draft
+nothing = record { group = group.Head; head = no_head; attempts = []; outside = None; files = 0; bytes = 0; events = [] }
+
+-- the mode, which is `append` where no line gives one, and under `magic`
+abbrev pub mode_in : Committer → Option (ℕ × Mode) → Result Mode ScriptFault
+mode_in committer.Magic None = Ok mode.Append
+mode_in committer.Magic (Some (n, mode.Append)) = Ok mode.Append
+mode_in committer.Magic (Some (n, mode.Fail)) = Err (BadLine n)
+mode_in committer.Magic (Some (n, mode.Replace)) = Err (BadLine n)
+mode_in committer.Directory None = Ok mode.Append
+mode_in committer.Directory (Some (n, mode)) = Ok mode
+mode_in committer.Partitioned None = Ok mode.Append
+mode_in committer.Partitioned (Some (n, mode)) = Ok mode
+
+-- whether names are made unique; not where no line says so, and not under `magic`
+abbrev pub unique_in : Committer → Option (ℕ × Bool) → Result Bool ScriptFault
+unique_in committer.Magic None = Ok false
+unique_in committer.Magic (Some (n, false)) = Ok false
+unique_in committer.Magic (Some (n, true)) = Err (BadLine n)
+unique_in committer.Directory None = Ok false
+unique_in committer.Directory (Some (n, unique)) = Ok unique
+unique_in committer.Partitioned None = Ok false
+unique_in committer.Partitioned (Some (n, unique)) = Ok unique
+
+-- the fault of the first attempt whose task is not below the number of tasks
+abbrev pub all_inside : Option ℕ → Result ⊤ ScriptFault
+all_inside None = Ok tt
+all_inside (Some n) = Err (UnknownActor n)
+
+-- the number, or the one that stands for none
+abbrev pub or_else : Option ℕ → ℕ → ℕ
+or_else None default = default
+or_else (Some x) default = x
+
+-- the checks after the last line, and the whole script
+unfoldable pub complete : Draft → Result Script ScriptFault
+complete d = do
+  job ← need d.head.job MissingHead
+  dest ← need d.head.dest MissingHead
+  committer ← need d.head.committer MissingHead
+  tasks ← need d.head.tasks MissingHead
+  mode ← mode_in committer d.head.mode
+  unique ← unique_in committer d.head.unique
+  inside ← all_inside d.outside
+  Ok (record { job = job; dest = dest; committer = committer; mode = mode; unique = unique; tasks = tasks; retries = or_else d.head.retries 3; block = or_else d.head.block 0; stamp = d.head.stamp; fates = d.head.fates; attempts = d.attempts; events = d.events })
+
+-- what the bytes mean as a script, or the first fault
+unfoldable pub script_of : List ℕ → Result Script ScriptFault
+script_of bytes = do
+  small ← check (nat_le (length bytes) 67108864) TooLarge
+  text ← check (is_utf8 bytes) NotUtf8
+  d ← lines_at 1 nothing (lines_of bytes)
+  complete d

@@ -1,0 +1,182 @@
+ghost use Rattle.std.specs.Prelude.{◌≡◌, option_map};
+ghost use Rattle.line_words.specs.Words.{words_after};
+ghost use Rattle.job_script.specs.Fault.{Gives, Makes};
+ghost use Rattle.job_script.specs.EventLines as lines;
+
+use crate::attempts::name_of;
+use crate::draft::Draft;
+use crate::fault::ScriptFault;
+use crate::kinds::{EventWord, attempt_op, driver_op};
+use job_model::{AttemptName, Attempts, Event, Op};
+use line_words::{number_within, one, two};
+use s3_types::Actor;
+
+fn is_driver(word: &str) -> bool
+    ensures { result ≡ lines.is_driver word.now }
+{
+    word == "driver"
+}
+
+#[tactic(auto, unfolding(crate::specs::EventLines::actor_at))]
+fn actor_of(line: u64, word: &str) -> Result<Actor, ScriptFault>
+    ensures { Gives result (lines.actor_at line word.now) }
+{
+    if is_driver(word) {
+        return Ok(Actor::Driver);
+    }
+    let name = name_of(line, word)?;
+    Ok(Actor::Attempt {
+        task: name.task,
+        attempt: name.attempt,
+    })
+}
+
+fn is_known(attempts: &Attempts, actor: Actor) -> bool
+    ensures { result ≡ lines.is_known attempts.now actor }
+{
+    match actor {
+        Actor::Driver => true,
+        Actor::Attempt { task, attempt } => attempts.declares(AttemptName { task, attempt }),
+        Actor::Shell => false,
+    }
+}
+
+fn op_of(actor: &str, word: &str) -> Option<Op>
+    ensures { result ≡ lines.op_of actor.now word.now }
+{
+    if is_driver(actor) {
+        return driver_op(word);
+    }
+    attempt_op(word)
+}
+
+#[tactic(auto, unfolding(crate::specs::EventLines::order_at))]
+fn order_of(draft: &Draft, line: u64, rest: Option<&str>) -> Result<(Actor, Op), ScriptFault>
+    ensures { Gives result (lines.order_at line draft.now (words_after (option_map (λ r. r.now) rest.entry))) }
+{
+    let Some((actor, op)) = two(rest) else {
+        return Err(ScriptFault::BadLine(line));
+    };
+    let Some(op) = op_of(actor, op) else {
+        return Err(ScriptFault::BadLine(line));
+    };
+    let actor = actor_of(line, actor)?;
+    if !is_known(&draft.attempts, actor) {
+        return Err(ScriptFault::UnknownActor(line));
+    }
+    Ok((actor, op))
+}
+
+#[tactic(auto, unfolding(crate::specs::EventLines::alone_at))]
+fn alone_of(draft: &Draft, line: u64, rest: Option<&str>) -> Result<Actor, ScriptFault>
+    ensures { Gives result (lines.alone_at line draft.now (words_after (option_map (λ r. r.now) rest.entry))) }
+{
+    let Some(word) = one(rest) else {
+        return Err(ScriptFault::BadLine(line));
+    };
+    let actor = actor_of(line, word)?;
+    if !is_known(&draft.attempts, actor) {
+        return Err(ScriptFault::UnknownActor(line));
+    }
+    Ok(actor)
+}
+
+#[tactic(auto, unfolding(crate::specs::EventLines::do_at))]
+fn do_event(draft: &Draft, line: u64, rest: Option<&str>) -> Result<Event, ScriptFault>
+    ensures { Gives result (lines.do_at line draft.now (words_after (option_map (λ r. r.now) rest.entry))) }
+{
+    let (actor, op) = order_of(draft, line, rest)?;
+    Ok(Event::Do { actor, op })
+}
+
+#[tactic(auto, unfolding(crate::specs::EventLines::start_at))]
+fn start_event(draft: &Draft, line: u64, rest: Option<&str>) -> Result<Event, ScriptFault>
+    ensures { Gives result (lines.start_at line draft.now (words_after (option_map (λ r. r.now) rest.entry))) }
+{
+    let (actor, op) = order_of(draft, line, rest)?;
+    Ok(Event::Start { actor, op })
+}
+
+#[tactic(auto, unfolding(crate::specs::EventLines::step_at))]
+fn step_event(draft: &Draft, line: u64, rest: Option<&str>) -> Result<Event, ScriptFault>
+    ensures { Gives result (lines.step_at line draft.now (words_after (option_map (λ r. r.now) rest.entry))) }
+{
+    let Some((actor, count)) = two(rest) else {
+        return Err(ScriptFault::BadLine(line));
+    };
+    let actor = actor_of(line, actor)?;
+    let Some(count) = number_within(1, 1_000_000, count) else {
+        return Err(ScriptFault::BadNumber(line));
+    };
+    if !is_known(&draft.attempts, actor) {
+        return Err(ScriptFault::UnknownActor(line));
+    }
+    Ok(Event::Step {
+        actor,
+        count: count as u32,
+    })
+}
+
+#[tactic(auto, unfolding(crate::specs::EventLines::run_at))]
+fn run_event(draft: &Draft, line: u64, rest: Option<&str>) -> Result<Event, ScriptFault>
+    ensures { Gives result (lines.run_at line draft.now (words_after (option_map (λ r. r.now) rest.entry))) }
+{
+    let actor = alone_of(draft, line, rest)?;
+    Ok(Event::Run { actor })
+}
+
+#[tactic(auto, unfolding(crate::specs::EventLines::kill_at))]
+fn kill_event(draft: &Draft, line: u64, rest: Option<&str>) -> Result<Event, ScriptFault>
+    ensures { Gives result (lines.kill_at line draft.now (words_after (option_map (λ r. r.now) rest.entry))) }
+{
+    let actor = alone_of(draft, line, rest)?;
+    Ok(Event::Kill { actor })
+}
+
+#[tactic(auto, unfolding(crate::specs::EventLines::mix_at))]
+fn mix_event(line: u64, rest: Option<&str>) -> Result<Event, ScriptFault>
+    ensures { Gives result (lines.mix_at line (words_after (option_map (λ r. r.now) rest.entry))) }
+{
+    let Some(word) = one(rest) else {
+        return Err(ScriptFault::BadLine(line));
+    };
+    let Some(seed) = number_within(0, 2_147_483_647, word) else {
+        return Err(ScriptFault::BadNumber(line));
+    };
+    Ok(Event::Mix { seed: seed as u32 })
+}
+
+fn event_of(
+    draft: &Draft,
+    line: u64,
+    word: EventWord,
+    rest: Option<&str>,
+) -> Result<Event, ScriptFault>
+    ensures { Gives result (lines.event_at line word draft.now (words_after (option_map (λ r. r.now) rest.entry))) }
+{
+    match word {
+        EventWord::Do => do_event(draft, line, rest),
+        EventWord::Start => start_event(draft, line, rest),
+        EventWord::Step => step_event(draft, line, rest),
+        EventWord::Run => run_event(draft, line, rest),
+        EventWord::Kill => kill_event(draft, line, rest),
+        EventWord::Mix => mix_event(line, rest),
+    }
+}
+
+#[tactic(auto, unfolding(crate::specs::EventLines::event_line_at))]
+pub fn event_line(
+    draft: &mut Draft,
+    line: u64,
+    word: EventWord,
+    rest: Option<&str>,
+) -> Result<(), ScriptFault>
+    ensures { Makes result draft.new (lines.event_line_at line word draft.old (words_after (option_map (λ r. r.now) rest.entry))) }
+{
+    let event = event_of(draft, line, word, rest)?;
+    if draft.events.len() >= 100_000 {
+        return Err(ScriptFault::TooLarge);
+    }
+    draft.events.push(event)?;
+    Ok(())
+}

@@ -1,0 +1,168 @@
+ghost use Rattle.std.specs.Prelude.{◌≡◌};
+ghost use Rattle.job_script.specs.Kinds as table;
+
+use crate::draft::Group;
+use job_model::Op;
+use s3_types::{Committer, Fate, Mode};
+
+/// The head's kinds of lines.
+#[derive(Clone, Copy, Debug, PartialEq, Eq)]
+pub enum HeadWord {
+    Job,
+    Dest,
+    Committer,
+    Tasks,
+    Mode,
+    Unique,
+    Retries,
+    Block,
+    Stamp,
+    Loss,
+}
+
+#[derive(Clone, Copy, Debug, PartialEq, Eq)]
+pub enum EventWord {
+    Do,
+    Start,
+    Step,
+    Run,
+    Kill,
+    Mix,
+}
+
+/// The kinds of lines.
+#[derive(Clone, Copy, Debug, PartialEq, Eq)]
+pub enum Kind {
+    Head(HeadWord),
+    Attempt,
+    File,
+    Event(EventWord),
+}
+
+pub fn head_word(word: &str) -> Option<HeadWord>
+    ensures { result ≡ table.named table.head_words word.now }
+{
+    match word {
+        "job" => Some(HeadWord::Job),
+        "dest" => Some(HeadWord::Dest),
+        "committer" => Some(HeadWord::Committer),
+        "tasks" => Some(HeadWord::Tasks),
+        "mode" => Some(HeadWord::Mode),
+        "unique" => Some(HeadWord::Unique),
+        "retries" => Some(HeadWord::Retries),
+        "block" => Some(HeadWord::Block),
+        "stamp" => Some(HeadWord::Stamp),
+        "loss" => Some(HeadWord::Loss),
+        _ => None,
+    }
+}
+
+pub fn event_word(word: &str) -> Option<EventWord>
+    ensures { result ≡ table.named table.event_words word.now }
+{
+    match word {
+        "do" => Some(EventWord::Do),
+        "start" => Some(EventWord::Start),
+        "step" => Some(EventWord::Step),
+        "run" => Some(EventWord::Run),
+        "kill" => Some(EventWord::Kill),
+        "mix" => Some(EventWord::Mix),
+        _ => None,
+    }
+}
+
+/// The kind of line that begins with this word.
+pub fn kind_of(word: &str) -> Option<Kind>
+    ensures { result ≡ table.kind_of word.now }
+{
+    if let Some(head) = head_word(word) {
+        return Some(Kind::Head(head));
+    }
+    match word {
+        "attempt" => Some(Kind::Attempt),
+        "file" => Some(Kind::File),
+        _ => match event_word(word) {
+            Some(event) => Some(Kind::Event(event)),
+            None => None,
+        },
+    }
+}
+
+pub fn committer_of(word: &str) -> Option<Committer>
+    ensures { result ≡ table.named table.committers word.now }
+{
+    match word {
+        "magic" => Some(Committer::Magic),
+        "directory" => Some(Committer::Directory),
+        "partitioned" => Some(Committer::Partitioned),
+        _ => None,
+    }
+}
+
+pub fn mode_of(word: &str) -> Option<Mode>
+    ensures { result ≡ table.named table.modes word.now }
+{
+    match word {
+        "fail" => Some(Mode::Fail),
+        "append" => Some(Mode::Append),
+        "replace" => Some(Mode::Replace),
+        _ => None,
+    }
+}
+
+pub fn answer_of(word: &str) -> Option<bool>
+    ensures { result ≡ table.named table.answers word.now }
+{
+    match word {
+        "yes" => Some(true),
+        "no" => Some(false),
+        _ => None,
+    }
+}
+
+pub fn fate_of(word: &str) -> Option<Fate>
+    ensures { result ≡ table.named table.fates word.now }
+{
+    match word {
+        "slow" => Some(Fate::Slow),
+        "before" => Some(Fate::Before),
+        "after" => Some(Fate::After),
+        _ => None,
+    }
+}
+
+pub fn driver_op(word: &str) -> Option<Op>
+    ensures { result ≡ table.named table.driver_ops word.now }
+{
+    match word {
+        "setup" => Some(Op::Setup),
+        "commit" => Some(Op::Commit),
+        "abort" => Some(Op::Abort),
+        "clean" => Some(Op::Clean),
+        _ => None,
+    }
+}
+
+pub fn attempt_op(word: &str) -> Option<Op>
+    ensures { result ≡ table.named table.attempt_ops word.now }
+{
+    match word {
+        "write" => Some(Op::Write),
+        "commit" => Some(Op::Commit),
+        "abort" => Some(Op::Abort),
+        _ => None,
+    }
+}
+
+/// The group after a line of this kind, where it may stand there.
+pub fn enters(kind: Kind, group: Group) -> Option<Group>
+    ensures { result ≡ table.enters kind group }
+{
+    match (kind, group) {
+        (Kind::Head(_), Group::Head) => Some(Group::Head),
+        (Kind::Attempt, Group::Head | Group::Attempts) => Some(Group::Attempts),
+        (Kind::File, Group::Attempts) => Some(Group::Attempts),
+        (Kind::Event(_), _) => Some(Group::Events),
+        _ => None,
+    }
+}

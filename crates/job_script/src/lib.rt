@@ -1,0 +1,21 @@
+//! The reader of job scripts: a job's head, its attempts with their files, and the events of its run.
+#![tactic(auto)]
+
+mod attempts;
+mod complete;
+mod content;
+mod draft;
+mod events;
+mod fault;
+mod head;
+mod kinds;
+mod loss;
+mod paths;
+mod reading;
+
+pub use fault::ScriptFault;
+pub use job_model::Script;
+pub use reading::read_script;
+
+#[cfg(test)]
+mod tests;

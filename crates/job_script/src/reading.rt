@@ -1,0 +1,150 @@
+ghost use Rattle.std.specs.Prelude.{◌≡◌, ◌≤◌, length, option_map, is_some, IfSome, IfOk, Ok};
+ghost use Rattle.std.specs.Str.{is_utf8};
+ghost use Rattle.words.specs.Lines.{lines_of};
+ghost use Rattle.line_words.specs.Words.{words_after};
+ghost use Rattle.job_model.specs.declared.script.Script.{Script};
+ghost use Rattle.job_script.specs.Fault.{Gives, Makes, ReadAs};
+ghost use Rattle.job_script.specs.Legal.{IsLegal};
+ghost use Rattle.job_script.specs.Script as script;
+
+use crate::attempts::{attempt_line, file_line};
+use crate::complete::complete;
+use crate::draft::{Draft, Group, Head};
+use crate::events::event_line;
+use crate::fault::ScriptFault;
+use crate::head::head_line;
+use crate::kinds::{Kind, enters, kind_of};
+use job_model::{Attempts, EventList, Script};
+use line_words::{next_line, next_part};
+use s3_types::Fates;
+use std::alloc::Global;
+
+const MOST_BYTES: usize = 67_108_864;
+
+fn nothing(alloc: Global) -> Draft
+    ensures { result ≡ script.nothing }
+{
+    let head = Head {
+        job: None,
+        dest: None,
+        committer: None,
+        tasks: None,
+        mode: None,
+        unique: None,
+        retries: None,
+        block: None,
+        stamp: None,
+        fates: Fates::new(alloc),
+        losses: 0,
+    };
+    Draft {
+        group: Group::Head,
+        head,
+        attempts: Attempts::new(alloc),
+        outside: None,
+        files: 0,
+        bytes: 0,
+        events: EventList::new(alloc),
+    }
+}
+
+#[tactic(auto, unfolding(crate::specs::Script::said_at))]
+fn kind_line(
+    alloc: Global,
+    draft: &mut Draft,
+    line: u64,
+    kind: Kind,
+    rest: Option<&str>,
+) -> Result<(), ScriptFault>
+    ensures { Makes result draft.new (script.said_at line kind draft.old (words_after (option_map (λ r. r.now) rest.entry))) }
+{
+    match kind {
+        Kind::Head(word) => head_line(alloc, &mut draft.head, line, word, rest),
+        Kind::Attempt => attempt_line(alloc, draft, line, rest),
+        Kind::File => file_line(alloc, draft, line, rest),
+        Kind::Event(word) => event_line(draft, line, word, rest),
+    }
+}
+
+/// Whether a line says nothing: it is empty or begins with `#`.
+fn is_skipped(text: &str) -> bool
+    ensures { result ≡ script.is_skipped text.now }
+{
+    match text.as_bytes().first() {
+        Some(b) => *b == b'#',
+        None => true,
+    }
+}
+
+#[tactic(auto, unfolding(crate::specs::Script::words_at))]
+fn line_of(alloc: Global, draft: &mut Draft, line: u64, text: &str) -> Result<(), ScriptFault>
+    ensures { Makes result draft.new (script.line_at line draft.old text.now) }
+{
+    if is_skipped(text) {
+        return Ok(());
+    }
+    let (word, rest) = next_part(' ', text);
+    let Some(kind) = kind_of(word) else {
+        return Err(ScriptFault::UnknownWord(line));
+    };
+    let Some(group) = enters(kind, draft.group) else {
+        return Err(ScriptFault::BadLine(line));
+    };
+    draft.group = group;
+    kind_line(alloc, draft, line, kind, rest)
+}
+
+#[tactic(auto, unfolding(crate::specs::Script::lines_at))]
+fn draft_of(alloc: Global, text: &str) -> Result<Draft, ScriptFault>
+    requires { length text.now ≤ 67108864 }
+    ensures { Gives result (script.lines_at 1 script.nothing (lines_of text.now)) }
+{
+    let mut draft = nothing(alloc);
+    let mut line = 1u64;
+    let mut rest = text;
+    while !rest.is_empty() {
+        let (words, after) = next_line(rest);
+        line_of(alloc, &mut draft, line, words)?;
+        line += 1;
+        rest = after;
+    }
+    Ok(draft)
+}
+
+/// The input as text, where it is UTF-8.
+fn text_of(bytes: &[u8]) -> Option<&str>
+    ensures same { IfSome result (λ text. text.now ≡ bytes.now) }
+    ensures found { is_some result ≡ is_utf8 bytes.now }
+{
+    match str::from_utf8(bytes) {
+        Ok(text) => Some(text),
+        Err(_) => None,
+    }
+}
+
+#[tactic(auto, unfolding(crate::specs::Script::script_of))]
+fn script_in(alloc: Global, bytes: &[u8]) -> Result<Script, ScriptFault>
+    ensures { Gives result (script.script_of bytes.now) }
+{
+    if bytes.len() > MOST_BYTES {
+        return Err(ScriptFault::TooLarge);
+    }
+    let Some(text) = text_of(bytes) else {
+        return Err(ScriptFault::NotUtf8);
+    };
+    let draft = draft_of(alloc, text)?;
+    complete(draft)
+}
+
+/// Reads a job script. The error is the first fault in the order of `script_of`: TooLarge for more than
+/// 67,108,864 bytes, NotUtf8, the first fault of the first faulty line, and then what the script lacks as
+/// a whole. Want of memory alone may come at any place. What is read has the bounds of `IsLegal`. Takes
+/// one pass over the input.
+pub fn read_script(alloc: Global, bytes: &[u8]) -> Result<Script, ScriptFault>
+    ensures exact { Gives result (script.script_of bytes.now) }
+    ensures found { IfOk result (λ s. script.script_of bytes.now ≡ Ok s) }
+    ensures legal { IfOk result IsLegal }
+    ensures only { (s : Script) → script.script_of bytes.now ≡ Ok s → ReadAs result s }
+{
+    script_in(alloc, bytes)
+}
