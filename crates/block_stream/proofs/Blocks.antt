@@ -1,0 +1,33 @@
+-- Blocks that are cut off what was written.
+use Rattle.std.proofs.Common.{◌≡◌, ℕ, ◌+◌, ◌-◌, ◌<◌, List, [], ◌∷◌, ◌++◌, length, take, drop, sym, ap, subst, ◌∙◌, arith, append_assoc, length-append}
+use Rattle.std.specs.List.{concat}
+use Rattle.std.proofs.lemmas.List.{append-nil, take-append-drop}
+use Rattle.std.proofs.lemmas.List.Folds.{concat-append}
+use Rattle.block_stream.specs.Holds.{AreLong}
+
+-- one block more
+pub joined_more : (q : List (List ℕ)) (b rest head tail : List ℕ) → b ≡ rest ++ head → concat (q ++ b ∷ []) ++ tail ≡ concat q ++ (rest ++ (head ++ tail))
+joined_more q b rest head tail e =
+    ap (λ x. x ++ tail) (concat-append q (b ∷ []) ∙ ap (λ x. concat q ++ x) (append-nil b ∙ e))
+    ∙ append_assoc (concat q) (rest ++ head) tail
+    ∙ ap (λ x. concat q ++ x) (append_assoc rest head tail)
+
+pub long_more : (n : ℕ) (q : List (List ℕ)) (b : List ℕ) → AreLong n q → length b ≡ n → AreLong n (q ++ b ∷ [])
+long_more n [] b h e = (e, tt)
+long_more n (x ∷ q) b h e = (h.0, long_more n q b h.1 e)
+
+-- the block that is filled up
+pub filled : (n : ℕ) (b rest head : List ℕ) → b ≡ rest ++ head → length head ≡ n - length rest → length rest < n → length b ≡ n
+filled n b rest head e h l = let k : length (rest ++ head) ≡ length rest + length head = length-append rest head in ap length e ∙ omega arith
+
+-- one turn: the rest is filled up to a block, and the rest is empty
+pub turn : (n at : ℕ) (q q' : List (List ℕ)) (rest left head tail b none whole : List ℕ) → concat q ++ (rest ++ left) ≡ whole → AreLong n q → length rest < n → at ≡ n - length rest
+    → head ≡ take at left → tail ≡ drop at left → length head ≡ at → b ≡ rest ++ head → q' ≡ q ++ b ∷ [] → none ≡ []
+    → (concat q' ++ (none ++ tail) ≡ whole) × AreLong n q' × (length none < n)
+turn n at q q' rest left head tail b none whole i long short room first later size block more empty =
+    let all : head ++ tail ≡ left = ap (λ x. x ++ tail) first ∙ ap (λ x. take at left ++ x) later ∙ take-append-drop at left in
+    let few : length none < n = omega (arith, ap length empty, short) in (
+      ap (λ x. concat q' ++ (x ++ tail)) empty ∙ ap (λ x. concat x ++ tail) more ∙ joined_more q b rest head tail block ∙ ap (λ x. concat q ++ (rest ++ x)) all ∙ i,
+      subst (AreLong n) (sym more) (long_more n q b long (filled n b rest head block (size ∙ room) short)),
+      few,
+    )

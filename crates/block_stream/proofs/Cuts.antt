@@ -1,0 +1,212 @@
+-- What a stream's blocks tell of what is pending.
+use Rattle.std.specs.Prelude.{◌≡◌, ℕ, ◌+◌, ◌<◌, ◌≤◌, ◌&&◌, ◌||◌, Bool, true, false, not, nat_le, nat_lt, cond, List, [], ◌∷◌, ◌++◌, length, take, drop, Option, Some, None}
+use Rattle.std.proofs.Common.{refl, sym, ap, subst, ◌∙◌, arith, append_assoc, length-append}
+use Rattle.block_stream.specs.Kept.{next_at}
+use Rattle.std.specs.List.{concat}
+use Rattle.std.specs.Option.{unwrap_or}
+use Rattle.std.proofs.lemmas.List.{append-nil, take_all, take-append-le, drop_all}
+use Rattle.std.proofs.Math.Seq.{drop-append_seam}
+use Rattle.std.proofs.lemmas.Bool.Decides.{nat_tests}
+use Rattle.s3_types.specs.Tags.{Spelled}
+use Rattle.block_stream.specs.declared.mode.StreamMode.{StreamMode}
+use Rattle.block_stream.specs.declared.mode.StreamMode.TheVariants.{Direct, Delayed}
+use Rattle.block_stream.specs.declared.mode.StreamEnd.{StreamEnd}
+use Rattle.block_stream.specs.declared.mode.StreamEnd.TheVariants.{Done}
+use Rattle.block_stream.specs.declared.stage.Stage.{Stage}
+use Rattle.block_stream.specs.declared.stage.Stage.TheVariants.{Waiting, Putting, Beginning, Sending, Completing, Over}
+use Rattle.block_stream.specs.Stream.{Stream, is_direct, has_some, has_part, is_small, begin_or_wait, complete_or_wait, stage_of, asks_with, wanted, is_settled, settled, ended}
+use Rattle.block_stream.specs.Kept.{IsCutUp, seen, first_of, is_whole, is_due, is_short, stage_by, settles}
+
+not_at : (n k : ℕ) → k < n → nat_le n k ≡ false
+not_at n k h = grind (arith, nat_tests)
+
+is_at : (n k : ℕ) → n ≤ k → nat_le n k ≡ true
+is_at n k h = grind (arith, nat_tests)
+
+-- bytes that begin with a whole block
+begins_whole : (n : ℕ) (b bs : List ℕ) → length b ≡ n → nat_le n (length (b ++ bs)) ≡ nat_le n (length b)
+begins_whole n b bs e =
+    let k : length (b ++ bs) ≡ length b + length bs = length-append b bs in
+    let l : n ≤ length (b ++ bs) = omega (arith, k, e) in
+    let m : n ≤ length b = omega (arith, e) in
+    is_at n (length (b ++ bs)) l ∙ sym (is_at n (length b) m)
+
+-- whether a whole block is pending shows on the first
+pub whole_is : (n : ℕ) (closed : Bool) (q : List (List ℕ)) (r : List ℕ) → 1 ≤ n → IsCutUp n closed q r → is_whole n q ≡ nat_le n (length (concat q ++ r))
+whole_is n false [] r l h = sym (not_at n (length r) h.1)
+whole_is n false (b ∷ bs) r l h = sym (ap (λ x. nat_le n (length x)) (append_assoc b (concat bs) r) ∙ begins_whole n b (concat bs ++ r) h.0.0)
+whole_is n true [] r l h = let z : 0 < n = omega arith in sym (ap (λ (x : List ℕ). nat_le n (length x)) h.1 ∙ not_at n 0 z)
+whole_is n true (b ∷ []) r l h = sym (ap (λ x. nat_le n (length x)) (append_assoc b [] r ∙ ap (λ x. b ++ x) h.1 ∙ append-nil b))
+whole_is n true (b ∷ c ∷ bs) r l h = sym (ap (λ x. nat_le n (length x)) (append_assoc b (concat (c ∷ bs)) r) ∙ begins_whole n b (concat (c ∷ bs) ++ r) h.0.0)
+
+some_front : (b bs : List ℕ) → 0 < length b → true ≡ has_some (b ++ bs)
+some_front [] bs h = let no : ⊥ = omega arith in absurd no
+some_front (x ∷ b) bs h = refl
+
+pub some_is : (n : ℕ) (q : List (List ℕ)) (r : List ℕ) → 1 ≤ n → IsCutUp n true q r → has_some q ≡ has_some (concat q ++ r)
+some_is n [] r l h = ap has_some (sym h.1)
+some_is n (b ∷ []) r l h = some_front b ([] ++ r) h.0.0 ∙ ap has_some (sym (append_assoc b [] r))
+some_is n (b ∷ c ∷ bs) r l h = let k : 0 < length b = omega (arith, h.0.0) in some_front b (concat (c ∷ bs) ++ r) k ∙ ap has_some (sym (append_assoc b (concat (c ∷ bs)) r))
+
+take_front : (n : ℕ) (b bs : List ℕ) → length b ≡ n → b ≡ take n (b ++ bs)
+take_front n b bs e =
+    let l : n ≤ length b = omega (arith, e) in
+    let k : length b ≤ n = omega (arith, e) in
+    sym (take-append-le n b bs l ∙ take_all n b k)
+
+-- the next part is the first block
+pub first_is : (n : ℕ) (closed : Bool) (q : List (List ℕ)) (r : List ℕ) → IsCutUp n closed q r → (closed ≡ false → is_whole n q ≡ true) → first_of q ≡ take n (concat q ++ r)
+first_is n false [] r h w = let e : false ≡ true = w refl in absurd (cc)
+first_is n false (b ∷ bs) r h w = take_front n b (concat bs ++ r) h.0.0 ∙ ap (take n) (sym (append_assoc b (concat bs) r))
+first_is n true [] r h w = sym (ap (take n) h.1 ∙ none n)
+  where
+    none : (n : ℕ) → take {A = ℕ} n [] ≡ []
+    none n = let l : length {A = ℕ} [] ≤ n = omega arith in take_all n [] l
+first_is n true (b ∷ []) r h w = sym (ap (take n) (append_assoc b [] r ∙ ap (λ x. b ++ x) h.1 ∙ append-nil b) ∙ take_all n b h.0.1)
+first_is n true (b ∷ c ∷ bs) r h w = take_front n b (concat (c ∷ bs) ++ r) h.0.0 ∙ ap (take n) (sym (append_assoc b (concat (c ∷ bs)) r))
+
+-- what is pending without the next part
+pub drop_is : (n : ℕ) (closed : Bool) (q : List (List ℕ)) (r : List ℕ) → IsCutUp n closed q r → (closed ≡ false → is_whole n q ≡ true) → drop n (concat q ++ r) ≡ concat (drop 1 q) ++ r
+drop_is n false [] r h w = let e : false ≡ true = w refl in absurd (cc)
+drop_is n false (b ∷ bs) r h w = ap (drop n) (append_assoc b (concat bs) r) ∙ drop_front n b (concat bs ++ r) h.0.0
+  where
+    drop_front : (n : ℕ) (b bs : List ℕ) → length b ≡ n → drop n (b ++ bs) ≡ bs
+    drop_front n b bs e = ap (λ k. drop k (b ++ bs)) (sym e) ∙ drop-append_seam b bs
+drop_is n true [] r h w = ap (drop n) h.1 ∙ none n ∙ sym h.1
+  where
+    none : (n : ℕ) → drop {A = ℕ} n [] ≡ []
+    none n = let l : length {A = ℕ} [] ≤ n = omega arith in drop_all n [] l
+drop_is n true (b ∷ []) r h w = ap (drop n) (append_assoc b [] r ∙ ap (λ x. b ++ x) h.1 ∙ append-nil b) ∙ drop_all n b h.0.1 ∙ sym h.1
+drop_is n true (b ∷ c ∷ bs) r h w = ap (drop n) (append_assoc b (concat (c ∷ bs)) r) ∙ drop_front n b (concat (c ∷ bs) ++ r) h.0.0
+  where
+    drop_front : (n : ℕ) (b bs : List ℕ) → length b ≡ n → drop n (b ++ bs) ≡ bs
+    drop_front n b bs e = ap (λ k. drop k (b ++ bs)) (sym e) ∙ drop-append_seam b bs
+
+-- the blocks without the first are cut up alike
+pub cut_rest : (n : ℕ) (closed : Bool) (q : List (List ℕ)) (r : List ℕ) → IsCutUp n closed q r → IsCutUp n closed (drop 1 q) r
+cut_rest n false [] r h = h
+cut_rest n false (b ∷ bs) r h = (h.0.1, h.1)
+cut_rest n true [] r h = h
+cut_rest n true (b ∷ []) r h = (tt, h.1)
+cut_rest n true (b ∷ c ∷ bs) r h = (h.0.1, h.1)
+
+module _ (mode : StreamMode) (bucket key : List ℕ) (n : ℕ) (q : List (List ℕ)) (r : List ℕ) (u : Option ℕ) (tags : List Spelled) (count : ℕ) where
+  abbrev stream : Bool → Stream
+  stream closed = seen mode bucket key n q r u tags count closed None
+
+  pub due_is : (closed : Bool) → 1 ≤ n → IsCutUp n closed q r → is_due n q closed tags ≡ has_part (stream closed)
+  due_is false l h = ap (λ b. b || false) (whole_is n false q r l h)
+  due_is true l h = ap (λ b. b || (has_some q || not (has_some tags))) (whole_is n true q r l h) ∙ ap (λ b. nat_le n (length (concat q ++ r)) || (b || not (has_some tags))) (some_is n q r l h)
+
+  not_le : (a b : ℕ) → not (nat_le a b) ≡ nat_lt b a
+  not_le a b = grind (arith, nat_tests)
+
+  pub short_is : (closed : Bool) → 1 ≤ n → IsCutUp n closed q r → is_short mode n q closed ≡ is_small (stream closed)
+  short_is closed l h = ap (λ b. is_direct mode && (closed && not b)) (whole_is n closed q r l h) ∙ ap (λ b. is_direct mode && (closed && b)) (not_le n (length (concat q ++ r)))
+
+  pub stage_is : (v : Option ℕ) (closed : Bool) → 1 ≤ n → IsCutUp n closed q r → stage_by mode n q closed tags v ≡ stage_of None v (stream closed)
+  stage_is None closed l h = ap (λ b. cond b Putting (begin_or_wait (is_due n q closed tags))) (short_is closed l h) ∙ ap (λ b. cond (is_small (stream closed)) Putting (begin_or_wait b)) (due_is closed l h)
+  stage_is (Some id) closed l h = ap (λ b. cond b Sending (complete_or_wait closed)) (due_is closed l h)
+
+  -- no whole block is pending, and the stream is open: it waits
+  waits : (v : Option ℕ) → is_whole n q ≡ false → stage_by mode n q false tags v ≡ Waiting
+  waits None e = ap (λ b. cond b Putting (begin_or_wait (is_due n q false tags))) (none (is_direct mode)) ∙ ap (λ b. begin_or_wait (b || false)) e
+    where
+      none : (b : Bool) → (b && false) ≡ false
+      none true = refl
+      none false = refl
+  waits (Some id) e = ap (λ b. cond (b || false) Sending Waiting) e
+
+  -- what is asked, by the blocks
+  pub asks_is : (closed : Bool) → 1 ≤ n → IsCutUp n closed q r → asks_with (stage_by mode n q closed tags u) bucket key (unwrap_or u 0) tags (first_of q) ≡ wanted (stream closed)
+  asks_is true l h =
+      ap (λ x. asks_with (stage_by mode n q true tags u) bucket key (unwrap_or u 0) tags x) (first_is n true q r h (λ e. absurd (cc)))
+      ∙ ap (λ g. asks_with g bucket key (unwrap_or u 0) tags (take n (concat q ++ r))) (stage_is u true l h)
+  asks_is false l h =
+      elim (is_whole n q) as (λ z. is_whole n q ≡ z → asks_with (stage_by mode n q false tags u) bucket key (unwrap_or u 0) tags (first_of q) ≡ wanted (stream false)) [
+        | true ↦ λ z.
+            ap (λ x. asks_with (stage_by mode n q false tags u) bucket key (unwrap_or u 0) tags x) (first_is n false q r h (λ e. z))
+            ∙ ap (λ g. asks_with g bucket key (unwrap_or u 0) tags (take n (concat q ++ r))) (stage_is u false l h)
+        | false ↦ λ z.
+            ap (λ g. asks_with g bucket key (unwrap_or u 0) tags (first_of q)) (waits u z)
+            ∙ sym (ap (λ g. asks_with g bucket key (unwrap_or u 0) tags (take n (concat q ++ r))) (sym (stage_is u false l h) ∙ waits u z))
+      ] refl
+
+settles_not : (mode : StreamMode) (g : Stage) → (is_direct mode ≡ false → g ≡ Completing → ⊥) → settles mode g ≡ (g, None)
+settles_not Direct g h = refl
+settles_not Delayed Waiting h = refl
+settles_not Delayed Putting h = refl
+settles_not Delayed Beginning h = refl
+settles_not Delayed Sending h = refl
+settles_not Delayed Completing h = absurd (h refl refl)
+settles_not Delayed Over h = refl
+
+settles_now : (mode : StreamMode) (g : Stage) → is_direct mode ≡ false → g ≡ Completing → settles mode g ≡ (Over, Some Done)
+settles_now Direct g e f = absurd (cc)
+settles_now Delayed g e f = ap (settles Delayed) f
+
+both : (a b c : Bool) → (a && (not b && not c)) ≡ true → (a ≡ true) × (b ≡ false) × (c ≡ false)
+both true true c h = absurd (cc)
+both true false true h = absurd (cc)
+both true false false h = (refl, refl, refl)
+both false b c h = absurd (cc)
+
+pub first_part : (m : Stream) → m.closed ≡ true → m.tags ≡ [] → has_part m ≡ true
+first_part m c t = ap (λ b. nat_le m.block (length m.pending) || (b && (has_some m.pending || not (has_some m.tags)))) c
+    ∙ ap (λ (ts : List Spelled). nat_le m.block (length m.pending) || (has_some m.pending || not (has_some ts))) t
+    ∙ or_true (nat_le m.block (length m.pending)) (has_some m.pending)
+  where
+    or_true : (a b : Bool) → (a || (b || true)) ≡ true
+    or_true true b = refl
+    or_true false true = refl
+    or_true false false = refl
+
+-- the stage of a closed stream that has an upload and no part to send
+completing : (v : Option ℕ) (m : Stream) → m.closed ≡ true → has_part m ≡ false → (v ≡ None → m.tags ≡ []) → stage_of None v m ≡ Completing
+completing None m c p t = let e : true ≡ false = sym (first_part m c (t refl)) ∙ p in absurd (cc)
+completing (Some id) m c p t = ap (λ b. cond b Sending (complete_or_wait m.closed)) p ∙ ap complete_or_wait c
+
+only_then : (v : Option ℕ) (m : Stream) → stage_of None v m ≡ Completing → (has_part m ≡ false) × (m.closed ≡ true)
+only_then None m =
+    elim (is_small m) as (λ a. cond a Putting (begin_or_wait (has_part m)) ≡ Completing → (has_part m ≡ false) × (m.closed ≡ true)) [
+      | true ↦ λ e. absurd (cc)
+      | false ↦
+          elim (has_part m) as (λ b. begin_or_wait b ≡ Completing → (b ≡ false) × (m.closed ≡ true)) [
+            | true ↦ λ e. absurd (cc)
+            | false ↦ λ e. absurd (cc)
+          ]
+    ]
+only_then (Some id) m =
+    elim (has_part m) as (λ b. cond b Sending (complete_or_wait m.closed) ≡ Completing → (b ≡ false) × (m.closed ≡ true)) [
+      | true ↦ λ e. absurd (cc)
+      | false ↦
+          elim m.closed as (λ c. complete_or_wait c ≡ Completing → (false ≡ false) × (c ≡ true)) [
+            | true ↦ λ e. (refl, refl)
+            | false ↦ λ e. absurd (cc)
+          ]
+    ]
+
+module _ (mode : StreamMode) (bucket key : List ℕ) (n : ℕ) (q : List (List ℕ)) (r : List ℕ) (u : Option ℕ) (tags : List Spelled) (count : ℕ) (closed : Bool) where
+  abbrev here : Stream
+  here = seen mode bucket key n q r u tags count closed None
+
+  -- what the fields tell, and what is asked, once it is seen whether the stream has ended
+  abbrev IsNext : Stage × Option StreamEnd → Stream → Type 0
+  IsNext g m = (seen mode bucket key n q r u tags count closed g.1 ≡ m) × ((next_at g bucket key q tags u).0 ≡ wanted m)
+
+  pub next_is : 1 ≤ n → IsCutUp n closed q r → (u ≡ None → tags ≡ []) → IsNext (settles mode (stage_by mode n q closed tags u)) (settled here)
+  next_is l h t =
+      let g = stage_by mode n q closed tags u in
+      let e : g ≡ stage_of None u here = stage_is mode bucket key n q r u tags count u closed l h in
+      elim (is_settled here) as (λ z. is_settled here ≡ z → IsNext (settles mode g) (cond z (ended here Done) here)) [
+        | true ↦ λ z.
+            let k = both closed (is_direct mode) (has_part here) z in
+            subst (λ x. IsNext x (ended here Done)) (sym (settles_now mode g k.1 (e ∙ completing u here k.0 k.2 t))) (refl, refl)
+        | false ↦ λ z.
+            subst (λ x. IsNext x here) (sym (settles_not mode g (λ d s.
+            let o = only_then u here (sym e ∙ s) in
+            let f : is_settled here ≡ true = ap (λ b. b && (not (is_direct mode) && not (has_part here))) o.1 ∙ ap (λ b. not b && not (has_part here)) d ∙ ap not o.0 in
+            let y : true ≡ false = sym f ∙ z in
+            absurd (cc))))
+            (refl, asks_is mode bucket key n q r u tags count closed l h)
+      ] refl

@@ -1,0 +1,92 @@
+-- What driving a stream that is alone leaves.
+use Rattle.std.specs.Prelude.{◌≡◌, ℕ, Bool, true, false, cond, List, Option, Result, Ok, Err, IfOk}
+use Rattle.std.proofs.Common.{refl, sym, subst, ◌∙◌}
+use Rattle.s3_types.specs.Store.{Scene}
+use Rattle.s3_types.specs.Answer.{answer}
+use Rattle.s3_types.specs.declared.journal.Entry.{Entry}
+use Rattle.s3_types.specs.declared.fates.Fate.{Fate}
+use Rattle.s3_types.specs.declared.request.Actor.{Actor}
+use Rattle.s3_types.specs.declared.reply.Reply.{Reply}
+use Rattle.s3_types.specs.declared.reply.Reply.TheVariants.{Stored, Upload, Part, Completed, Refused}
+use Rattle.s3_types.specs.declared.reply.Refusal.{Refusal}
+use Rattle.s3_types.specs.declared.reply.Refusal.TheVariants.{NoSuchUpload}
+use Rattle.machine.specs.Item.{Got, Fine}
+use Rattle.machine.specs.Keeping.{Keeps}
+use Rattle.machine.specs.Drove.{Drove}
+use Rattle.machine.specs.Turns.{run}
+use Rattle.machine.specs.declared.retrying.Retrying.{Retrying}
+use Rattle.machine.specs.declared.driving.DriveStop.{DriveStop}
+use Rattle.machine.proofs.Keeps.{run_keeps}
+use Rattle.block_stream.specs.declared.mode.StreamEnd.TheVariants.{Done}
+use Rattle.block_stream.specs.declared.stage.Stage.{Stage}
+use Rattle.block_stream.specs.declared.stage.Stage.TheVariants.{Putting, Beginning, Sending, Completing}
+use Rattle.block_stream.specs.Stream.{Stream, stage, wanted, moved, told, refused, ended, settled, is_settled, parted, standing}
+use Rattle.block_stream.specs.Holds.{Holds, IsReady}
+use Rattle.block_stream.specs.Stored.{IsStored, IsSameOutput}
+use Rattle.block_stream.specs.Keeping.{stored}
+use Rattle.block_stream.specs.StreamLaws.{holds_kept}
+
+the_same : (m : Stream) → IsSameOutput m m
+the_same m = record { mode = refl; bucket = refl; key = refl; block = refl; count = refl; closed = refl }
+
+same_settled : (m : Stream) → IsSameOutput m (settled m)
+same_settled m =
+    elim (is_settled m) as (λ z. IsSameOutput m (cond z (ended m Done) m)) [
+      | true ↦ record { mode = refl; bucket = refl; key = refl; block = refl; count = refl; closed = refl }
+      | false ↦ the_same m
+    ]
+
+same_then : (a b c : Stream) → IsSameOutput a b → IsSameOutput b c → IsSameOutput a c
+same_then a b c h k = record { mode = k.mode ∙ h.mode; bucket = k.bucket ∙ h.bucket; key = k.key ∙ h.key; block = k.block ∙ h.block; count = k.count ∙ h.count; closed = k.closed ∙ h.closed }
+
+same_refused : (m : Stream) (b : Bool) (r : Refusal) → IsSameOutput m (refused m b r)
+same_refused m b NoSuchUpload = record { mode = refl; bucket = refl; key = refl; block = refl; count = refl; closed = refl }
+same_refused m b _ = the_same m
+
+same_told : (g : Stage) (m : Stream) (b : Bool) (a : Reply) → IsSameOutput m (told g m b a)
+same_told Putting m b (Stored t) = record { mode = refl; bucket = refl; key = refl; block = refl; count = refl; closed = refl }
+same_told Beginning m b (Upload id) = record { mode = refl; bucket = refl; key = refl; block = refl; count = refl; closed = refl }
+same_told Sending m b (Part t) = same_then m (parted m t) (settled (parted m t)) (record { mode = refl; bucket = refl; key = refl; block = refl; count = refl; closed = refl }) (same_settled (parted m t))
+same_told Sending m b (Refused r) = same_refused m false r
+same_told Completing m b (Completed t) = record { mode = refl; bucket = refl; key = refl; block = refl; count = refl; closed = refl }
+same_told Completing m b (Refused r) = same_refused m b r
+same_told _ m b _ = the_same m
+
+-- no item changes what the output is
+same_kept : (m : Stream) → Keeps wanted moved (λ m' s repeated. IsSameOutput m m')
+same_kept m = record {
+  lost = λ m' s b h. h;
+  hidden = λ m' s r b w h. h;
+  took = λ m' s r b w h. same_then m m' (moved m' (Got (answer s r) b)) h (same_told (stage m') m' b (answer s r));
+  gave_up = λ m' s r b w h. record { mode = h.mode; bucket = h.bucket; key = h.key; block = h.block; count = h.count; closed = h.closed };
+}
+
+module _ (actor : Actor) (event : ℕ) (t t' : Retrying Stream) (s s' : Scene) (old new : List Entry) (before now : ℕ) (foretold : ℕ → Option Fate) (first : ℕ) where
+  abbrev Ran : Result (Unit {0}) DriveStop → Type 0
+  Ran result = Drove wanted moved IsReady standing actor event t t' s s' old new before now foretold first result
+
+  -- where it went on to its end, what was written is held
+  holds_over : (d : Ran (Ok tt)) → (bytes : List ℕ) → Holds t.machine s t.repeated bytes → Holds t'.machine s' t'.repeated bytes
+  holds_over d bytes h =
+      let k = run_keeps (holds_kept bytes) t s d.part d.is_run.follows d.is_run.honest h in
+      subst (λ (v : Retrying Stream). Holds v.machine s' v.repeated bytes) (sym d.ended.there) (subst (λ v. Holds (run moved t d.part).machine v (run moved t d.part).repeated bytes) (sym d.is_run.scene) k)
+
+  same_over : Ran (Ok tt) → IsSameOutput t.machine t'.machine
+  same_over d = subst (λ (v : Retrying Stream). IsSameOutput t.machine v.machine) (sym d.ended.there) (run_keeps (same_kept t.machine) t s d.part d.is_run.follows d.is_run.honest (the_same t.machine))
+
+  pub same_if : (result : Result (Unit {0}) DriveStop) → Ran result → IfOk result (λ _. IsSameOutput t.machine t'.machine)
+  same_if (Ok tt) d = same_over d
+  same_if (Err e) d = tt
+
+  pub holds_if : (result : Result (Unit {0}) DriveStop) → Ran result → IfOk result (λ _. (bytes : List ℕ) → Holds t.machine s t.repeated bytes → Holds t'.machine s' t'.repeated bytes)
+  holds_if (Ok tt) d = holds_over d
+  holds_if (Err e) d = tt
+
+  -- a closed stream with no fault has then stored what was written
+  pub stored_if : (result : Result (Unit {0}) DriveStop) → Ran result → IfOk result (λ _. t.machine.closed ≡ true → standing t.machine ≡ Fine → (bytes : List ℕ) → Holds t.machine s t.repeated bytes → IsStored t'.machine s' bytes)
+  stored_if (Ok tt) d = λ c f bytes h.
+      let k = holds_over d bytes h in
+      let same = same_over d in
+      let e = stored t'.machine s' t'.repeated bytes k (same.closed ∙ c) d.ended.over (d.ended.stands ∙ f) in
+      record { done = e.0; content = k.content; there = k.there; written = e.1 }
+  stored_if (Err e) d = tt

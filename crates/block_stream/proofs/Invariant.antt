@@ -1,0 +1,252 @@
+-- Each change keeps what the fields of a stream keep.
+use Rattle.std.specs.Prelude.{◌≡◌, ℕ, ◌+◌, ◌-◌, ◌*◌, ◌<◌, ◌≤◌, ◌&&◌, ◌||◌, Bool, true, false, not, nat_le, cond, List, [], ◌∷◌, ◌++◌, length, drop, Option, Some, None, is_some}
+use Rattle.std.proofs.Common.{refl, sym, ap, subst, ◌∙◌, arith, append_assoc, length-append}
+use Rattle.std.specs.List.{concat}
+use Rattle.std.specs.Option.{unwrap_or}
+use Rattle.std.proofs.lemmas.List.{append-nil}
+use Rattle.std.proofs.lemmas.List.Folds.{concat-append}
+use Rattle.s3_types.specs.Tags.{Spelled}
+use Rattle.s3_types.specs.declared.request.Request.{Request}
+use Rattle.block_stream.specs.declared.mode.StreamMode.{StreamMode}
+use Rattle.block_stream.specs.declared.mode.StreamEnd.{StreamEnd}
+use Rattle.block_stream.specs.declared.mode.StreamEnd.TheVariants.{Done}
+use Rattle.block_stream.specs.declared.stage.Stage.{Stage}
+use Rattle.block_stream.specs.declared.stage.Stage.TheVariants.{Beginning, Sending}
+use Rattle.block_stream.specs.Stream.{Stream, has_some, has_part, stage, stage_of, complete_or_wait, asks, asks_with, wanted, ended, parted, settled, is_settled, added, wrote, shut, closed_by, close}
+use Rattle.block_stream.specs.Holds.{AreLong, HasRoom}
+use Rattle.block_stream.specs.Kept.{AreCut, IsCutUp, CutUp, seen, IsKept, first_of, front_of, last_of, is_whole, stage_by, settles, next_at, next_by}
+use Rattle.block_stream.specs.Filling.{AtStage, at_stage, due, room_after, room_ended, room_begun, none_some}
+use Rattle.block_stream.specs.Keeping.{room_wrote, room_shut, unsettled}
+use Rattle.block_stream.proofs.Cuts.{whole_is, first_is, drop_is, cut_rest, asks_is, next_is, first_part}
+
+-- the fields of a stream that has not ended are cut up
+pub cut_of : (e : Option StreamEnd) (n : ℕ) (closed : Bool) (q : List (List ℕ)) (r : List ℕ) → IsCutUp n closed q r → CutUp e n closed q r
+cut_of None n closed q r h = h
+cut_of (Some e) n closed q r h = tt
+
+room_settled : (m : Stream) → HasRoom m → HasRoom (settled m)
+room_settled m r =
+    elim (is_settled m) as (λ z. HasRoom (cond z (ended m Done) m)) [
+      | true ↦ room_ended m Done r
+      | false ↦ r
+    ]
+
+pub none_of : {X : Type 0} (o : Option X) → is_some o ≡ false → o ≡ None
+none_of None h = refl
+none_of (Some x) h = absurd (cc)
+
+-- ---- blocks in front
+
+front_next : (mode : StreamMode) (bucket key : List ℕ) (n : ℕ) (q l : List (List ℕ)) (closed : Bool) (tags : List Spelled) (u : Option ℕ) → next_by mode bucket key n (front_of q l) closed tags u ≡ next_by mode bucket key n (q ++ l) closed tags u
+front_next mode bucket key n [] l closed tags u = refl
+front_next mode bucket key n (b ∷ q) l closed tags None = refl
+front_next mode bucket key n (b ∷ q) l closed tags (Some id) = refl
+
+front_asks : (mode : StreamMode) (bucket key : List ℕ) (n : ℕ) (q l : List (List ℕ)) (closed : Bool) (tags : List Spelled) (u : Option ℕ)
+    → asks_with (stage_by mode n (front_of q l) closed tags u) bucket key (unwrap_or u 0) tags (first_of (front_of q l)) ≡ asks_with (stage_by mode n (q ++ l) closed tags u) bucket key (unwrap_or u 0) tags (first_of (q ++ l))
+front_asks mode bucket key n [] l closed tags u = refl
+front_asks mode bucket key n (b ∷ q) l closed tags None = refl
+front_asks mode bucket key n (b ∷ q) l closed tags (Some id) = refl
+
+long_both : (n : ℕ) (q l : List (List ℕ)) → AreLong n q → AreLong n l → AreLong n (q ++ l)
+long_both n [] l h k = k
+long_both n (b ∷ q) l h k = (h.0, long_both n q l h.1 k)
+
+-- whole blocks, and the rest as the last one
+long_cut : (n : ℕ) (q : List (List ℕ)) → 1 ≤ n → AreLong n q → AreCut n q
+long_cut n [] l h = tt
+long_cut n (b ∷ []) l h = let a : 0 < length b = omega (arith, h.0) in let c : length b ≤ n = omega (arith, h.0) in (a, c)
+long_cut n (b ∷ c ∷ q) l h = (h.0, long_cut n (c ∷ q) l h.1)
+
+cut_last : (n : ℕ) (q : List (List ℕ)) (b : List ℕ) → AreLong n q → 0 < length b → length b ≤ n → AreCut n (q ++ b ∷ [])
+cut_last n [] b h p l = (p, l)
+cut_last n (a ∷ []) b h p l = (h.0, (p, l))
+cut_last n (a ∷ c ∷ q) b h p l = (h.0, cut_last n (c ∷ q) b h.1 p l)
+
+cut_closed : (n : ℕ) (q : List (List ℕ)) (r : List ℕ) → 1 ≤ n → AreLong n q → length r < n → AreCut n (q ++ last_of r)
+cut_closed n q [] l h k = subst (AreCut n) (sym (append-nil q)) (long_cut n q l h)
+cut_closed n q (x ∷ r) l h k = let p : 0 < length (x ∷ r) = omega arith in let m : length (x ∷ r) ≤ n = omega arith in cut_last n q (x ∷ r) h p m
+
+concat_last : (q : List (List ℕ)) (r : List ℕ) → concat (q ++ last_of r) ++ [] ≡ concat q ++ r
+concat_last q [] = append-nil (concat (q ++ [])) ∙ concat-append q []
+concat_last q (x ∷ r) = append-nil (concat (q ++ (x ∷ r) ∷ [])) ∙ concat-append q ((x ∷ r) ∷ []) ∙ ap (λ l. concat q ++ l) (append-nil (x ∷ r))
+
+module _ (mode : StreamMode) (bucket key : List ℕ) (n : ℕ) (q : List (List ℕ)) (r : List ℕ) (u : Option ℕ) (tags : List Spelled) (count : ℕ) where
+  -- the stream that these fields stand for
+  abbrev at : Bool → Option StreamEnd → Stream
+  at closed e = seen mode bucket key n q r u tags count closed e
+
+  -- a stream that has not ended is cut up
+  cut_in : (closed : Bool) (e : Option StreamEnd) → e ≡ None → CutUp e n closed q r → IsCutUp n closed q r
+  cut_in closed e p h = subst (λ v. CutUp v n closed q r) p h
+
+  -- where a part is due, the first block is it
+  due_whole : (closed : Bool) (e : Option StreamEnd) → 1 ≤ n → IsCutUp n closed q r → has_part (at closed e) ≡ true → closed ≡ false → is_whole n q ≡ true
+  due_whole closed e l h d o = whole_is n closed q r l h ∙ or_none (nat_le n (length (concat q ++ r))) (has_some (concat q ++ r) || not (has_some tags)) closed o d
+    where
+      or_none : (a b c : Bool) → c ≡ false → (a || (c && b)) ≡ true → a ≡ true
+      or_none true b c e h = refl
+      or_none false b true e h = absurd (cc)
+      or_none false b false e h = h
+
+  pub begin_kept : (closed : Bool) (e : Option StreamEnd) (a b : Option Request) (id : ℕ) → IsKept (at closed e) q r a → stage (at closed e) ≡ Beginning
+      → b ≡ asks_with Sending bucket key id tags (first_of q) → IsKept (seen mode bucket key n q r (Some id) tags count closed e) q r b
+  begin_kept closed e a b id k s h =
+      let x : AtStage Beginning (at closed e) = subst (λ g. AtStage g (at closed e)) s (at_stage (at closed e)) in
+      let c = cut_in closed e x.0 k.cut in
+      let d = due_whole closed e k.room.some c x.2 in
+      record {
+        asks = h ∙ ap (λ z. asks_with Sending bucket key id tags z) (first_is n closed q r c d)
+            ∙ sym (ap (λ v. asks (stage_of v (Some id) (seen mode bucket key n q r (Some id) tags count closed e)) (seen mode bucket key n q r (Some id) tags count closed e)) x.0
+            ∙ ap (λ v. asks (cond v Sending (complete_or_wait closed)) (seen mode bucket key n q r (Some id) tags count closed e)) x.2);
+        room = room_begun (at closed e) id k.room;
+        parts = λ z. absurd (none_some id z);
+        done = λ z w. absurd (none_some id w);
+        cut = k.cut;
+      }
+
+  -- the fields after a part that was answered
+  pub part_kept : (closed : Bool) (e : Option StreamEnd) (a : Option Request) (t : Spelled) (x : Option Request × Option StreamEnd) → IsKept (at closed e) q r a → stage (at closed e) ≡ Sending
+      → x ≡ next_by mode bucket key n (drop 1 q) closed (tags ++ t ∷ []) u
+      → (seen mode bucket key n (drop 1 q) r u (tags ++ t ∷ []) count closed x.1 ≡ settled (parted (at closed e) t)) × IsKept (seen mode bucket key n (drop 1 q) r u (tags ++ t ∷ []) count closed x.1) (drop 1 q) r x.0
+  part_kept closed e a t x k s h =
+      let y : AtStage Sending (at closed e) = subst (λ g. AtStage g (at closed e)) s (at_stage (at closed e)) in
+      let c = cut_in closed e y.0 k.cut in
+      let d = due_whole closed e k.room.some c y.2 in
+      let new : Stream = seen mode bucket key n (drop 1 q) r u (tags ++ t ∷ []) count closed None in
+      let is : parted (at closed e) t ≡ new =
+      ap (λ p. record { mode = mode; bucket = bucket; key = key; block = n; pending = p; upload = u; tags = tags ++ t ∷ []; count = count; closed = closed; end = e }) (drop_is n closed q r c d)
+      ∙ ap (λ v. seen mode bucket key n (drop 1 q) r u (tags ++ t ∷ []) count closed v) y.0 in
+      let no : u ≡ None → tags ++ t ∷ [] ≡ [] = λ z. absurd (none_some y.1.0 (sym y.1.1 ∙ z)) in
+      let w = next_is mode bucket key n (drop 1 q) r u (tags ++ t ∷ []) count closed k.room.some (cut_rest n closed q r c) no in
+      let seen_is : seen mode bucket key n (drop 1 q) r u (tags ++ t ∷ []) count closed x.1 ≡ settled new = ap (λ (v : Option Request × Option StreamEnd). seen mode bucket key n (drop 1 q) r u (tags ++ t ∷ []) count closed v.1) h ∙ w.0 in
+      let all = seen_is ∙ ap settled (sym is) in (
+        all,
+        record {
+          asks = ap (λ (v : Option Request × Option StreamEnd). v.0) h ∙ w.1 ∙ ap wanted (sym seen_is);
+          room = subst HasRoom (sym all) (room_settled (parted (at closed e) t) (room_after (at closed e) t k.room (due (at closed e) y.2)));
+          parts = λ z. absurd (none_some y.1.0 (sym y.1.1 ∙ z));
+          done = λ z w. absurd (none_some y.1.0 (sym y.1.1 ∙ w));
+          cut = cut_of x.1 n closed (drop 1 q) r (cut_rest n closed q r c);
+        },
+      )
+
+  -- the fields after a short piece
+  pub short_kept : (e : Option StreamEnd) (a : Option Request) (piece : List ℕ) (closed : Bool) → closed ≡ false → e ≡ None → length piece < n - length r → count + length piece ≤ n * 10000 → IsKept (at closed e) q r a
+      → (seen mode bucket key n q (r ++ piece) u tags (count + length piece) closed e ≡ wrote (at closed e) piece) × IsKept (seen mode bucket key n q (r ++ piece) u tags (count + length piece) closed e) q (r ++ piece) a
+  short_kept e a piece closed o p short few k =
+      let c : IsCutUp n false q r = subst (λ v. IsCutUp n v q r) o (cut_in closed e p k.cut) in
+      let sum : length (r ++ piece) ≡ length r + length piece = length-append r piece in
+      let l : length (r ++ piece) < n = omega (arith, sum, c.1) in
+      let c' : IsCutUp n false q (r ++ piece) = (c.0, l) in
+      let is : seen mode bucket key n q (r ++ piece) u tags (count + length piece) closed e ≡ wrote (at closed e) piece =
+      ap (λ z. record { mode = mode; bucket = bucket; key = key; block = n; pending = z; upload = u; tags = tags; count = count + length piece; closed = closed; end = e })
+      (sym (append_assoc (concat q) r piece) ∙ sym (ap (λ v. added v (concat q ++ r) piece) p)) in
+      let old : wanted (at closed e) ≡ wanted (at false None) = ap (λ v. wanted (at v e)) o ∙ ap (λ v. wanted (at false v)) p in
+      let new : wanted (seen mode bucket key n q (r ++ piece) u tags (count + length piece) closed e) ≡ wanted (seen mode bucket key n q (r ++ piece) u tags (count + length piece) false None) =
+      ap (λ v. wanted (seen mode bucket key n q (r ++ piece) u tags (count + length piece) v e)) o ∙ ap (λ v. wanted (seen mode bucket key n q (r ++ piece) u tags (count + length piece) false v)) p in (
+        is,
+        record {
+          asks = k.asks ∙ old ∙ sym (asks_is mode bucket key n q r u tags count false k.room.some c)
+              ∙ asks_is mode bucket key n q (r ++ piece) u tags (count + length piece) false k.room.some c' ∙ sym new;
+          room = subst HasRoom (sym is) (room_wrote (at closed e) piece o few k.room);
+          parts = k.parts;
+          done = λ z w. absurd (none_some Done (sym z ∙ p));
+          cut = cut_of e n closed q (r ++ piece) (subst (λ v. IsCutUp n v q (r ++ piece)) (sym o) c');
+        },
+      )
+
+  -- the fields after a piece that fills blocks
+  pub long_kept : (e : Option StreamEnd) (a b : Option Request) (piece : List ℕ) (closed : Bool) (bs : List (List ℕ)) (rest : List ℕ) → closed ≡ false → e ≡ None → count + length piece ≤ n * 10000 → IsKept (at closed e) q r a
+      → concat bs ++ rest ≡ r ++ piece → AreLong n bs → length rest < n
+      → b ≡ asks_with (stage_by mode n (front_of q bs) false tags u) bucket key (unwrap_or u 0) tags (first_of (front_of q bs))
+      → (seen mode bucket key n (q ++ bs) rest u tags (count + length piece) closed e ≡ wrote (at closed e) piece) × IsKept (seen mode bucket key n (q ++ bs) rest u tags (count + length piece) closed e) (q ++ bs) rest b
+  long_kept e a b piece closed bs rest o p few k joined long short h =
+      let c : IsCutUp n false q r = subst (λ v. IsCutUp n v q r) o (cut_in closed e p k.cut) in
+      let c' : IsCutUp n false (q ++ bs) rest = (long_both n q bs c.0 long, short) in
+      let bytes : concat (q ++ bs) ++ rest ≡ (concat q ++ r) ++ piece =
+      ap (λ z. z ++ rest) (concat-append q bs) ∙ append_assoc (concat q) (concat bs) rest ∙ ap (λ z. concat q ++ z) joined ∙ sym (append_assoc (concat q) r piece) in
+      let is : seen mode bucket key n (q ++ bs) rest u tags (count + length piece) closed e ≡ wrote (at closed e) piece =
+      ap (λ z. record { mode = mode; bucket = bucket; key = key; block = n; pending = z; upload = u; tags = tags; count = count + length piece; closed = closed; end = e })
+      (bytes ∙ sym (ap (λ v. added v (concat q ++ r) piece) p)) in
+      let new : wanted (seen mode bucket key n (q ++ bs) rest u tags (count + length piece) closed e) ≡ wanted (seen mode bucket key n (q ++ bs) rest u tags (count + length piece) false None) =
+      ap (λ v. wanted (seen mode bucket key n (q ++ bs) rest u tags (count + length piece) v e)) o ∙ ap (λ v. wanted (seen mode bucket key n (q ++ bs) rest u tags (count + length piece) false v)) p in (
+        is,
+        record {
+          asks = h ∙ front_asks mode bucket key n q bs false tags u ∙ asks_is mode bucket key n (q ++ bs) rest u tags (count + length piece) false k.room.some c' ∙ sym new;
+          room = subst HasRoom (sym is) (room_wrote (at closed e) piece o few k.room);
+          parts = k.parts;
+          done = λ z w. absurd (none_some Done (sym z ∙ p));
+          cut = cut_of e n closed (q ++ bs) rest (subst (λ v. IsCutUp n v (q ++ bs) rest) (sym o) c');
+        },
+      )
+
+  -- the fields after the close
+  pub close_kept : (e : Option StreamEnd) (a : Option Request) (closed : Bool) (x : Option Request × Option StreamEnd) → closed ≡ false → e ≡ None → IsKept (at closed e) q r a
+      → x ≡ next_by mode bucket key n (front_of q (last_of r)) true tags u
+      → (seen mode bucket key n (q ++ last_of r) [] u tags count true x.1 ≡ close (at closed e)) × IsKept (seen mode bucket key n (q ++ last_of r) [] u tags count true x.1) (q ++ last_of r) [] x.0
+  close_kept e a closed x o p k h =
+      let c : IsCutUp n false q r = subst (λ v. IsCutUp n v q r) o (cut_in closed e p k.cut) in
+      let c' : IsCutUp n true (q ++ last_of r) [] = (cut_closed n q r k.room.some c.0 c.1, refl) in
+      let new : Stream = seen mode bucket key n (q ++ last_of r) [] u tags count true None in
+      let is : new ≡ shut (at closed e) =
+      ap (λ z. record { mode = mode; bucket = bucket; key = key; block = n; pending = z; upload = u; tags = tags; count = count; closed = true; end = None }) (concat_last q r)
+      ∙ ap (λ v. record { mode = mode; bucket = bucket; key = key; block = n; pending = concat q ++ r; upload = u; tags = tags; count = count; closed = true; end = v }) (sym p) in
+      let w = next_is mode bucket key n (q ++ last_of r) [] u tags count true k.room.some c' k.parts in
+      let seen_is : seen mode bucket key n (q ++ last_of r) [] u tags count true x.1 ≡ settled new =
+      ap (λ (v : Option Request × Option StreamEnd). seen mode bucket key n (q ++ last_of r) [] u tags count true v.1) (h ∙ front_next mode bucket key n q (last_of r) true tags u) ∙ w.0 in
+      let all : seen mode bucket key n (q ++ last_of r) [] u tags count true x.1 ≡ close (at closed e) =
+      seen_is ∙ ap settled is ∙ sym (ap (λ v. closed_by v (at closed e)) p) in (
+        all,
+        record {
+          asks = ap (λ (v : Option Request × Option StreamEnd). v.0) (h ∙ front_next mode bucket key n q (last_of r) true tags u) ∙ w.1 ∙ ap wanted (sym seen_is);
+          room = subst HasRoom (sym (seen_is ∙ ap settled is)) (room_settled (shut (at closed e)) (room_shut (at closed e) k.room));
+          parts = k.parts;
+          done = λ z w. absurd (none_some Done (sym z ∙ ap (λ (m : Stream). m.end) (seen_is ∙ ap (λ b. cond b (ended new Done) new) (unsettled new (first_part new refl (k.parts w))))));
+          cut = cut_of x.1 n true (q ++ last_of r) [] c';
+        },
+      )
+
+  -- the same, where the fields are told by equations
+  abbrev IsParted : Bool → Option StreamEnd → Spelled → List (List ℕ) → List Spelled → Option Request → Option StreamEnd → Type 0
+  IsParted closed e t q' tags' b e' = (seen mode bucket key n q' r u tags' count closed e' ≡ settled (parted (at closed e) t)) × IsKept (seen mode bucket key n q' r u tags' count closed e') q' r b
+
+  pub part_in : (closed : Bool) (e : Option StreamEnd) (a b : Option Request) (t : Spelled) (x : Option Request × Option StreamEnd) (q' : List (List ℕ)) (tags' : List Spelled) → IsKept (at closed e) q r a → stage (at closed e) ≡ Sending
+      → q' ≡ drop 1 q → tags' ≡ tags ++ t ∷ [] → b ≡ x.0 → x ≡ next_by mode bucket key n q' closed (tags ++ t ∷ []) u → IsParted closed e t q' tags' b x.1
+  part_in closed e a b t x q' tags' k s hq ht hb hx =
+      subst (λ z. IsParted closed e t z tags' b x.1) (sym hq)
+      (subst (λ z. IsParted closed e t (drop 1 q) z b x.1) (sym ht)
+      (subst (λ z. IsParted closed e t (drop 1 q) (tags ++ t ∷ []) z x.1) (sym hb)
+      (part_kept closed e a t x k s (hx ∙ ap (λ z. next_by mode bucket key n z closed (tags ++ t ∷ []) u) hq))))
+
+  abbrev pub IsWroteAs : Bool → Option StreamEnd → List ℕ → List (List ℕ) → List ℕ → ℕ → Option Request → Type 0
+  IsWroteAs closed e piece q' r' count' b = (seen mode bucket key n q' r' u tags count' closed e ≡ wrote (at closed e) piece) × IsKept (seen mode bucket key n q' r' u tags count' closed e) q' r' b
+
+  pub short_in : (closed : Bool) (e : Option StreamEnd) (a : Option Request) (piece r' : List ℕ) (count' : ℕ) → closed ≡ false → e ≡ None → count + length piece ≤ n * 10000 → IsKept (at closed e) q r a
+      → length piece < n - length r → r' ≡ r ++ piece → count' ≡ count + length piece → IsWroteAs closed e piece q r' count' a
+  short_in closed e a piece r' count' o p few k short hr hc =
+      subst (λ z. IsWroteAs closed e piece q z count' a) (sym hr)
+      (subst (λ z. IsWroteAs closed e piece q (r ++ piece) z a) (sym hc) (short_kept e a piece closed o p short few k))
+
+  pub long_in : (closed : Bool) (e : Option StreamEnd) (a b : Option Request) (piece rest : List ℕ) (bs q' f : List (List ℕ)) (count' : ℕ) (g : Stage) → closed ≡ false → e ≡ None → count + length piece ≤ n * 10000 → IsKept (at closed e) q r a
+      → concat bs ++ rest ≡ r ++ piece → AreLong n bs → length rest < n → count' ≡ count + length piece
+      → f ≡ front_of q bs → g ≡ stage_by mode n f false tags u → b ≡ asks_with g bucket key (unwrap_or u 0) tags (first_of f) → q' ≡ q ++ bs → IsWroteAs closed e piece q' rest count' b
+  long_in closed e a b piece rest bs q' f count' g o p few k joined long short hc hf hg hb hq =
+      subst (λ z. IsWroteAs closed e piece z rest count' b) (sym hq)
+      (subst (λ z. IsWroteAs closed e piece (q ++ bs) rest z b) (sym hc)
+      (long_kept e a b piece closed bs rest o p few k joined long short
+      (hb ∙ ap (λ z. asks_with z bucket key (unwrap_or u 0) tags (first_of f)) hg ∙ ap (λ z. asks_with (stage_by mode n z false tags u) bucket key (unwrap_or u 0) tags (first_of z)) hf)))
+
+  abbrev pub IsClosedAs : Bool → Option StreamEnd → List (List ℕ) → List ℕ → Option Request → Option StreamEnd → Type 0
+  IsClosedAs closed e q' r' b e' = (seen mode bucket key n q' r' u tags count true e' ≡ close (at closed e)) × IsKept (seen mode bucket key n q' r' u tags count true e') q' r' b
+
+  pub close_in : (closed : Bool) (e : Option StreamEnd) (a b : Option Request) (r' : List ℕ) (l q' f : List (List ℕ)) (g : Stage) (y : Stage × Option StreamEnd) → closed ≡ false → e ≡ None → IsKept (at closed e) q r a
+      → l ≡ last_of r → f ≡ front_of q l → g ≡ stage_by mode n f true tags u → y ≡ settles mode g → b ≡ asks_with y.0 bucket key (unwrap_or u 0) tags (first_of f) → q' ≡ q ++ l → r' ≡ [] → IsClosedAs closed e q' r' b y.1
+  close_in closed e a b r' l q' f g y o p k hl hf hg hy hb hq hr =
+      let x : Option Request × Option StreamEnd = (asks_with y.0 bucket key (unwrap_or u 0) tags (first_of f), y.1) in
+      let is : x ≡ next_by mode bucket key n (front_of q (last_of r)) true tags u =
+      ap (λ z. next_at z bucket key f tags u) (hy ∙ ap (settles mode) hg)
+      ∙ ap (λ z. next_by mode bucket key n z true tags u) (hf ∙ ap (front_of q) hl) in
+      subst (λ z. IsClosedAs closed e z r' b y.1) (sym (hq ∙ ap (λ z. q ++ z) hl))
+      (subst (λ z. IsClosedAs closed e (q ++ last_of r) z b y.1) (sym hr)
+      (subst (λ z. IsClosedAs closed e (q ++ last_of r) [] z y.1) (sym hb) (close_kept e a closed x o p k is)))

@@ -1,0 +1,5 @@
+pub mod Blocks
+pub mod Cuts
+pub mod Driven
+pub mod Invariant
+pub mod Written

@@ -1,0 +1,133 @@
+-- What a write and the close keep.
+use Rattle.std.specs.Prelude.{◌≡◌, ◌+◌, ◌*◌, ◌≤◌, ◌&&◌, ℕ, Bool, true, false, nat_lt, cond, List, [], ◌++◌, length, take, Option, Some, None, Result, Ok, Err, OnOk, IsSome}
+use Rattle.std.proofs.Common.{refl, sym, ap, subst, ◌∙◌, arith}
+use Rattle.std.proofs.lemmas.List.{take-append-le}
+use Rattle.std.proofs.Common.{arith}
+use Rattle.std.proofs.lemmas.Bool.Decides.{nat_tests}
+use Rattle.std.specs.FinMap as fin
+use Rattle.s3_types.specs.Store.{Scene, BucketContent}
+use Rattle.block_stream.specs.declared.mode.StreamMode.{StreamMode}
+use Rattle.s3_types.specs.declared.request.Request.{Request}
+use Rattle.block_stream.specs.declared.mode.StreamEnd.TheVariants.{Done}
+use Rattle.block_stream.specs.declared.stage.Stage.{Stage}
+use Rattle.block_stream.specs.declared.stage.Stage.TheVariants.{Waiting, Putting, Beginning, Sending, Completing, Over}
+use Rattle.block_stream.specs.Stream.{Stream, fresh, is_direct, has_part, is_small, ended, begin_or_wait, complete_or_wait, stage_of, stage, asks_with, id_of, asks, wanted, added, wrote, shut, closed_by, close}
+use Rattle.block_stream.specs.Holds.{Holds}
+use Rattle.block_stream.specs.Filling.{AtStage, at_stage, both_l, both_r, true_false}
+use Rattle.block_stream.specs.Keeping.{asks_alive, open_due, is_due, longer, holds_wrote, holds_close, unsettled}
+
+-- ---- what is held
+
+no_parts : (n : ℕ) → n * 0 + 0 ≡ 0
+no_parts n = grind arith
+
+-- of a stream that was just made nothing was written
+pub fresh_holds : (mode : StreamMode) (bucket key : List ℕ) (n : ℕ) (s : Scene) (c : BucketContent) → 1 ≤ n → fin.get s.content.buckets bucket ≡ Some c → s.content.minimum ≤ n → Holds (fresh mode bucket key n) s false []
+fresh_holds mode bucket key n s c some there least =
+    let few : n * 0 + 0 ≤ n * 10000 = omega (arith, no_parts n) in
+    record {
+      content = c;
+      there = there;
+      least = least;
+      room = record { some = some; few = few; counted = λ o e. sym (no_parts n) };
+      held = (refl, refl);
+    }
+
+pub holds_written : {E : Type 0} (r : Result (Unit {0}) E) (m m' : Stream) (piece : List ℕ) → m.closed ≡ false → OnOk r (m' ≡ wrote m piece) → OnOk r (m.count + length piece ≤ m.block * 10000)
+    → OnOk r ((s : Scene) (repeated : Bool) (bytes : List ℕ) → Holds m s repeated bytes → Holds m' s repeated (bytes ++ piece))
+holds_written (Ok u) m m' piece o e l = λ s b bytes h. subst (λ v. Holds v s b (bytes ++ piece)) (sym e) (holds_wrote m s b bytes o h piece l)
+holds_written (Err e) m m' piece o i l = tt
+
+pub holds_closed : {E : Type 0} (r : Result (Unit {0}) E) (m m' : Stream) → m.closed ≡ false → OnOk r (m' ≡ close m) → OnOk r ((s : Scene) (repeated : Bool) (bytes : List ℕ) → Holds m s repeated bytes → Holds m' s repeated bytes)
+holds_closed (Ok u) m m' o e = λ s b bytes h. subst (λ v. Holds v s b bytes) (sym e) (holds_close m s b bytes o h)
+holds_closed (Err e) m m' o i = tt
+
+-- ---- what is asked
+
+-- an open stream that asks something has a part to send
+part_due : (m : Stream) → m.closed ≡ false → (r : Request) → wanted m ≡ Some r → has_part m ≡ true
+part_due m o r w = by (stage m) refl w
+  where
+    by : (g : Stage) → stage m ≡ g → asks g m ≡ Some r → has_part m ≡ true
+    by Waiting e h = absurd (cc)
+    by Over e h = absurd (cc)
+    by Putting e h =
+        let k : AtStage Putting m = subst (λ g. AtStage g m) e (at_stage m) in
+        absurd (true_false (sym (both_l m.closed (nat_lt (length m.pending) m.block) (both_r (is_direct m.mode) (m.closed && nat_lt (length m.pending) m.block) k.2)) ∙ o))
+    by Beginning e h = let k : AtStage Beginning m = subst (λ g. AtStage g m) e (at_stage m) in k.2
+    by Sending e h = let k : AtStage Sending m = subst (λ g. AtStage g m) e (at_stage m) in k.2
+    by Completing e h = let k : AtStage Completing m = subst (λ g. AtStage g m) e (at_stage m) in absurd (true_false (sym k.3 ∙ o))
+
+-- the stage of a stream with a part to send
+abbrev sends : Option ℕ → Stage
+sends None = Beginning
+sends (Some id) = Sending
+
+due_stage : (u : Option ℕ) (m : Stream) → is_small m ≡ false → has_part m ≡ true → stage_of None u m ≡ sends u
+due_stage None m s p = ap (λ b. cond b Putting (begin_or_wait (has_part m))) s ∙ ap begin_or_wait p
+due_stage (Some id) m s p = ap (λ b. cond b Sending (complete_or_wait m.closed)) p
+
+due_wanted : (m : Stream) → m.end ≡ None → is_small m ≡ false → has_part m ≡ true → wanted m ≡ asks (sends m.upload) m
+due_wanted m e s p = ap (λ v. asks (stage_of v m.upload m) m) e ∙ ap (λ g. asks g m) (due_stage m.upload m s p)
+
+open_not_small : (m : Stream) → m.closed ≡ false → is_small m ≡ false
+open_not_small m o = ap (λ b. is_direct m.mode && (b && nat_lt (length m.pending) m.block)) o ∙ and_false (is_direct m.mode)
+  where
+    and_false : (b : Bool) → (b && false) ≡ false
+    and_false true = refl
+    and_false false = refl
+
+large_not_small : (m : Stream) → m.block ≤ length m.pending → is_small m ≡ false
+large_not_small m l = ap (λ b. is_direct m.mode && (m.closed && b)) (not_less m.block (length m.pending) l) ∙ none (is_direct m.mode) m.closed
+  where
+    not_less : (a b : ℕ) → a ≤ b → nat_lt b a ≡ false
+    not_less a b h = grind (arith, nat_tests)
+
+    none : (a b : Bool) → (a && (b && false)) ≡ false
+    none true true = refl
+    none true false = refl
+    none false b = refl
+
+-- with more pending, or closed, the same is asked
+same_asked : (m m' : Stream) (u : Option ℕ) → asks (sends u) m ≡ asks (sends u) m' → wanted m ≡ asks (sends u) m → wanted m' ≡ asks (sends u) m' → wanted m' ≡ wanted m
+same_asked m m' u e h k = k ∙ sym e ∙ sym h
+
+wrote_asked : (m : Stream) (piece : List ℕ) → m.closed ≡ false → (r : Request) → wanted m ≡ Some r → wanted (wrote m piece) ≡ wanted m
+wrote_asked m piece o r w =
+    let e = asks_alive m r w in
+    let d = part_due m o r w in
+    let l = open_due m o d in
+    let new : Stream = record { mode = m.mode; bucket = m.bucket; key = m.key; block = m.block; pending = m.pending ++ piece; upload = m.upload; tags = m.tags; count = m.count + length piece; closed = m.closed; end = m.end } in
+    let is : wrote m piece ≡ new = ap (λ v. record { mode = m.mode; bucket = m.bucket; key = m.key; block = m.block; pending = added v m.pending piece; upload = m.upload; tags = m.tags; count = m.count + length piece; closed = m.closed; end = m.end }) e in
+    ap wanted is
+    ∙ same_asked m new m.upload (by m.upload (take-append-le m.block m.pending piece l)) (due_wanted m e (open_not_small m o) d)
+    (due_wanted new e (open_not_small new o) (is_due new (longer m.block m.pending piece l)))
+  where
+    by : (u : Option ℕ) → take m.block (m.pending ++ piece) ≡ take m.block m.pending → asks (sends u) m ≡ asks (sends u) (record { mode = m.mode; bucket = m.bucket; key = m.key; block = m.block; pending = m.pending ++ piece; upload = m.upload; tags = m.tags; count = m.count + length piece; closed = m.closed; end = m.end })
+    by None h = refl
+    by (Some id) h = ap (λ x. asks_with Sending m.bucket m.key (id_of m) m.tags x) (sym h)
+
+close_asked : (m : Stream) → m.closed ≡ false → (r : Request) → wanted m ≡ Some r → wanted (close m) ≡ wanted m
+close_asked m o r w =
+    let e = asks_alive m r w in
+    let d = part_due m o r w in
+    let l = open_due m o d in
+    let p : has_part (shut m) ≡ true = is_due (shut m) l in
+    let is : close m ≡ shut m = ap (λ v. closed_by v m) e ∙ ap (λ b. cond b (ended (shut m) Done) (shut m)) (unsettled (shut m) p) in
+    ap wanted is ∙ same_asked m (shut m) m.upload (by m.upload) (due_wanted m e (open_not_small m o) d) (due_wanted (shut m) e (large_not_small (shut m) l) p)
+  where
+    by : (u : Option ℕ) → asks (sends u) m ≡ asks (sends u) (shut m)
+    by None = refl
+    by (Some id) = refl
+
+of_some : (m m' : Stream) (v : Option Request) → wanted m ≡ v → ((r : Request) → wanted m ≡ Some r → wanted m' ≡ wanted m) → IsSome v → wanted m' ≡ wanted m
+of_some m m' (Some r) e f h = f r e
+of_some m m' None e f h = absurd (cc)
+
+pub asked_written : {E : Type 0} (r : Result (Unit {0}) E) (m m' : Stream) (piece : List ℕ) → m.closed ≡ false → OnOk r (m' ≡ wrote m piece) → OnOk r (IsSome (wanted m) → wanted m' ≡ wanted m)
+asked_written (Ok u) m m' piece o e = λ h. ap wanted e ∙ of_some m (wrote m piece) (wanted m) refl (wrote_asked m piece o) h
+asked_written (Err e) m m' piece o i = tt
+
+pub asked_closed : {E : Type 0} (r : Result (Unit {0}) E) (m m' : Stream) → m.closed ≡ false → OnOk r (m' ≡ close m) → OnOk r (IsSome (wanted m) → wanted m' ≡ wanted m)
+asked_closed (Ok u) m m' o e = λ h. ap wanted e ∙ of_some m (close m) (wanted m) refl (close_asked m o) h
+asked_closed (Err e) m m' o i = tt

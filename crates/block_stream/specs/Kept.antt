@@ -1,0 +1,137 @@
+-- How a stream keeps what is pending: blocks that are cut off, and a rest.
+use Rattle.std.specs.Prelude.{◌≡◌, ℕ, ◌<◌, ◌≤◌, ◌&&◌, ◌||◌, Bool, true, false, not, nat_le, cond, List, [], ◌∷◌, ◌++◌, length, Option, Some, None, refl}
+use Rattle.std.specs.List.{concat}
+use Rattle.std.specs.Option.{unwrap_or}
+use Rattle.std.specs.Coded.{Coded, code_by, coded×, coded_ℕ, coded_list, coded_option, coded_bool}
+use Rattle.s3_types.specs.Tags.{Spelled}
+use Rattle.s3_types.specs.Coded.{coded_text}
+use Rattle.s3_types.specs.declared.request.Request.{Request}
+use Rattle.block_stream.specs.declared.mode.StreamMode.{StreamMode}
+use Rattle.block_stream.specs.declared.mode.StreamMode.TheVariants.{Direct, Delayed}
+use Rattle.block_stream.specs.declared.mode.StreamEnd.{StreamEnd}
+use Rattle.block_stream.specs.declared.mode.StreamEnd.TheVariants.{Done, Gone, StoreFault, NoMemory}
+use Rattle.block_stream.specs.declared.stage.Stage.{Stage}
+use Rattle.block_stream.specs.declared.stage.Stage.TheVariants.{Putting, Sending, Completing, Over}
+use Rattle.block_stream.specs.Stream.{Stream, is_direct, has_some, begin_or_wait, complete_or_wait, asks_with, wanted}
+use Rattle.block_stream.specs.Holds.{AreLong, HasRoom}
+
+-- all but the last are n long, and the last is at most, and not empty
+abbrev pub AreCut : ℕ → List (List ℕ) → Type 0
+AreCut n [] = Unit {0}
+AreCut n (b ∷ []) = (0 < length b) × (length b ≤ n)
+AreCut n (b ∷ c ∷ bs) = (length b ≡ n) × AreCut n (c ∷ bs)
+
+-- while it is open the blocks are whole and the rest is less than one; then there is no rest
+abbrev pub IsCutUp : ℕ → Bool → List (List ℕ) → List ℕ → Type 0
+IsCutUp n false queue rest = AreLong n queue × (length rest < n)
+IsCutUp n true queue rest = AreCut n queue × (rest ≡ [])
+
+-- until it ended
+abbrev pub CutUp : Option StreamEnd → ℕ → Bool → List (List ℕ) → List ℕ → Type 0
+CutUp None n closed queue rest = IsCutUp n closed queue rest
+CutUp (Some e) n closed queue rest = Unit {0}
+
+-- the stream that these fields stand for
+abbrev pub seen : StreamMode → List ℕ → List ℕ → ℕ → List (List ℕ) → List ℕ → Option ℕ → List Spelled → ℕ → Bool → Option StreamEnd → Stream
+seen mode bucket key block queue rest upload tags count closed end = record { mode = mode; bucket = bucket; key = key; block = block; pending = concat queue ++ rest; upload = upload; tags = tags; count = count; closed = closed; end = end }
+
+-- what its fields keep
+pub record IsKept (m : Stream) (queue : List (List ℕ)) (rest : List ℕ) (asked : Option Request) : Type 0 where
+  pub asks : asked ≡ wanted m
+  pub room : HasRoom m
+  -- parts are in an upload
+  pub parts : m.upload ≡ None → m.tags ≡ []
+  -- delayed output ends well with its upload
+  pub done : m.end ≡ Some Done → m.upload ≡ None → is_direct m.mode ≡ true
+  pub cut : CutUp m.end m.block m.closed queue rest
+
+-- the first block, or nothing
+abbrev pub first_of : List (List ℕ) → List ℕ
+first_of [] = []
+first_of (b ∷ bs) = b
+
+-- these blocks where there are some, else the others
+abbrev pub front_of : List (List ℕ) → List (List ℕ) → List (List ℕ)
+front_of queue others = cond (has_some queue) queue others
+
+-- the rest as a block of its own, where there is one
+abbrev pub last_of : List ℕ → List (List ℕ)
+last_of [] = []
+last_of (x ∷ xs) = (x ∷ xs) ∷ []
+
+-- the first block is whole
+abbrev pub is_whole : ℕ → List (List ℕ) → Bool
+is_whole n [] = false
+is_whole n (b ∷ bs) = nat_le n (length b)
+
+-- a part is due, and what is done, by the blocks
+abbrev pub is_due : ℕ → List (List ℕ) → Bool → List Spelled → Bool
+is_due n queue closed tags = is_whole n queue || (closed && (has_some queue || not (has_some tags)))
+
+abbrev pub is_short : StreamMode → ℕ → List (List ℕ) → Bool → Bool
+is_short mode n queue closed = is_direct mode && (closed && not (is_whole n queue))
+
+abbrev pub stage_by : StreamMode → ℕ → List (List ℕ) → Bool → List Spelled → Option ℕ → Stage
+stage_by mode n queue closed tags None = cond (is_short mode n queue closed) Putting (begin_or_wait (is_due n queue closed tags))
+stage_by mode n queue closed tags (Some id) = cond (is_due n queue closed tags) Sending (complete_or_wait closed)
+
+-- a delayed output ends where it would be completed
+abbrev pub settles : StreamMode → Stage → Stage × Option StreamEnd
+settles Delayed Completing = (Over, Some Done)
+settles _ g = (g, None)
+
+-- what is asked, or the end, with these blocks and tags
+abbrev pub next_at : Stage × Option StreamEnd → List ℕ → List ℕ → List (List ℕ) → List Spelled → Option ℕ → Option Request × Option StreamEnd
+next_at g bucket key queue tags upload = (asks_with g.0 bucket key (unwrap_or upload 0) tags (first_of queue), g.1)
+
+abbrev pub next_by : StreamMode → List ℕ → List ℕ → ℕ → List (List ℕ) → Bool → List Spelled → Option ℕ → Option Request × Option StreamEnd
+next_by mode bucket key block queue closed tags upload = next_at (settles mode (stage_by mode block queue closed tags upload)) bucket key queue tags upload
+
+-- ---- codes, by which proofs tell streams apart
+
+abbrev pub mode_bit : StreamMode → Bool
+mode_bit Direct = false
+mode_bit Delayed = true
+
+abbrev pub bit_mode : Bool → StreamMode
+bit_mode false = Direct
+bit_mode true = Delayed
+
+abbrev pub mode_and_back : (x : StreamMode) → bit_mode (mode_bit x) ≡ x
+mode_and_back Direct = refl
+mode_and_back Delayed = refl
+
+abbrev pub end_bits : StreamEnd → Bool × Bool
+end_bits Done = (false, false)
+end_bits Gone = (false, true)
+end_bits StoreFault = (true, false)
+end_bits NoMemory = (true, true)
+
+abbrev pub bits_end_by : Bool → Bool → StreamEnd
+bits_end_by false false = Done
+bits_end_by false true = Gone
+bits_end_by true false = StoreFault
+bits_end_by true true = NoMemory
+
+abbrev pub end_and_back : (e : StreamEnd) → bits_end_by (end_bits e).0 (end_bits e).1 ≡ e
+end_and_back Done = refl
+end_and_back Gone = refl
+end_and_back StoreFault = refl
+end_and_back NoMemory = refl
+
+abbrev pub coded_mode : Coded StreamMode
+coded_mode = code_by Bool coded_bool mode_bit bit_mode mode_and_back
+
+abbrev pub coded_end : Coded StreamEnd
+coded_end = code_by (Bool × Bool) (coded× coded_bool coded_bool) end_bits (λ p. bits_end_by p.0 p.1) end_and_back
+
+abbrev pub coded_spelled : Coded Spelled
+coded_spelled = code_by (List ℕ × ℕ) (coded× coded_text coded_ℕ) (λ t. (t.digits, t.parts)) (λ p. record { digits = p.0; parts = p.1 }) (λ _. refl)
+
+abbrev pub coded_stream : Coded Stream
+coded_stream =
+    code_by (StreamMode × (List ℕ × (List ℕ × (ℕ × (List ℕ × (Option ℕ × (List Spelled × (ℕ × (Bool × Option StreamEnd)))))))))
+    (coded× coded_mode (coded× coded_text (coded× coded_text (coded× coded_ℕ (coded× coded_text (coded× (coded_option coded_ℕ) (coded× (coded_list coded_spelled) (coded× coded_ℕ (coded× coded_bool (coded_option coded_end))))))))))
+    (λ m. (m.mode, (m.bucket, (m.key, (m.block, (m.pending, (m.upload, (m.tags, (m.count, (m.closed, m.end))))))))))
+    (λ t. record { mode = t.0; bucket = t.1.0; key = t.1.1.0; block = t.1.1.1.0; pending = t.1.1.1.1.0; upload = t.1.1.1.1.1.0; tags = t.1.1.1.1.1.1.0; count = t.1.1.1.1.1.1.1.0; closed = t.1.1.1.1.1.1.1.1.0; end = t.1.1.1.1.1.1.1.1.1 })
+    (λ _. refl)

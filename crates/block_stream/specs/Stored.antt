@@ -1,0 +1,23 @@
+-- What a stream that ended well leaves in a scene.
+use Rattle.std.specs.Prelude.{◌≡◌, ℕ, List, Some}
+use Rattle.std.specs.FinMap as fin
+use Rattle.s3_types.specs.Store.{Scene, BucketContent}
+use Rattle.block_stream.specs.declared.mode.StreamEnd.TheVariants.{Done}
+use Rattle.block_stream.specs.Stream.{Stream}
+use Rattle.block_stream.specs.Holds.{IsWritten}
+
+-- it is done, and its output in its bucket is these bytes: the object, or the live upload's parts joined
+pub record IsStored (m : Stream) (s : Scene) (bytes : List ℕ) : Type 0 where
+  pub done : m.end ≡ Some Done
+  pub content : BucketContent
+  pub there : fin.get s.content.buckets m.bucket ≡ Some content
+  pub written : IsWritten m.mode m content bytes
+
+-- the same output, and as much written
+pub record IsSameOutput (m m' : Stream) : Type 0 where
+  pub mode : m'.mode ≡ m.mode
+  pub bucket : m'.bucket ≡ m.bucket
+  pub key : m'.key ≡ m.key
+  pub block : m'.block ≡ m.block
+  pub count : m'.count ≡ m.count
+  pub closed : m'.closed ≡ m.closed

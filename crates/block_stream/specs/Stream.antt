@@ -1,0 +1,216 @@
+-- A block output stream, as a state that pieces, replies and the close move on (Hadoop, S3A: fs.s3a.fast.upload, block output; Amazon S3 API: multipart upload).
+use Rattle.std.specs.Prelude.{◌≡◌, ℕ, ◌+◌, ◌&&◌, ◌||◌, Bool, true, false, not, nat_le, nat_lt, cond, List, [], ◌∷◌, ◌++◌, length, take, drop, Option, Some, None}
+use Rattle.std.specs.Option.{unwrap_or}
+use Rattle.s3_types.specs.Tags.{Spelled}
+use Rattle.s3_types.specs.declared.request.Request.{Request}
+use Rattle.s3_types.specs.declared.request.Request.TheVariants.{PutObject, CreateUpload, UploadPart, CompleteUpload}
+use Rattle.s3_types.specs.declared.reply.Reply.{Reply}
+use Rattle.s3_types.specs.declared.reply.Reply.TheVariants.{Stored, Upload, Part, Completed, Refused}
+use Rattle.s3_types.specs.declared.reply.Refusal.{Refusal}
+use Rattle.s3_types.specs.declared.reply.Refusal.TheVariants.{NoSuchUpload}
+use Rattle.machine.specs.Item.{Item, Got, WornOut, OutOfMemory, Standing, Fine, Faulted, Broken}
+use Rattle.job_model.specs.Knowledge.{named_from}
+use Rattle.block_stream.specs.declared.mode.StreamMode.{StreamMode}
+use Rattle.block_stream.specs.declared.mode.StreamMode.TheVariants.{Direct, Delayed}
+use Rattle.block_stream.specs.declared.mode.StreamEnd.{StreamEnd}
+use Rattle.block_stream.specs.declared.mode.StreamEnd.TheVariants.{Done, Gone, StoreFault, NoMemory}
+use Rattle.block_stream.specs.declared.stage.Stage.{Stage}
+use Rattle.block_stream.specs.declared.stage.Stage.TheVariants.{Waiting, Putting, Beginning, Sending, Completing, Over}
+
+pub record Stream : Type 0 where
+  pub mode : StreamMode
+  pub bucket : List ℕ
+  pub key : List ℕ
+  -- the length in bytes of each part but the last
+  pub block : ℕ
+  -- the bytes that were written and are in no part that was answered
+  pub pending : List ℕ
+  -- the upload, once it was begun
+  pub upload : Option ℕ
+  -- the tags of the parts that were answered, from the first on
+  pub tags : List Spelled
+  -- how many bytes were written
+  pub count : ℕ
+  pub closed : Bool
+  pub end : Option StreamEnd
+
+-- nothing was written yet
+abbrev pub fresh : StreamMode → List ℕ → List ℕ → ℕ → Stream
+fresh mode bucket key block = record { mode = mode; bucket = bucket; key = key; block = block; pending = []; upload = None; tags = []; count = 0; closed = false; end = None }
+
+abbrev pub is_direct : StreamMode → Bool
+is_direct Direct = true
+is_direct Delayed = false
+
+-- whether a list has something
+abbrev pub has_some : {X : Type 0} → List X → Bool
+has_some [] = false
+has_some (x ∷ xs) = true
+
+-- a part is due: a whole block, or after the close what is left, and where no part was sent also nothing
+abbrev pub has_part : Stream → Bool
+has_part m = nat_le m.block (length m.pending) || (m.closed && (has_some m.pending || not (has_some m.tags)))
+
+-- fewer bytes than a block in all are put at once
+abbrev pub is_small : Stream → Bool
+is_small m = is_direct m.mode && (m.closed && nat_lt (length m.pending) m.block)
+
+abbrev pub begin_or_wait : Bool → Stage
+begin_or_wait true = Beginning
+begin_or_wait false = Waiting
+
+abbrev pub complete_or_wait : Bool → Stage
+complete_or_wait true = Completing
+complete_or_wait false = Waiting
+
+abbrev pub stage_of : Option StreamEnd → Option ℕ → Stream → Stage
+stage_of (Some e) u m = Over
+stage_of None None m = cond (is_small m) Putting (begin_or_wait (has_part m))
+stage_of None (Some id) m = cond (has_part m) Sending (complete_or_wait m.closed)
+
+-- what it is about
+abbrev pub stage : Stream → Stage
+stage m = stage_of m.end m.upload m
+
+-- the next part
+abbrev pub chunk : Stream → List ℕ
+chunk m = take m.block m.pending
+
+abbrev pub id_of : Stream → ℕ
+id_of m = unwrap_or m.upload 0
+
+-- what is asked at a stage, with this upload, the tags of its parts and the next part
+abbrev pub asks_with : Stage → List ℕ → List ℕ → ℕ → List Spelled → List ℕ → Option Request
+asks_with Waiting bucket key id tags next = None
+asks_with Putting bucket key id tags next = Some (PutObject bucket key next None)
+asks_with Beginning bucket key id tags next = Some (CreateUpload bucket key)
+asks_with Sending bucket key id tags next = Some (UploadPart bucket key id (length tags + 1) next)
+asks_with Completing bucket key id tags next = Some (CompleteUpload bucket key id (named_from 1 tags))
+asks_with Over bucket key id tags next = None
+
+-- what is asked for
+abbrev pub asks : Stage → Stream → Option Request
+asks g m = asks_with g m.bucket m.key (id_of m) m.tags (chunk m)
+
+abbrev pub wanted : Stream → Option Request
+wanted m = asks (stage m) m
+
+-- ---- what moves it on
+
+abbrev pub ended : Stream → StreamEnd → Stream
+ended m e = record { mode = m.mode; bucket = m.bucket; key = m.key; block = m.block; pending = m.pending; upload = m.upload; tags = m.tags; count = m.count; closed = m.closed; end = Some e }
+
+-- a delayed output is not completed: it is done once it is closed and no part is due
+abbrev pub is_settled : Stream → Bool
+is_settled m = m.closed && (not (is_direct m.mode) && not (has_part m))
+
+abbrev pub settled : Stream → Stream
+settled m = cond (is_settled m) (ended m Done) m
+
+abbrev pub begun : Stream → ℕ → Stream
+begun m id = record { mode = m.mode; bucket = m.bucket; key = m.key; block = m.block; pending = m.pending; upload = Some id; tags = m.tags; count = m.count; closed = m.closed; end = m.end }
+
+-- the next part was answered
+abbrev pub parted : Stream → Spelled → Stream
+parted m tag = record { mode = m.mode; bucket = m.bucket; key = m.key; block = m.block; pending = drop m.block m.pending; upload = m.upload; tags = m.tags ++ tag ∷ []; count = m.count; closed = m.closed; end = m.end }
+
+-- where there is no upload it is gone, unless a completion that was sent before has ended it
+abbrev pub refused : Stream → Bool → Refusal → Stream
+refused m over NoSuchUpload = ended m (cond over Done Gone)
+refused m over _ = m
+
+-- where a reply leads
+abbrev pub told : Stage → Stream → Bool → Reply → Stream
+told Putting m repeated (Stored tag) = ended m Done
+told Beginning m repeated (Upload id) = begun m id
+told Sending m repeated (Part tag) = settled (parted m tag)
+told Sending m repeated (Refused r) = refused m false r
+told Completing m repeated (Completed tag) = ended m Done
+told Completing m repeated (Refused r) = refused m repeated r
+told _ m repeated _ = m
+
+-- after want of memory nothing is held any more
+abbrev pub broken : Stream → Stream
+broken m = record { mode = m.mode; bucket = m.bucket; key = m.key; block = m.block; pending = []; upload = None; tags = []; count = m.count; closed = m.closed; end = Some NoMemory }
+
+-- where an item leads
+abbrev pub moved : Stream → Item → Stream
+moved m (Got r repeated) = told (stage m) m repeated r
+moved m WornOut = ended m StoreFault
+moved m OutOfMemory = broken m
+
+abbrev pub is_no_upload : Refusal → Bool
+is_no_upload NoSuchUpload = true
+is_no_upload _ = false
+
+-- the replies that answer a request
+abbrev pub answers : Stage → Reply → Bool
+answers Putting (Stored tag) = true
+answers Beginning (Upload id) = true
+answers Sending (Part tag) = true
+answers Sending (Refused r) = is_no_upload r
+answers Completing (Completed tag) = true
+answers Completing (Refused r) = is_no_upload r
+answers _ _ = false
+
+abbrev pub Fits : Stream → Reply → Bool → Type 0
+Fits m r repeated = answers (stage m) r ≡ true
+
+-- a piece is written; after a fault it is only counted
+abbrev pub added : Option StreamEnd → List ℕ → List ℕ → List ℕ
+added None pending piece = pending ++ piece
+added (Some e) pending piece = pending
+
+abbrev pub wrote : Stream → List ℕ → Stream
+wrote m piece = record { mode = m.mode; bucket = m.bucket; key = m.key; block = m.block; pending = added m.end m.pending piece; upload = m.upload; tags = m.tags; count = m.count + length piece; closed = m.closed; end = m.end }
+
+-- the close; a fault that came before stays
+abbrev pub shut : Stream → Stream
+shut m = record { mode = m.mode; bucket = m.bucket; key = m.key; block = m.block; pending = m.pending; upload = m.upload; tags = m.tags; count = m.count; closed = true; end = m.end }
+
+abbrev pub closed_by : Option StreamEnd → Stream → Stream
+closed_by None m = settled (shut m)
+closed_by (Some e) m = shut m
+
+abbrev pub close : Stream → Stream
+close m = closed_by m.end m
+
+-- the end shows once the stream is closed
+abbrev pub end_of : Stream → Option StreamEnd
+end_of m = cond m.closed m.end None
+
+-- the upload, the tags of its parts and the length of a delayed output that is done
+abbrev pub delayed_by : StreamMode → Option StreamEnd → Stream → Option (ℕ × List Spelled × ℕ)
+delayed_by Delayed (Some Done) m = Some (id_of m, m.tags, m.count)
+delayed_by _ _ m = None
+
+abbrev pub delayed_of : Stream → Option (ℕ × List Spelled × ℕ)
+delayed_of m = delayed_by m.mode (end_of m) m
+
+-- ---- its measure and its standing
+
+abbrev pub one_if : Bool → ℕ
+one_if true = 1
+one_if false = 0
+
+abbrev pub is_begun : Option ℕ → Bool
+is_begun None = false
+is_begun (Some id) = true
+
+-- at most so many answers and worn requests are to come without a further piece
+abbrev pub left_by : Option StreamEnd → Stream → ℕ
+left_by None m = 1 + (length m.pending + (one_if (not (is_begun m.upload)) + one_if (not (has_some m.tags))))
+left_by (Some e) m = 0
+
+abbrev pub left : Stream → ℕ
+left m = left_by m.end m
+
+abbrev pub standing_of : Option StreamEnd → Standing
+standing_of None = Fine
+standing_of (Some Done) = Fine
+standing_of (Some Gone) = Fine
+standing_of (Some StoreFault) = Faulted
+standing_of (Some NoMemory) = Broken
+
+abbrev pub standing : Stream → Standing
+standing m = standing_of m.end

@@ -1,0 +1,121 @@
+ghost use Rattle.std.specs.Prelude.{◌≡◌, ℕ, List, [], ◌∷◌, ◌++◌, ◌+◌, ◌<◌, ◌≤◌, length, IfOk, Option};
+ghost use Rattle.std.specs.Option.{unwrap_or};
+ghost use Rattle.job_model.specs.Knowledge.{named_from};
+ghost use Rattle.block_stream.specs.Stream.{asks_with, has_some};
+ghost use Rattle.block_stream.specs.Kept.{first_of, stage_by, settles};
+
+use crate::mode::{StreamEnd, StreamMode};
+use crate::queue::Queue;
+use crate::stage::Stage;
+use s3_types::{Bucket, Key, NamedPart, PartList, Request, TagList};
+use std::alloc::{AllocError, Global};
+
+/// Where a stream's output goes, and how it is cut.
+#[derive(Drop)]
+pub struct Output {
+    pub mode: StreamMode,
+    pub bucket: Bucket,
+    pub key: Key,
+    /// The length in bytes of each part but the last.
+    pub block: u64,
+}
+
+/// What a stream that has not ended is about, by the blocks that wait. Takes no memory.
+pub fn next_stage(
+    output: &Output,
+    queue: &Queue,
+    closed: bool,
+    tags: &TagList,
+    upload: Option<u64>,
+) -> Stage
+    ensures { result ≡ stage_by output.now.mode output.now.block queue.now closed tags.now upload }
+{
+    let whole = queue.is_whole(output.block);
+    let due = whole || closed && (queue.has_some() || tags.len() == 0);
+    match upload {
+        None => {
+            if output.mode == StreamMode::Direct && closed && !whole {
+                Stage::Putting
+            } else if due {
+                Stage::Beginning
+            } else {
+                Stage::Waiting
+            }
+        }
+        Some(_) => {
+            if due {
+                Stage::Sending
+            } else if closed {
+                Stage::Completing
+            } else {
+                Stage::Waiting
+            }
+        }
+    }
+}
+
+/// A delayed output ends where it would be completed. Takes no memory.
+pub fn settle(mode: StreamMode, stage: Stage) -> (Stage, Option<StreamEnd>)
+    ensures { result ≡ settles mode stage }
+{
+    match (mode, stage) {
+        (StreamMode::Delayed, Stage::Completing) => (Stage::Over, Some(StreamEnd::Done)),
+        (_, stage) => (stage, None),
+    }
+}
+
+/// Asks this from now on. Takes no memory.
+pub fn put(asked: &mut Option<Request>, next: Option<Request>)
+    ensures { asked.new ≡ next }
+{
+    *asked = next;
+}
+
+/// The parts as a completion names them, numbered from 1 on.
+fn named(alloc: Global, tags: &TagList) -> Result<PartList, AllocError>
+    requires { length tags.now ≤ 10000 }
+    ensures { IfOk result (λ parts. parts ≡ named_from 1 tags.now) }
+{
+    let tags = tags.as_slice();
+    let mut parts = PartList::new(alloc);
+    let mut number = 1;
+    for tag in tags {
+        parts.push(NamedPart { number, tag: *tag })?;
+        number += 1;
+    }
+    Ok(parts)
+}
+
+/// The request that a stream sends at a stage.
+pub fn ask(
+    alloc: Global,
+    stage: Stage,
+    output: &Output,
+    upload: Option<u64>,
+    tags: &TagList,
+    queue: &Queue,
+) -> Result<Option<Request>, AllocError>
+    requires { length tags.now ≤ 10000 }
+    ensures { IfOk result (λ asked. asked ≡ asks_with stage output.now.bucket output.now.key (unwrap_or upload 0) tags.now (first_of queue.now)) }
+{
+    let Output { bucket, key, .. } = output;
+    let upload = upload.unwrap_or(0);
+    match stage {
+        Stage::Waiting => Ok(None),
+        Stage::Putting => {
+            let bytes = queue.first()?;
+            Ok(Some(Request::put_object(bucket, key, &bytes, None)?))
+        }
+        Stage::Beginning => Ok(Some(Request::create_upload(bucket, key)?)),
+        Stage::Sending => {
+            let bytes = queue.first()?;
+            let number = tags.len() as u32 + 1;
+            Ok(Some(Request::upload_part(bucket, key, upload, number, &bytes)?))
+        }
+        Stage::Completing => {
+            let parts = named(alloc, tags)?;
+            Ok(Some(Request::complete_upload(alloc, bucket, key, upload, &parts)?))
+        }
+        Stage::Over => Ok(None),
+    }
+}

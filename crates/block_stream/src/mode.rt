@@ -1,0 +1,41 @@
+ghost use Rattle.std.specs.Prelude.{◌≡◌};
+ghost use Rattle.block_stream.specs.declared.mode.StreamFault.TheVariants.{NoMemory};
+
+use std::alloc::AllocError;
+
+/// How a stream's output comes to stand.
+#[derive(Clone, Copy, Debug, PartialEq, Eq)]
+pub enum StreamMode {
+    /// The object stands at the end.
+    Direct,
+    /// The upload is left for a committer to complete. (Hadoop, S3A committers: delayed completion.)
+    Delayed,
+}
+
+/// How a stream ended.
+#[derive(Clone, Copy, Debug, PartialEq, Eq)]
+pub enum StreamEnd {
+    /// All bytes were stored.
+    Done,
+    /// The store answered that the upload is not there.
+    Gone,
+    /// A request wore out.
+    StoreFault,
+    NoMemory,
+}
+
+/// Why a piece was not written. The stream is as before.
+#[derive(Clone, Copy, Debug, PartialEq, Eq)]
+pub enum StreamFault {
+    /// All that was written would be more than 10,000 blocks.
+    TooLong,
+    NoMemory,
+}
+
+impl From<AllocError> for StreamFault {
+    ghost from_gives = { λ _ e. e ≡ NoMemory };
+
+    fn from(_e: AllocError) -> StreamFault {
+        StreamFault::NoMemory
+    }
+}

@@ -1,0 +1,408 @@
+ghost use Rattle.std.specs.Prelude.{◌≡◌, ◌↔◌, ℕ, ◌+◌, ◌*◌, ◌<◌, ◌≤◌, Bool, true, false, List, [], ◌∷◌, ◌++◌, length, Option, Some, None, OnOk, OnErr, IfOk, IsErrOf, IsSome, MatchOption};
+ghost use Rattle.std.specs.Option.{option_copied};
+ghost use Rattle.std.specs.FinMap as fin;
+ghost use Rattle.s3_types.specs.Store.{Scene, BucketContent};
+ghost use Rattle.machine.specs.Item.{OutOfMemory};
+ghost use Rattle.block_stream.specs.Stream.{fresh, is_direct, delayed_of, stage, wanted, moved, Fits, told, begun, parted, settled, ended, broken, wrote, close, end_of, left, standing};
+ghost use Rattle.block_stream.specs.Holds.{Holds, IsReady};
+ghost use Rattle.block_stream.specs.StreamLaws.{stream_laws};
+ghost use Rattle.block_stream.specs.Kept.{next_by, front_of, last_of};
+ghost use Rattle.block_stream.specs.declared.mode.StreamEnd.TheVariants.{Done};
+ghost use Rattle.block_stream.specs.declared.mode.StreamFault.TheVariants.{TooLong};
+ghost use Rattle.block_stream.specs.declared.stage.Stage.TheVariants.{Beginning, Sending};
+
+use crate::asking::{Output, ask, next_stage, put, settle};
+use crate::cutting::cut;
+use crate::delayed::Delayed;
+use crate::mode::{StreamEnd, StreamFault, StreamMode};
+use crate::queue::Queue;
+use crate::stage::Stage;
+use machine::Machine;
+use s3_types::{Bucket, Bytes, Key, Refusal, Reply, Request, Tag, TagList};
+use std::alloc::{AllocError, Global};
+use std::marker::Model;
+
+/// An output stream: what is written is cut into blocks, and each block is sent as a part as soon as it
+/// is whole. Direct output of fewer bytes than a block is one put at the close, and else an upload that is
+/// completed then. Delayed output is always an upload, which is left uncompleted; where nothing was
+/// written it has one empty part.
+#[derive(Drop)]
+pub struct BlockStream {
+    alloc: Global,
+    output: Output,
+    queue: Queue,
+    rest: Vec<u8>,
+    upload: Option<u64>,
+    tags: TagList,
+    count: u64,
+    closed: bool,
+    end: Option<StreamEnd>,
+    asked: Option<Request>,
+}
+
+impl Model for BlockStream {
+    ghost use Rattle.block_stream.specs.Stream.{Stream};
+    ghost use Rattle.block_stream.specs.Kept.{seen, IsKept, coded_stream};
+
+    ghost Value = { Stream };
+
+    ghost coded = { coded_stream };
+
+    ghost view = { λ w. seen w.output.mode w.output.bucket w.output.key w.output.block w.queue w.rest.items w.upload w.tags w.count w.closed w.end };
+
+    ghost invariant = { λ w. IsKept (seen w.output.mode w.output.bucket w.output.key w.output.block w.queue w.rest.items w.upload w.tags w.count w.closed w.end) w.queue w.rest.items w.asked };
+}
+
+impl BlockStream {
+    /// A stream of which nothing was written yet. `block` is the length in bytes of each part but the last, and at
+    /// least 1. It goes on well over a store that has the bucket and whose least part is not longer. Takes
+    /// no memory.
+    pub fn start(
+        alloc: Global,
+        mode: StreamMode,
+        bucket: Bucket,
+        key: Key,
+        block: u64,
+    ) -> BlockStream
+        requires { 1 ≤ block }
+        ensures fresh { result ≡ fresh mode bucket key block }
+        ensures holds { (s : Scene) (c : BucketContent) → fin.get s.content.buckets bucket ≡ Some c → s.content.minimum ≤ block → Holds result s false [] }
+    {
+        BlockStream::made(alloc, mode, bucket, key, block)
+    }
+
+    fn made(alloc: Global, mode: StreamMode, bucket: Bucket, key: Key, block: u64) -> BlockStream
+        requires { 1 ≤ block }
+        ensures { result ≡ fresh mode bucket key block }
+    {
+        BlockStream {
+            alloc,
+            output: Output {
+                mode,
+                bucket,
+                key,
+                block,
+            },
+            queue: Queue::new(alloc),
+            rest: Vec::new(alloc),
+            upload: None,
+            tags: TagList::new(alloc),
+            count: 0,
+            closed: false,
+            end: None,
+            asked: None,
+        }
+    }
+
+    fn stage(&self) -> Stage
+        ensures { result ≡ stage self.now }
+    {
+        if self.end.is_some() {
+            return Stage::Over;
+        }
+        next_stage(
+            &self.output,
+            &self.queue,
+            self.closed,
+            &self.tags,
+            self.upload,
+        )
+    }
+
+    /// How it ended: None while it is open, or something is asked. Takes no memory.
+    pub fn end(&self) -> Option<StreamEnd>
+        ensures { result ≡ end_of self.now }
+    {
+        if self.closed { self.end } else { None }
+    }
+
+    /// A delayed output that is done: its upload, the tags of its parts from the first on, and how many bytes were
+    /// written. None comes exactly for direct output, or where the stream has not ended Done. Takes no
+    /// memory.
+    pub fn delayed(&self) -> Option<Delayed<'_>>
+        ensures { MatchOption result (delayed_of self.now ≡ None) (λ d. delayed_of self.now ≡ Some (d.upload, d.tags.now, d.length)) }
+    {
+        match (self.output.mode, self.end(), self.upload) {
+            (StreamMode::Delayed, Some(StreamEnd::Done), Some(upload)) => Some(Delayed {
+                upload,
+                tags: &self.tags,
+                length: self.count,
+            }),
+            _ => None,
+        }
+    }
+
+    /// Writes a piece behind what was written. TooLong comes exactly where all that was written would be more than
+    /// 10,000 blocks. After TooLong or want of memory the stream is as before. What it holds grows by the
+    /// piece, and a request that is there stays the same; after a fault the piece is only counted.
+    pub fn write(&mut self, piece: &[u8]) -> Result<(), StreamFault>
+        requires { self.old.closed ≡ false }
+        ensures ok { OnOk result (self.new ≡ wrote self.old piece.now) }
+        ensures err { OnErr result (self.new ≡ self.old) }
+        ensures long { IsErrOf result TooLong ↔ (self.old.block * 10000 < self.old.count + length piece.now) }
+        ensures holds { OnOk result ((s : Scene) (repeated : Bool) (bytes : List ℕ) → Holds self.old s repeated bytes → Holds self.new s repeated (bytes ++ piece.now)) }
+        ensures asked { OnOk result (IsSome (wanted self.old) → wanted self.new ≡ wanted self.old) }
+    {
+        self.take_piece(piece)
+    }
+
+    fn take_piece(&mut self, piece: &[u8]) -> Result<(), StreamFault>
+        requires { self.old.closed ≡ false }
+        ensures ok { OnOk result (self.new ≡ wrote self.old piece.now) }
+        ensures err { OnErr result (self.new ≡ self.old) }
+        ensures long { IsErrOf result TooLong ↔ (self.old.block * 10000 < self.old.count + length piece.now) }
+        ensures few { OnOk result (self.old.count + length piece.now ≤ self.old.block * 10000) }
+    {
+        let count = self.count as u128 + piece.len() as u128;
+        if count > self.output.block as u128 * 10_000 {
+            return Err(StreamFault::TooLong);
+        }
+        if count > u64::MAX as u128 {
+            return Err(StreamFault::NoMemory);
+        }
+        if self.end.is_some() {
+            self.count = count as u64;
+            return Ok(());
+        }
+        self.add(piece, count as u64)?;
+        Ok(())
+    }
+
+    fn add(&mut self, piece: &[u8], count: u64) -> Result<(), AllocError>
+        requires unclosed { self.old.closed ≡ false }
+        requires alive { self.old.end ≡ None }
+        requires count { count ≡ self.old.count + length piece.now }
+        requires few { self.old.count + length piece.now ≤ self.old.block * 10000 }
+        ensures ok { OnOk result (self.new ≡ wrote self.old piece.now) }
+        ensures err { OnErr result (self.new ≡ self.old) }
+    {
+        let room = self.output.block as usize - self.rest.len();
+        if piece.len() < room {
+            self.rest.extend_from_slice(piece)?;
+            self.count = count;
+            return Ok(());
+        }
+        let this = &*self;
+        let (mut blocks, rest) = cut(this.alloc, this.rest.as_slice(), piece, this.output.block)?;
+        let first = front(&this.queue, &blocks);
+        let stage = next_stage(&this.output, first, false, &this.tags, this.upload);
+        let asked = ask(
+            this.alloc,
+            stage,
+            &this.output,
+            this.upload,
+            &this.tags,
+            first,
+        )?;
+        self.queue.append(&mut blocks)?;
+        self.rest = rest;
+        self.count = count;
+        put(&mut self.asked, asked);
+        Ok(())
+    }
+
+    /// Closes the stream: nothing more is written. It holds what it held, and a request that is there stays the
+    /// same. After want of memory it is as before.
+    pub fn close(&mut self) -> Result<(), AllocError>
+        requires { self.old.closed ≡ false }
+        ensures ok { OnOk result (self.new ≡ close self.old) }
+        ensures err { OnErr result (self.new ≡ self.old) }
+        ensures holds { OnOk result ((s : Scene) (repeated : Bool) (bytes : List ℕ) → Holds self.old s repeated bytes → Holds self.new s repeated bytes) }
+        ensures asked { OnOk result (IsSome (wanted self.old) → wanted self.new ≡ wanted self.old) }
+    {
+        self.shut()
+    }
+
+    fn shut(&mut self) -> Result<(), AllocError>
+        requires { self.old.closed ≡ false }
+        ensures ok { OnOk result (self.new ≡ close self.old) }
+        ensures err { OnErr result (self.new ≡ self.old) }
+    {
+        if self.end.is_some() {
+            self.closed = true;
+            return Ok(());
+        }
+        let this = &*self;
+        let mut last = last_block(this.alloc, this.rest.as_slice())?;
+        let first = front(&this.queue, &last);
+        let stage = next_stage(&this.output, first, true, &this.tags, this.upload);
+        let (stage, end) = settle(this.output.mode, stage);
+        let asked = ask(
+            this.alloc,
+            stage,
+            &this.output,
+            this.upload,
+            &this.tags,
+            first,
+        )?;
+        self.queue.append(&mut last)?;
+        self.rest = Vec::new(self.alloc);
+        self.closed = true;
+        self.end = end;
+        put(&mut self.asked, asked);
+        Ok(())
+    }
+
+    fn finish(&mut self, end: StreamEnd)
+        requires { end ≡ Done → self.old.upload ≡ None → is_direct self.old.mode ≡ true }
+        ensures { self.new ≡ ended self.old end }
+    {
+        put(&mut self.asked, None);
+        self.end = Some(end);
+    }
+
+    fn fail(&mut self)
+        ensures { self.new ≡ broken self.old }
+    {
+        self.queue = Queue::new(self.alloc);
+        self.rest = Vec::new(self.alloc);
+        self.upload = None;
+        self.tags = TagList::new(self.alloc);
+        put(&mut self.asked, None);
+        self.end = Some(StreamEnd::NoMemory);
+    }
+
+    fn begin(&mut self, upload: u64) -> Result<(), AllocError>
+        requires { stage self.old ≡ Beginning }
+        ensures ok { OnOk result (self.new ≡ begun self.old upload) }
+        ensures err { OnErr result (self.new ≡ self.old) }
+    {
+        let asked = ask(
+            self.alloc,
+            Stage::Sending,
+            &self.output,
+            Some(upload),
+            &self.tags,
+            &self.queue,
+        )?;
+        self.upload = Some(upload);
+        put(&mut self.asked, asked);
+        Ok(())
+    }
+
+    fn part(&mut self, tag: Tag) -> Result<(), AllocError>
+        requires { stage self.old ≡ Sending }
+        ensures ok { OnOk result (self.new ≡ settled (parted self.old tag)) }
+        ensures err { OnErr result (self.new ≡ broken self.old) }
+    {
+        self.queue.drop_first();
+        match advance(
+            self.alloc,
+            &self.output,
+            &self.queue,
+            self.closed,
+            &mut self.tags,
+            tag,
+            self.upload,
+        ) {
+            Ok((asked, end)) => {
+                put(&mut self.asked, asked);
+                self.end = end;
+                Ok(())
+            }
+            Err(error) => {
+                self.queue = Queue::new(self.alloc);
+                self.rest = Vec::new(self.alloc);
+                self.upload = None;
+                self.tags = TagList::new(self.alloc);
+                put(&mut self.asked, None);
+                self.end = Some(StreamEnd::NoMemory);
+                Err(error)
+            }
+        }
+    }
+
+    fn told(&mut self, reply: &Reply, repeated: bool) -> Result<(), AllocError>
+        ensures ok { OnOk result (self.new ≡ told (stage self.old) self.old repeated reply.now) }
+        ensures err { OnErr result (broken self.new ≡ broken self.old) }
+    {
+        match (self.stage(), reply) {
+            (Stage::Putting, Reply::Stored(_)) => self.finish(StreamEnd::Done),
+            (Stage::Beginning, Reply::Upload(upload)) => self.begin(*upload)?,
+            (Stage::Sending, Reply::Part(tag)) => self.part(*tag)?,
+            (Stage::Sending, Reply::Refused(Refusal::NoSuchUpload)) => self.finish(StreamEnd::Gone),
+            (Stage::Completing, Reply::Completed(_)) => self.finish(StreamEnd::Done),
+            (Stage::Completing, Reply::Refused(Refusal::NoSuchUpload)) => {
+                self.finish(if repeated {
+                    StreamEnd::Done
+                } else {
+                    StreamEnd::Gone
+                })
+            }
+            _ => {}
+        }
+        Ok(())
+    }
+}
+
+/// These blocks where there are some, else the others.
+fn front<'q>(queue: &'q Queue, others: &'q Queue) -> &'q Queue
+    ensures { result.now ≡ front_of queue.now others.now }
+{
+    if queue.has_some() { queue } else { others }
+}
+
+/// What is left as a block of its own, if anything is.
+fn last_block(alloc: Global, rest: &[u8]) -> Result<Queue, AllocError>
+    ensures { IfOk result (λ blocks. blocks ≡ last_of rest.now) }
+{
+    let mut last = Queue::new(alloc);
+    if !rest.is_empty() {
+        last.push(Bytes::from_slice(alloc, rest)?)?;
+    }
+    Ok(last)
+}
+
+/// Adds the tag of the part that was answered, and gives what is asked next, or the end.
+fn advance(
+    alloc: Global,
+    output: &Output,
+    queue: &Queue,
+    closed: bool,
+    tags: &mut TagList,
+    tag: Tag,
+    upload: Option<u64>,
+) -> Result<(Option<Request>, Option<StreamEnd>), AllocError>
+    requires { length tags.old < 10000 }
+    ensures tags { OnOk result (tags.new ≡ tags.old ++ tag ∷ []) }
+    ensures next { IfOk result (λ next. next ≡ next_by output.now.mode output.now.bucket output.now.key output.now.block queue.now closed (tags.old ++ tag ∷ []) upload) }
+{
+    tags.push(tag)?;
+    let stage = next_stage(output, queue, closed, tags, upload);
+    let (stage, end) = settle(output.mode, stage);
+    let asked = ask(alloc, stage, output, upload, tags, queue)?;
+    Ok((asked, end))
+}
+
+impl Machine for BlockStream {
+    ghost wants = { wanted };
+
+    ghost after = { moved };
+
+    ghost fits = { Fits };
+
+    ghost ready = { IsReady };
+
+    ghost left = { λ m s. left m };
+
+    ghost standing = { standing };
+
+    ghost laws = { stream_laws };
+
+    fn request(&self) -> Option<&Request> {
+        self.asked.as_ref()
+    }
+
+    fn take(&mut self, reply: &Reply, repeated: bool) -> Result<(), AllocError> {
+        if let Err(error) = self.told(reply, repeated) {
+            self.fail();
+            return Err(error);
+        }
+        Ok(())
+    }
+
+    fn worn(&mut self) -> Result<(), AllocError> {
+        self.finish(StreamEnd::StoreFault);
+        Ok(())
+    }
+}
