@@ -11,8 +11,7 @@ use job_script::{Script, ScriptFault, read_script};
 use s3_types::Fates;
 use std::alloc::{AllocError, Global};
 
-const ORDINARY: &str =
-    "job j1\ndest s3a://lake/out\ncommitter magic\ntasks 1\nattempt 0.0\n";
+const ORDINARY: &str = "job j1\ndest s3a://lake/out\ncommitter magic\ntasks 1\nattempt 0.0\n";
 
 fn byte_of(b: u8) -> u8 {
     match b {
@@ -82,9 +81,19 @@ fn script_of(alloc: Global, line: &str) -> Result<Vec<u8>> {
 
 fn tell_head(rt: &impl Print, script: &Script) -> Result<()> {
     println!(rt; "  job {}", script.job.as_str())?;
-    println!(rt; "  bucket {}, key {}", script.dest.bucket().as_text().as_str(), script.dest.key().as_str())?;
-    println!(rt; "  {:?}, {:?}, unique {}", script.committer, script.mode, script.unique)?;
-    println!(rt; "  {} tasks, {} retries, block {}, stamp {:?}", script.tasks, script.retries, script.block, script.stamp)?;
+    println!(rt;
+        "  bucket {}, key {}",
+        script.dest.bucket().as_text().as_str(),
+        script.dest.key().as_str()
+    )?;
+    println!(rt;
+        "  {:?}, {:?}, unique {}",
+        script.committer, script.mode, script.unique
+    )?;
+    println!(rt;
+        "  {} tasks, {} retries, block {}, stamp {:?}",
+        script.tasks, script.retries, script.block, script.stamp
+    )?;
     Ok(())
 }
 
@@ -129,7 +138,11 @@ fn answer(rt: &impl Print, alloc: Global, line: &str) -> Result<()> {
     let bytes = script_of(alloc, row)?;
     match read_script(alloc, &bytes) {
         Ok(script) => {
-            println!(rt; "a script of {} attempts and {} events", script.attempts.len(), script.events.len())?;
+            println!(rt;
+                "a script of {} attempts and {} events",
+                script.attempts.len(),
+                script.events.len()
+            )?;
             if whole {
                 tell(rt, &script)?;
             }
