@@ -1,19 +1,19 @@
 -- Rows of sendings as the map of their fates.
-use Rattle.std.proofs.Common.{◌≡◌, ℕ, zero, suc, ◌+◌, ◌-◌, ◌<◌, ◌≤◌, Bool, true, false, ◌&&◌, nat_lt, nat_le, nat_eq, cond, max, List, [], ◌∷◌, Option, Some, None, refl, sym, ap, subst, ◌∙◌, arith, ◌↔◌}
+use Rattle.std.proofs.Common.{◌≡◌, ℕ, zero, suc, ◌+◌, ◌-◌, ◌<◌, ◌≤◌, Bool, true, false, ◌&&◌, nat_lt, nat_le, cond, max, List, [], ◌∷◌, Option, Some, None, refl, sym, ap, subst, ◌∙◌, arith, ◌↔◌}
 use Rattle.std.proofs.lemmas.Bool.Decides.{nat_tests}
 use Rattle.std.proofs.lemmas.Bool.{false≢true, true≢false}
 use Rattle.std.proofs.lemmas.Map.Lookups.{exact_unsigned}
 use Rattle.std.specs.Prelude.{IsSome}
-use Rattle.std.specs.FinMap.{get, insert, get-insert, get-empty, same_map}
+use Rattle.std.specs.FinMap.{get, get-insert, get-empty, same_map}
 use Rattle.std.specs.List.{slice_get}
 use Rattle.std.specs.Cmp.{nat_cmp_total}
-use Rattle.std.specs.Ordering.{nat_cmp, eq_by_cmp, is_le, is_lt, match_ordering}
+use Rattle.std.specs.Ordering.{nat_cmp, eq_by_cmp, is_le, match_ordering}
 use Rattle.std.specs.BTreeMap.{insert_entry}
 use Rattle.std.specs.BTreeMap.Range.{entries_between}
 use Rattle.std.specs.declared.cmp.Ordering.{Ordering}
 use Rattle.std.specs.declared.cmp.Ordering.TheVariants.{Less, Equal, Greater}
 use Rattle.std.specs.declared.ops.Bound.TheVariants.{Included, Unbounded}
-use Rattle.s3_types.specs.Fates.{FateMap, with_fates, is_answer, IsFirstNamed, fate_or, fate_at}
+use Rattle.s3_types.specs.Fates.{FateMap, with_fates, is_answer, IsFirstNamed, IsFirstFrom}
 use Rattle.s3_types.specs.Spans.{named, AreApart, from_on, first_in}
 use Rattle.s3_types.specs.declared.fates.Fate.{Fate}
 use Rattle.s3_types.specs.declared.fates.Span.{Span}
@@ -328,3 +328,23 @@ lost_named low n es e a h {o} is = (λ _. some_named o e.1.fate is, λ _. (is_ro
 
 pub answer_none : (o : Option Fate) → o ≡ None → (true ≡ false) ↔ IsSome o
 answer_none o is = (λ e. absurd (true≢false e), λ s. absurd (none_some o s is))
+
+-- ---- the first sending that has a fate
+
+pub first_fate : (low n : ℕ) (es : List (ℕ × Span)) (e : ℕ × Span) (m : FateMap) → named es ≡ m → AreApart low es → from_on n es ≡ Some e → IsFirstFrom m n (Some (max e.1.first n, e.1.fate))
+first_fate low n es e m is a h =
+    let r = is_row low n es e a h in
+    let s : n ≤ max e.1.first n = omega arith in
+    let c : max e.1.first n ≤ e.0 = omega (arith, r.some, r.ends) in
+    let d : e.1.first ≤ max e.1.first n = omega arith in
+    subst (λ (m : FateMap). IsFirstFrom m n (Some (max e.1.first n, e.1.fate))) is (
+      s,
+      get_named low es a (max e.1.first n) ∙ at_on low n es e a h (max e.1.first n) s c ∙ ap (λ b. cond b (Some e.1.fate) None) (le_true e.1.first (max e.1.first n) d),
+      λ k i j.
+          let x : k ≤ e.0 = omega (arith, c, j) in
+          let y : k < e.1.first = omega (arith, i, j) in
+          get_named low es a k ∙ at_on low n es e a h k i x ∙ ap (λ b. cond b (Some e.1.fate) None) (le_false e.1.first k y),
+    )
+
+pub no_fate : (low n : ℕ) (es : List (ℕ × Span)) (m : FateMap) → named es ≡ m → AreApart low es → from_on n es ≡ None → IsFirstFrom m n None
+no_fate low n es m is a h = subst (λ (m : FateMap). IsFirstFrom m n None) is (λ k l. get_named low es a k ∙ none_on n es h k l)

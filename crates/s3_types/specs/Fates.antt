@@ -37,6 +37,11 @@ pub record IsFirstNamed (m : FateMap) (first count n : ℕ) : Type 0 where
   pub named : IsSome (map.get m n)
   pub least : (k : ℕ) → first ≤ k → k < n → map.get m k ≡ None
 
+-- the first sending from n on that has a fate, and its fate, or that there is none
+abbrev pub IsFirstFrom : FateMap → ℕ → Option (ℕ × Fate) → Type 0
+IsFirstFrom m n None = (k : ℕ) → n ≤ k → map.get m k ≡ None
+IsFirstFrom m n (Some s) = (n ≤ s.0) × (map.get m s.0 ≡ Some s.1) × ((k : ℕ) → n ≤ k → k < s.0 → map.get m k ≡ None)
+
 -- fates as numbers, by which proofs tell them apart
 abbrev pub to_number : Fate → ℕ
 to_number Answer = 0

@@ -1,6 +1,6 @@
 ghost use Rattle.std.specs.Prelude.{◌≡◌, ◌↔◌, ℕ, ◌+◌, ◌≤◌, false, OnOk, OnErr, IsErrOf, IsSome};
 ghost use Rattle.std.specs.FinMap as map;
-ghost use Rattle.s3_types.specs.Fates.{with_fates, fate_at, is_answer, IsFirstNamed};
+ghost use Rattle.s3_types.specs.Fates.{with_fates, fate_at, is_answer, IsFirstNamed, IsFirstFrom};
 ghost use Rattle.s3_types.specs.Spans.{from_on, first_in};
 ghost use Rattle.s3_types.specs.declared.fates.FateFault.TheVariants.{NoMemory};
 
@@ -159,6 +159,16 @@ impl Fates {
                 }
             }
             None => Fate::Answer,
+        }
+    }
+
+    /// The first sending from `n` on that has a fate, and its fate, in O(log f).
+    pub fn first_from(&self, n: u64) -> Option<(u64, Fate)>
+        ensures first { IsFirstFrom self.now n result }
+    {
+        match span_from(&self.spans, n) {
+            Some((_, span)) => Some((span.first.max(n), span.fate)),
+            None => None,
         }
     }
 }

@@ -1,4 +1,4 @@
-use Rattle.std.proofs.Common.{◌≡◌, ℕ, ap, ◌∙◌, sym, List, Some, None}
+use Rattle.std.proofs.Common.{ℕ, ap, ◌∙◌, sym, List}
 use Rattle.std.specs.List.{slice_get}
 use Rattle.s3_types.specs.declared.fates.Span.{Span}
 use Rattle.s3_types.proofs.Spans.{first_from}

@@ -1,6 +1,0 @@
-use Rattle.std.proofs.Common.{arith}
-use Rattle.first_form.proofs.FormPieces.{split}
-use Rattle.first_form.proofs.form.first_word.Goals as goal
-
-pub returns : goal.returns
-returns c = split 32 c.args.text.now c.split_once.result (omega arith) c.split_once.ensures.cases
