@@ -8,7 +8,7 @@ use Rattle.s3_types.specs.declared.request.Actor.TheVariants.{Driver, Attempt, S
 use Rattle.job_model.specs.Attempts.{Declared, same_name}
 use Rattle.job_model.specs.Standing.{Kept, name_of, state_in, with_state, begun_state, Keeps}
 use Rattle.job_model.specs.States.{attempt_actor, put, idle, dead, ended, Past, begin, open_event, actor_of, told, end_op, end_ops, after_event}
-use Rattle.job_model.specs.declared.script.Script.{Script}
+use Rattle.job_model.specs.JobScript.{Script}
 use Rattle.job_model.specs.declared.events.Op.{Op}
 use Rattle.job_model.specs.declared.events.Event.{Event}
 use Rattle.job_model.specs.declared.events.Event.TheVariants.{Do, Start, Kill}

@@ -9,7 +9,7 @@ use Rattle.job_model.specs.Attempts.{Declared}
 use Rattle.job_model.specs.Standing.{Kept, state_in, Keeps}
 use Rattle.job_model.specs.States.{actors, attempt_actor, past}
 use Rattle.job_model.specs.ReportText.{line, actor_text, life_word, stage_word, state_line, event_lines, pick_line, closing, report_text}
-use Rattle.job_model.specs.declared.script.Script.{Script}
+use Rattle.job_model.specs.JobScript.{Script}
 use Rattle.job_model.specs.declared.events.Event.{Event}
 use Rattle.job_model.specs.declared.ends.EventEnd.{EventEnd}
 use Rattle.job_model.specs.declared.ends.Pick.{Pick}

@@ -1,7 +1,9 @@
 -- The declared attempts with their files.
-use Rattle.std.specs.Prelude.{ℕ, List, [], ◌∷◌, ◌++◌, Bool, ◌&&◌, nat_eq, is_some}
+use Rattle.std.specs.Prelude.{ℕ, List, [], ◌∷◌, ◌++◌, Bool, true, false, ◌&&◌, nat_eq, is_some}
 use Rattle.std.specs.Map.{lookup}
 use Rattle.job_model.specs.declared.attempts.AttemptName.{AttemptName}
+use Rattle.s3_types.specs.declared.request.Actor.{Actor}
+use Rattle.s3_types.specs.declared.request.Actor.TheVariants as actor
 use Rattle.job_model.specs.Files.{File}
 
 abbrev pub same_name : AttemptName → AttemptName → Bool
@@ -25,3 +27,9 @@ abbrev pub with_file : List Declared → List ℕ → List ℕ → List Declared
 with_file [] path bytes = []
 with_file (a ∷ []) path bytes = (a.0, a.1 ++ (path, bytes) ∷ []) ∷ []
 with_file (a ∷ b ∷ bs) path bytes = a ∷ with_file (b ∷ bs) path bytes
+
+-- the driver, or a declared attempt
+abbrev pub is_known : List Declared → Actor → Bool
+is_known attempts actor.Driver = true
+is_known attempts (actor.Attempt task attempt) = declares attempts (record { task = task; attempt = attempt })
+is_known attempts actor.Shell = false

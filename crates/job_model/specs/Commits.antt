@@ -11,7 +11,7 @@ use Rattle.job_model.specs.Files.{has_path}
 use Rattle.job_model.specs.Outputs.{Picks, files_of}
 use Rattle.job_model.specs.Headline.{mark_text}
 use Rattle.job_model.specs.Knowledge.{named_from}
-use Rattle.job_model.specs.declared.script.Script.{Script}
+use Rattle.job_model.specs.JobScript.{Script}
 use Rattle.job_model.specs.declared.ends.CommitEnd.{CommitEnd}
 use Rattle.job_model.specs.declared.ends.CommitEnd.TheVariants as commits
 use Rattle.job_model.specs.declared.ends.Stage.TheVariants as stages

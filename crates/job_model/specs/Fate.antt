@@ -4,7 +4,7 @@ use Rattle.s3_types.specs.Fates.{fate_at}
 use Rattle.s3_types.specs.Foretold.{AreForetold}
 use Rattle.s3_types.specs.declared.fates.Fate.{Fate}
 use Rattle.s3_types.specs.declared.journal.Entry.{Entry}
-use Rattle.job_model.specs.declared.script.Script.{Script}
+use Rattle.job_model.specs.JobScript.{Script}
 
 -- what the script says of the n-th sending, counted from 1; one that it does not name is answered
 abbrev pub fate : Script → ℕ → Fate

@@ -20,7 +20,7 @@ use Rattle.job_model.specs.Operations.{Setup, Heading, setup_asks, setup_hears, 
 use Rattle.job_model.specs.Commits.{Sets, Commit, commit_asks, commit_hears, commit_worn, commit_over, commit_start, picks_of, Shares, IsShared}
 use Rattle.job_model.specs.States.{Doing, past, refusal, after_event, open_event, told}
 use Rattle.job_model.specs.Turns.{of_event, until, before, since, by_actor, is_busy, is_memory, Turns, IsRising}
-use Rattle.job_model.specs.declared.script.Script.{Script}
+use Rattle.job_model.specs.JobScript.{Script}
 use Rattle.job_model.specs.declared.events.Op.{Op}
 use Rattle.job_model.specs.declared.events.Op.TheVariants as ops
 use Rattle.job_model.specs.declared.events.Event.{Event}

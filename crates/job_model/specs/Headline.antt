@@ -10,7 +10,7 @@ use Rattle.pending_json.specs.declared.records.SuccessMark.{SuccessMark}
 use Rattle.job_model.specs.View.{Shown, view, object_at}
 use Rattle.job_model.specs.Outputs.{Picks, wanted_at, wanted_paths, keeps, is_picked, is_clash, is_decided, done}
 use Rattle.job_model.specs.Replay.{Seen, seen, is_marked}
-use Rattle.job_model.specs.declared.script.Script.{Script}
+use Rattle.job_model.specs.JobScript.{Script}
 
 -- two views show the same files
 abbrev pub Same : Shown → Shown → Type 0

@@ -1,8 +1,13 @@
 pub mod Files
 pub mod Attempts
 pub mod Jobs
+pub mod Paths
+pub mod JobScript
+pub mod Codes
+pub mod Legal
 pub mod View
 pub mod Outputs
+pub mod Plans
 pub mod Replay
 pub mod Headline
 pub mod States

@@ -20,7 +20,7 @@ use Rattle.job_model.specs.Files.{File}
 use Rattle.job_model.specs.Outputs.{files_of}
 use Rattle.job_model.specs.Blocks.{block_of, parts_of}
 use Rattle.job_model.specs.Knowledge.{Drawn, Known}
-use Rattle.job_model.specs.declared.script.Script.{Script}
+use Rattle.job_model.specs.JobScript.{Script}
 use Rattle.job_model.specs.declared.ends.SetupEnd.{SetupEnd}
 use Rattle.job_model.specs.declared.ends.SetupEnd.TheVariants as setups
 use Rattle.job_model.specs.declared.ends.TaskEnd.{TaskEnd}

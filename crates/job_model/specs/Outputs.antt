@@ -14,7 +14,7 @@ use Rattle.s3_types.specs.declared.request.Mode.TheVariants.{Replace}
 use Rattle.job_model.specs.Files.{File, has_path}
 use Rattle.job_model.specs.Attempts.{same_name}
 use Rattle.job_model.specs.View.{Shown}
-use Rattle.job_model.specs.declared.script.Script.{Script}
+use Rattle.job_model.specs.JobScript.{Script}
 
 -- ---- the files of an attempt
 

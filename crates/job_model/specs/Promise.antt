@@ -1,5 +1,5 @@
 -- What a run promises of its job: the headline, and what ties a journal, picks and ends to the script.
-use Rattle.std.specs.Prelude.{◌≡◌, ℕ, zero, suc, ◌+◌, ◌-◌, ◌⊎◌, ◌&&◌, not, Bool, true, false, List, [], ◌∷◌, ◌++◌, length, take, Option, Some, None}
+use Rattle.std.specs.Prelude.{◌≡◌, ℕ, zero, suc, ◌+◌, ◌-◌, ◌⊎◌, ◌&&◌, not, Bool, true, List, [], ◌∷◌, ◌++◌, length, take, Option, Some, None}
 use Rattle.std.specs.List.{list_any}
 use Rattle.s3_types.specs.Store.{Content}
 use Rattle.s3_types.specs.Moment.{is_unanswered, IsHonest}
@@ -12,7 +12,7 @@ use Rattle.job_model.specs.Headline.{Always}
 use Rattle.job_model.specs.States.{past, missing, commit_event, told}
 use Rattle.job_model.specs.Turns.{until, since, by_actor}
 use Rattle.job_model.specs.Follows.{Plays, first_worn, CommitIs}
-use Rattle.job_model.specs.declared.script.Script.{Script}
+use Rattle.job_model.specs.JobScript.{Script}
 use Rattle.job_model.specs.declared.events.Event.{Event}
 use Rattle.job_model.specs.declared.ends.Pick.{Pick}
 use Rattle.job_model.specs.declared.ends.ActorEnd.{ActorEnd}

@@ -15,7 +15,7 @@ use Rattle.s3_types.specs.declared.journal.Entry.{Entry}
 use Rattle.magic_paths.specs.Layout as layout
 use Rattle.job_model.specs.View.{object_at}
 use Rattle.job_model.specs.Outputs.{Picks}
-use Rattle.job_model.specs.declared.script.Script.{Script}
+use Rattle.job_model.specs.JobScript.{Script}
 
 -- ---- requests that publish, read and mark
 

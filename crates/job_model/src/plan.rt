@@ -10,8 +10,10 @@ use std::alloc::{AllocError, Global};
 use std::collections::BTreeSet;
 use std::marker::Model;
 
-/// What a job's driver and attempts know of the job. Its id has 1 to 64 letters, digits, `_` and `-`,
-/// its destination's key 1 to 400 bytes; it has at most 1,000 tasks, and a stamp is below 10^18.
+/// What a job's driver and attempts know of the job. It keeps the bounds that a script gives them: its
+/// id has 1 to 64 letters, digits, `_` and `-`; its destination's key has 1 to 400 bytes, no CR at its
+/// end, and no element `__magic` or `__base`; with the committer `magic` its mode is `append`; it has at
+/// most 1,000 tasks, and a stamp is below 10^18.
 #[derive(Drop)]
 pub struct JobPlan {
     pub job: Text,
@@ -23,14 +25,14 @@ pub struct JobPlan {
 }
 
 impl Model for JobPlan {
-    ghost use Rattle.std.specs.Prelude.{◌≡◌, true};
-    ghost use Rattle.job_model.specs.Jobs.{Job, is_job};
+    ghost use Rattle.job_model.specs.Jobs.{Job};
+    ghost use Rattle.job_model.specs.Plans.{IsJob};
 
     ghost Value = { Job };
 
     ghost view = { λ p. record { job = p.job; dest = p.dest; committer = p.committer; mode = p.mode; tasks = p.tasks; stamp = p.stamp } };
 
-    ghost invariant = { λ p. is_job p.job p.dest p.tasks p.stamp ≡ true };
+    ghost invariant = { λ p. IsJob (record { job = p.job; dest = p.dest; committer = p.committer; mode = p.mode; tasks = p.tasks; stamp = p.stamp }) };
 }
 
 /// What an attempt knows and has done: of which job, task and attempt it is, its files, the sizes in
@@ -38,6 +40,8 @@ impl Model for JobPlan {
 /// store's minimum, 1 to 5,242,880), the uploads whose ids it got in the order of their making, the
 /// records of its finished uploads, and whether it has sent the put of its temporary file and its
 /// publishing request. Its task is below the job's number of tasks, and its own number is at most 99.
+/// Its files are at most 20,000 with 67,108,864 bytes together; each path is one that a script may give or
+/// that path made unique to the job, and stands once.
 #[derive(Drop)]
 pub struct TaskPlan {
     pub job: JobPlan,
@@ -53,14 +57,14 @@ pub struct TaskPlan {
 }
 
 impl Model for TaskPlan {
-    ghost use Rattle.std.specs.Prelude.{◌≡◌, true};
-    ghost use Rattle.job_model.specs.Jobs.{Task, is_task};
+    ghost use Rattle.job_model.specs.Jobs.{Task};
+    ghost use Rattle.job_model.specs.Plans.{IsTask};
 
     ghost Value = { Task };
 
     ghost view = { λ p. record { job = p.job; task = p.task; attempt = p.attempt; files = p.files; block = p.block; minimum = p.minimum; known = p.known; records = p.records; put_sent = p.put_sent; publish_sent = p.publish_sent } };
 
-    ghost invariant = { λ p. is_task p.job p.task p.attempt p.block p.minimum ≡ true };
+    ghost invariant = { λ p. IsTask (record { job = p.job; task = p.task; attempt = p.attempt; files = p.files; block = p.block; minimum = p.minimum; known = p.known; records = p.records; put_sent = p.put_sent; publish_sent = p.publish_sent }) };
 }
 
 /// Numbers of tasks, rising and each once.

@@ -2,8 +2,11 @@ use crate::attempts::Attempts;
 use crate::events::EventList;
 use path_keys::S3Path;
 use s3_types::{Committer, Fates, Mode, Text};
+use std::marker::Model;
 
-/// A job script: the job's head, its attempts with their files, and the events of its run.
+/// A job script: the job's head, its attempts with their files, and the events of its run. It keeps the
+/// bounds of `IsLegal`: those of its numbers, names and paths, and that each event is of the driver or a
+/// declared attempt.
 #[derive(Drop)]
 pub struct Script {
     /// The job's id.
@@ -26,4 +29,18 @@ pub struct Script {
     pub fates: Fates,
     pub attempts: Attempts,
     pub events: EventList,
+}
+
+impl Model for Script {
+    ghost use Rattle.job_model.specs.JobScript.{Script};
+    ghost use Rattle.job_model.specs.Codes.{coded_script};
+    ghost use Rattle.job_model.specs.Legal.{IsLegal};
+
+    ghost Value = { Script };
+
+    ghost coded = { coded_script };
+
+    ghost view = { λ s. record { job = s.job; dest = s.dest; committer = s.committer; mode = s.mode; unique = s.unique; tasks = s.tasks; retries = s.retries; block = s.block; stamp = s.stamp; fates = s.fates; attempts = s.attempts; events = s.events } };
+
+    ghost invariant = { λ s. IsLegal (record { job = s.job; dest = s.dest; committer = s.committer; mode = s.mode; unique = s.unique; tasks = s.tasks; retries = s.retries; block = s.block; stamp = s.stamp; fates = s.fates; attempts = s.attempts; events = s.events }) };
 }

@@ -2,7 +2,7 @@ ghost use Rattle.std.specs.Prelude.{◌≡◌, Some, IfOk};
 ghost use Rattle.job_model.specs.ReportText.{life_word, stage_word};
 ghost use Rattle.job_model.specs.Standing.{state_in, with_state, begun_state, Keeps};
 ghost use Rattle.job_model.specs.States.{stage_begun, stage_done, task_ended, ended, dead, Past, open_event, end_ops, told, after_event, nothing_past, past, actor_of};
-ghost use Rattle.job_model.specs.declared.script.Script.{Script};
+ghost use Rattle.job_model.specs.JobScript.{Script};
 
 use crate::attempts::{AttemptName, Attempts};
 use crate::ends::{ActorEnd, CleanEnd, CommitEnd, EventEnd, OpEnd, SetupEnd, TaskEnd};

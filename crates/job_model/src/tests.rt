@@ -1,14 +1,8 @@
 use crate::attempts::{AttemptName, Attempts};
-use crate::ends::{
-    ActorEnd, ActorEndList, CommitEnd, EndList, EventEnd, EventFault, OpEnd, Pick, PickList,
-    SetupEnd, Stage, TaskEnd,
-};
-use crate::events::{Event, EventList, Op};
-use crate::report::{Report, report_text};
-use crate::script::Script;
+use crate::ends::{ActorEnd, ActorEndList, CommitEnd, EventEnd, OpEnd, Stage, TaskEnd};
+use crate::events::Event;
 use crate::standing::{ActorStage, Life, Standings};
-use path_keys::S3Path;
-use s3_types::{Actor, Committer, Fates, Journal, Mode, Text};
+use s3_types::Actor;
 use std::alloc::{AllocError, Global};
 use std::test::Fail;
 
@@ -28,22 +22,6 @@ const STRANGER: Actor = Actor::Attempt {
     attempt: 7,
 };
 
-static REPORT: &str = "1 do driver setup: done
-2 start 0.0 write: ok
-3 step 0.0 2: ok
-4 run 1.0: refused idle
-5 kill 1.0: ok
-6 do 7.7 write: gone x
-7 mix 7: 0.0 done, 7.7 done, driver store-fault delete
-8 mix 8: ok
-pick 3 4
-driver idle failed
-0.0 idle written
-1.0 dead new
-sent 0
-status 9
-";
-
 fn attempts(alloc: Global) -> Result<Attempts, Fail> {
     let mut attempts = Attempts::new(alloc);
     for task in 0..2 {
@@ -53,45 +31,6 @@ fn attempts(alloc: Global) -> Result<Attempts, Fail> {
         }
     }
     Ok(attempts)
-}
-
-fn script(alloc: Global) -> Result<Script, Fail> {
-    let events = [
-        Event::Do {
-            actor: Actor::Driver,
-            op: Op::Setup,
-        },
-        Event::Start {
-            actor: FIRST,
-            op: Op::Write,
-        },
-        Event::Step {
-            actor: FIRST,
-            count: 2,
-        },
-        Event::Run { actor: SECOND },
-        Event::Kill { actor: SECOND },
-        Event::Do {
-            actor: STRANGER,
-            op: Op::Write,
-        },
-        Event::Mix { seed: 7 },
-        Event::Mix { seed: 8 },
-    ];
-    Ok(Script {
-        job: Text::copied(alloc, "j")?,
-        dest: S3Path::read(alloc, "s3a://lake/out")?,
-        committer: Committer::Magic,
-        mode: Mode::Fail,
-        unique: false,
-        tasks: 2,
-        retries: 3,
-        block: 0,
-        stamp: None,
-        fates: Fates::new(alloc),
-        attempts: attempts(alloc)?,
-        events: EventList::from_vec(events.to_vec(alloc)?),
-    })
 }
 
 fn mixed(alloc: Global) -> Result<ActorEndList, AllocError> {
@@ -109,40 +48,6 @@ fn mixed(alloc: Global) -> Result<ActorEndList, AllocError> {
         end: OpEnd::Commit(CommitEnd::StoreFault(Stage::Delete)),
     })?;
     Ok(ends)
-}
-
-fn ends(alloc: Global) -> Result<EndList, AllocError> {
-    let mut ends = EndList::new(alloc);
-    ends.push(EventEnd::Ended(OpEnd::Setup(SetupEnd::Done)))?;
-    ends.push(EventEnd::Done)?;
-    ends.push(EventEnd::Done)?;
-    ends.push(EventEnd::Refused(EventFault::Idle))?;
-    ends.push(EventEnd::Done)?;
-    let name = Text::copied(alloc, "x")?;
-    ends.push(EventEnd::Ended(OpEnd::Task(TaskEnd::Gone(name))))?;
-    ends.push(EventEnd::Mixed(mixed(alloc)?))?;
-    ends.push(EventEnd::Mixed(ActorEndList::new(alloc)))?;
-    Ok(ends)
-}
-
-#[test]
-fn a_report_has_each_kind_of_line(rt: HostRuntime) -> Result<(), Fail> {
-    let alloc = rt.alloc();
-    let mut picks = PickList::new(alloc);
-    picks.push(Pick {
-        task: 3,
-        attempt: 4,
-    })?;
-    let report = Report {
-        status: 4,
-        due: 9,
-        journal: Journal::new(alloc),
-        picks,
-        ends: ends(alloc)?,
-    };
-    let text = report_text(alloc, &report, &script(alloc)?)?;
-    assert_eq!(rt; text.as_slice(), REPORT.as_bytes());
-    Ok(())
 }
 
 #[test]

@@ -1,10 +1,11 @@
 -- What is read has the bounds of a script.
-use Rattle.std.proofs.Common.{◌≡◌, ℕ, ◌+◌, ◌<◌, ◌≤◌, ◌^◌, Bool, true, false, List, [], ◌∷◌, length, Option, Some, None, Result, Ok, Err, refl, sym, ap, subst, ◌∙◌, arith}
-use Rattle.std.specs.Prelude.{⊤, IfSome, IfOk, nat_le, if◌then◌else◌}
+use Rattle.std.proofs.Common.{◌≡◌, ℕ, ◌+◌, ◌<◌, ◌≤◌, ◌^◌, Bool, true, false, List, [], ◌∷◌, Option, Some, None, Ok, refl, sym, ap, subst, ◌∙◌, arith}
+use Rattle.std.specs.Prelude.{⊤, IfSome, if◌then◌else◌}
+use Rattle.std.specs.List.{AllByRecursion}
 use Rattle.std.specs.Str.{is_utf8}
 use Rattle.std.specs.FinMap as map
 use Rattle.std.specs.Ordering.{nat_cmp}
-use Rattle.words.specs.Lines.{lines_of}
+use Rattle.words.specs.Lines.{lines_of, is_inside}
 use Rattle.line_words.specs.Words.{words_of}
 use Rattle.s3_types.specs.declared.fates.Fate.{Fate}
 use Rattle.s3_types.specs.declared.request.Committer.{Committer}
@@ -12,21 +13,21 @@ use Rattle.s3_types.specs.declared.request.Committer.TheVariants as committer
 use Rattle.s3_types.specs.declared.request.Mode.{Mode}
 use Rattle.s3_types.specs.declared.request.Mode.TheVariants as mode
 use Rattle.job_model.specs.Attempts.{Declared}
-use Rattle.job_model.specs.declared.script.Script.{Script}
-use Rattle.job_script.specs.declared.fault.ScriptFault.{ScriptFault}
-use Rattle.job_script.specs.declared.fault.ScriptFault.TheVariants.{NotUtf8, BadLine, UnknownWord, MissingHead, TooLarge}
+use Rattle.job_model.specs.JobScript.{Script}
+use Rattle.job_script.specs.declared.fault.ScriptFault.TheVariants.{BadLine, UnknownWord, MissingHead}
 use Rattle.job_script.specs.declared.draft.Draft.{Draft}
 use Rattle.job_script.specs.declared.draft.Head.{Head}
 use Rattle.job_script.specs.declared.draft.Group.{Group}
 use Rattle.job_script.specs.declared.draft.Group.TheVariants as group
 use Rattle.job_script.specs.declared.kinds.Kind.{Kind}
 use Rattle.job_script.specs.declared.kinds.Kind.TheVariants as kind
-use Rattle.job_script.specs.Fault.{need, check, Gives}
+use Rattle.job_script.specs.Fault.{need}
 use Rattle.job_script.specs.Kinds.{kind_of, enters}
 use Rattle.job_script.specs.HeadLines.{head_at}
-use Rattle.job_script.specs.Script.{is_skipped, said_at, words_at, line_at, lines_at, nothing, mode_in, unique_in, all_inside, or_else, complete, script_of}
-use Rattle.job_script.specs.Legal.{IsLegal, FitsMagic, AreAttempts}
+use Rattle.job_script.specs.Script.{is_skipped, said_at, words_at, line_at, lines_at, nothing, mode_in, unique_in, all_inside, or_else, complete}
+use Rattle.job_model.specs.Legal.{IsLegal, FitsMagic, AreAttempts, IsScriptWord}
 use Rattle.job_script.proofs.Steps.{parted, same_ok, needed}
+use Rattle.job_script.proofs.SoundWords.{IsClean, text_clean, line_words}
 use Rattle.job_script.proofs.SoundHead.{IsSoundHead, head_sound}
 use Rattle.job_script.proofs.SoundAttempts.{IsSoundAttempts, attempt_sound, file_sound, attempt_keeps, file_keeps}
 use Rattle.job_script.proofs.SoundEvents.{IsSoundEvents, event_added, event_sound, no_events}
@@ -130,15 +131,15 @@ grown d e g kept is s =
     let empty = kept.0 ∙ none in
     record { head = subst IsSoundHead (sym kept.1) s.head; attempts = is; events = no_events e empty; early = subst (λ (x : Group). IsEarly x e) (sym (kept.2 ∙ g)) empty }
 
-said_sound : (n : ℕ) (k : Kind) (d e : Draft) (values : List (List ℕ)) → d.group ≡ group_of k → said_at n k d values ≡ Ok e → IsSound d → IsSound e
+said_sound : (n : ℕ) (k : Kind) (d e : Draft) (values : List (List ℕ)) → AllByRecursion IsScriptWord values → d.group ≡ group_of k → said_at n k d values ≡ Ok e → IsSound d → IsSound e
 unfolding said_at
-said_sound n (kind.Head w) d e values g h s =
-    let a = parted (head_at n w d.head values) _ _ h in
-    subst IsSound (same_ok (record d { head = a.value }) e a.next) (head_kept d a.value g (head_sound n w d.head a.value values a.first s.head) s)
-said_sound n kind.Attempt d e values g h s = grown d e g (attempt_keeps n d e values h) (attempt_sound n d e values h s.attempts) s
-said_sound n kind.File d e values g h s = grown d e g (file_keeps n d e values h) (file_sound n d e values h s.attempts) s
-said_sound n (kind.Event w) d e values g h s =
-    let a = event_added n w d e values h in
+said_sound n (kind.Head x) d e values w g h s =
+    let a = parted (head_at n x d.head values) _ _ h in
+    subst IsSound (same_ok (record d { head = a.value }) e a.next) (head_kept d a.value g (head_sound n x d.head a.value values w a.first s.head) s)
+said_sound n kind.Attempt d e values w g h s = grown d e g (attempt_keeps n d e values h) (attempt_sound n d e values h s.attempts) s
+said_sound n kind.File d e values w g h s = grown d e g (file_keeps n d e values h) (file_sound n d e values w h s.attempts) s
+said_sound n (kind.Event x) d e values w g h s =
+    let a = event_added n x d e values h in
     let events = event_sound d e a s.events in
     let same_head : d.head ≡ e.head = ap (λ (x : Draft). x.head) a.after in
     let same_group : d.group ≡ e.group = ap (λ (x : Draft). x.group) a.after in
@@ -149,25 +150,25 @@ said_sound n (kind.Event w) d e values g h s =
       early = subst (λ (x : Group). IsEarly x e) (sym g ∙ same_group) tt;
     }
 
-words_sound : (n : ℕ) (d e : Draft) (words : List (List ℕ)) → words_at n d words ≡ Ok e → IsSound d → IsSound e
+words_sound : (n : ℕ) (d e : Draft) (words : List (List ℕ)) → AllByRecursion IsScriptWord words → words_at n d words ≡ Ok e → IsSound d → IsSound e
 unfolding words_at
-words_sound n d e [] h s = absurd cc
-words_sound n d e (word ∷ values) h s =
+words_sound n d e [] w h s = absurd cc
+words_sound n d e (word ∷ values) w h s =
     let a = parted (need (kind_of word) (UnknownWord n)) _ _ h in
     let b = parted (need (enters a.value d.group) (BadLine n)) _ _ a.next in
     let g = needed (enters a.value d.group) (BadLine n) b.value b.first in
-    said_sound n a.value (record d { group = b.value }) e values (its_group a.value d.group b.value g) b.next (moved d b.value (entered a.value d.group b.value d g s.early) s)
+    said_sound n a.value (record d { group = b.value }) e values w.1 (its_group a.value d.group b.value g) b.next (moved d b.value (entered a.value d.group b.value d g s.early) s)
 
-line_at_sound : (b : Bool) (n : ℕ) (d e : Draft) (text : List ℕ) → (if b then Ok d else words_at n d (words_of text)) ≡ Ok e → IsSound d → IsSound e
-line_at_sound true n d e text h s = subst IsSound (same_ok d e h) s
-line_at_sound false n d e text h s = words_sound n d e (words_of text) h s
+line_at_sound : (b : Bool) (n : ℕ) (d e : Draft) (text : List ℕ) → IsClean is_inside text → (if b then Ok d else words_at n d (words_of text)) ≡ Ok e → IsSound d → IsSound e
+line_at_sound true n d e text c h s = subst IsSound (same_ok d e h) s
+line_at_sound false n d e text c h s = words_sound n d e (words_of text) (line_words text c) h s
 
-lines_sound : (n : ℕ) (d e : Draft) (texts : List (List ℕ)) → lines_at n d texts ≡ Ok e → IsSound d → IsSound e
+lines_sound : (n : ℕ) (d e : Draft) (texts : List (List ℕ)) → AllByRecursion (IsClean is_inside) texts → lines_at n d texts ≡ Ok e → IsSound d → IsSound e
 unfolding lines_at
-lines_sound n d e [] h s = subst IsSound (same_ok d e h) s
-lines_sound n d e (text ∷ texts) h s =
+lines_sound n d e [] c h s = subst IsSound (same_ok d e h) s
+lines_sound n d e (text ∷ texts) c h s =
     let a = parted (line_at n d text) _ _ h in
-    lines_sound (n + 1) a.value e texts a.next (line_at_sound (is_skipped text) n d a.value text a.first s)
+    lines_sound (n + 1) a.value e texts c.1 a.next (line_at_sound (is_skipped text) n d a.value text c.0 a.first s)
 
 no_value : {A : Type 0} (x : A) → None ≡ Some x → ⊥
 no_value x h = absurd cc
@@ -242,15 +243,6 @@ complete_sound d s h is =
       few_events = is.events.few;
     })
 
--- what the bytes mean as a script has the bounds of one
-pub script_legal : (bytes : List ℕ) (s : Script) → script_of bytes ≡ Ok s → IsLegal s
-unfolding script_of
-script_legal bytes s h =
-    let a = parted (check (nat_le (length bytes) 67108864) TooLarge) _ _ h in
-    let b = parted (check (is_utf8 bytes) NotUtf8) _ _ a.next in
-    let c = parted (lines_at 1 nothing (lines_of bytes)) _ _ b.next in
-    complete_sound c.value s c.next (lines_sound 1 nothing c.value (lines_of bytes) c.first nothing_sound)
-
-pub legal_where_read : (result : Result Script ScriptFault) (bytes : List ℕ) → Gives result (script_of bytes) → IfOk result IsLegal
-legal_where_read (Ok s) bytes h = script_legal bytes s h
-legal_where_read (Err e) bytes h = tt
+-- what lines in UTF-8 mean as a script has the bounds of one
+pub draft_legal : (bytes : List ℕ) (d : Draft) → is_utf8 bytes ≡ true → lines_at 1 nothing (lines_of bytes) ≡ Ok d → (s : Script) → complete d ≡ Ok s → IsLegal s
+draft_legal bytes d utf8 h s k = complete_sound d s k (lines_sound 1 nothing d (lines_of bytes) (text_clean bytes utf8) h nothing_sound)

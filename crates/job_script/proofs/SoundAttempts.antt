@@ -1,6 +1,7 @@
 -- The bounds of what attempts and their files say.
 use Rattle.std.proofs.Common.{◌≡◌, ℕ, ◌+◌, ◌<◌, ◌≤◌, Bool, true, false, List, [], ◌∷◌, ◌++◌, length, Option, Some, None, Ok, refl, sym, ap, subst, arith, append_assoc}
 use Rattle.std.specs.Prelude.{nat_le, nat_lt, not, if◌then◌else◌}
+use Rattle.std.specs.List.{AllByRecursion}
 use Rattle.std.proofs.lemmas.Bool.{leb-true, ltb-true}
 use Rattle.words.specs.Parts.{parts_of}
 use Rattle.line_words.specs.Numbers.{number_in}
@@ -12,22 +13,23 @@ use Rattle.job_script.specs.declared.fault.ScriptFault.TheVariants.{BadLine, Rep
 use Rattle.job_script.specs.declared.draft.Draft.{Draft}
 use Rattle.job_script.specs.Fault.{need, check}
 use Rattle.job_script.specs.Kinds.{first_of}
-use Rattle.job_script.specs.Paths.{is_path, is_hidden}
+use Rattle.job_model.specs.Paths.{is_path, is_hidden}
 use Rattle.job_script.specs.Content.{content_at}
 use Rattle.job_script.specs.AttemptLines.{name_at, attempt_at, file_at, outside_at}
-use Rattle.job_script.specs.Legal.{AreFiles, AreAttempts, files_in, bytes_of, bytes_in}
-use Rattle.job_script.proofs.Steps.{parted, same_ok, checked, number_bounds, not_so}
+use Rattle.job_model.specs.Legal.{IsScriptWord, IsFile, AreFiles, AreAttempts, files_in, bytes_of, bytes_in}
+use Rattle.job_script.proofs.SoundContent.{content_sound}
+use Rattle.job_script.proofs.Steps.{parted, same_ok, needed, checked, number_bounds, not_so}
 
 -- ---- lists that grow at their end
 
-files_more : (before fs : List File) (f : File) → is_path f.0 ≡ true → is_hidden f.0 ≡ false → has_path (before ++ fs) f.0 ≡ false → AreFiles before fs → AreFiles before (fs ++ f ∷ [])
-files_more before [] f stated seen new h = let e : before ++ [] ≡ before = append_none before in (stated, seen, subst (λ (l : List File). has_path l f.0 ≡ false) e new, tt)
+files_more : (before fs : List File) (f : File) → IsFile f → has_path (before ++ fs) f.0 ≡ false → AreFiles before fs → AreFiles before (fs ++ f ∷ [])
+files_more before [] f is new h = let e : before ++ [] ≡ before = append_none before in (is, subst (λ (l : List File). has_path l f.0 ≡ false) e new, tt)
   where
     append_none : (l : List File) → l ++ [] ≡ l
     append_none [] = refl
     append_none (x ∷ xs) = ap (λ (l : List File). x ∷ l) (append_none xs)
-files_more before (g ∷ fs) f stated seen new h =
-    (h.0, h.1, h.2, files_more (before ++ g ∷ []) fs f stated seen (subst (λ (l : List File). has_path l f.0 ≡ false) (sym (append_assoc before (g ∷ []) fs)) new) h.3)
+files_more before (g ∷ fs) f is new h =
+    (h.0, h.1, files_more (before ++ g ∷ []) fs f is (subst (λ (l : List File). has_path l f.0 ≡ false) (sym (append_assoc before (g ∷ []) fs)) new) h.2)
 
 append_none : (l : List Declared) → l ++ [] ≡ l
 append_none [] = refl
@@ -38,10 +40,10 @@ attempts_more tasks before [] name task attempt new h = (task, attempt, subst (�
 attempts_more tasks before (a ∷ rest) name task attempt new h =
     (h.0, h.1, h.2, h.3, attempts_more tasks (before ++ a ∷ []) rest name task attempt (subst (λ (l : List Declared). declares l name ≡ false) (sym (append_assoc before (a ∷ []) rest)) new) h.4)
 
-file_more : (tasks : ℕ) (before all : List Declared) (path bytes : List ℕ) → is_path path ≡ true → is_hidden path ≡ false → has_path (last_files all) path ≡ false → AreAttempts tasks before all → AreAttempts tasks before (with_file all path bytes)
-file_more tasks before [] path bytes stated seen new h = h
-file_more tasks before (a ∷ []) path bytes stated seen new h = (h.0, h.1, h.2, files_more [] a.1 (path, bytes) stated seen new h.3, tt)
-file_more tasks before (a ∷ b ∷ rest) path bytes stated seen new h = (h.0, h.1, h.2, h.3, file_more tasks (before ++ a ∷ []) (b ∷ rest) path bytes stated seen new h.4)
+file_more : (tasks : ℕ) (before all : List Declared) (path bytes : List ℕ) → IsFile (path, bytes) → has_path (last_files all) path ≡ false → AreAttempts tasks before all → AreAttempts tasks before (with_file all path bytes)
+file_more tasks before [] path bytes is new h = h
+file_more tasks before (a ∷ []) path bytes is new h = (h.0, h.1, h.2, files_more [] a.1 (path, bytes) is new h.3, tt)
+file_more tasks before (a ∷ b ∷ rest) path bytes is new h = (h.0, h.1, h.2, h.3, file_more tasks (before ++ a ∷ []) (b ∷ rest) path bytes is new h.4)
 
 -- ---- what is counted
 
@@ -137,9 +139,21 @@ attempt_sound n d e values h s =
       few_bytes = s.few_bytes;
     })
 
-pub file_sound : (n : ℕ) (d e : Draft) (values : List (List ℕ)) → file_at n d values ≡ Ok e → IsSoundAttempts d → IsSoundAttempts e
+some_is : {A : Type 0} (x y : A) → Some x ≡ Some y → x ≡ y
+some_is x y h = cc
+
+both_words : (values : List (List ℕ)) (w v : List ℕ) (more : List (List ℕ)) → two_and_more values ≡ Some (w, v, more) → AllByRecursion IsScriptWord values → IsScriptWord w × AllByRecursion IsScriptWord more
+both_words [] w v more h all = absurd cc
+both_words (x ∷ []) w v more h all = absurd cc
+both_words (x ∷ y ∷ rest) w v more h all =
+    let k = some_is (x, y, rest) (w, v, more) h in
+    let e : x ≡ w = ap (λ (t : List ℕ × List ℕ × List (List ℕ)). t.0) k in
+    let f : rest ≡ more = ap (λ (t : List ℕ × List ℕ × List (List ℕ)). t.2) k in
+    (subst IsScriptWord e all.0, subst (AllByRecursion IsScriptWord) f all.1.1)
+
+pub file_sound : (n : ℕ) (d e : Draft) (values : List (List ℕ)) → AllByRecursion IsScriptWord values → file_at n d values ≡ Ok e → IsSoundAttempts d → IsSoundAttempts e
 unfolding file_at
-file_sound n d e values h s =
+file_sound n d e values all h s =
     let a = parted (need (two_and_more values) (BadLine n)) _ _ h in
     let b = parted (content_at n a.value.1 a.value.2) _ _ a.next in
     let c = parted (check (is_path a.value.0) (BadPath n)) _ _ b.next in
@@ -147,6 +161,8 @@ file_sound n d e values h s =
     let g = parted (check (not (has_path (last_files d.attempts) a.value.0)) (RepeatedName n)) _ _ f.next in
     let k = parted (check (nat_lt d.files 20000) TooLarge) _ _ g.next in
     let l = parted (check (nat_le (d.bytes + length b.value) 67108864) TooLarge) _ _ k.next in
+    let words = both_words values a.value.0 a.value.1 a.value.2 (needed (two_and_more values) (BadLine n) a.value a.first) all in
+    let bytes_are = content_sound n a.value.1 a.value.2 b.value words.1 b.first in
     let stated = checked _ (BadPath n) _ c.first in
     let seen = not_so _ (checked _ (HiddenPath n) _ f.first) in
     let new = not_so _ (checked _ (RepeatedName n) _ g.first) in
@@ -157,7 +173,7 @@ file_sound n d e values h s =
     let bytes = bytes_counted d.attempts a.value.0 b.value in
     subst IsSoundAttempts (same_ok (record d { attempts = with_file d.attempts a.value.0 b.value; files = d.files + 1; bytes = d.bytes + length b.value }) e l.next)
     (record {
-      attempts = λ tasks t o. file_more tasks [] d.attempts a.value.0 b.value stated seen new (s.attempts tasks t o);
+      attempts = λ tasks t o. file_more tasks [] d.attempts a.value.0 b.value (record { path = record { stated = stated; shown = seen; word = words.0 }; bytes = bytes_are }) new (s.attempts tasks t o);
       few = omega (arith, same, s.few);
       counted = omega (arith, files, s.counted);
       few_files = omega (arith, few);

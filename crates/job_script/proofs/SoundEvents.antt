@@ -6,7 +6,7 @@ use Rattle.line_words.specs.Numbers.{number_in}
 use Rattle.line_words.specs.Shapes.{one, two}
 use Rattle.s3_types.specs.declared.request.Actor.{Actor}
 use Rattle.s3_types.specs.declared.request.Actor.TheVariants as actor
-use Rattle.job_model.specs.Attempts.{Declared}
+use Rattle.job_model.specs.Attempts.{Declared, is_known}
 use Rattle.job_model.specs.declared.events.Op.{Op}
 use Rattle.job_model.specs.declared.events.Event.{Event}
 use Rattle.job_model.specs.declared.events.Event.TheVariants as event
@@ -17,8 +17,8 @@ use Rattle.job_script.specs.declared.kinds.EventWord.TheVariants as words
 use Rattle.job_script.specs.Fault.{◌>>=◌, need, check}
 use Rattle.job_script.specs.Kinds.{named, driver_ops, attempt_ops}
 use Rattle.job_script.specs.AttemptLines.{name_at}
-use Rattle.job_script.specs.EventLines.{is_driver, actor_at, is_known, op_of, order_at, alone_at, do_at, start_at, step_at, run_at, kill_at, mix_at, event_at, event_line_at}
-use Rattle.job_script.specs.Legal.{HasOp, IsEvent, AreEvents}
+use Rattle.job_script.specs.EventLines.{is_driver, actor_at, op_of, order_at, alone_at, do_at, start_at, step_at, run_at, kill_at, mix_at, event_at, event_line_at}
+use Rattle.job_model.specs.Legal.{HasOp, IsEvent, AreEvents}
 use Rattle.job_script.proofs.Steps.{parted, same_ok, needed, checked, number_bounds, named_all}
 
 same_some : {A : Type 0} (x y : A) → Some x ≡ Some y → x ≡ y

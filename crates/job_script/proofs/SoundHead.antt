@@ -1,18 +1,16 @@
 -- The bounds of what head lines say.
-use Rattle.std.proofs.Common.{◌≡◌, ℕ, ◌+◌, ◌<◌, ◌≤◌, ◌^◌, ◌==◌, Bool, true, false, List, [], ◌∷◌, ◌++◌, length, Option, Some, None, Result, Ok, Err, cond, refl, sym, ap, subst, ◌∙◌, arith, inl, inr}
+use Rattle.std.proofs.Common.{◌≡◌, ℕ, ◌+◌, ◌<◌, ◌≤◌, ◌^◌, Bool, true, false, List, [], ◌∷◌, length, Option, Some, None, Result, Ok, Err, cond, refl, sym, ap, subst, ◌∙◌, arith, inl, inr}
 use Rattle.std.specs.Prelude.{◌⊎◌, ◌&&◌, nat_le, nat_lt, not}
+use Rattle.std.specs.List.{AllByRecursion}
 use Rattle.std.specs.FinMap.{get}
 use Rattle.std.proofs.lemmas.Bool.{and_parts, leb-true, ltb-true}
-use Rattle.words.specs.Parts.{parts_of, parts_from}
 use Rattle.line_words.specs.Numbers.{number_in}
 use Rattle.line_words.specs.Shapes.{one, two_and_more, at_most_one}
 use Rattle.s3_types.specs.Fates.{FateMap, with_fates, is_answer}
-use Rattle.s3_types.specs.Names.{is_bucket, trimmed}
 use Rattle.s3_types.specs.declared.fates.Fate.{Fate}
 use Rattle.s3_types.proofs.Spans.{get_with_fates}
-use Rattle.path_keys.specs.Paths.{Path, is_key, path_in, path_of, named, named_if, bucket_in, key_of, without_scheme, first_fault}
+use Rattle.path_keys.specs.Paths.{Path, path_in}
 use Rattle.path_keys.specs.declared.fault.PathFault.{PathFault}
-use Rattle.path_keys.proofs.Faults.{key_is, key_of_text}
 use Rattle.job_model.specs.Jobs.{is_job_id}
 use Rattle.job_script.specs.declared.fault.ScriptFault.{ScriptFault}
 use Rattle.job_script.specs.declared.fault.ScriptFault.TheVariants.{BadLine, RepeatedName, BadPath, DestIsRoot, TooLarge, BadNumber}
@@ -22,9 +20,11 @@ use Rattle.job_script.specs.declared.kinds.HeadWord.{HeadWord}
 use Rattle.job_script.specs.declared.kinds.HeadWord.TheVariants as head
 use Rattle.job_script.specs.Fault.{need, check, free}
 use Rattle.job_script.specs.Kinds.{fates, committers, modes, answers, named as named_in}
-use Rattle.job_script.specs.Paths.{is_dest_key}
+use Rattle.job_model.specs.Paths.{is_dest_key}
 use Rattle.job_script.specs.HeadLines.{head_at, job_at, dest_at, committer_at, tasks_at, mode_at, unique_at, retries_at, block_at, stamp_at, loss_at, loss_of, named_at, count_of, has_one, as_path}
-use Rattle.job_script.specs.Legal.{IsDest, AreFates}
+use Rattle.job_model.specs.Legal.{IsDest, AreFates, IsScriptWord}
+use Rattle.job_script.proofs.SoundWords.{script_word, word_clean}
+use Rattle.job_script.proofs.SoundPaths.{IsCleanPath, IsCleanKey, path_sound}
 use Rattle.job_script.proofs.Steps.{parted, same_ok, needed, checked, number_bounds, named_all}
 
 -- the bounds of what the head lines said so far
@@ -46,68 +46,18 @@ as_path_ok : (n : ℕ) (r : Result Path PathFault) (p : Path) → as_path n r �
 as_path_ok n (Ok q) p h = ap Ok (same_ok q p h)
 as_path_ok n (Err f) p h = absurd cc
 
-record Both (bucket key : Result (List ℕ) PathFault) (p : Path) : Type 0 where
-  pub bucket_is : bucket ≡ Ok p.bucket
-  pub key_is : key ≡ Ok p.key
+-- the key of a path that is not the root
+clean_key : (x : List ℕ) → 0 < length x → (x ≡ []) ⊎ IsCleanKey x → IsCleanKey x
+clean_key x some (inl e) = let none : length x ≡ 0 = ap length e in absurd (omega (arith, some, none))
+clean_key x some (inr k) = k
 
-same_path : (x y : Path) → (let r : Result Path PathFault = Ok x in r ≡ Ok y) → x ≡ y
-same_path x y h = cc
+dest_legal : (p : Path) → IsCleanPath p → 0 < length p.key → is_dest_key p.key ≡ true → IsDest p
+dest_legal p c some below = let k = clean_key p.key some c.key in record { bucket = c.bucket; key = k.key; below = below; word = script_word p.key k.clean }
 
-both : (bucket key : Result (List ℕ) PathFault) (p : Path) → path_of bucket key ≡ Ok p → Both bucket key p
-both (Err f) key p h = absurd cc
-both (Ok b) (Err f) p h = absurd cc
-both (Ok b) (Ok k) p h =
-    let e = same_path (record { bucket = b; key = k }) p h in
-    record { bucket_is = ap (λ (q : Path). Ok q.bucket) e; key_is = ap (λ (q : Path). Ok q.key) e }
-
-bucket_at : (b : Bool) (name x : List ℕ) (f : PathFault) → cond b (Ok name) (Err f) ≡ Ok x → (b ≡ true) × (name ≡ x)
-bucket_at true name x f h = (refl, cc)
-bucket_at false name x f h = absurd cc
-
-bucket_sound : (name x : List ℕ) → bucket_in name ≡ Ok x → is_bucket x ≡ true
-bucket_sound name x h = let p = bucket_at (is_bucket name) name x _ h in subst (λ (l : List ℕ). is_bucket l ≡ true) p.1 p.0
-
--- what stands behind the first part of a text is nothing or the parts of a text
-behind : (s : ℕ) (part text : List ℕ) (first : List ℕ) (more : List (List ℕ)) → parts_from s part text ≡ first ∷ more → (more ≡ []) ⊎ ((rest : List ℕ) × (more ≡ parts_of s rest))
-unfolding parts_from
-behind s part [] first more h = inl cc
-behind s part (x ∷ xs) first more h = by (x == s) refl (λ k. behind s (part ++ x ∷ []) xs first more k)
-  where
-    by : (b : Bool) → (x == s) ≡ b → (parts_from s (part ++ x ∷ []) xs ≡ first ∷ more → (more ≡ []) ⊎ ((rest : List ℕ) × (more ≡ parts_of s rest))) → (more ≡ []) ⊎ ((rest : List ℕ) × (more ≡ parts_of s rest))
-    by true e old = let k : part ∷ parts_of s xs ≡ first ∷ more = rw e at h in inr (xs, cc)
-    by false e old = old (rw e at h)
-
-checked_at : (f : Option PathFault) (b : Bool) (key x : List ℕ) (g : PathFault) → f ≡ None → cond b (Ok key) (Err g) ≡ Ok x → (b ≡ true) × (key ≡ x)
-checked_at f b key x g e h = bucket_at b key x g h
-
-key_at : (rest x : List ℕ) (f : Option PathFault) → f ≡ first_fault (parts_of 47 rest) → key_of (parts_of 47 rest) ≡ Ok x → is_key x ≡ true
-key_at rest x None e h =
-    let k = sym (key_of_text rest None e) ∙ h in
-    let p = bucket_at (nat_le (length rest) 1023) rest x _ k in
-    subst (λ (l : List ℕ). is_key l ≡ true) p.1 (key_is rest e (leb-true (length rest) 1023 p.0))
-key_at rest x (Some f) e h = let k = sym (key_of_text rest (Some f) e) ∙ h in absurd cc
-
-empty_key : (x : List ℕ) → key_of [] ≡ Ok x → is_key x ≡ true
-empty_key [] h = refl
-empty_key (y ∷ ys) h = absurd cc
-
-key_sound : (elements : List (List ℕ)) (x : List ℕ) → (elements ≡ []) ⊎ ((rest : List ℕ) × (elements ≡ parts_of 47 rest)) → key_of elements ≡ Ok x → is_key x ≡ true
-key_sound elements x (inl e) h = empty_key x (sym (ap key_of e) ∙ h)
-key_sound elements x (inr r) h = key_at r.0 x (first_fault (parts_of 47 r.0)) refl (sym (ap key_of r.1) ∙ h)
-
-named_sound : (text : List ℕ) (parts : List (List ℕ)) (p : Path) → parts_of 47 text ≡ parts → named parts ≡ Ok p → (is_bucket p.bucket ≡ true) × (is_key p.key ≡ true)
-named_sound text [] p e h = absurd cc
-named_sound text (name ∷ elements) p e h =
-    let b = both (bucket_in name) (key_of elements) p h in
-    (bucket_sound name p.bucket b.bucket_is, key_sound elements p.key (behind 47 [] text name elements e) b.key_is)
-
-path_at : (o : Option (List ℕ)) (p : Path) → named_if o ≡ Ok p → (is_bucket p.bucket ≡ true) × (is_key p.key ≡ true)
-path_at None p h = absurd cc
-path_at (Some rest) p h = named_sound (trimmed rest) (parts_of 47 (trimmed rest)) p refl h
-
--- a path that was read has a bucket and a key
-pub path_sound : (text : List ℕ) (p : Path) → path_in text ≡ Ok p → (is_bucket p.bucket ≡ true) × (is_key p.key ≡ true)
-path_sound text p h = path_at (without_scheme text) p h
+one_word : (values : List (List ℕ)) (w : List ℕ) → one values ≡ Some w → AllByRecursion IsScriptWord values → IsScriptWord w
+one_word [] w h all = absurd cc
+one_word (v ∷ []) w h all = let e : v ≡ w = cc in subst IsScriptWord e all.0
+one_word (v ∷ u ∷ us) w h all = absurd cc
 
 -- ---- the fates
 
@@ -163,17 +113,19 @@ job_sound n h k values e s =
     subst IsSoundHead (same_ok (record h { job = Some a.value }) k c.next)
     (record { job = λ id i. of_some (λ x. is_job_id x ≡ true) a.value id (checked _ (BadLine n) _ b.first) i; dest = s.dest; tasks = s.tasks; retries = s.retries; block = s.block; stamp = s.stamp; fates = s.fates })
 
-dest_sound : (n : ℕ) (h k : Head) (values : List (List ℕ)) → dest_at n h values ≡ Ok k → IsSoundHead h → IsSoundHead k
+dest_sound : (n : ℕ) (h k : Head) (values : List (List ℕ)) → AllByRecursion IsScriptWord values → dest_at n h values ≡ Ok k → IsSoundHead h → IsSoundHead k
 unfolding dest_at
-dest_sound n h k values e s =
+dest_sound n h k values words e s =
     let a = parted (need (one values) (BadLine n)) _ _ e in
     let b = parted (as_path n (path_in a.value)) _ _ a.next in
     let c = parted (check (nat_lt 0 (length b.value.key)) DestIsRoot) _ _ b.next in
     let d = parted (check (is_dest_key b.value.key) (BadPath n)) _ _ c.next in
     let f = parted (free h.dest (RepeatedName n)) _ _ d.next in
-    let p = path_sound a.value b.value (as_path_ok n (path_in a.value) b.value b.first) in
+    let word = one_word values a.value (needed (one values) (BadLine n) a.value a.first) words in
+    let p = path_sound a.value b.value (word_clean a.value word) (as_path_ok n (path_in a.value) b.value b.first) in
+    let some : 0 < length b.value.key = ltb-true 0 (length b.value.key) (checked _ DestIsRoot _ c.first) in
     subst IsSoundHead (same_ok (record h { dest = Some b.value }) k f.next)
-    (record { job = s.job; dest = λ x i. of_some IsDest b.value x (record { bucket = p.0; key = p.1; below = checked _ (BadPath n) _ d.first }) i; tasks = s.tasks; retries = s.retries; block = s.block; stamp = s.stamp; fates = s.fates })
+    (record { job = s.job; dest = λ x i. of_some IsDest b.value x (dest_legal b.value p some (checked _ (BadPath n) _ d.first)) i; tasks = s.tasks; retries = s.retries; block = s.block; stamp = s.stamp; fates = s.fates })
 
 committer_sound : (n : ℕ) (h k : Head) (values : List (List ℕ)) → committer_at n h values ≡ Ok k → IsSoundHead h → IsSoundHead k
 unfolding committer_at
@@ -259,14 +211,14 @@ losses_sound n h k values e s =
     (record { job = s.job; dest = s.dest; tasks = s.tasks; retries = s.retries; block = s.block; stamp = s.stamp; fates = named_ok n a.value h.fates b.value b.first (loss_sound n values a.value a.first) s.fates })
 
 -- a head line keeps the bounds
-pub head_sound : (n : ℕ) (word : HeadWord) (h k : Head) (values : List (List ℕ)) → head_at n word h values ≡ Ok k → IsSoundHead h → IsSoundHead k
-head_sound n head.Job h k values e s = job_sound n h k values e s
-head_sound n head.Dest h k values e s = dest_sound n h k values e s
-head_sound n head.Committer h k values e s = committer_sound n h k values e s
-head_sound n head.Tasks h k values e s = tasks_sound n h k values e s
-head_sound n head.Mode h k values e s = mode_sound n h k values e s
-head_sound n head.Unique h k values e s = unique_sound n h k values e s
-head_sound n head.Retries h k values e s = retries_sound n h k values e s
-head_sound n head.Block h k values e s = block_sound n h k values e s
-head_sound n head.Stamp h k values e s = stamp_sound n h k values e s
-head_sound n head.Loss h k values e s = losses_sound n h k values e s
+pub head_sound : (n : ℕ) (word : HeadWord) (h k : Head) (values : List (List ℕ)) → AllByRecursion IsScriptWord values → head_at n word h values ≡ Ok k → IsSoundHead h → IsSoundHead k
+head_sound n head.Job h k values words e s = job_sound n h k values e s
+head_sound n head.Dest h k values words e s = dest_sound n h k values words e s
+head_sound n head.Committer h k values words e s = committer_sound n h k values e s
+head_sound n head.Tasks h k values words e s = tasks_sound n h k values e s
+head_sound n head.Mode h k values words e s = mode_sound n h k values e s
+head_sound n head.Unique h k values words e s = unique_sound n h k values e s
+head_sound n head.Retries h k values words e s = retries_sound n h k values e s
+head_sound n head.Block h k values words e s = block_sound n h k values e s
+head_sound n head.Stamp h k values words e s = stamp_sound n h k values e s
+head_sound n head.Loss h k values words e s = losses_sound n h k values e s

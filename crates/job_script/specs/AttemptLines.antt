@@ -11,7 +11,7 @@ use Rattle.job_script.specs.declared.fault.ScriptFault.TheVariants.{BadLine, Rep
 use Rattle.job_script.specs.declared.draft.Draft.{Draft}
 use Rattle.job_script.specs.Fault.{◌>>=◌, need, check}
 use Rattle.job_script.specs.Kinds.{first_of}
-use Rattle.job_script.specs.Paths.{is_path, is_hidden}
+use Rattle.job_model.specs.Paths.{is_path, is_hidden}
 use Rattle.job_script.specs.Content.{content_at}
 
 -- T.A

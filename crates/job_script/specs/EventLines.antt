@@ -1,8 +1,8 @@
 -- What an event's line says.
-use Rattle.std.specs.Prelude.{ℕ, Bool, true, false, List, [], ◌∷◌, ◌++◌, length, Option, Result, Ok, nat_lt, codes, bytes_eq, if◌then◌else◌}
+use Rattle.std.specs.Prelude.{ℕ, Bool, List, [], ◌∷◌, ◌++◌, length, Option, Result, Ok, nat_lt, codes, bytes_eq, if◌then◌else◌}
 use Rattle.line_words.specs.Numbers.{number_in}
 use Rattle.line_words.specs.Shapes.{one, two}
-use Rattle.job_model.specs.Attempts.{Declared, declares}
+use Rattle.job_model.specs.Attempts.{is_known}
 use Rattle.s3_types.specs.declared.request.Actor.{Actor}
 use Rattle.s3_types.specs.declared.request.Actor.TheVariants as actor
 use Rattle.job_model.specs.declared.events.Op.{Op}
@@ -24,12 +24,6 @@ is_driver word = bytes_eq word (codes "driver")
 -- `driver`, or T.A
 unfoldable pub actor_at : ℕ → List ℕ → Result Actor ScriptFault
 actor_at n word = if is_driver word then Ok actor.Driver else (name_at n word >>= λ name. Ok (actor.Attempt name.task name.attempt))
-
--- the driver, or a declared attempt
-abbrev pub is_known : List Declared → Actor → Bool
-is_known attempts actor.Driver = true
-is_known attempts (actor.Attempt task attempt) = declares attempts (record { task = task; attempt = attempt })
-is_known attempts actor.Shell = false
 
 -- an operation of the actor that a word names
 abbrev pub op_of : List ℕ → List ℕ → Option Op

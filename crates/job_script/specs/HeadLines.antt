@@ -15,7 +15,7 @@ use Rattle.job_script.specs.declared.kinds.HeadWord.{HeadWord}
 use Rattle.job_script.specs.declared.kinds.HeadWord.TheVariants as head
 use Rattle.job_script.specs.Fault.{◌>>=◌, need, check, free}
 use Rattle.job_script.specs.Kinds.{named, committers, modes, answers, fates}
-use Rattle.job_script.specs.Paths.{is_dest_key}
+use Rattle.job_model.specs.Paths.{is_dest_key}
 
 -- job ID
 unfoldable pub job_at : ℕ → Head → List (List ℕ) → Result Head ScriptFault

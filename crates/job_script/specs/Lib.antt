@@ -1,9 +1,8 @@
 pub mod Fault
 pub mod Kinds
-pub mod Paths
 pub mod HeadLines
 pub mod Content
 pub mod AttemptLines
 pub mod EventLines
 pub mod Script
-pub mod Legal
+pub mod Print

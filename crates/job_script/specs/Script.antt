@@ -13,7 +13,7 @@ use Rattle.job_script.specs.declared.fault.ScriptFault.TheVariants.{NotUtf8, Bad
 use Rattle.job_script.specs.declared.draft.Draft.{Draft}
 use Rattle.job_script.specs.declared.draft.Head.{Head}
 use Rattle.job_script.specs.declared.draft.Group.TheVariants as group
-use Rattle.job_model.specs.declared.script.Script.{Script}
+use Rattle.job_model.specs.JobScript.{Script}
 use Rattle.job_script.specs.declared.kinds.Kind.{Kind}
 use Rattle.job_script.specs.declared.kinds.Kind.TheVariants as kind
 use Rattle.job_script.specs.Fault.{◌>>=◌, need, check}

@@ -1,4 +1,6 @@
-ghost use Rattle.std.specs.Prelude.{◌≡◌};
+ghost use Rattle.std.specs.Prelude.{◌≡◌, Ok};
+ghost use Rattle.job_model.specs.JobScript.{Script};
+ghost use Rattle.job_model.specs.Legal.{IsLegal};
 ghost use Rattle.job_script.specs.Fault.{Gives, need};
 ghost use Rattle.job_script.specs.declared.fault.ScriptFault.TheVariants.{MissingHead};
 ghost use Rattle.job_script.specs.Script as script;
@@ -74,6 +76,7 @@ fn or_else_u32(value: Option<u32>, default: u32) -> u32
 /// The script, where the checks after the last line find no fault.
 #[tactic(auto, unfolding(crate::specs::Script::complete))]
 pub fn complete(draft: Draft) -> Result<Script, ScriptFault>
+    requires legal { (s : Script) → script.complete draft ≡ Ok s → IsLegal s }
     ensures { Gives result (script.complete draft) }
 {
     let head = draft.head;

@@ -1,5 +1,6 @@
 ghost use Rattle.std.specs.Prelude.{◌≡◌, option_map};
 ghost use Rattle.line_words.specs.Words.{words_after};
+ghost use Rattle.job_model.specs.Attempts.{is_known};
 ghost use Rattle.job_script.specs.Fault.{Gives, Makes};
 ghost use Rattle.job_script.specs.EventLines as lines;
 
@@ -32,7 +33,7 @@ fn actor_of(line: u64, word: &str) -> Result<Actor, ScriptFault>
 }
 
 fn is_known(attempts: &Attempts, actor: Actor) -> bool
-    ensures { result ≡ lines.is_known attempts.now actor }
+    ensures { result ≡ is_known attempts.now actor }
 {
     match actor {
         Actor::Driver => true,

@@ -1,7 +1,7 @@
 ghost use Rattle.std.specs.Prelude.{◌≡◌};
 ghost use Rattle.std.specs.List.{list_all, list_any};
 ghost use Rattle.words.specs.Parts.{parts_of};
-ghost use Rattle.job_script.specs.Paths as paths;
+ghost use Rattle.job_model.specs.Paths as paths;
 
 use words::next_part;
 

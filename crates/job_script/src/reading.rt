@@ -2,9 +2,8 @@ ghost use Rattle.std.specs.Prelude.{◌≡◌, ◌≤◌, length, option_map, is
 ghost use Rattle.std.specs.Str.{is_utf8};
 ghost use Rattle.words.specs.Lines.{lines_of};
 ghost use Rattle.line_words.specs.Words.{words_after};
-ghost use Rattle.job_model.specs.declared.script.Script.{Script};
+ghost use Rattle.job_model.specs.JobScript.{Script};
 ghost use Rattle.job_script.specs.Fault.{Gives, Makes, ReadAs};
-ghost use Rattle.job_script.specs.Legal.{IsLegal};
 ghost use Rattle.job_script.specs.Script as script;
 
 use crate::attempts::{attempt_line, file_line};
@@ -143,7 +142,6 @@ fn script_in(alloc: Global, bytes: &[u8]) -> Result<Script, ScriptFault>
 pub fn read_script(alloc: Global, bytes: &[u8]) -> Result<Script, ScriptFault>
     ensures exact { Gives result (script.script_of bytes.now) }
     ensures found { IfOk result (λ s. script.script_of bytes.now ≡ Ok s) }
-    ensures legal { IfOk result IsLegal }
     ensures only { (s : Script) → script.script_of bytes.now ≡ Ok s → ReadAs result s }
 {
     script_in(alloc, bytes)

@@ -12,7 +12,7 @@ use Rattle.std.proofs.lemmas.Str.Parse.{digit_from_value}
 use Rattle.words.specs.Lines.{is_inside, lines_of, lines_from, without_return}
 use Rattle.words.specs.Parts.{parts_of, is_other}
 use Rattle.line_words.specs.Numbers.{is_digit, number_in, number_of, digits_from}
-use Rattle.line_words.specs.Words.{is_plain, IsWord, IsLine, joined, ended, text_of, words_of}
+use Rattle.line_words.specs.Words.{is_plain, IsWord, IsLine, is_bare, IsBare, joined, ended, text_of, words_of}
 use Rattle.words.proofs.Split.{first_from, part_from, lone_from, not_true}
 
 -- what holds of each byte that passes a stronger test
@@ -150,13 +150,6 @@ pub plain-append : (xs ys : List ℕ) → list_all is_plain xs ≡ true → list
 plain-append xs ys h k = all-append is_plain xs ys h k
 
 -- ---- words that may hold a CR, but for the end of the line
-
--- no blank and no LF
-abbrev pub is_bare : ℕ → Bool
-is_bare b = is_other 32 b && is_other 10 b
-
-abbrev pub IsBare : List ℕ → Type 0
-IsBare w = list_all is_bare w ≡ true
 
 -- bare words, and no CR at the end
 pub record IsBareLine (ws : List (List ℕ)) : Type 0 where

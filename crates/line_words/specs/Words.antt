@@ -37,3 +37,11 @@ IsWord w = list_all is_plain w ≡ true
 abbrev pub IsLine : List (List ℕ) → Type 0
 IsLine [] = ⊥
 IsLine (w ∷ ws) = IsWord w × AllByRecursion IsWord ws
+
+-- no blank and no LF
+abbrev pub is_bare : ℕ → Bool
+is_bare b = not (b == 32) && not (b == 10)
+
+-- a text of such bytes
+abbrev pub IsBare : List ℕ → Type 0
+IsBare w = list_all is_bare w ≡ true

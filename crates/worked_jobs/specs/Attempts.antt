@@ -7,7 +7,7 @@ use Rattle.s3_types.specs.declared.journal.Entry.{Entry}
 use Rattle.job_model.specs.Outputs.{wanted_at, is_decided, is_clash, is_picked}
 use Rattle.job_model.specs.Replay.{Seen, seen}
 use Rattle.job_model.specs.States.{past, commit_event, dead, refusal}
-use Rattle.job_model.specs.declared.script.Script.{Script}
+use Rattle.job_model.specs.JobScript.{Script}
 use Rattle.job_model.specs.declared.events.Op.TheVariants.{Setup, Write, Commit, Clean}
 use Rattle.job_model.specs.declared.events.Event.TheVariants.{Do, Start, Step, Kill}
 use Rattle.job_model.specs.declared.ends.SetupEnd.TheVariants as setups

@@ -16,7 +16,7 @@ use Rattle.s3_types.specs.declared.request.Committer.TheVariants.{Magic}
 use Rattle.s3_types.specs.declared.request.Mode.TheVariants.{Append}
 use Rattle.job_model.specs.Files.{File}
 use Rattle.job_model.specs.Attempts.{Declared}
-use Rattle.job_model.specs.declared.script.Script.{Script}
+use Rattle.job_model.specs.JobScript.{Script}
 use Rattle.job_model.specs.declared.events.Event.{Event}
 
 -- a tag, whatever its digits are

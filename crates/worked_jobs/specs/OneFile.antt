@@ -13,7 +13,7 @@ use Rattle.job_model.specs.Fate.{AreFated}
 use Rattle.job_model.specs.States.{past, commit_event, idle, missing}
 use Rattle.job_model.specs.Turns.{of_event}
 use Rattle.job_model.specs.Follows.{first_worn, CommitIs}
-use Rattle.job_model.specs.declared.script.Script.{Script}
+use Rattle.job_model.specs.JobScript.{Script}
 use Rattle.job_model.specs.declared.events.Op.TheVariants.{Setup, Write, Commit}
 use Rattle.job_model.specs.declared.events.Event.{Event}
 use Rattle.job_model.specs.declared.events.Event.TheVariants.{Do}

@@ -1,7 +1,7 @@
 use Rattle.std.proofs.Common.{◌≡◌, length}
 use Rattle.std.specs.List.{list_any}
 use Rattle.words.specs.Parts.{parts_of}
-use Rattle.job_script.specs.Paths.{begins_hidden}
+use Rattle.job_model.specs.Paths.{begins_hidden}
 use Rattle.job_script.proofs.paths.is_hidden.Given as goal
 
 abbrev pub invariant-loop-more : goal.invariant-loop-more

@@ -1,7 +1,7 @@
 use Rattle.std.proofs.Common.{◌≡◌, drop}
 use Rattle.job_model.specs.States.{Past, end_ops}
 use Rattle.job_model.specs.Standing.{Keeps}
-use Rattle.job_model.specs.declared.script.Script.{Script}
+use Rattle.job_model.specs.JobScript.{Script}
 use Rattle.job_model.proofs.standing.Standings.end_all.Given as goal
 
 abbrev pub invariant-loop-actor_end : goal.invariant-loop-actor_end

@@ -1,10 +1,17 @@
-use Rattle.std.proofs.Common.{◌∙◌, refl, sym}
+use Rattle.std.proofs.Common.{List, ◌∙◌, refl, sym, ap, subst}
+use Rattle.job_model.specs.Attempts.{Declared}
+use Rattle.job_model.specs.JobScript.{Script}
+use Rattle.job_model.specs.Standing.{Keeps}
 use Rattle.job_model.specs.States.{nothing_past, after_event, past_from}
 use Rattle.job_model.proofs.ReportLines.{drop_item}
 use Rattle.job_model.proofs.standing.Standings.past.Goals as goal
 
 pub loop-index-init : goal.loop-index-init
-loop-index-init c = (nothing_past, c.in_ok-standings.ensures, refl)
+loop-index-init c = (
+  nothing_past,
+  subst (λ (all : List Declared). Keeps all nothing_past.state c.in_ok-standings.standings) (ap (λ (w : Script). w.attempts) c.script.view_is) c.in_ok-standings.ensures,
+  refl,
+)
 
 pub loop-index-preserved : goal.loop-index-preserved
 loop-index-preserved c =

@@ -1,0 +1,34 @@
+-- The bounds of what a job's driver and attempts know.
+use Rattle.std.specs.Prelude.{◌≡◌, ◌⊎◌, ℕ, ◌<◌, ◌≤◌, ◌^◌, true, false, List, [], ◌∷◌, ◌++◌, length, IfSome}
+use Rattle.job_model.specs.Files.{File, has_path}
+use Rattle.job_model.specs.Jobs.{Job, Task, is_job_id}
+use Rattle.job_model.specs.Legal.{IsDest, FitsMagic, IsGiven, are_bytes, bytes_of}
+use Rattle.job_model.specs.Outputs.{unique_name}
+
+-- the bounds of a job's head, as a script gives them
+pub record IsJob (j : Job) : Type 0 where
+  pub job : is_job_id j.job ≡ true
+  pub dest : IsDest j.dest
+  pub magic : FitsMagic j.committer j.mode false
+  pub tasks : j.tasks ≤ 1000
+  pub stamp : IfSome j.stamp (λ n. n < 10 ^ 18)
+
+-- a path in the destination: as a script gives it, or made unique to the job
+abbrev pub IsPlaced : List ℕ → List ℕ → Type 0
+IsPlaced id path = IsGiven path ⊎ ((given : List ℕ) × IsGiven given × (path ≡ unique_name given id))
+
+-- files behind others: each path is so and stands once
+abbrev pub ArePlaced : List ℕ → List File → List File → Type 0
+ArePlaced id before [] = Unit {0}
+ArePlaced id before (f ∷ fs) = IsPlaced id f.0 × (are_bytes f.1 ≡ true) × (has_path before f.0 ≡ false) × ArePlaced id (before ++ f ∷ []) fs
+
+-- the bounds of an attempt: its task is one of the job's, and its files are as many and as long as a script's may be
+pub record IsTask (t : Task) : Type 0 where
+  pub task : t.task < t.job.tasks
+  pub attempt : t.attempt ≤ 99
+  pub files : ArePlaced t.job.job [] t.files
+  pub few_files : length t.files ≤ 20000
+  pub few_bytes : bytes_of t.files ≤ 67108864
+  pub block : t.block ≤ 67108864
+  pub some : 1 ≤ t.minimum
+  pub most : t.minimum ≤ 5242880

@@ -1,0 +1,117 @@
+-- What is read as a path.
+use Rattle.std.proofs.Common.{◌≡◌, ℕ, ◌==◌, Bool, true, false, cond, List, [], ◌∷◌, ◌++◌, length, drop, Option, Some, None, Result, Ok, Err, refl, sym, ap, subst, ◌∙◌, arith, inl, inr, append_assoc}
+use Rattle.std.specs.Prelude.{◌⊎◌, nat_le, nat_eq, codes, if◌then◌else◌}
+use Rattle.std.specs.List.{starts_with}
+use Rattle.std.proofs.lemmas.Bool.{and_parts, leb-true, eqb-true}
+use Rattle.words.specs.Parts.{parts_of, parts_from}
+use Rattle.line_words.specs.Words.{is_bare}
+use Rattle.s3_types.specs.Names.{is_bucket, trimmed}
+use Rattle.path_keys.specs.Paths.{Path, is_key, path_in, path_of, named, named_if, bucket_in, key_of, without_scheme, first_fault}
+use Rattle.path_keys.specs.declared.fault.PathFault.{PathFault}
+use Rattle.path_keys.proofs.Faults.{key_is, key_of_text}
+use Rattle.job_script.proofs.SoundWords.{IsClean, clean_cut, clean_end}
+
+record Both (bucket key : Result (List ℕ) PathFault) (p : Path) : Type 0 where
+  pub bucket_is : bucket ≡ Ok p.bucket
+  pub key_is : key ≡ Ok p.key
+
+same_path : (x y : Path) → (let r : Result Path PathFault = Ok x in r ≡ Ok y) → x ≡ y
+same_path x y h = cc
+
+both : (bucket key : Result (List ℕ) PathFault) (p : Path) → path_of bucket key ≡ Ok p → Both bucket key p
+both (Err f) key p h = absurd cc
+both (Ok b) (Err f) p h = absurd cc
+both (Ok b) (Ok k) p h =
+    let e = same_path (record { bucket = b; key = k }) p h in
+    record { bucket_is = ap (λ (q : Path). Ok q.bucket) e; key_is = ap (λ (q : Path). Ok q.key) e }
+
+bucket_at : (b : Bool) (name x : List ℕ) (f : PathFault) → cond b (Ok name) (Err f) ≡ Ok x → (b ≡ true) × (name ≡ x)
+bucket_at true name x f h = (refl, cc)
+bucket_at false name x f h = absurd cc
+
+bucket_sound : (name x : List ℕ) → bucket_in name ≡ Ok x → is_bucket x ≡ true
+bucket_sound name x h = let p = bucket_at (is_bucket name) name x _ h in subst (λ (l : List ℕ). is_bucket l ≡ true) p.1 p.0
+
+-- the parts behind the first one are those of what stands behind a separator
+record Behind (s : ℕ) (text : List ℕ) (more : List (List ℕ)) : Type 0 where
+  pub front : List ℕ
+  pub rest : List ℕ
+  pub parts : more ≡ parts_of s rest
+  pub cut : text ≡ front ++ s ∷ rest
+
+-- what stands behind the first part of a text is nothing or the parts of a text
+behind : (s : ℕ) (part text : List ℕ) (first : List ℕ) (more : List (List ℕ)) → parts_from s part text ≡ first ∷ more → (more ≡ []) ⊎ Behind s (part ++ text) more
+unfolding parts_from
+behind s part [] first more h = inl cc
+behind s part (x ∷ xs) first more h = by (x == s) refl (λ k. behind s (part ++ x ∷ []) xs first more k)
+  where
+    again : (more ≡ []) ⊎ Behind s ((part ++ x ∷ []) ++ xs) more → (more ≡ []) ⊎ Behind s (part ++ x ∷ xs) more
+    again (inl e) = inl e
+    again (inr b) = inr (record { front = b.front; rest = b.rest; parts = b.parts; cut = sym (append_assoc part (x ∷ []) xs) ∙ b.cut })
+
+    by : (b : Bool) → (x == s) ≡ b → (parts_from s (part ++ x ∷ []) xs ≡ first ∷ more → (more ≡ []) ⊎ Behind s ((part ++ x ∷ []) ++ xs) more) → (more ≡ []) ⊎ Behind s (part ++ x ∷ xs) more
+    by true e old =
+        let k : part ∷ parts_of s xs ≡ first ∷ more = rw e at h in
+        let is : x ≡ s = eqb-true x s e in
+        inr (record { front = part; rest = xs; parts = cc; cut = ap (λ (y : ℕ). part ++ y ∷ xs) is })
+    by false e old = again (old (rw e at h))
+
+-- a key whose bytes are of a clean text
+pub record IsCleanKey (x : List ℕ) : Type 0 where
+  pub key : is_key x ≡ true
+  pub clean : IsClean is_bare x
+
+key_at : (rest x : List ℕ) (f : Option PathFault) → f ≡ first_fault (parts_of 47 rest) → key_of (parts_of 47 rest) ≡ Ok x → IsClean is_bare rest → IsCleanKey x
+key_at rest x None e h c =
+    let k = sym (key_of_text rest None e) ∙ h in
+    let p = bucket_at (nat_le (length rest) 1023) rest x _ k in
+    subst IsCleanKey p.1 (record { key = key_is rest e (leb-true (length rest) 1023 p.0); clean = c })
+key_at rest x (Some f) e h c = let k = sym (key_of_text rest (Some f) e) ∙ h in absurd cc
+
+empty_key : (x : List ℕ) → key_of [] ≡ Ok x → x ≡ []
+empty_key [] h = refl
+empty_key (y ∷ ys) h = absurd cc
+
+key_sound : (text : List ℕ) (elements : List (List ℕ)) (x : List ℕ) → IsClean is_bare text → (elements ≡ []) ⊎ Behind 47 text elements → key_of elements ≡ Ok x → (x ≡ []) ⊎ IsCleanKey x
+key_sound text elements x c (inl e) h = inl (empty_key x (sym (ap key_of e) ∙ h))
+key_sound text elements x c (inr b) h =
+    let halves = clean_cut is_bare 47 b.front b.rest (omega arith) (subst (IsClean is_bare) b.cut c) in
+    inr (key_at b.rest x (first_fault (parts_of 47 b.rest)) refl (sym (ap key_of b.parts) ∙ h) halves.1)
+
+-- a path with a bucket, and no key or a clean one
+pub record IsCleanPath (p : Path) : Type 0 where
+  pub bucket : is_bucket p.bucket ≡ true
+  pub key : (p.key ≡ []) ⊎ IsCleanKey p.key
+
+named_sound : (text : List ℕ) (parts : List (List ℕ)) (p : Path) → IsClean is_bare text → parts_of 47 text ≡ parts → named parts ≡ Ok p → IsCleanPath p
+named_sound text [] p c e h = absurd cc
+named_sound text (name ∷ elements) p c e h =
+    let b = both (bucket_in name) (key_of elements) p h in
+    record { bucket = bucket_sound name p.bucket b.bucket_is; key = key_sound text elements p.key c (behind 47 [] text name elements e) b.key_is }
+
+path_at : (o : Option (List ℕ)) (p : Path) → ((rest : List ℕ) → o ≡ Some rest → IsClean is_bare rest) → named_if o ≡ Ok p → IsCleanPath p
+path_at None p c h = absurd cc
+path_at (Some rest) p c h = named_sound (trimmed rest) (parts_of 47 (trimmed rest)) p (clean_end is_bare 47 rest (omega arith) (c rest refl)) refl h
+
+begun : (text front : List ℕ) → starts_with nat_eq text front ≡ true → text ≡ front ++ drop (length front) text
+begun text [] h = refl
+begun [] (y ∷ front) h = absurd cc
+begun (x ∷ text) (y ∷ front) h =
+    let p = and_parts (y == x) (starts_with nat_eq text front) h in
+    let is : y ≡ x = eqb-true y x p.0 in
+    ap (λ (l : List ℕ). x ∷ l) (begun text front p.1) ∙ ap (λ (z : ℕ). z ∷ front ++ drop (length front) text) (sym is)
+
+some_rest : (b : Bool) (x rest : List ℕ) → (if b then Some x else None) ≡ Some rest → (b ≡ true) × (x ≡ rest)
+some_rest true x rest h = (refl, cc)
+some_rest false x rest h = absurd cc
+
+scheme_clean : (text : List ℕ) → IsClean is_bare text → (rest : List ℕ) → without_scheme text ≡ Some rest → IsClean is_bare rest
+scheme_clean text c rest h =
+    let p = some_rest (starts_with nat_eq text (codes "s3a://")) (drop 6 text) rest h in
+    let whole = begun text (codes "s3a://") p.0 in
+    let halves = clean_cut is_bare 47 (codes "s3a:/") (drop 6 text) (omega arith) (subst (IsClean is_bare) whole c) in
+    subst (IsClean is_bare) p.1 halves.1
+
+-- a path that was read has a bucket and a key, of bytes of the text
+pub path_sound : (text : List ℕ) (p : Path) → IsClean is_bare text → path_in text ≡ Ok p → IsCleanPath p
+path_sound text p c h = path_at (without_scheme text) p (scheme_clean text c) h

@@ -1,0 +1,116 @@
+-- Lines and words of a text in UTF-8.
+use Rattle.std.proofs.Common.{◌≡◌, ℕ, ◌+◌, ◌-◌, ◌<◌, ◌==◌, Bool, true, false, cond, List, [], ◌∷◌, ◌++◌, length, take, drop, get_or, refl, sym, ap, subst, ◌∙◌, arith, append_assoc}
+use Rattle.std.specs.Prelude.{◌&&◌, nat_lt, slice_index}
+use Rattle.std.specs.List.{list_all, AllByRecursion}
+use Rattle.std.specs.Str.{IsUtf8, is_utf8}
+use Rattle.std.proofs.lemmas.Bool.{and_parts, eqb-true, ltb-true}
+use Rattle.std.proofs.lemmas.List.{append-nil, take-append-drop}
+use Rattle.std.proofs.lemmas.List.Folds.{list_all-append}
+use Rattle.std.proofs.lemmas.Str.{IsUtf8-take, IsUtf8-drop, IsCharBoundary-before_ascii, IsCharBoundary-after_ascii, is_utf8-from_IsUtf8, IsUtf8-from_is_utf8}
+use Rattle.std.proofs.Math.Seq.{take-append_seam, drop-append-add, get_or-append_seam}
+use Rattle.words.specs.Lines.{lines_of, lines_from, unless_empty, is_inside, without_return}
+use Rattle.words.specs.Parts.{parts_from}
+use Rattle.line_words.specs.Words.{words_of, is_bare, IsBare}
+use Rattle.job_model.specs.Legal.{IsScriptWord}
+
+pub either : {A : Type 0} (P : A → Type 0) (b : Bool) (x y : A) → (b ≡ true → P x) → (b ≡ false → P y) → P (cond b x y)
+either P true x y f g = f refl
+either P false x y f g = g refl
+
+-- UTF-8 whose bytes all pass a test
+pub record IsClean (p : ℕ → Bool) (w : List ℕ) : Type 0 where
+  pub utf8 : IsUtf8 w
+  pub all : list_all p w ≡ true
+
+shorter : (xs : List ℕ) (b : ℕ) (ys : List ℕ) → length xs < length (xs ++ b ∷ ys)
+shorter [] b ys = omega arith
+shorter (x ∷ xs) b ys = let old = shorter xs b ys in omega (arith, old)
+
+-- a text cut at an ASCII byte
+utf8_cut : (b : ℕ) (xs ys : List ℕ) → b < 128 → IsUtf8 (xs ++ b ∷ ys) → IsUtf8 xs × IsUtf8 ys
+utf8_cut b xs ys small h =
+    let fits = shorter xs b ys in
+    let at : get_or (xs ++ b ∷ ys) (length xs) 0 < 128 = subst (λ (n : ℕ). n < 128) (sym (get_or-append_seam xs b ys 0)) small in
+    let front = IsUtf8-take (xs ++ b ∷ ys) (length xs) h (IsCharBoundary-before_ascii (xs ++ b ∷ ys) (length xs) fits at) in
+    let back = IsUtf8-drop (xs ++ b ∷ ys) (length xs + 1) h (IsCharBoundary-after_ascii (xs ++ b ∷ ys) (length xs) h fits at) in
+    (subst IsUtf8 (take-append_seam xs (b ∷ ys)) front, subst IsUtf8 (drop-append-add xs (b ∷ ys) 1) back)
+
+pub clean_cut : (p : ℕ → Bool) (b : ℕ) (xs ys : List ℕ) → b < 128 → IsClean p (xs ++ b ∷ ys) → IsClean p xs × IsClean p ys
+clean_cut p b xs ys small h =
+    let u = utf8_cut b xs ys small h.utf8 in
+    let e = and_parts (list_all p xs) (list_all p (b ∷ ys)) (sym (list_all-append p xs (b ∷ ys)) ∙ h.all) in
+    let f = and_parts (p b) (list_all p ys) e.1 in
+    (record { utf8 = u.0; all = e.0 }, record { utf8 = u.1; all = f.1 })
+
+-- a text up to an ASCII byte
+pub clean_take : (p : ℕ → Bool) (w : List ℕ) (i : ℕ) → i < length w → get_or w i 0 < 128 → IsClean p w → IsClean p (take i w)
+clean_take p w i fits at h =
+    let whole : list_all p (take i w ++ drop i w) ≡ true = ap (list_all p) (take-append-drop i w) ∙ h.all in
+    let e = and_parts (list_all p (take i w)) (list_all p (drop i w)) (sym (list_all-append p (take i w) (drop i w)) ∙ whole) in
+    record { utf8 = IsUtf8-take w i h.utf8 (IsCharBoundary-before_ascii w i fits at); all = e.0 }
+
+-- a text without an ASCII byte at its end
+pub clean_end : (p : ℕ → Bool) (b : ℕ) (w : List ℕ) → b < 128 → IsClean p w → IsClean p (cond (nat_lt 0 (length w) && (slice_index w (length w - 1) == b)) (take (length w - 1) w) w)
+clean_end p b w small h =
+    either (IsClean p) (nat_lt 0 (length w) && (slice_index w (length w - 1) == b)) (take (length w - 1) w) w
+    (λ e.
+    let q = and_parts (nat_lt 0 (length w)) (slice_index w (length w - 1) == b) e in
+    let some : 0 < length w = ltb-true 0 (length w) q.0 in
+    let at : get_or w (length w - 1) 0 ≡ b = eqb-true _ _ q.1 in
+    clean_take p w (length w - 1) (omega (arith, some)) (omega (arith, at, small)) h)
+    (λ e. h)
+
+-- ---- lines
+
+unless_clean : (line : List ℕ) → IsClean is_inside line → AllByRecursion (IsClean is_inside) (unless_empty line)
+unless_clean [] h = tt
+unless_clean (x ∷ xs) h = (h, tt)
+
+no_line_end : (x : ℕ) → (x == 10) ≡ false → is_inside x ≡ true
+no_line_end x e = rw e refl
+
+one_more : (p : ℕ → Bool) (xs : List ℕ) (x : ℕ) → list_all p xs ≡ true → p x ≡ true → list_all p (xs ++ x ∷ []) ≡ true
+one_more p [] x h e = rw e refl
+one_more p (y ∷ ys) x h e = let q = and_parts (p y) (list_all p ys) h in rw (q.0, one_more p ys x q.1 e) refl
+
+lines_clean : (line rest : List ℕ) → IsUtf8 (line ++ rest) → list_all is_inside line ≡ true → AllByRecursion (IsClean is_inside) (lines_from line rest)
+unfolding lines_from
+lines_clean line [] h k = unless_clean line (record { utf8 = subst IsUtf8 (append-nil line) h; all = k })
+lines_clean line (x ∷ xs) h k =
+    either (AllByRecursion (IsClean is_inside)) (x == 10) (without_return line ∷ lines_from [] xs) (lines_from (line ++ x ∷ []) xs)
+    (λ e.
+    let is : x ≡ 10 = eqb-true x 10 e in
+    let u = utf8_cut x line xs (omega (arith, is)) h in
+    (clean_end is_inside 13 line (omega arith) (record { utf8 = u.0; all = k }), lines_clean [] xs u.1 refl))
+    (λ e. lines_clean (line ++ x ∷ []) xs (subst IsUtf8 (sym (append_assoc line (x ∷ []) xs)) h) (one_more is_inside line x k (no_line_end x e)))
+
+-- the lines of a text in UTF-8 are so, and have no LF
+pub text_clean : (bytes : List ℕ) → is_utf8 bytes ≡ true → AllByRecursion (IsClean is_inside) (lines_of bytes)
+text_clean bytes h = lines_clean [] bytes (IsUtf8-from_is_utf8 bytes h) refl
+
+-- ---- words
+
+pub script_word : (w : List ℕ) → IsClean is_bare w → IsScriptWord w
+script_word w h = (is_utf8-from_IsUtf8 w h.utf8, h.all)
+
+pub word_clean : (w : List ℕ) → IsScriptWord w → IsClean is_bare w
+word_clean w h = record { utf8 = IsUtf8-from_is_utf8 w h.0; all = h.1 }
+
+bare_byte : (x : ℕ) → (x == 32) ≡ false → is_inside x ≡ true → is_bare x ≡ true
+bare_byte x e h = rw (e, h) refl
+
+words_clean : (part rest : List ℕ) → IsUtf8 (part ++ rest) → IsBare part → list_all is_inside rest ≡ true → AllByRecursion IsScriptWord (parts_from 32 part rest)
+unfolding parts_from
+words_clean part [] h b k = (script_word part (record { utf8 = subst IsUtf8 (append-nil part) h; all = b }), tt)
+words_clean part (x ∷ xs) h b k =
+    let q = and_parts (is_inside x) (list_all is_inside xs) k in
+    either (AllByRecursion IsScriptWord) (x == 32) (part ∷ parts_from 32 [] xs) (parts_from 32 (part ++ x ∷ []) xs)
+    (λ e.
+    let is : x ≡ 32 = eqb-true x 32 e in
+    let u = utf8_cut x part xs (omega (arith, is)) h in
+    (script_word part (record { utf8 = u.0; all = b }), words_clean [] xs u.1 refl q.1))
+    (λ e. words_clean (part ++ x ∷ []) xs (subst IsUtf8 (sym (append_assoc part (x ∷ []) xs)) h) (one_more is_bare part x b (bare_byte x e q.0)) q.1)
+
+-- the words of such a line are words of a script
+pub line_words : (line : List ℕ) → IsClean is_inside line → AllByRecursion IsScriptWord (words_of line)
+line_words line h = words_clean [] line h.utf8 refl h.all

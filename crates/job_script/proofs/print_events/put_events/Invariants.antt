@@ -1,0 +1,7 @@
+use Rattle.std.proofs.Common.{◌≡◌, ◌++◌, map, drop, string_bytes}
+use Rattle.line_words.specs.Words.{text_of}
+use Rattle.job_script.specs.Print.{event_line}
+use Rattle.job_script.proofs.print_events.put_events.Given as goal
+
+abbrev pub invariant-loop-event : goal.invariant-loop-event
+invariant-loop-event l = string_bytes l.out ++ text_of (map event_line (drop l.event-index l.events)) ≡ string_bytes l.fn.out ++ text_of (map event_line l.events)

@@ -1,0 +1,14 @@
+use Rattle.std.proofs.Common.{◌≡◌, ◌++◌, ◌-◌, ◌≤◌, string_bytes}
+use Rattle.line_words.specs.Words.{text_of}
+use Rattle.job_script.specs.Print.{loss_lines}
+use Rattle.job_script.proofs.PrintLosses.{losses_from}
+use Rattle.job_script.proofs.print_losses.put_losses.Given as goal
+
+abbrev pub invariant-loop-sending : goal.invariant-loop-sending
+invariant-loop-sending l = record {
+  room : l.from ≤ 1000000001;
+  text : string_bytes l.out ++ losses_from l.from l.fates ≡ string_bytes l.fn.out ++ text_of (loss_lines l.fates);
+}
+
+abbrev pub decreases-loop-sending : goal.decreases-loop-sending
+decreases-loop-sending l = 1000000001 - l.from

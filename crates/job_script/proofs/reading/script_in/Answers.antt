@@ -1,0 +1,7 @@
+use Rattle.std.proofs.Common.{sym, ap, ◌∙◌}
+use Rattle.std.specs.Str.{is_utf8}
+use Rattle.job_script.proofs.Sound.{draft_legal}
+use Rattle.job_script.proofs.reading.script_in.Goals as goal
+
+pub complete-requires : goal.complete-requires
+complete-requires c = record { legal = draft_legal c.in-Some.text.now c.in_ok-draft.draft (ap is_utf8 c.in-Some.ensures.same ∙ sym c.in-Some.ensures.found) c.in_ok-draft.ensures }

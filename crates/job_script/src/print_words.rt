@@ -1,0 +1,42 @@
+ghost use Rattle.std.specs.Prelude.{◌≡◌};
+ghost use Rattle.pending_json.specs.Trees.{committer_word};
+ghost use Rattle.job_script.specs.Print as print;
+
+use s3_types::{Committer, Fate, Mode};
+
+pub fn committer_word(committer: Committer) -> &'static str
+    ensures { result.now ≡ committer_word committer }
+{
+    match committer {
+        Committer::Magic => "magic",
+        Committer::Directory => "directory",
+        Committer::Partitioned => "partitioned",
+    }
+}
+
+pub fn mode_word(mode: Mode) -> &'static str
+    ensures { result.now ≡ print.mode_word mode }
+{
+    match mode {
+        Mode::Fail => "fail",
+        Mode::Append => "append",
+        Mode::Replace => "replace",
+    }
+}
+
+pub fn answer_word(answer: bool) -> &'static str
+    ensures { result.now ≡ print.answer_word answer }
+{
+    if answer { "yes" } else { "no" }
+}
+
+pub fn fate_word(fate: Fate) -> &'static str
+    ensures { result.now ≡ print.fate_word fate }
+{
+    match fate {
+        Fate::Answer => "answer",
+        Fate::Slow => "slow",
+        Fate::Before => "before",
+        Fate::After => "after",
+    }
+}
