@@ -2,12 +2,14 @@
 //! line `|` stands for LF, `^` for CR, `~` for the byte 255, and `@` for the first five lines of an
 //! ordinary script. Behind a `{` stand a count, a `:`, and a text that is repeated so often, with `%` for
 //! the number of its turn, from 1, and `$` for that number's hundreds, a dot, and its rest. Of a script in
-//! a line that begins with `!` each part is told.
+//! a line that begins with `!` each part is told; one in a line that begins with `=` is printed. In a line
+//! that begins with `<` each front of the script is read, and in one that begins with `*` the script with
+//! the lowest bit of each of its bytes turned; of both it is told where the answer changes.
 #![tactic(auto)]
 
 use anyhow::{Context, Result};
 use job_model::{Attempts, FileList};
-use job_script::{Script, ScriptFault, read_script};
+use job_script::{Script, ScriptFault, print_script, read_script};
 use s3_types::Fates;
 use std::alloc::{AllocError, Global};
 
@@ -130,26 +132,119 @@ fn tell(rt: &impl Print, script: &Script) -> Result<()> {
     Ok(())
 }
 
-fn answer(rt: &impl Print, alloc: Global, line: &str) -> Result<()> {
-    let (row, whole) = match line.strip_prefix("!") {
-        Some(row) => (row, true),
-        None => (line, false),
-    };
-    let bytes = script_of(alloc, row)?;
-    match read_script(alloc, &bytes) {
-        Ok(script) => {
-            println!(rt;
-                "a script of {} attempts and {} events",
-                script.attempts.len(),
-                script.events.len()
-            )?;
-            if whole {
-                tell(rt, &script)?;
-            }
-        }
-        Err(fault) => println!(rt; "{fault}")?,
+/// The text that a script is printed as.
+fn tell_text(rt: &impl Print, alloc: Global, script: &Script) -> Result<()> {
+    let bytes = print_script(alloc, script)?;
+    let text = str::from_utf8(bytes.as_slice()).context("a script's text")?;
+    rt.print(text)?;
+    Ok(())
+}
+
+/// What bytes are, by the fault's number and its line; 0 for a script.
+fn outcome_of(alloc: Global, bytes: &[u8]) -> (u8, u64) {
+    match read_script(alloc, bytes) {
+        Ok(_) => (0, 0),
+        Err(fault) => (fault.number(), fault.line()),
+    }
+}
+
+/// Tells an outcome that differs from the one before it.
+fn tell_outcome(
+    rt: &impl Print,
+    place: usize,
+    before: Option<(u8, u64)>,
+    outcome: (u8, u64),
+) -> Result<()> {
+    if before == Some(outcome) {
+        return Ok(());
+    }
+    match outcome {
+        (0, _) => println!(rt; "  from {place}: a script")?,
+        (number, line) => println!(rt; "  from {place}: fault {number} at line {line}")?,
     }
     Ok(())
+}
+
+fn tell_fronts(rt: &impl Print, alloc: Global, bytes: &[u8]) -> Result<()> {
+    let mut before = None;
+    for length in 0..=bytes.len() {
+        let (front, _) = bytes.split_at(length);
+        let outcome = outcome_of(alloc, front);
+        tell_outcome(rt, length, before, outcome)?;
+        before = Some(outcome);
+    }
+    Ok(())
+}
+
+/// The bytes with the lowest bit of one of them turned.
+fn altered(alloc: Global, bytes: &[u8], place: usize) -> Result<Vec<u8>, AllocError> {
+    let mut copy = Vec::new(alloc);
+    copy.extend_from_slice(bytes)?;
+    if let Some(b) = copy.get_mut(place) {
+        *b = *b ^ 1;
+    }
+    Ok(copy)
+}
+
+fn tell_altered(rt: &impl Print, alloc: Global, bytes: &[u8]) -> Result<()> {
+    let mut before = None;
+    for place in 0..bytes.len() {
+        let outcome = outcome_of(alloc, &altered(alloc, bytes, place)?);
+        tell_outcome(rt, place, before, outcome)?;
+        before = Some(outcome);
+    }
+    Ok(())
+}
+
+/// What is told of a script beside its counts.
+#[derive(Clone, Copy)]
+enum Told {
+    Nothing,
+    Parts,
+    Text,
+    Fronts,
+    Altered,
+}
+
+/// What a line asks for, and its script.
+fn asked(line: &str) -> (Told, &str) {
+    if let Some(row) = line.strip_prefix("!") {
+        return (Told::Parts, row);
+    }
+    if let Some(row) = line.strip_prefix("<") {
+        return (Told::Fronts, row);
+    }
+    if let Some(row) = line.strip_prefix("*") {
+        return (Told::Altered, row);
+    }
+    match line.strip_prefix("=") {
+        Some(row) => (Told::Text, row),
+        None => (Told::Nothing, line),
+    }
+}
+
+fn answer(rt: &impl Print, alloc: Global, line: &str) -> Result<()> {
+    let (told, row) = asked(line);
+    let bytes = script_of(alloc, row)?;
+    let script = match read_script(alloc, &bytes) {
+        Ok(script) => script,
+        Err(fault) => {
+            println!(rt; "{fault}")?;
+            return Ok(());
+        }
+    };
+    println!(rt;
+        "a script of {} attempts and {} events",
+        script.attempts.len(),
+        script.events.len()
+    )?;
+    match told {
+        Told::Nothing => Ok(()),
+        Told::Parts => tell(rt, &script),
+        Told::Text => tell_text(rt, alloc, &script),
+        Told::Fronts => tell_fronts(rt, alloc, &bytes),
+        Told::Altered => tell_altered(rt, alloc, &bytes),
+    }
 }
 
 fn main(rt: HostRuntime) -> Result<()> {
