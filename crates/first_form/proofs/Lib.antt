@@ -1,5 +1,3 @@
-pub mod FormDest
-pub mod FormLines
-pub mod FormPieces
-pub mod FormSpelled
+pub mod Ends
 pub mod Keys
+pub mod Plainly

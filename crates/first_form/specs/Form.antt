@@ -1,6 +1,6 @@
 -- Scripts of the first form: one magic attempt of one task with one file, set up, written and committed in turn.
-use Rattle.std.specs.Prelude.{◌≡◌, true, false, ℕ, ◌-◌, ◌&&◌, ◌||◌, ◌==◌, nat_le, not, Bool, List, [], ◌∷◌, ◌++◌, length, drop, slice_index, codes, bytes_eq}
-use Rattle.std.specs.List.{list_all, flat_map}
+use Rattle.std.specs.Prelude.{◌≡◌, true, false, ℕ, ◌-◌, ◌&&◌, ◌||◌, ◌==◌, nat_le, not, Bool, List, [], ◌∷◌, length, drop, slice_index, codes, bytes_eq}
+use Rattle.std.specs.List.{list_all}
 use Rattle.std.specs.Str.{is_utf8}
 use Rattle.s3_types.specs.Names.{is_bucket}
 use Rattle.job_model.specs.Jobs.{is_job_id}
@@ -43,27 +43,3 @@ pub record IsForm (f : Form) : Type 0 where
   pub name : is_name f.dest.key ≡ true
   pub file : is_file_name f.path ≡ true
   pub rest : is_rest f.bytes ≡ true
-
--- its ten lines
-abbrev pub lines_of : Form → List (List ℕ)
-lines_of f =
-    (codes "job " ++ f.job)
-    ∷ (codes "dest s3a://" ++ (f.dest.bucket ++ 47 ∷ f.dest.key))
-    ∷ codes "committer magic"
-    ∷ codes "tasks 1"
-    ∷ codes "attempt 0.0"
-    ∷ (codes "file " ++ (f.path ++ (codes " text " ++ f.bytes)))
-    ∷ codes "do driver setup"
-    ∷ codes "do 0.0 write"
-    ∷ codes "do 0.0 commit"
-    ∷ codes "do driver commit"
-    ∷ []
-
--- lines, each ended by LF
-abbrev pub text_of : List (List ℕ) → List ℕ
-text_of lines = flat_map (λ l. l ++ 10 ∷ []) lines
-
--- the input is a script of the first form that says this
-pub record Spells (input : List ℕ) (f : Form) : Type 0 where
-  pub form : IsForm f
-  pub text : input ≡ text_of (lines_of f)

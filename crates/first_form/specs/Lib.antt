@@ -1,3 +1,3 @@
 pub mod Form
-pub mod Reading
+pub mod Plain
 pub mod Scripted

@@ -6,7 +6,7 @@ use Rattle.s3_types.specs.declared.request.Actor.TheVariants.{Driver, Attempt}
 use Rattle.s3_types.specs.declared.request.Committer.TheVariants.{Magic}
 use Rattle.s3_types.specs.declared.request.Mode.TheVariants.{Append}
 use Rattle.job_model.specs.Attempts.{Declared}
-use Rattle.job_model.specs.declared.script.Script.{Script}
+use Rattle.job_model.specs.JobScript.{Script}
 use Rattle.job_model.specs.declared.events.Event.{Event}
 use Rattle.job_model.specs.declared.events.Event.TheVariants.{Do}
 use Rattle.job_model.specs.declared.events.Op.TheVariants as ops
@@ -24,8 +24,8 @@ attempts_of f = (record { task = 0; attempt = 0 }, (f.path, f.bytes) ∷ []) ∷
 abbrev pub the_events : List Event
 the_events = Do Driver ops.Setup ∷ Do the_attempt ops.Write ∷ Do the_attempt ops.Commit ∷ Do Driver ops.Commit ∷ []
 
-abbrev pub script_of : Form → Script
-script_of f = record {
+abbrev pub form_script : Form → Script
+form_script f = record {
   job = f.job;
   dest = f.dest;
   committer = Magic;

@@ -1,14 +1,17 @@
-ghost use Rattle.std.specs.Prelude.{◌≡◌, ◌≤◌, true, length, Some, IfOk, IfSome, option_map};
+ghost use Rattle.std.specs.Prelude.{◌≡◌, ◌==◌, true, not, Some, None, IfOk, IfSome, option_map};
+ghost use Rattle.std.specs.Bool.{Decides};
 ghost use Rattle.std.specs.List.{list_all};
-ghost use Rattle.job_model.specs.Jobs.{is_job_id, is_id_byte};
-ghost use Rattle.first_form.specs.Form.{is_name_byte, is_name, is_file_byte, is_file_name, is_pending, Spells};
-ghost use Rattle.first_form.specs.Reading.{behind, cut, line_in, file_in, parts_of, parts_in, dest_in, is_rest_of_line, form_of};
-ghost use Rattle.first_form.specs.Scripted.{attempts_of, the_events, script_of};
+ghost use Rattle.std.specs.Str.{is_utf8};
+ghost use Rattle.s3_types.specs.Fates.{IsFirstFrom};
+ghost use Rattle.job_model.specs.declared.events.Event.TheVariants.{Do};
+ghost use Rattle.first_form.specs.Form.{is_name_byte, is_name, is_file_byte, is_file_name, is_pending, ends_in_return, is_rest, IsForm};
+ghost use Rattle.first_form.specs.Plain.{is_magic, is_plain_head, IsPlain, lone, file_in, form_with};
+ghost use Rattle.first_form.specs.Scripted.{the_events, form_script};
 
-use job_model::{AttemptName, Attempts, Event, EventList, Op, Script};
-use path_keys::{PathFault, S3Path};
-use s3_types::{Actor, Bytes, Committer, Fates, Mode, Text};
-use std::alloc::{AllocError, Global};
+use job_model::{AttemptName, Attempts, Event, FileList, Op, Script};
+use path_keys::S3Path;
+use s3_types::{Actor, Bytes, Committer, Fates, Text};
+use std::alloc::AllocError;
 
 /// The most bytes of the one file, so that it is one part.
 const MOST_BYTES: usize = 5_242_880;
@@ -73,162 +76,66 @@ fn is_file_name(path: &[u8]) -> bool
         && !is_pending(path)
 }
 
-fn is_id_byte(b: u8) -> bool
-    ensures { result ≡ is_id_byte b }
+fn is_text(bytes: &[u8]) -> bool
+    ensures { result ≡ is_utf8 bytes.now }
 {
-    97 <= b && b <= 122 || 65 <= b && b <= 90 || 48 <= b && b <= 57 || b == 95 || b == 45
-}
-
-fn are_id_bytes(text: &[u8]) -> bool
-    ensures { result ≡ list_all is_id_byte text.now }
-{
-    text.iter().all(|b| is_id_byte(*b))
-}
-
-fn is_job_id(text: &[u8]) -> bool
-    ensures { result ≡ is_job_id text.now }
-{
-    1 <= text.len() && text.len() <= 64 && are_id_bytes(text)
-}
-
-/// The lines between the destination and the file.
-const HEAD: &str = "committer magic\ntasks 1\nattempt 0.0\n";
-
-/// The lines behind the file.
-const EVENTS: &str = "do driver setup\ndo 0.0 write\ndo 0.0 commit\ndo driver commit\n";
-
-/// What stands behind a front.
-fn behind<'a>(front: &str, text: &'a str) -> Option<&'a str>
-    ensures { option_map (λ r. r.now) result ≡ behind front.now text.now }
-{
-    text.strip_prefix(front)
-}
-
-/// The first word, and what stands behind its blank.
-fn first_word(text: &str) -> Option<(&str, &str)>
-    ensures { option_map (λ p. (p.0.now, p.1.now)) result ≡ cut 32 text.now }
-{
-    text.split_once(' ')
-}
-
-/// The first line, and what stands behind its LF.
-fn first_line(text: &str) -> Option<(&str, &str)>
-    ensures { option_map (λ p. (p.0.now, p.1.now)) result ≡ cut 10 text.now }
-{
-    text.split_once('\n')
-}
-
-/// What the first line says behind a front, and the lines behind it.
-#[tactic(auto, unfolding(crate::specs::Reading::line_in))]
-fn line<'a>(front: &str, text: &'a str) -> Option<(&'a str, &'a str)>
-    ensures { option_map (λ p. (p.0.now, p.1.now)) result ≡ line_in front.now text.now }
-{
-    first_line(behind(front, text)?)
-}
-
-/// The file's path and bytes, and the lines behind them.
-#[tactic(auto, unfolding(crate::specs::Reading::file_in))]
-fn file(text: &str) -> Option<(&str, &str, &str)>
-    ensures { option_map (λ p. (p.0.now, p.1.now, p.2.now)) result ≡ file_in text.now }
-{
-    let (path, rest) = first_word(behind("file ", text)?)?;
-    let (bytes, rest) = line("text ", rest)?;
-    Some((path, bytes, rest))
-}
-
-/// What varies in the ten lines.
-#[derive(Clone, Copy)]
-struct Varying<'a> {
-    job: &'a str,
-    dest: &'a str,
-    path: &'a str,
-    bytes: &'a str,
-}
-
-/// The ten lines, but for what their words may be.
-#[tactic(auto, unfolding(crate::specs::Reading::parts_in))]
-fn ten_lines(text: &str) -> Option<Varying<'_>>
-    ensures { option_map parts_of result ≡ parts_in text.now }
-{
-    let (job, rest) = line("job ", text)?;
-    let (dest, rest) = line("dest ", rest)?;
-    let rest = behind(HEAD, rest)?;
-    let (path, bytes, rest) = file(rest)?;
-    if rest != EVENTS {
-        return None;
-    }
-    Some(Varying {
-        job,
-        dest,
-        path,
-        bytes,
-    })
-}
-
-/// A destination whose key is one name.
-#[tactic(auto, unfolding(crate::specs::Reading::dest_in))]
-fn read_dest(alloc: Global, dest: &str) -> Result<Option<S3Path>, AllocError>
-    ensures { IfOk result (λ o. o ≡ dest_in dest.now) }
-{
-    if dest.ends_with('/') {
-        return Ok(None);
-    }
-    match S3Path::read(alloc, dest) {
-        Ok(path) => {
-            if is_name(path.key().as_bytes()) {
-                return Ok(Some(path));
-            }
-            Ok(None)
-        }
-        Err(PathFault::NoMemory) => Err(AllocError),
-        Err(_) => Ok(None),
+    match str::from_utf8(bytes) {
+        Ok(_) => true,
+        Err(_) => false,
     }
 }
 
-/// Whether a line may say these bytes of the file: few enough for one part, and no CR at their end.
-fn is_rest_of_line(bytes: &str) -> bool
-    ensures { result ≡ is_rest_of_line bytes.now }
+fn is_one_line(bytes: &[u8]) -> bool
+    ensures { result ≡ list_all (λ b. not (b == 10)) bytes.now }
 {
-    bytes.len() <= MOST_BYTES && !bytes.ends_with('\r')
+    bytes.iter().all(|b| *b != 10)
 }
 
-/// What the parts say, or None where one may not be so.
-#[tactic(auto, unfolding(crate::specs::Reading::form_of))]
-fn form_of(alloc: Global, parts: Varying<'_>) -> Result<Option<Form>, AllocError>
-    ensures { IfOk result (λ o. o ≡ form_of (parts_of parts.entry)) }
+fn ends_in_return(bytes: &[u8]) -> bool
+    ensures { result ≡ ends_in_return bytes.now }
 {
-    let Some(dest) = read_dest(alloc, parts.dest)? else {
-        return Ok(None);
-    };
-    if !is_job_id(parts.job.as_bytes())
-        || !is_file_name(parts.path.as_bytes())
-        || !is_rest_of_line(parts.bytes)
-    {
-        return Ok(None);
+    match bytes.last() {
+        Some(b) => *b == b'\r',
+        None => false,
     }
-    let job = Text::copied(alloc, parts.job)?;
-    let path = Text::copied(alloc, parts.path)?;
-    let bytes = Bytes::from_slice(alloc, parts.bytes.as_bytes())?;
-    Ok(Some(Form {
-        job,
-        dest,
-        path,
-        bytes,
-    }))
 }
 
-/// What a script of the first form says, or None where the input is none: ten lines, each ended by an
-/// LF, with one blank between two words. Only want of memory is an error.
-pub fn read_form(alloc: Global, input: &[u8]) -> Result<Option<Form>, AllocError>
-    ensures found { IfOk result (λ o. IfSome o (λ f. Spells input.now f)) }
-    ensures only { IfOk result (λ o. (f : Form) → Spells input.now f → o ≡ Some f) }
+/// Whether the bytes may be those of the file: text of one line, few enough for one part, and no CR at
+/// their end.
+fn is_rest(bytes: &[u8]) -> bool
+    ensures { result ≡ is_rest bytes.now }
 {
-    let Ok(text) = str::from_utf8(input) else {
-        return Ok(None);
-    };
-    match ten_lines(text) {
-        Some(parts) => form_of(alloc, parts),
-        None => Ok(None),
+    bytes.len() <= MOST_BYTES && is_text(bytes) && is_one_line(bytes) && !ends_in_return(bytes)
+}
+
+fn is_magic(committer: Committer) -> bool
+    ensures { result ≡ is_magic committer }
+{
+    match committer {
+        Committer::Magic => true,
+        Committer::Directory | Committer::Partitioned => false,
+    }
+}
+
+/// Whether the head but for its names is that of the first form. Under `magic` the mode is `append`, and
+/// names are not made unique.
+fn is_plain_head(script: &Script) -> bool
+    ensures { result ≡ is_plain_head script.now }
+{
+    is_magic(script.committer)
+        && script.tasks == 1
+        && script.retries == 3
+        && script.block == 0
+        && script.stamp.is_none()
+}
+
+/// Whether no sending from the first on has a fate.
+fn are_answered(fates: &Fates) -> bool
+    ensures { Decides result (IsFirstFrom fates.now 1 None) }
+{
+    match fates.first_from(1) {
+        Some(_) => false,
+        None => true,
     }
 }
 
@@ -237,64 +144,100 @@ const THE_ATTEMPT: Actor = Actor::Attempt {
     attempt: 0,
 };
 
-/// The set-up, the attempt's write and commit, and the job's commit.
-fn events(alloc: Global) -> Result<EventList, AllocError>
-    ensures { IfOk result (λ e. e ≡ the_events) }
+/// Whether an event is that this actor does this operation.
+fn is_done(event: Event, actor: Actor, op: Op) -> bool
+    ensures { Decides result (event ≡ Do actor op) }
 {
-    let mut events = EventList::new(alloc);
-    events.push(Event::Do {
-        actor: Actor::Driver,
-        op: Op::Setup,
-    })?;
-    events.push(Event::Do {
-        actor: THE_ATTEMPT,
-        op: Op::Write,
-    })?;
-    events.push(Event::Do {
-        actor: THE_ATTEMPT,
-        op: Op::Commit,
-    })?;
-    events.push(Event::Do {
-        actor: Actor::Driver,
-        op: Op::Commit,
-    })?;
-    Ok(events)
+    event == Event::Do { actor, op }
 }
 
-/// The one attempt with its one file.
-fn attempts(alloc: Global, form: &Form) -> Result<Attempts, AllocError>
-    ensures { IfOk result (λ a. a ≡ attempts_of form.now) }
+/// Whether the events are the set-up, the attempt's write and commit, and the job's commit.
+fn are_the_events(events: &[Event]) -> bool
+    ensures { Decides result (events.now ≡ the_events) }
 {
-    let mut attempts = Attempts::new(alloc);
-    attempts.declare(
-        alloc,
-        AttemptName {
-            task: 0,
-            attempt: 0,
-        },
-    )?;
-    attempts.add_file(form.path.clone()?, form.bytes.clone()?)?;
-    Ok(attempts)
+    events.len() == 4
+        && is_done(events[0], Actor::Driver, Op::Setup)
+        && is_done(events[1], THE_ATTEMPT, Op::Write)
+        && is_done(events[2], THE_ATTEMPT, Op::Commit)
+        && is_done(events[3], Actor::Driver, Op::Commit)
 }
 
-/// The script whose text was read.
-pub fn script_of(alloc: Global, form: &Form) -> Result<Script, AllocError>
-    ensures { IfOk result (λ s. s ≡ script_of form.now) }
+/// Whether the script is of the first form but for its names and its attempts.
+fn is_plain(script: &Script) -> bool
+    ensures { Decides result (IsPlain script.now) }
 {
-    let attempts = attempts(alloc, form)?;
-    let events = events(alloc)?;
-    Ok(Script {
-        job: form.job.clone()?,
-        dest: form.dest.clone()?,
-        committer: Committer::Magic,
-        mode: Mode::Append,
-        unique: false,
-        tasks: 1,
-        retries: 3,
-        block: 0,
-        stamp: None,
-        fates: Fates::new(alloc),
-        attempts,
-        events,
-    })
+    is_plain_head(script) && are_answered(&script.fates) && are_the_events(script.events.as_slice())
+}
+
+/// The one attempt with its files.
+fn lone_attempt(attempts: &Attempts) -> Option<(&AttemptName, &FileList)>
+    ensures { option_map (λ p. (p.0.now, p.1.now)) result ≡ lone attempts.now }
+{
+    let declared = attempts.held();
+    if declared.len() != 1 {
+        return None;
+    }
+    declared.first()
+}
+
+/// The one file.
+fn lone_file(files: &FileList) -> Option<(&Text, &Bytes)>
+    ensures { option_map (λ p. (p.0.now, p.1.now)) result ≡ lone files.now }
+{
+    let held = files.held();
+    if held.len() != 1 {
+        return None;
+    }
+    held.first()
+}
+
+/// The one file of the one attempt, which is 0.0.
+fn the_file(attempts: &Attempts) -> Option<(&Text, &Bytes)>
+    ensures { option_map (λ p. (p.0.now, p.1.now)) result ≡ file_in attempts.now }
+{
+    let (name, files) = lone_attempt(attempts)?;
+    if name.task != 0 || name.attempt != 0 {
+        return None;
+    }
+    lone_file(files)
+}
+
+/// The form of a job with this file, where its names and bytes may be so.
+fn form_with(
+    job: &Text,
+    dest: &S3Path,
+    path: &Text,
+    bytes: &Bytes,
+) -> Result<Option<Form>, AllocError>
+    ensures { IfOk result (λ o. o ≡ form_with job.now dest.now path.now bytes.now) }
+{
+    if !is_name(dest.key().as_bytes())
+        || !is_file_name(path.as_bytes())
+        || !is_rest(bytes.as_slice())
+    {
+        return Ok(None);
+    }
+    Ok(Some(Form {
+        job: job.clone()?,
+        dest: dest.clone()?,
+        path: path.clone()?,
+        bytes: bytes.clone()?,
+    }))
+}
+
+/// What a script of the first form says, or None where the script is of another: `magic`, one task, three
+/// retries, no block size, no stamp and no `loss`; one attempt 0.0 with one file, both of whose names and
+/// whose bytes keep to `IsForm`; and the four events that set up, write and commit. Only want of memory is
+/// an error.
+pub fn form_of(script: &Script) -> Result<Option<Form>, AllocError>
+    ensures found { IfOk result (λ o. IfSome o (λ f. IsForm f × (script.now ≡ form_script f))) }
+    ensures only { IfOk result (λ o. (f : Form) → IsForm f → script.now ≡ form_script f → o ≡ Some f) }
+{
+    if !is_plain(script) {
+        return Ok(None);
+    }
+    match the_file(&script.attempts) {
+        Some((path, bytes)) => form_with(&script.job, &script.dest, path, bytes),
+        None => Ok(None),
+    }
 }

@@ -4,4 +4,4 @@
 
 mod form;
 
-pub use form::{Form, read_form, script_of};
+pub use form::{Form, form_of};

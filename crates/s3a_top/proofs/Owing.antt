@@ -1,13 +1,13 @@
 -- What is owed where a device failed or memory was wanting, and how it is passed on.
-use Rattle.std.proofs.Common.{◌≡◌, ◌≢◌, ◌≤◌, ◌<◌, ◌⊎◌, ℕ, zero, suc, List, [], ◌∷◌, length, take, Option, Some, None, refl, sym, ap, ◌∙◌, subst, arith, inl, inr, length-append}
-use Rattle.std.proofs.lemmas.Bool.{and_parts, leb-true}
-use Rattle.std.proofs.lemmas.List.{take_all}
+use Rattle.std.proofs.Common.{◌≡◌, ◌≢◌, ◌⊎◌, ℕ, List, [], length, Option, Some, None, refl, sym, ap, ◌∙◌, subst, arith, inl, inr}
 use Rattle.std.specs.Option.{unwrap_or}
+use Rattle.s3_types.specs.Moment.{moment}
 use Rattle.s3_types.specs.declared.journal.Entry.{Entry}
-use Rattle.job_model.specs.Promise.{Promised}
+use Rattle.job_model.specs.Promise.{Promised, Finished, verdict}
 use Rattle.job_model.specs.declared.ends.Pick.{Pick}
 use Rattle.job_model.specs.declared.ends.EventEnd.{EventEnd}
 use Rattle.s3_types.specs.Store.{Content}
+use Rattle.job_script.specs.declared.fault.ScriptFault.{ScriptFault}
 use Rattle.store_commands.specs.Stores.{work_of, init_work, bucket_work, made_in, kept_unless}
 use Rattle.store_commands.specs.declared.command.StoreCommand.{StoreCommand}
 use Rattle.store_commands.specs.declared.command.StoreCommand.TheVariants.{Init, MakeBucket}
@@ -18,38 +18,12 @@ use Rattle.store_commands.specs.declared.held.Held.TheVariants.{Nothing, Store, 
 use Rattle.store_commands.specs.declared.work.Work.{Work}
 use Rattle.store_commands.specs.declared.work.Work.TheVariants.{Says, Saves}
 use Rattle.first_form.specs.declared.form.Form.{Form}
-use Rattle.first_form.specs.Form.{IsForm, Spells, text_of, lines_of}
-use Rattle.first_form.specs.Scripted.{script_of}
+use Rattle.first_form.specs.Form.{IsForm}
+use Rattle.first_form.specs.Scripted.{form_script}
 use Rattle.straight_facts.specs.Straight.{opening_of}
 use Rattle.straight_facts.proofs.Promise.{stopped}
 use Rattle.s3a_top.specs.Statuses.{IsBroken, IsOfCommand}
-use Rattle.s3a_top.specs.Bytes.{IsRead}
-use Rattle.s3a_top.specs.Owed.{Told, fixed_text, said_text, Writes, IsIdle, OfForm, OfInput, JobOwes, StoreOwes}
-
--- ---- a script of the first form is short
-
-pub spelled_short : (t : List ℕ) (f : Form) → Spells t f → length t < 67108865
-spelled_short t f h =
-    let id : length f.job ≤ 64 = leb-true _ _ (and_parts _ _ (and_parts _ _ h.form.id).0).1 in
-    let name : length f.dest.key ≤ 400 = leb-true _ _ (and_parts _ _ (and_parts _ _ h.form.name).0).1 in
-    let bucket : length f.dest.bucket ≤ 63 = leb-true _ _ (and_parts _ _ (and_parts _ _ (and_parts _ _ (and_parts _ _ h.form.bucket).0).0).0).1 in
-    let file : length f.path ≤ 400 = leb-true _ _ (and_parts _ _ (and_parts _ _ (and_parts _ _ (and_parts _ _ h.form.file).0).0).0).1 in
-    let rest : length f.bytes ≤ 5242880 = leb-true _ _ (and_parts _ _ (and_parts _ _ (and_parts _ _ h.form.rest).0).0).0 in
-    subst (λ (l : List ℕ). length l < 67108865) (sym h.text) (short_text f id name bucket file rest)
-  where
-    short_text : (f : Form) → length f.job ≤ 64 → length f.dest.key ≤ 400 → length f.dest.bucket ≤ 63 → length f.path ≤ 400 → length f.bytes ≤ 5242880 → length (text_of (lines_of f)) < 67108865
-    short_text f a b c d e = simp length-append (omega (arith, a, b, c, d, e))
-
-short_whole : (n : ℕ) (xs : List ℕ) → length (take n xs) < n → take n xs ≡ xs
-short_whole n xs h = by (length xs) refl
-  where
-    by : (m : ℕ) → length xs ≡ m → take n xs ≡ xs
-    by m e = take_all n xs (fits n xs h)
-      where
-        fits : (n : ℕ) (xs : List ℕ) → length (take n xs) < n → length xs ≤ n
-        fits zero xs h = absurd (omega arith)
-        fits (suc n) [] h = omega arith
-        fits (suc n) (x ∷ xs) h = let l = fits n xs (omega arith) in omega (arith, l)
+use Rattle.s3a_top.specs.Owed.{Told, fixed_text, said_text, Writes, script_fault_text, IsIdle, IsWhole, OfForm, OfInput, JobOwes, StoreOwes}
 
 -- ---- where a device failed or memory was wanting
 
@@ -58,8 +32,13 @@ not_zero due (inl e) z = absurd (omega (arith, e, z))
 not_zero due (inr (inl e)) z = absurd (omega (arith, e, z))
 not_zero due (inr (inr e)) z = absurd (omega (arith, e, z))
 
-pub nothing_promised : (f : Form) → IsForm f → (es : List Entry) (ps : List Pick) (xs : List EventEnd) → IsIdle es ps xs → Promised (script_of f) (opening_of f) es ps xs
+pub nothing_promised : (f : Form) → IsForm f → (es : List Entry) (ps : List Pick) (xs : List EventEnd) → IsIdle es ps xs → Promised (form_script f) (opening_of f) es ps xs
 nothing_promised f h es ps xs i = stopped f h es ps xs (record { over = 0; few = omega arith; sent = 0; entries = i.entries; picks = inl i.picks; ends = i.ends })
+
+-- a run to its end of a form that is this one
+pub whole_at : (f g : Form) (es : List Entry) (ps : List Pick) (xs : List EventEnd) (service : Content) → g ≡ f → Finished (form_script g) (opening_of g) es ps xs → verdict (form_script g) xs ≡ 0
+    → service ≡ (moment (opening_of g) es (length es)).content → IsWhole f es ps xs service
+whole_at f g es ps xs service e a b c = subst (λ (f : Form). IsWhole f es ps xs service) e (record { finished = a; committed = b; left = c })
 
 module _ (before now : Told) (S : List ℕ → Type 0) where
   pub form_broken : (f : Form) → IsForm f → (due : ℕ) (es : List Entry) (ps : List Pick) (xs : List EventEnd) → IsBroken due → IsIdle es ps xs → OfForm f due es ps xs before now S
@@ -73,11 +52,11 @@ module _ (before now : Told) (S : List ℕ → Type 0) where
   }
 
   -- a run that sent something and stopped
-  pub form_stopped : (f : Form) (due : ℕ) (es : List Entry) (ps : List Pick) (xs : List EventEnd) → IsBroken due → Promised (script_of f) (opening_of f) es ps xs → OfForm f due es ps xs before now S
+  pub form_stopped : (f : Form) (due : ℕ) (es : List Entry) (ps : List Pick) (xs : List EventEnd) → IsBroken due → Promised (form_script f) (opening_of f) es ps xs → OfForm f due es ps xs before now S
   form_stopped f due es ps xs b p = record { which = inr b; promised = p; finished = λ z. not_zero due b z; committed = λ z. not_zero due b z; saved = λ z. not_zero due b z; report = λ z. not_zero due b z }
 
   pub input_broken : (left : Option (List ℕ)) (due : ℕ) (es : List Entry) (ps : List Pick) (xs : List EventEnd) → IsBroken due → IsIdle es ps xs → OfInput left due es ps xs before now S
-  input_broken left due es ps xs b i = record { form = λ bytes e f h. form_broken f h.form due es ps xs b i; none = λ bytes e n. inr b }
+  input_broken left due es ps xs b i = record { form = λ bytes e f h s. form_broken f h due es ps xs b i; other = λ bytes s e h n. inr b; fault = λ bytes x e h. inr b }
 
   pub job_broken : (held : Held) (left : Option (List ℕ)) (due : ℕ) (es : List Entry) (ps : List Pick) (xs : List EventEnd) → IsBroken due → IsIdle es ps xs → JobOwes held left due es ps xs before now S
   job_broken Nothing left due es ps xs b i = input_broken left due es ps xs b i
@@ -87,34 +66,6 @@ module _ (before now : Told) (S : List ℕ → Type 0) where
   pub store_broken : (w : Work) (due : ℕ) → IsBroken due → StoreOwes w due before now S
   store_broken (Says d t) due b = inr b
   store_broken (Saves c) due b = inr b
-
--- ---- what was read is what the input is
-
-pub input_owes : (left after : Option (List ℕ)) (all : List ℕ) (due : ℕ) (es : List Entry) (ps : List Pick) (xs : List EventEnd) (before now : Told) (S : List ℕ → Type 0) → IsRead left after all
-    → ((f : Form) → Spells all f → OfForm f due es ps xs before now S) → (((f : Form) → Spells all f → ⊥) → (due ≡ 10) ⊎ (due ≡ 9)) → OfInput left due es ps xs before now S
-input_owes None after all due es ps xs before now S r form none = record { form = λ bytes e f h. absurd cc; none = λ bytes e n. absurd cc }
-input_owes (Some bytes) after all due es ps xs before now S r form none = record {
-  form = λ b e f h. form f (subst (λ (l : List ℕ). Spells l f) (sym (whole b e f h)) h);
-  none = λ b e n. as_broken (none (λ f h. n f (subst (λ (l : List ℕ). Spells l f) (parts b e f h) h)));
-}
-  where
-    some_is : (x y : List ℕ) → Some x ≡ Some y → x ≡ y
-    some_is x y h = cc
-
-    whole : (b : List ℕ) → Some bytes ≡ Some b → (f : Form) → Spells b f → all ≡ b
-    whole b e f h =
-        let s : bytes ≡ b = some_is bytes b e in
-        r.0 ∙ ap (take 67108865) s ∙ take_all 67108865 b (less b f h)
-      where
-        less : (b : List ℕ) (f : Form) → Spells b f → length b ≤ 67108865
-        less b f h = let l = spelled_short b f h in omega (arith, l)
-
-    parts : (b : List ℕ) → Some bytes ≡ Some b → (f : Form) → Spells all f → all ≡ b
-    parts b e f h = r.0 ∙ short_whole 67108865 bytes (subst (λ (l : List ℕ). length l < 67108865) r.0 (spelled_short all f h)) ∙ some_is bytes b e
-
-    as_broken : (due ≡ 10) ⊎ (due ≡ 9) → (due ≡ 10) ⊎ IsBroken due
-    as_broken (inl x) = inl x
-    as_broken (inr x) = inr (inr (inr x))
 
 -- ---- what a command of the store owes
 
@@ -157,7 +108,7 @@ work_said (MakeBucket name) held = bucket_said name held
 
 answer_which : (w : Work) (a : Answer) → IsSaid w → IsAnswer w a → IsOfCommand a.due × (a.due ≢ 3)
 answer_which (Says d t) a (inl s) (inl e) = let x : a.due ≡ 1 = ap (λ (y : Answer). y.due) e ∙ s in (inr x, λ z. absurd (omega (arith, x, z)))
-answer_which (Says d t) a (inr s) (inl e) = let x : a.due ≡ 7 = ap (λ (y : Answer). y.due) e ∙ s in (inl (inr (inr (inl x))), λ z. absurd (omega (arith, x, z)))
+answer_which (Says d t) a (inr s) (inl e) = let x : a.due ≡ 7 = ap (λ (y : Answer). y.due) e ∙ s in (inl (inr (inr (inr (inl x)))), λ z. absurd (omega (arith, x, z)))
 answer_which (Says d t) a s (inr e) = let x : a.due ≡ 9 = ap (λ (y : Answer). y.due) e in (inl (inl (inr (inr x))), λ z. absurd (omega (arith, x, z)))
 answer_which (Saves c) a s (inl e) = let x : a.due ≡ 0 = ap (λ (y : Answer). y.due) e in (inl (inl (inl x)), λ z. absurd (omega (arith, x, z)))
 answer_which (Saves c) a s (inr (inl e)) = let x : a.due ≡ 5 = ap (λ (y : Answer). y.due) e in (inl (inl (inr (inl x))), λ z. absurd (omega (arith, x, z)))
@@ -181,8 +132,12 @@ module _ (due status : ℕ) (text : List ℕ) (old new : Option (List ℕ)) (w :
   form_out : (f : Form) (es : List Entry) (ps : List Pick) (xs : List EventEnd) (before now : Told) → OfForm f due es ps xs before now (λ t. text ≡ t) → OfForm f due es ps xs before now (Writes status old new)
   form_out f es ps xs before now h = record { which = h.which; promised = h.promised; finished = h.finished; committed = h.committed; saved = h.saved; report = λ z. zero_out _ z (h.report z) }
 
+  fault_out : (e : ScriptFault) → ((due ≡ 6) × (text ≡ script_fault_text e)) ⊎ IsBroken due → ((due ≡ 6) × Writes status old new (script_fault_text e)) ⊎ IsBroken due
+  fault_out e (inl h) = inl (h.0, out_is _ (ap fixed_text h.0) h.1)
+  fault_out e (inr h) = inr h
+
   pub job_out : (held : Held) (left : Option (List ℕ)) (es : List Entry) (ps : List Pick) (xs : List EventEnd) (before now : Told) → JobOwes held left due es ps xs before now (λ t. text ≡ t) → JobOwes held left due es ps xs before now (Writes status old new)
-  job_out Nothing left es ps xs before now h = record { form = λ bytes e f s. form_out f es ps xs before now (h.form bytes e f s); none = h.none }
+  job_out Nothing left es ps xs before now h = record { form = λ bytes e f g s. form_out f es ps xs before now (h.form bytes e f g s); other = h.other; fault = λ bytes x e s. fault_out x (h.fault bytes x e s) }
   job_out (Store c) left es ps xs before now h = h
   job_out (Faulty n p) left es ps xs before now (inl h) = inl (h.0, out_is _ (ap fixed_text h.0) h.1)
   job_out (Faulty n p) left es ps xs before now (inr h) = inr h

@@ -5,13 +5,13 @@ use Rattle.std.specs.Prelude.{◌≡◌, ℕ, ◌⊎◌}
 abbrev pub IsBroken : ℕ → Type 0
 IsBroken due = (due ≡ 3) ⊎ ((due ≡ 5) ⊎ (due ≡ 9))
 
--- the statuses of a job that was read
+-- the statuses of a job of the first form
 abbrev pub IsPlayed : ℕ → Type 0
 IsPlayed due = (due ≡ 0) ⊎ ((due ≡ 5) ⊎ (due ≡ 9))
 
--- those of a job: also a failed input, bytes that are no image, and what is not built
+-- those of a job: also a failed input, bytes that are no script, bytes that are no image, and what is not built
 abbrev pub IsOfJob : ℕ → Type 0
-IsOfJob due = IsPlayed due ⊎ ((due ≡ 3) ⊎ ((due ≡ 7) ⊎ (due ≡ 10)))
+IsOfJob due = IsPlayed due ⊎ ((due ≡ 3) ⊎ ((due ≡ 6) ⊎ ((due ≡ 7) ⊎ (due ≡ 10))))
 
 -- those of all commands: also what is refused
 abbrev pub IsOfCommand : ℕ → Type 0

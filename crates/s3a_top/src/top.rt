@@ -2,6 +2,7 @@ ghost use Rattle.std.specs.Prelude.{◌≡◌, ◌≢◌, ℕ, List, ◌<◌, �
 ghost use Rattle.s3_types.specs.Moment.{moment};
 ghost use Rattle.job_model.specs.Promise.{verdict, Finished};
 ghost use Rattle.job_model.specs.ReportText.{report_text};
+ghost use Rattle.job_script.specs.declared.fault.ScriptFault as faults;
 ghost use Rattle.store_commands.specs.Commands.{command_of};
 ghost use Rattle.store_commands.specs.Stores.{found, work_of};
 ghost use Rattle.store_commands.specs.Stores as stores;
@@ -9,16 +10,17 @@ ghost use Rattle.store_commands.specs.Outcomes.{Tells, IsBelowLast};
 ghost use Rattle.store_commands.specs.declared.command.StoreCommand as storing;
 ghost use Rattle.store_commands.specs.declared.command.Command.TheVariants as commands;
 ghost use Rattle.first_form.specs.declared.form.Form as forms;
-ghost use Rattle.first_form.specs.Form.{IsForm, Spells};
+ghost use Rattle.first_form.specs.Form.{IsForm};
 ghost use Rattle.first_form.specs.Scripted as scripted;
 ghost use Rattle.straight_facts.specs.Straight.{opening_of};
 ghost use Rattle.s3a_top.specs.Statuses.{IsPlayed, IsOfJob, IsOfCommand, IsDue};
-ghost use Rattle.s3a_top.specs.Owed.{fixed_text, said_text, Writes, IsIdle, IsUnsaid, OfForm, OfInput, JobOwes, StoreOwes};
+ghost use Rattle.s3a_top.specs.Owed.{fixed_text, said_text, script_fault_text, Writes, IsIdle, IsUnsaid, IsWhole, OfForm, OfInput, JobOwes, StoreOwes};
 
 use crate::input::{InputFault, read_input};
 use crate::output::write_output;
-use first_form::{Form, read_form, script_of};
-use job_model::{EndList, PickList, Report, report_text};
+use first_form::{Form, form_of};
+use job_model::{EndList, PickList, Report, Script, report_text};
+use job_script::{ScriptFault, read_script};
 use s3_types::{Bytes, Journal, Text};
 use shelf::{Shelf, Sink, Source};
 use std::alloc::{AllocError, Global};
@@ -36,6 +38,8 @@ const READ_FAULT: u8 = 3;
 const WRITE_FAULT: u8 = 4;
 
 const SHELF_FAULT: u8 = 5;
+
+const SCRIPT_FAULT: u8 = 6;
 
 const IMAGE_FAULT: u8 = 7;
 
@@ -106,20 +110,13 @@ fn stopped(stage: Stage, due: u8) -> Work
     }
 }
 
-fn text_of(alloc: Global, form: &Form, report: &Report) -> Result<Bytes, AllocError>
-    ensures { IfOk result (λ text. text ≡ report_text report.now.due (length report.now.journal.entries) report.now.picks report.now.ends (scripted.script_of form.now)) }
-{
-    let script = script_of(alloc, form)?;
-    report_text(alloc, report, &script)
-}
-
 /// The report of a run that went to its end.
-fn reported(alloc: Global, form: &Form, stage: Stage) -> Work
+fn reported(alloc: Global, script: &Script, stage: Stage) -> Work
     ensures due { (result.due ≡ 0) ⊎ (result.due ≡ 9) }
     ensures journal { result.journal.entries ≡ stage.journal.entries }
     ensures picks { result.picks ≡ stage.picks }
     ensures ends { result.ends ≡ stage.ends }
-    ensures text { result.due ≡ 0 → result.text ≡ report_text 0 (length stage.journal.entries) stage.picks stage.ends (scripted.script_of form.now) }
+    ensures text { result.due ≡ 0 → result.text ≡ report_text 0 (length stage.journal.entries) stage.picks stage.ends script.now }
 {
     let report = Report {
         status: DONE,
@@ -128,7 +125,7 @@ fn reported(alloc: Global, form: &Form, stage: Stage) -> Work
         picks: stage.picks,
         ends: stage.ends,
     };
-    let (due, text) = match text_of(alloc, form, &report) {
+    let (due, text) = match report_text(alloc, &report, script) {
         Ok(text) => (DONE, text),
         Err(_) => (NO_MEMORY, Bytes::empty()),
     };
@@ -142,27 +139,25 @@ fn reported(alloc: Global, form: &Form, stage: Stage) -> Work
 }
 
 /// Saves the store of a run that went to its end, and reports it.
-fn saved<F: Shelf>(alloc: Global, shelf: &mut F, form: &Form, stage: Stage) -> Work
+fn saved<F: Shelf>(alloc: Global, shelf: &mut F, script: &Script, stage: Stage) -> Work
     requires count { F.faults shelf.old < 2 ^ 64 - 1 }
-    requires finished { Finished (scripted.script_of form.now) (opening_of form.now) stage.journal.entries stage.picks stage.ends }
-    requires committed { verdict (scripted.script_of form.now) stage.ends ≡ 0 }
-    requires left { stage.service ≡ (moment (opening_of form.now) stage.journal.entries (length stage.journal.entries)).content }
-    ensures form { OfForm form.now result.due result.journal.entries result.picks result.ends (F.held shelf.old) (F.held shelf.new) (λ t. result.text ≡ t) }
+    ensures form { (f : forms.Form) → script.now ≡ scripted.form_script f → IsWhole f stage.journal.entries stage.picks stage.ends stage.service → OfForm f result.due result.journal.entries result.picks result.ends (F.held shelf.old) (F.held shelf.new) (λ t. result.text ≡ t) }
     ensures which { IsPlayed result.due }
     ensures shelf { Tells 5 result.due (F.faults shelf.old) (F.faults shelf.new) }
     ensures kept { result.due ≡ 5 → F.held shelf.new ≡ F.held shelf.old }
-    ensures wanting { result.due ≡ 9 → IsUnsaid result.journal.entries result.picks result.ends (F.held shelf.old) (F.held shelf.new) }
+    ensures wanting { (f : forms.Form) → IsWhole f stage.journal.entries stage.picks stage.ends stage.service → result.due ≡ 9 → IsUnsaid result.journal.entries result.picks result.ends (F.held shelf.old) (F.held shelf.new) }
 {
     match save(alloc, shelf, &stage.service) {
-        Ok(()) => reported(alloc, form, stage),
+        Ok(()) => reported(alloc, script, stage),
         Err(ShelfStop::Failed) => stopped(stage, SHELF_FAULT),
         Err(ShelfStop::NoMemory) => stopped(stage, NO_MEMORY),
     }
 }
 
 /// Plays a job of the first form over a new store.
-fn play_form<F: Shelf>(alloc: Global, shelf: &mut F, form: Form) -> Work
+fn play_form<F: Shelf>(alloc: Global, shelf: &mut F, script: &Script, form: Form) -> Work
     requires form { IsForm form }
+    requires script { script.now ≡ scripted.form_script form }
     requires count { F.faults shelf.old < 2 ^ 64 - 1 }
     ensures form { OfForm form result.due result.journal.entries result.picks result.ends (F.held shelf.old) (F.held shelf.new) (λ t. result.text ≡ t) }
     ensures which { IsPlayed result.due }
@@ -177,26 +172,69 @@ fn play_form<F: Shelf>(alloc: Global, shelf: &mut F, form: Form) -> Work
         return nothing(alloc, NO_MEMORY);
     };
     match play(alloc, &mut stage, &job) {
-        Ok(()) => saved(alloc, shelf, &job.form, stage),
+        Ok(()) => saved(alloc, shelf, script, stage),
         Err(_) => stopped(stage, NO_MEMORY),
     }
 }
 
-/// Plays the script that the input is, where it is one of the first form.
-fn play_read<F: Shelf>(alloc: Global, shelf: &mut F, input: &[u8]) -> Work
+/// Plays a script, where it is one of the first form.
+fn play_script<F: Shelf>(alloc: Global, shelf: &mut F, script: &Script) -> Work
     requires { F.faults shelf.old < 2 ^ 64 - 1 }
-    ensures form { (f : forms.Form) → Spells input.now f → OfForm f result.due result.journal.entries result.picks result.ends (F.held shelf.old) (F.held shelf.new) (λ t. result.text ≡ t) }
-    ensures none { ((f : forms.Form) → Spells input.now f → ⊥) → (result.due ≡ 10) ⊎ (result.due ≡ 9) }
+    ensures form { (f : forms.Form) → IsForm f → script.now ≡ scripted.form_script f → OfForm f result.due result.journal.entries result.picks result.ends (F.held shelf.old) (F.held shelf.new) (λ t. result.text ≡ t) }
+    ensures other { ((f : forms.Form) → IsForm f → script.now ≡ scripted.form_script f → ⊥) → (result.due ≡ 10) ⊎ (result.due ≡ 9) }
     ensures idle { result.due ≡ 10 → IsIdle result.journal.entries result.picks result.ends }
     ensures which { IsPlayed result.due ⊎ (result.due ≡ 10) }
     ensures shelf { Tells 5 result.due (F.faults shelf.old) (F.faults shelf.new) }
     ensures kept { result.due ≢ 0 → result.due ≢ 9 → F.held shelf.new ≡ F.held shelf.old }
     ensures wanting { result.due ≡ 9 → IsUnsaid result.journal.entries result.picks result.ends (F.held shelf.old) (F.held shelf.new) }
 {
-    match read_form(alloc, input) {
-        Ok(Some(form)) => play_form(alloc, shelf, form),
+    match form_of(script) {
+        Ok(Some(form)) => play_form(alloc, shelf, script, form),
         Ok(None) => nothing(alloc, NOT_BUILT),
         Err(_) => nothing(alloc, NO_MEMORY),
+    }
+}
+
+/// The line that tells of bytes that are no script: `script fault NUMBER at line LINE`.
+#[tactic(auto, unfolding(crate::specs::Owed::script_fault_text))]
+fn script_fault_text(alloc: Global, fault: ScriptFault) -> Result<Bytes, AllocError>
+    ensures { IfOk result (λ text. text ≡ script_fault_text fault) }
+{
+    let number = fault.number();
+    let line = fault.line();
+    let text = format!(in alloc; "script fault {number} at line {line}\n")?;
+    Bytes::new(alloc, text.into_bytes())
+}
+
+/// Bytes that are no script, by their fault.
+fn no_script(alloc: Global, fault: ScriptFault) -> Work
+    ensures due { (result.due ≡ 6) ⊎ (result.due ≡ 9) }
+    ensures fault { result.due ≡ 6 → fault ≢ faults.ScriptFault.NoMemory }
+    ensures text { result.due ≡ 6 → result.text ≡ script_fault_text fault }
+    ensures idle { IsIdle result.journal.entries result.picks result.ends }
+{
+    if matches!(fault, ScriptFault::NoMemory) {
+        return nothing(alloc, NO_MEMORY);
+    }
+    match script_fault_text(alloc, fault) {
+        Ok(text) => said(alloc, SCRIPT_FAULT, text),
+        Err(_) => nothing(alloc, NO_MEMORY),
+    }
+}
+
+/// Plays the script that the input is.
+fn play_read<F: Shelf>(alloc: Global, shelf: &mut F, input: &[u8]) -> Work
+    requires { F.faults shelf.old < 2 ^ 64 - 1 }
+    ensures owed { OfInput (Some input.now) result.due result.journal.entries result.picks result.ends (F.held shelf.old) (F.held shelf.new) (λ t. result.text ≡ t) }
+    ensures idle { result.due ≢ 0 → result.due ≢ 5 → result.due ≢ 9 → IsIdle result.journal.entries result.picks result.ends }
+    ensures which { IsPlayed result.due ⊎ ((result.due ≡ 6) ⊎ (result.due ≡ 10)) }
+    ensures shelf { Tells 5 result.due (F.faults shelf.old) (F.faults shelf.new) }
+    ensures kept { result.due ≢ 0 → result.due ≢ 9 → F.held shelf.new ≡ F.held shelf.old }
+    ensures wanting { result.due ≡ 9 → IsUnsaid result.journal.entries result.picks result.ends (F.held shelf.old) (F.held shelf.new) }
+{
+    match read_script(alloc, input) {
+        Ok(script) => play_script(alloc, shelf, &script),
+        Err(fault) => no_script(alloc, fault),
     }
 }
 
@@ -206,7 +244,7 @@ fn read_and_play<Q: Source, F: Shelf>(alloc: Global, input: &mut Q, shelf: &mut 
     requires shelf_count { F.faults shelf.old < 2 ^ 64 - 1 }
     ensures owed { OfInput (Q.left input.old) result.due result.journal.entries result.picks result.ends (F.held shelf.old) (F.held shelf.new) (λ t. result.text ≡ t) }
     ensures idle { result.due ≢ 0 → result.due ≢ 5 → result.due ≢ 9 → IsIdle result.journal.entries result.picks result.ends }
-    ensures which { IsPlayed result.due ⊎ ((result.due ≡ 3) ⊎ (result.due ≡ 10)) }
+    ensures which { IsPlayed result.due ⊎ ((result.due ≡ 3) ⊎ ((result.due ≡ 6) ⊎ (result.due ≡ 10))) }
     ensures read { Tells 3 result.due (Q.faults input.old) (Q.faults input.new) }
     ensures shelf { Tells 5 result.due (F.faults shelf.old) (F.faults shelf.new) }
     ensures kept { result.due ≢ 0 → result.due ≢ 9 → F.held shelf.new ≡ F.held shelf.old }
@@ -366,12 +404,13 @@ fn say<K: Sink>(out: &mut K, work: &Work) -> u8
 
 /// Does what the words say: word 0 is the folder that the shelf stands for, word 1 the command. `init`
 /// or `init MIN` makes an empty store whose parts but the last have at least MIN bytes, 1 to 5,242,880;
-/// `mb NAME` makes a bucket; `job` reads a script of the first form from the input, plays it over an
-/// empty store, saves the store's image on the shelf and writes the report. The report's status is 0
-/// where that was done; 1 where the command was refused; 2 where the words are no command; 3, 4 and 5
-/// where the input, the output or the shelf failed; 7 where the shelf's bytes are no image; 9 where
-/// memory was wanting; and 10 where a job's shelf holds a store already or its input is not of the first
-/// form. In each of these but 4 and where only the report's text found no memory the shelf is as it was.
+/// `mb NAME` makes a bucket; `job` reads a script from the input, plays it over an empty store where it is
+/// of the first form, saves the store's image on the shelf and writes the report. The report's status is
+/// 0 where that was done; 1 where the command was refused; 2 where the words are no command; 3, 4 and 5
+/// where the input, the output or the shelf failed; 6 where the input is no script; 7 where the shelf's
+/// bytes are no image; 9 where memory was wanting; and 10 where a job's shelf holds a store already or its
+/// script is not of the first form. In each of these but 4 and where only the report's text found no
+/// memory the shelf is as it was.
 pub fn run<Q: Source, F: Shelf, K: Sink>(
     alloc: Global,
     words: &[Text],

@@ -23,7 +23,7 @@ use Rattle.job_model.specs.Replay.{Seen, see, nothing_seen, is_driver, is_markin
 use Rattle.job_model.specs.Headline.{mark_text}
 use Rattle.first_form.specs.declared.form.Form.{Form}
 use Rattle.first_form.specs.Form.{is_file_name, is_file_byte}
-use Rattle.first_form.specs.Scripted.{script_of, the_attempt}
+use Rattle.first_form.specs.Scripted.{form_script, the_attempt}
 use Rattle.straight_facts.specs.Straight.{opening_of, marker_key, record_key, marker_text, record_text, set_text, head_request, clear_request, list_request, create_request, part_request, marker_request, record_request, look_request, read_request, set_request, fetch_request, complete_request, success_request}
 use Rattle.straight_facts.proofs.Maps.{text_same, get_put}
 use Rattle.straight_facts.proofs.Texts.{below_is}
@@ -126,20 +126,20 @@ module _ (f : Form) where
   opening_shows p = ap (λ x. view f.dest x p) (opens f) ∙ viewed f empty empty 1 nothing (shows_nothing f.dest.key) p
 
   abbrev Chain : Seen → List Entry → Type 0
-  Chain s es = KeptAll (script_of f) (Some 4) (opening_of f) s es
+  Chain s es = KeptAll (form_script f) (Some 4) (opening_of f) s es
 
   -- one more request before the commit
   then_before : (s : Seen) (c d : Content) (k : ℕ) (who : Actor) (r : Request) (a : Reply) (es : List Entry) → Before f c s → WithView f c nothing → Step c r a d
-      → begins_commit (Some 4) (by k who r a) ≡ false → (is_driver who && true && is_marking (script_of f) r) ≡ false → ((t : Seen) → Before f d t → Chain t es) → Chain s (by k who r a ∷ es)
+      → begins_commit (Some 4) (by k who r a) ≡ false → (is_driver who && true && is_marking (form_script f) r) ≡ false → ((t : Seen) → Before f d t → Chain t es) → Chain s (by k who r a ∷ es)
   then_before s c d k who r a es h v t b m rest =
-      (early f (opening_of f) opening_shows s (shown_of f s c nothing h.content v) h.begun h.put_mark, rest (see (script_of f) (Some 4) s (by k who r a)) (before_step f c d s k who r a h t b m))
+      (early f (opening_of f) opening_shows s (shown_of f s c nothing h.content v) h.begun h.put_mark, rest (see (form_script f) (Some 4) s (by k who r a)) (before_step f c d s k who r a h t b m))
 
-  marks_text : (picks : Picks) → picks 0 ≡ Some 0 → marker_text f ≡ mark_text (script_of f) picks
+  marks_text : (picks : Picks) → picks 0 ≡ Some 0 → marker_text f ≡ mark_text (form_script f) picks
   unfolding marker_text
   marks_text picks h = ap (λ o. mark_of_pick o) (sym h)
     where
       mark_of_pick : Option ℕ → List ℕ
-      mark_of_pick o = mark_text (script_of f) (λ t. o)
+      mark_of_pick o = mark_text (form_script f) (λ t. o)
 
 module _ (f : Form) (some : 1 ≤ length f.dest.key) (file : is_file_path f.path ≡ true) where
   v0 : WithView f (c0 f) nothing
@@ -219,28 +219,28 @@ module _ (f : Form) (some : 1 ≤ length f.dest.key) (file : is_file_path f.path
   unfolding success_request
   stage12 s h = (
     going f (opening_of f) (opening_shows f) s h.pick (λ p. inr (shown_of f s (c12 f) (file_alone f) h.content v12 p)) h.begun h.put_mark,
-    stage13 (see (script_of f) (Some 4) s (by 4 Driver (success_request f) (Stored (plain_tag (marker_text f))))) (goes_to f (c12 f) (c13 f) s 4 Driver (success_request f) (Stored (plain_tag (marker_text f))) h.content (step13 f)) (rw h.begun refl) h.pick,
+    stage13 (see (form_script f) (Some 4) s (by 4 Driver (success_request f) (Stored (plain_tag (marker_text f))))) (goes_to f (c12 f) (c13 f) s 4 Driver (success_request f) (Stored (plain_tag (marker_text f))) h.content (step13 f)) (rw h.begun refl) h.pick,
   )
 
   stage11 : (s : Seen) → Going f (c10 f) s → Chain f s from12
   unfolding complete_request
   stage11 s h = (
     going f (opening_of f) (opening_shows f) s h.pick (λ p. inl (shown_of f s (c10 f) nothing h.content v10 p)) h.begun h.put_mark,
-    stage12 (see (script_of f) (Some 4) s (by 4 Driver (complete_request f) (Completed (joined_tag (plain_tag f.bytes ∷ []))))) (going_step f (c10 f) (c12 f) s 4 Driver (complete_request f) (Completed (joined_tag (plain_tag f.bytes ∷ []))) h (step12 f) refl refl),
+    stage12 (see (form_script f) (Some 4) s (by 4 Driver (complete_request f) (Completed (joined_tag (plain_tag f.bytes ∷ []))))) (going_step f (c10 f) (c12 f) s 4 Driver (complete_request f) (Completed (joined_tag (plain_tag f.bytes ∷ []))) h (step12 f) refl refl),
   )
 
   stage10 : (s : Seen) → Before f (c10 f) s → s.last 0 ≡ Some 0 → Chain f s from11
   unfolding fetch_request
   stage10 s h l = (
     early f (opening_of f) (opening_shows f) s (shown_of f s (c10 f) nothing h.content v10) h.begun h.put_mark,
-    stage11 (see (script_of f) (Some 4) s (by 4 Driver (fetch_request f) (Found (set_text f) None))) (commit_step f (c10 f) (c10 f) s (fetch_request f) (Found (set_text f) None) Driver h (step11 f) refl refl (rw (text_same f.dest.bucket, text_same (layout.set_key f.dest.key 0)) l)),
+    stage11 (see (form_script f) (Some 4) s (by 4 Driver (fetch_request f) (Found (set_text f) None))) (commit_step f (c10 f) (c10 f) s (fetch_request f) (Found (set_text f) None) Driver h (step11 f) refl refl (rw (text_same f.dest.bucket, text_same (layout.set_key f.dest.key 0)) l)),
   )
 
   stage9 : (s : Seen) → Before f (c7 f) s → Chain f s from10
   unfolding set_request
   stage9 s h = (
     early f (opening_of f) (opening_shows f) s (shown_of f s (c7 f) nothing h.content v7) h.begun h.put_mark,
-    stage10 (see (script_of f) (Some 4) s (by 3 the_attempt (set_request f) (Stored (plain_tag (set_text f))))) (before_step f (c7 f) (c10 f) s 3 the_attempt (set_request f) (Stored (plain_tag (set_text f))) h (step10 f) refl refl) (rw (text_same f.dest.bucket, text_same (layout.set_key f.dest.key 0)) refl),
+    stage10 (see (form_script f) (Some 4) s (by 3 the_attempt (set_request f) (Stored (plain_tag (set_text f))))) (before_step f (c7 f) (c10 f) s 3 the_attempt (set_request f) (Stored (plain_tag (set_text f))) h (step10 f) refl refl) (rw (text_same f.dest.bucket, text_same (layout.set_key f.dest.key 0)) refl),
   )
 
   stage8 : (s : Seen) → Before f (c7 f) s → Chain f s from9

@@ -15,7 +15,7 @@ use Rattle.s3_types.specs.declared.journal.Entry.{Entry}
 use Rattle.job_model.specs.Commits.{Sets}
 use Rattle.job_model.specs.Follows.{Setting, Running, Follows, step, AllRead, AllUpTo}
 use Rattle.job_model.specs.Turns.{AllFrom, IsRising}
-use Rattle.job_model.specs.declared.script.Script.{Script}
+use Rattle.job_model.specs.JobScript.{Script}
 
 pub first_follow : (g : Setting) (a : Actor) (m : Running) (es : List Entry) (n : ℕ) → Follows g a m es → Follows g a m (take n es)
 first_follow g a m [] zero h = tt

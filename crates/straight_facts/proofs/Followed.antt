@@ -18,7 +18,7 @@ use Rattle.job_model.specs.declared.ends.SetupEnd.TheVariants as setups
 use Rattle.job_model.specs.declared.ends.TaskEnd.TheVariants as tasks
 use Rattle.job_model.specs.declared.ends.CommitEnd.TheVariants as commits
 use Rattle.first_form.specs.declared.form.Form.{Form}
-use Rattle.first_form.specs.Scripted.{script_of, the_attempt}
+use Rattle.first_form.specs.Scripted.{form_script, the_attempt}
 use Rattle.straight_facts.specs.Straight.{file_of, the_who, file_key, marker_key, record_key, drawn_of, the_set, record_text, set_text, marker_text, head_request, clear_request, list_request, create_request, part_request, marker_request, record_request, look_request, read_request, set_request, fetch_request, complete_request, success_request}
 use Rattle.straight_facts.proofs.Maps.{text_same}
 use Rattle.straight_facts.proofs.Texts.{longer_other}
@@ -28,7 +28,7 @@ use Rattle.straight_facts.proofs.OnePart.{one_part}
 
 -- the one set that the driver reads, and that no two picks write one path
 abbrev pub setting : Form → Setting
-setting f = record { script = script_of f; minimum = 5242880; sets = λ t. the_set f; shared = None }
+setting f = record { script = form_script f; minimum = 5242880; sets = λ t. the_set f; shared = None }
 
 abbrev pub at : Operation → Known → Running
 at op k = record { operation = op; known = k; spare = 3 }

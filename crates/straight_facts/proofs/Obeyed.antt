@@ -20,7 +20,7 @@ use Rattle.job_model.specs.declared.ends.EventEnd.TheVariants.{Ended, Refused}
 use Rattle.job_model.specs.declared.ends.EventFault.{EventFault}
 use Rattle.job_model.specs.declared.ends.ActorEnd.{ActorEnd}
 use Rattle.first_form.specs.declared.form.Form.{Form}
-use Rattle.first_form.specs.Scripted.{script_of, the_attempt}
+use Rattle.first_form.specs.Scripted.{form_script, the_attempt}
 use Rattle.straight_facts.proofs.Explicit.{setup_said, write_said, publish_said, commit_said}
 use Rattle.straight_facts.proofs.Followed.{setting, setup_follows, setup_ends, write_follows, write_ends, publish_follows, publish_ends, commit_follows, commit_ends, published_from, committed_from, publish_over, commit_over}
 
@@ -103,7 +103,7 @@ module _ (f : Form) (some : 1 ≤ length f.dest.key) (few : length f.bytes ≤ 5
   -- ---- the set-up
 
   abbrev past_setup : Past
-  past_setup = after_event (script_of f) (past (script_of f) []) (Do Driver ops.Setup) set_done
+  past_setup = after_event (form_script f) (past (form_script f) []) (Do Driver ops.Setup) set_done
 
   follow_setup : (a : Actor) (d : Doing) → past_setup.doing a ≡ Some d → OpFollows (setting f) a d (by_actor a (to_setup f))
   follow_setup Driver d e = as_begun (λ x. OpFollows (setting f) Driver x (by_actor Driver (to_setup f))) begun_setup d e (setup_follows f)
@@ -129,7 +129,7 @@ module _ (f : Form) (some : 1 ≤ length f.dest.key) (few : length f.bytes ≤ 5
   -- ---- the attempt's write
 
   abbrev past_write : Past
-  past_write = after_event (script_of f) (past (script_of f) (set_done ∷ [])) (Do the_attempt ops.Write) task_done
+  past_write = after_event (form_script f) (past (form_script f) (set_done ∷ [])) (Do the_attempt ops.Write) task_done
 
   follow_write : (a : Actor) (d : Doing) → past_write.doing a ≡ Some d → OpFollows (setting f) a d (by_actor a (to_write f))
   follow_write Driver d e = as_begun (λ x. OpFollows (setting f) Driver x (by_actor Driver (to_write f))) begun_setup d e (setup_follows f)
@@ -159,7 +159,7 @@ module _ (f : Form) (some : 1 ≤ length f.dest.key) (few : length f.bytes ≤ 5
   -- ---- the attempt's commit
 
   abbrev past_publish : Past
-  past_publish = after_event (script_of f) (past (script_of f) (set_done ∷ task_done ∷ [])) (Do the_attempt ops.Commit) task_done
+  past_publish = after_event (form_script f) (past (form_script f) (set_done ∷ task_done ∷ [])) (Do the_attempt ops.Commit) task_done
 
   follow_publish : (a : Actor) (d : Doing) → past_publish.doing a ≡ Some d → OpFollows (setting f) a d (by_actor a (to_publish f))
   follow_publish Driver d e = as_begun (λ x. OpFollows (setting f) Driver x (by_actor Driver (to_publish f))) begun_setup d e (setup_follows f)
@@ -189,7 +189,7 @@ module _ (f : Form) (some : 1 ≤ length f.dest.key) (few : length f.bytes ≤ 5
   -- ---- the job's commit
 
   abbrev past_commit : Past
-  past_commit = after_event (script_of f) (past (script_of f) (set_done ∷ task_done ∷ task_done ∷ [])) (Do Driver ops.Commit) committed
+  past_commit = after_event (form_script f) (past (form_script f) (set_done ∷ task_done ∷ task_done ∷ [])) (Do Driver ops.Commit) committed
 
   follow_commit : (a : Actor) (d : Doing) → past_commit.doing a ≡ Some d → OpFollows (setting f) a d (by_actor a (to_commit f))
   follow_commit Driver d e = as_begun (λ x. OpFollows (setting f) Driver x (by_actor Driver (to_commit f))) begun_commit d e (committed_from f (commit_said f) (commit_follows f))

@@ -18,14 +18,14 @@ use Rattle.s3_types.specs.Fates.{fate_or}
 use Rattle.std.specs.FinMap.{get-empty}
 use Rattle.std.specs.Ordering.{nat_cmp}
 use Rattle.job_model.specs.Promise.{verdict, picks_below, picked, all_picks, commit_end, is_mark_answered, ArePicked, CommitEnded, Promised, Finished}
-use Rattle.job_model.specs.declared.script.Script.{Script}
+use Rattle.job_model.specs.JobScript.{Script}
 use Rattle.job_model.specs.declared.ends.Pick.{Pick}
 use Rattle.job_model.specs.declared.ends.EventEnd.{EventEnd}
 use Rattle.job_model.specs.declared.ends.CommitEnd.{CommitEnd}
 use Rattle.job_model.specs.declared.ends.CommitEnd.TheVariants as commits
 use Rattle.first_form.specs.declared.form.Form.{Form}
 use Rattle.first_form.specs.Form.{IsForm}
-use Rattle.first_form.specs.Scripted.{script_of}
+use Rattle.first_form.specs.Scripted.{form_script}
 use Rattle.straight_facts.specs.Sendings.{store_after}
 use Rattle.straight_facts.specs.Straight.{opening_of, opening_at, after_commit, write_entries, publish_entries, commit_entries, marker_text, head_request, clear_request, list_request, create_request, part_request, marker_request, record_request, look_request, read_request, set_request, fetch_request, complete_request, success_request}
 use Rattle.straight_facts.specs.Run.{the_ends, the_pick, entries_to, entries_in, Stopped, Whole}
@@ -104,7 +104,7 @@ module _ (f : Form) (h : IsForm f) where
   few = leb-true _ _ (and_parts _ _ (and_parts _ _ (and_parts _ _ h.rest).0).0).0
 
   abbrev w : Script
-  w = script_of f
+  w = form_script f
 
   abbrev c : Content
   c = opening_of f
@@ -283,5 +283,5 @@ module _ (f : Form) (h : IsForm f) where
           at (10 + cut h.sent 3) (set_done ∷ task_done ∷ task_done ∷ []) d refl refl (said ∙ cut3 f h.sent) (subst (Plays w 5242880 (set_done ∷ task_done ∷ task_done ∷ [])) (sym said) (played3 f some few h.sent))
       by (suc (suc (suc (suc k)))) l e d = absurd (omega (arith, l))
 
-pub is_committed : (f : Form) (es : List Entry) (ps : List Pick) (xs : List EventEnd) → Whole f es ps xs → verdict (script_of f) xs ≡ 0
-is_committed f es ps xs h = ap (verdict (script_of f)) h.ends
+pub is_committed : (f : Form) (es : List Entry) (ps : List Pick) (xs : List EventEnd) → Whole f es ps xs → verdict (form_script f) xs ≡ 0
+is_committed f es ps xs h = ap (verdict (form_script f)) h.ends

@@ -18,7 +18,7 @@ use Rattle.job_model.specs.Operations as ops
 use Rattle.job_model.specs.Headline.{mark_text}
 use Rattle.job_model.specs.Outputs.{Picks}
 use Rattle.first_form.specs.declared.form.Form.{Form}
-use Rattle.first_form.specs.Scripted.{script_of, the_attempt}
+use Rattle.first_form.specs.Scripted.{form_script, the_attempt}
 use Rattle.straight_facts.specs.Sendings.{told, left}
 
 -- a new store with the destination's bucket, which is empty
@@ -70,7 +70,7 @@ the_picks t = Some 0
 
 -- the text of the marker of the committed job
 unfoldable pub marker_text : Form → List ℕ
-marker_text f = mark_text (script_of f) the_picks
+marker_text f = mark_text (form_script f) the_picks
 
 -- ---- the requests of each operation: of the driver's set-up, of the attempt's write and commit, and of the job's commit
 

@@ -2,7 +2,7 @@ ghost use Rattle.std.specs.Prelude.{◌≡◌, ◌≤◌, [], length, IfOk, OnOk
 ghost use Rattle.s3_types.specs.Moment.{moment};
 ghost use Rattle.job_model.specs.Promise.{verdict, Promised, Finished};
 ghost use Rattle.first_form.specs.Form.{IsForm};
-ghost use Rattle.first_form.specs.Scripted.{script_of};
+ghost use Rattle.first_form.specs.Scripted.{form_script};
 ghost use Rattle.straight_run.specs.Places.{job_of};
 ghost use Rattle.straight_facts.specs.Straight as straight;
 ghost use Rattle.straight_facts.specs.Run.{Stopped};
@@ -153,10 +153,10 @@ pub fn play(alloc: Global, stage: &mut Stage, job: &Job) -> Result<(), AllocErro
     requires form { IsForm job.now.form }
     requires job { job.now ≡ job_of job.now.form }
     requires stands { Stands job.now.form 0 stage.old }
-    ensures finished { OnOk result (Finished (script_of job.now.form) (straight.opening_of job.now.form) stage.new.journal.entries stage.new.picks stage.new.ends) }
-    ensures committed { OnOk result (verdict (script_of job.now.form) stage.new.ends ≡ 0) }
+    ensures finished { OnOk result (Finished (form_script job.now.form) (straight.opening_of job.now.form) stage.new.journal.entries stage.new.picks stage.new.ends) }
+    ensures committed { OnOk result (verdict (form_script job.now.form) stage.new.ends ≡ 0) }
     ensures left { OnOk result (stage.new.service ≡ (moment (straight.opening_of job.now.form) stage.new.journal.entries (length stage.new.journal.entries)).content) }
-    ensures promised { OnErr result (Promised (script_of job.now.form) (straight.opening_of job.now.form) stage.new.journal.entries stage.new.picks stage.new.ends) }
+    ensures promised { OnErr result (Promised (form_script job.now.form) (straight.opening_of job.now.form) stage.new.journal.entries stage.new.picks stage.new.ends) }
 {
     play_events(alloc, stage, job)
 }

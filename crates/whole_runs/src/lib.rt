@@ -2,6 +2,8 @@
 #![tactic(auto)]
 
 #[cfg(test)]
+mod reports;
+#[cfg(test)]
 mod seen;
 #[cfg(test)]
 mod tests;

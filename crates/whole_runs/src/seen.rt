@@ -61,12 +61,12 @@ fn text_of(alloc: Global, sink: &MemSink) -> Result<String, AllocError> {
 pub fn run_of(
     alloc: Global,
     line: &str,
-    script: &str,
+    script: &[u8],
     held: Option<Bytes>,
     fails: Fails,
 ) -> Result<Seen, AllocError> {
     let words = words(alloc, line)?;
-    let bytes = Bytes::from_slice(alloc, script.as_bytes())?;
+    let bytes = Bytes::from_slice(alloc, script)?;
     let mut source = MemSource::new(bytes, calls(alloc, fails.source)?);
     let mut shelf = MemShelf::new(alloc, held, calls(alloc, fails.shelf)?);
     let mut sink = MemSink::new(alloc, calls(alloc, fails.sink)?);

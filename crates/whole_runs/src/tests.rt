@@ -80,7 +80,7 @@ fn image(alloc: Global) -> Result<String, AllocError> {
 }
 
 fn job(alloc: Global, script: &str, fails: Fails) -> Result<Seen, AllocError> {
-    run_of(alloc, "lake job", script, None, fails)
+    run_of(alloc, "lake job", script.as_bytes(), None, fails)
 }
 
 #[test]
@@ -109,7 +109,7 @@ static NO_COMMANDS: [&str; 5] = ["f frob", "f ls", "f ls -x", "", "f job more"];
 #[test]
 fn other_words_are_answered_by_the_usage(rt: HostRuntime) -> Result<(), Fail> {
     for line in &NO_COMMANDS {
-        let run = run_of(rt.alloc(), line, HELLO, None, NONE)?;
+        let run = run_of(rt.alloc(), line, HELLO.as_bytes(), None, NONE)?;
         assert_eq!(rt; run.status, 2);
         assert_eq!(rt; run.text.as_str(), "usage: s3a FOLDER COMMAND WORDS\n");
         assert_eq!(rt; run.image.as_str(), "");
@@ -156,13 +156,111 @@ fn a_fault_of_the_output_keeps_what_was_saved(rt: HostRuntime) -> Result<(), Fai
     Ok(())
 }
 
+/// `HELLO` with another line of this number, from 1.
+fn with_line(alloc: Global, number: usize, line: &str) -> Result<String, AllocError> {
+    let mut all = String::new(alloc);
+    for (index, kept) in HELLO.lines().enumerate() {
+        let said = if index + 1 == number { line } else { kept };
+        all.push_str(said)?;
+        all.push_str("\n")?;
+    }
+    Ok(all)
+}
+
+/// Lines of `HELLO` in whose place other lines make it no script, and its first fault.
+static FAULTY_LINES: [(usize, &str, &str); 5] = [
+    (6, "file _SUCCESS text x", "script fault 7 at line 6\n"),
+    (4, "tasks 1001", "script fault 11 at line 4\n"),
+    (2, "dest s3a://lake", "script fault 9 at line 0\n"),
+    (6, "file p hex abc", "script fault 2 at line 6\n"),
+    (
+        9,
+        "# no commit\n\ndo 1.0 commit",
+        "script fault 8 at line 11\n",
+    ),
+];
+
 #[test]
-fn other_input_is_not_built(rt: HostRuntime) -> Result<(), Fail> {
-    let run = job(rt.alloc(), "job j1\n", NONE)?;
-    assert_eq!(rt; run.status, 10);
-    assert_eq!(rt; run.text.as_str(), "not built\n");
+fn the_first_fault_of_a_script_is_told(rt: HostRuntime) -> Result<(), Fail> {
+    for (number, line, text) in &FAULTY_LINES {
+        let script = with_line(rt.alloc(), *number, line)?;
+        let run = job(rt.alloc(), script.as_str(), NONE)?;
+        assert_eq!(rt; run.status, 6);
+        assert_eq!(rt; run.sent, 0);
+        assert_eq!(rt; run.text.as_str(), *text);
+        assert_eq!(rt; run.image.as_str(), "");
+    }
+    Ok(())
+}
+
+/// Inputs that are no script as a whole, in hex, and the fault.
+static FAULTY_INPUTS: [(&str, &str); 3] = [
+    ("", "script fault 4 at line 0\n"),
+    ("ff", "script fault 1 at line 0\n"),
+    ("6a6f62206a310a", "script fault 4 at line 0\n"),
+];
+
+#[test]
+fn input_that_is_no_script_is_told(rt: HostRuntime) -> Result<(), Fail> {
+    for (input, text) in &FAULTY_INPUTS {
+        let bytes = hex::decode(rt.alloc(), input)?;
+        let run = run_of(rt.alloc(), "lake job", bytes.as_slice(), None, NONE)?;
+        assert_eq!(rt; run.status, 6);
+        assert_eq!(rt; run.sent, 0);
+        assert_eq!(rt; run.text.as_str(), *text);
+        assert_eq!(rt; run.image.as_str(), "");
+    }
+    Ok(())
+}
+
+/// Lines of `HELLO` in whose place other lines make it a script that is not of the first form.
+static OTHER_LINES: [(usize, &str); 7] = [
+    (4, "tasks 2"),
+    (4, "tasks 1\nretries 2"),
+    (4, "tasks 1\nloss 3 slow"),
+    (3, "committer directory"),
+    (3, "committer directory\nunique yes"),
+    (10, "do driver commit\ndo driver clean"),
+    (6, "file part-00000 text hello\nfile part-00001 text x"),
+];
+
+#[test]
+fn other_scripts_are_not_built(rt: HostRuntime) -> Result<(), Fail> {
+    for (number, line) in &OTHER_LINES {
+        let script = with_line(rt.alloc(), *number, line)?;
+        let run = job(rt.alloc(), script.as_str(), NONE)?;
+        assert_eq!(rt; run.status, 10);
+        assert_eq!(rt; run.sent, 0);
+        assert_eq!(rt; run.text.as_str(), "not built\n");
+        assert_eq!(rt; run.image.as_str(), "");
+    }
+    Ok(())
+}
+
+/// Scripts that say what `HELLO` says.
+static OTHER_SPELLINGS: [&str; 3] = [
+    "# a job\r\njob j1\r\n\r\ndest s3a://lake/out\r\ncommitter magic\r\ntasks 1\r\nattempt 0.0\r\nfile part-00000 text hello\r\ndo driver setup\r\n# the task\r\ndo 0.0 write\r\ndo 0.0 commit\r\ndo driver commit\r\n",
+    "tasks 1\nretries 3\nmode append\nunique no\ncommitter magic\ndest s3a://lake/out/\njob j1\nattempt 0.0\nfile part-00000 text hello\ndo driver setup\ndo 0.0 write\ndo 0.0 commit\ndo driver commit",
+    "job j1\ndest s3a://lake/out\ncommitter magic\ntasks 1\nattempt 0.0\nfile part-00000 hex 68656c6c6f\ndo driver setup\ndo 0.0 write\ndo 0.0 commit\ndo driver commit\n",
+];
+
+#[test]
+fn a_script_is_what_it_says(rt: HostRuntime) -> Result<(), Fail> {
+    let image = image(rt.alloc())?;
+    for script in &OTHER_SPELLINGS {
+        let run = job(rt.alloc(), script, NONE)?;
+        assert_eq!(rt; run.status, 0);
+        assert_eq!(rt; run.sent, 13);
+        assert_eq!(rt; run.text.as_str(), REPORT);
+        assert_eq!(rt; run.image.as_str(), image.as_str());
+    }
+    Ok(())
+}
+
+#[test]
+fn bytes_that_are_no_image_are_told(rt: HostRuntime) -> Result<(), Fail> {
     let held = Bytes::from_slice(rt.alloc(), b"x")?;
-    let run = run_of(rt.alloc(), "lake job", HELLO, Some(held), NONE)?;
+    let run = run_of(rt.alloc(), "lake job", HELLO.as_bytes(), Some(held), NONE)?;
     assert_eq!(rt; run.status, 7);
     assert_eq!(rt; run.text.as_str(), "image fault 2 at 0\n");
     assert_eq!(rt; run.image.as_str(), "78");
@@ -226,7 +324,7 @@ fn stores_and_buckets_are_made_or_refused(rt: HostRuntime) -> Result<(), Fail> {
         } else {
             held(rt.alloc(), before)?
         };
-        let run = run_of(rt.alloc(), words, HELLO, held, NONE)?;
+        let run = run_of(rt.alloc(), words, HELLO.as_bytes(), held, NONE)?;
         assert_eq!(rt; run.status, *status);
         assert_eq!(rt; run.text.as_str(), *text);
         assert_eq!(rt; run.image.as_str(), *after);

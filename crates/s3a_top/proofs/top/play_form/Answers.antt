@@ -1,5 +1,6 @@
-use Rattle.std.proofs.Common.{inr}
-use Rattle.s3a_top.proofs.Owing.{form_broken}
+use Rattle.std.proofs.Common.{◌≡◌, ap, inr}
+use Rattle.straight_run.specs.declared.job.Job.{Job}
+use Rattle.s3a_top.proofs.Owing.{form_broken, whole_at}
 use Rattle.s3a_top.proofs.top.play_form.Goals as goal
 
 pub returns-in_default-clause-form : goal.returns-in_default-clause-form
@@ -7,3 +8,13 @@ returns-in_default-clause-form g c = form_broken _ _ _ c.args.form c.requires.fo
 
 pub returns-in_default-begun-clause-form : goal.returns-in_default-begun-clause-form
 returns-in_default-begun-clause-form g c = form_broken _ _ _ c.args.form c.requires.form c.nothing-in_default-begun.result.due _ _ _ (inr (inr c.nothing-in_default-begun.ensures.due)) c.nothing-in_default-begun.ensures.idle
+
+pub returns-in-Ok-play-clause-form : goal.returns-in-Ok-play-clause-form
+returns-in-Ok-play-clause-form g c =
+    let is : c.in-Ok.job.form ≡ c.args.form = ap (λ (j : Job). j.form) c.in-Ok.ensures in
+    c.saved.ensures.form c.args.form c.requires.script (whole_at c.args.form c.in-Ok.job.form _ _ _ _ is c.in-Ok-play.ensures.finished c.in-Ok-play.ensures.committed c.in-Ok-play.ensures.left)
+
+pub returns-in-Ok-play-clause-wanting : goal.returns-in-Ok-play-clause-wanting
+returns-in-Ok-play-clause-wanting g c =
+    let is : c.in-Ok.job.form ≡ c.args.form = ap (λ (j : Job). j.form) c.in-Ok.ensures in
+    c.saved.ensures.wanting c.args.form (whole_at c.args.form c.in-Ok.job.form _ _ _ _ is c.in-Ok-play.ensures.finished c.in-Ok-play.ensures.committed c.in-Ok-play.ensures.left)
