@@ -1,4 +1,4 @@
--- The script that a text of the first form stands for.
+-- The script that a form stands for.
 use Rattle.std.specs.Prelude.{false, List, [], ◌∷◌, None}
 use Rattle.std.specs.FinMap as fin
 use Rattle.s3_types.specs.declared.request.Actor.{Actor}

@@ -226,9 +226,9 @@ fn form_with(
 }
 
 /// What a script of the first form says, or None where the script is of another: `magic`, one task, three
-/// retries, no block size, no stamp and no `loss`; one attempt 0.0 with one file, both of whose names and
-/// whose bytes keep to `IsForm`; and the four events that set up, write and commit. Only want of memory is
-/// an error.
+/// retries, no block size, no stamp and no `loss`; one attempt 0.0 with one file; a destination's key, a
+/// file's path and bytes as `IsForm` has them; and the four events that set up, write and commit. Only
+/// want of memory is an error.
 pub fn form_of(script: &Script) -> Result<Option<Form>, AllocError>
     ensures found { IfOk result (λ o. IfSome o (λ f. IsForm f × (script.now ≡ form_script f))) }
     ensures only { IfOk result (λ o. (f : Form) → IsForm f → script.now ≡ form_script f → o ≡ Some f) }
