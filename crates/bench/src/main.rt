@@ -9,8 +9,8 @@ mod records;
 
 use anyhow::{Context, Result};
 use records::{commits_read, set_text};
-use s3_service::{Service, is_store_request};
-use s3_types::{Bucket, Bytes, Key, PageLimit, Reply, Request, Text};
+use s3_service::Service;
+use s3_types::{Bucket, Bytes, Key, MOST_MINIMUM, PageLimit, Reply, Request, Text};
 use std::alloc::{AllocError, Global};
 use std::env;
 use std::rt::{Clock, Env};
@@ -66,7 +66,7 @@ fn read_words(rt: &(impl Env + AllocGlobal)) -> Result<Asked> {
 
 /// Sends a request of the store's.
 fn send(service: &mut Service, request: &Request) -> Result<Reply, AllocError> {
-    if !is_store_request(request) || service.next_upload() > 1 << 62 {
+    if request.is_cluster() || service.next_upload() > 1 << 62 {
         return Err(AllocError);
     }
     service.apply(request)
@@ -208,7 +208,7 @@ fn measured<R: Clock + Print>(rt: &R, alloc: Global, asked: Asked) -> Result<()>
     } = asked;
     let name = Text::copied(alloc, "lake")?;
     let bucket = Bucket::read(alloc, name.as_bytes())?;
-    let mut service = Service::new(alloc, 5_242_880);
+    let mut service = Service::new(alloc, MOST_MINIMUM);
     send(&mut service, &Request::make_bucket(&name)?)?;
 
     let requests = puts(alloc, &bucket, asked)?;

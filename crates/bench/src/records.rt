@@ -17,7 +17,7 @@ fn pending(alloc: Global, number: u32) -> Result<PendingUpload> {
     let name = format!(in alloc; "out/part-{number:05}")?;
     let destination = Key::read(alloc, name.as_bytes())?;
     let upload = u64::from(number);
-    Ok(PendingUpload::new(0, 0, bucket, destination, upload, 5, tags))
+    Ok(PendingUpload::new(0, 0, bucket, destination, upload, 5, tags, None))
 }
 
 /// The text of a set.

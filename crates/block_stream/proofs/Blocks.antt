@@ -4,6 +4,7 @@ use Rattle.std.specs.List.{concat}
 use Rattle.std.proofs.lemmas.List.{append-nil, take-append-drop}
 use Rattle.std.proofs.lemmas.List.Folds.{concat-append}
 use Rattle.block_stream.specs.Holds.{AreLong}
+use Rattle.block_stream.specs.KeepingLaws.{long_more}
 
 -- one block more
 pub joined_more : (q : List (List ℕ)) (b rest head tail : List ℕ) → b ≡ rest ++ head → concat (q ++ b ∷ []) ++ tail ≡ concat q ++ (rest ++ (head ++ tail))
@@ -11,10 +12,6 @@ joined_more q b rest head tail e =
     ap (λ x. x ++ tail) (concat-append q (b ∷ []) ∙ ap (λ x. concat q ++ x) (append-nil b ∙ e))
     ∙ append_assoc (concat q) (rest ++ head) tail
     ∙ ap (λ x. concat q ++ x) (append_assoc rest head tail)
-
-pub long_more : (n : ℕ) (q : List (List ℕ)) (b : List ℕ) → AreLong n q → length b ≡ n → AreLong n (q ++ b ∷ [])
-long_more n [] b h e = (e, tt)
-long_more n (x ∷ q) b h e = (h.0, long_more n q b h.1 e)
 
 -- the block that is filled up
 pub filled : (n : ℕ) (b rest head : List ℕ) → b ≡ rest ++ head → length head ≡ n - length rest → length rest < n → length b ≡ n

@@ -6,7 +6,9 @@ use Rattle.std.specs.List.{concat}
 use Rattle.std.specs.Option.{unwrap_or}
 use Rattle.std.proofs.lemmas.List.{append-nil, take_all, take-append-le, drop_all}
 use Rattle.std.proofs.Math.Seq.{drop-append_seam}
+use Rattle.std.proofs.lemmas.Bool.{or_right}
 use Rattle.std.proofs.lemmas.Bool.Decides.{nat_tests}
+use Rattle.proof_base.proofs.Numbers.{at_most_so, above_so}
 use Rattle.s3_types.specs.Tags.{Spelled}
 use Rattle.block_stream.specs.declared.mode.StreamMode.{StreamMode}
 use Rattle.block_stream.specs.declared.mode.StreamMode.TheVariants.{Direct, Delayed}
@@ -17,25 +19,19 @@ use Rattle.block_stream.specs.declared.stage.Stage.TheVariants.{Waiting, Putting
 use Rattle.block_stream.specs.Stream.{Stream, is_direct, has_some, has_part, is_small, begin_or_wait, complete_or_wait, stage_of, asks_with, wanted, is_settled, settled, ended}
 use Rattle.block_stream.specs.Kept.{IsCutUp, seen, first_of, is_whole, is_due, is_short, stage_by, settles}
 
-not_at : (n k : ℕ) → k < n → nat_le n k ≡ false
-not_at n k h = grind (arith, nat_tests)
-
-is_at : (n k : ℕ) → n ≤ k → nat_le n k ≡ true
-is_at n k h = grind (arith, nat_tests)
-
 -- bytes that begin with a whole block
 begins_whole : (n : ℕ) (b bs : List ℕ) → length b ≡ n → nat_le n (length (b ++ bs)) ≡ nat_le n (length b)
 begins_whole n b bs e =
     let k : length (b ++ bs) ≡ length b + length bs = length-append b bs in
     let l : n ≤ length (b ++ bs) = omega (arith, k, e) in
     let m : n ≤ length b = omega (arith, e) in
-    is_at n (length (b ++ bs)) l ∙ sym (is_at n (length b) m)
+    at_most_so n (length (b ++ bs)) l ∙ sym (at_most_so n (length b) m)
 
 -- whether a whole block is pending shows on the first
 pub whole_is : (n : ℕ) (closed : Bool) (q : List (List ℕ)) (r : List ℕ) → 1 ≤ n → IsCutUp n closed q r → is_whole n q ≡ nat_le n (length (concat q ++ r))
-whole_is n false [] r l h = sym (not_at n (length r) h.1)
+whole_is n false [] r l h = sym (above_so n (length r) h.1)
 whole_is n false (b ∷ bs) r l h = sym (ap (λ x. nat_le n (length x)) (append_assoc b (concat bs) r) ∙ begins_whole n b (concat bs ++ r) h.0.0)
-whole_is n true [] r l h = let z : 0 < n = omega arith in sym (ap (λ (x : List ℕ). nat_le n (length x)) h.1 ∙ not_at n 0 z)
+whole_is n true [] r l h = let z : 0 < n = omega arith in sym (ap (λ (x : List ℕ). nat_le n (length x)) h.1 ∙ above_so n 0 z)
 whole_is n true (b ∷ []) r l h = sym (ap (λ x. nat_le n (length x)) (append_assoc b [] r ∙ ap (λ x. b ++ x) h.1 ∙ append-nil b))
 whole_is n true (b ∷ c ∷ bs) r l h = sym (ap (λ x. nat_le n (length x)) (append_assoc b (concat (c ∷ bs)) r) ∙ begins_whole n b (concat (c ∷ bs) ++ r) h.0.0)
 
@@ -65,22 +61,19 @@ first_is n true [] r h w = sym (ap (take n) h.1 ∙ none n)
 first_is n true (b ∷ []) r h w = sym (ap (take n) (append_assoc b [] r ∙ ap (λ x. b ++ x) h.1 ∙ append-nil b) ∙ take_all n b h.0.1)
 first_is n true (b ∷ c ∷ bs) r h w = take_front n b (concat (c ∷ bs) ++ r) h.0.0 ∙ ap (take n) (sym (append_assoc b (concat (c ∷ bs)) r))
 
+drop_front : (n : ℕ) (b bs : List ℕ) → length b ≡ n → drop n (b ++ bs) ≡ bs
+drop_front n b bs e = ap (λ k. drop k (b ++ bs)) (sym e) ∙ drop-append_seam b bs
+
 -- what is pending without the next part
 pub drop_is : (n : ℕ) (closed : Bool) (q : List (List ℕ)) (r : List ℕ) → IsCutUp n closed q r → (closed ≡ false → is_whole n q ≡ true) → drop n (concat q ++ r) ≡ concat (drop 1 q) ++ r
 drop_is n false [] r h w = let e : false ≡ true = w refl in absurd (cc)
 drop_is n false (b ∷ bs) r h w = ap (drop n) (append_assoc b (concat bs) r) ∙ drop_front n b (concat bs ++ r) h.0.0
-  where
-    drop_front : (n : ℕ) (b bs : List ℕ) → length b ≡ n → drop n (b ++ bs) ≡ bs
-    drop_front n b bs e = ap (λ k. drop k (b ++ bs)) (sym e) ∙ drop-append_seam b bs
 drop_is n true [] r h w = ap (drop n) h.1 ∙ none n ∙ sym h.1
   where
     none : (n : ℕ) → drop {A = ℕ} n [] ≡ []
     none n = let l : length {A = ℕ} [] ≤ n = omega arith in drop_all n [] l
 drop_is n true (b ∷ []) r h w = ap (drop n) (append_assoc b [] r ∙ ap (λ x. b ++ x) h.1 ∙ append-nil b) ∙ drop_all n b h.0.1 ∙ sym h.1
 drop_is n true (b ∷ c ∷ bs) r h w = ap (drop n) (append_assoc b (concat (c ∷ bs)) r) ∙ drop_front n b (concat (c ∷ bs) ++ r) h.0.0
-  where
-    drop_front : (n : ℕ) (b bs : List ℕ) → length b ≡ n → drop n (b ++ bs) ≡ bs
-    drop_front n b bs e = ap (λ k. drop k (b ++ bs)) (sym e) ∙ drop-append_seam b bs
 
 -- the blocks without the first are cut up alike
 pub cut_rest : (n : ℕ) (closed : Bool) (q : List (List ℕ)) (r : List ℕ) → IsCutUp n closed q r → IsCutUp n closed (drop 1 q) r
@@ -151,15 +144,11 @@ both true false true h = absurd (cc)
 both true false false h = (refl, refl, refl)
 both false b c h = absurd (cc)
 
+-- with no part answered a part is due at the close
 pub first_part : (m : Stream) → m.closed ≡ true → m.tags ≡ [] → has_part m ≡ true
 first_part m c t = ap (λ b. nat_le m.block (length m.pending) || (b && (has_some m.pending || not (has_some m.tags)))) c
     ∙ ap (λ (ts : List Spelled). nat_le m.block (length m.pending) || (has_some m.pending || not (has_some ts))) t
-    ∙ or_true (nat_le m.block (length m.pending)) (has_some m.pending)
-  where
-    or_true : (a b : Bool) → (a || (b || true)) ≡ true
-    or_true true b = refl
-    or_true false true = refl
-    or_true false false = refl
+    ∙ or_right (nat_le m.block (length m.pending)) (has_some m.pending || true) (or_right (has_some m.pending) true refl)
 
 -- the stage of a closed stream that has an upload and no part to send
 completing : (v : Option ℕ) (m : Stream) → m.closed ≡ true → has_part m ≡ false → (v ≡ None → m.tags ≡ []) → stage_of None v m ≡ Completing

@@ -23,8 +23,17 @@ use Rattle.block_stream.specs.declared.stage.Stage.TheVariants.{Putting, Beginni
 use Rattle.block_stream.specs.Stream.{Stream, stage, wanted, moved, told, refused, ended, settled, is_settled, parted, standing}
 use Rattle.block_stream.specs.Holds.{Holds, IsReady}
 use Rattle.block_stream.specs.Stored.{IsStored, IsSameOutput}
-use Rattle.block_stream.specs.Keeping.{stored}
-use Rattle.block_stream.specs.StreamLaws.{holds_kept}
+use Rattle.block_stream.specs.KeepingLaws.{hidden, took, lost, gave_up}
+use Rattle.block_stream.proofs.Ended.{stored}
+
+-- each sending keeps what a stream holds
+holds_kept : (bytes : List ℕ) → Keeps wanted moved (λ m s repeated. Holds m s repeated bytes)
+holds_kept bytes = record {
+  lost = λ m s b h. lost m s b bytes h;
+  hidden = λ m s r b w h. hidden m s b bytes h r w;
+  took = λ m s r b w h. took m s b bytes h r w;
+  gave_up = λ m s r b w h. gave_up m s b bytes h;
+}
 
 the_same : (m : Stream) → IsSameOutput m m
 the_same m = record { mode = refl; bucket = refl; key = refl; block = refl; count = refl; closed = refl }

@@ -1,8 +1,7 @@
 -- Each change keeps what the fields of a stream keep.
-use Rattle.std.specs.Prelude.{◌≡◌, ℕ, ◌+◌, ◌-◌, ◌*◌, ◌<◌, ◌≤◌, ◌&&◌, ◌||◌, Bool, true, false, not, nat_le, cond, List, [], ◌∷◌, ◌++◌, length, drop, Option, Some, None, is_some}
+use Rattle.std.specs.Prelude.{◌≡◌, ℕ, ◌+◌, ◌-◌, ◌*◌, ◌<◌, ◌≤◌, ◌&&◌, ◌||◌, Bool, true, false, not, nat_le, cond, List, [], ◌∷◌, ◌++◌, length, drop, Option, Some, None}
 use Rattle.std.proofs.Common.{refl, sym, ap, subst, ◌∙◌, arith, append_assoc, length-append}
 use Rattle.std.specs.List.{concat}
-use Rattle.std.specs.Option.{unwrap_or}
 use Rattle.std.proofs.lemmas.List.{append-nil}
 use Rattle.std.proofs.lemmas.List.Folds.{concat-append}
 use Rattle.s3_types.specs.Tags.{Spelled}
@@ -10,13 +9,14 @@ use Rattle.s3_types.specs.declared.request.Request.{Request}
 use Rattle.block_stream.specs.declared.mode.StreamMode.{StreamMode}
 use Rattle.block_stream.specs.declared.mode.StreamEnd.{StreamEnd}
 use Rattle.block_stream.specs.declared.mode.StreamEnd.TheVariants.{Done}
-use Rattle.block_stream.specs.declared.stage.Stage.{Stage}
 use Rattle.block_stream.specs.declared.stage.Stage.TheVariants.{Beginning, Sending}
 use Rattle.block_stream.specs.Stream.{Stream, has_some, has_part, stage, stage_of, complete_or_wait, asks, asks_with, wanted, ended, parted, settled, is_settled, added, wrote, shut, closed_by, close}
 use Rattle.block_stream.specs.Holds.{AreLong, HasRoom}
-use Rattle.block_stream.specs.Kept.{AreCut, IsCutUp, CutUp, seen, IsKept, first_of, front_of, last_of, is_whole, stage_by, settles, next_at, next_by}
-use Rattle.block_stream.specs.Filling.{AtStage, at_stage, due, room_after, room_ended, room_begun, none_some}
-use Rattle.block_stream.specs.Keeping.{room_wrote, room_shut, unsettled}
+use Rattle.block_stream.specs.Kept.{AreCut, IsCutUp, CutUp, seen, IsKept, first_of, front_of, last_of, is_whole, next_by}
+use Rattle.block_stream.specs.FillingLaws.{AtStage, at_stage, due, room_after, room_ended, room_begun}
+use Rattle.std.proofs.lemmas.Option.{none-some}
+use Rattle.block_stream.specs.KeepingLaws.{unsettled}
+use Rattle.block_stream.proofs.Grown.{room_wrote, room_shut}
 use Rattle.block_stream.proofs.Cuts.{whole_is, first_is, drop_is, cut_rest, asks_is, next_is, first_part}
 
 -- the fields of a stream that has not ended are cut up
@@ -31,22 +31,12 @@ room_settled m r =
       | false ↦ r
     ]
 
-pub none_of : {X : Type 0} (o : Option X) → is_some o ≡ false → o ≡ None
-none_of None h = refl
-none_of (Some x) h = absurd (cc)
-
 -- ---- blocks in front
 
 front_next : (mode : StreamMode) (bucket key : List ℕ) (n : ℕ) (q l : List (List ℕ)) (closed : Bool) (tags : List Spelled) (u : Option ℕ) → next_by mode bucket key n (front_of q l) closed tags u ≡ next_by mode bucket key n (q ++ l) closed tags u
 front_next mode bucket key n [] l closed tags u = refl
 front_next mode bucket key n (b ∷ q) l closed tags None = refl
 front_next mode bucket key n (b ∷ q) l closed tags (Some id) = refl
-
-front_asks : (mode : StreamMode) (bucket key : List ℕ) (n : ℕ) (q l : List (List ℕ)) (closed : Bool) (tags : List Spelled) (u : Option ℕ)
-    → asks_with (stage_by mode n (front_of q l) closed tags u) bucket key (unwrap_or u 0) tags (first_of (front_of q l)) ≡ asks_with (stage_by mode n (q ++ l) closed tags u) bucket key (unwrap_or u 0) tags (first_of (q ++ l))
-front_asks mode bucket key n [] l closed tags u = refl
-front_asks mode bucket key n (b ∷ q) l closed tags None = refl
-front_asks mode bucket key n (b ∷ q) l closed tags (Some id) = refl
 
 long_both : (n : ℕ) (q l : List (List ℕ)) → AreLong n q → AreLong n l → AreLong n (q ++ l)
 long_both n [] l h k = k
@@ -100,8 +90,8 @@ module _ (mode : StreamMode) (bucket key : List ℕ) (n : ℕ) (q : List (List �
             ∙ sym (ap (λ v. asks (stage_of v (Some id) (seen mode bucket key n q r (Some id) tags count closed e)) (seen mode bucket key n q r (Some id) tags count closed e)) x.0
             ∙ ap (λ v. asks (cond v Sending (complete_or_wait closed)) (seen mode bucket key n q r (Some id) tags count closed e)) x.2);
         room = room_begun (at closed e) id k.room;
-        parts = λ z. absurd (none_some id z);
-        done = λ z w. absurd (none_some id w);
+        parts = λ z. absurd (none-some id (sym z));
+        done = λ z w. absurd (none-some id (sym w));
         cut = k.cut;
       }
 
@@ -117,7 +107,7 @@ module _ (mode : StreamMode) (bucket key : List ℕ) (n : ℕ) (q : List (List �
       let is : parted (at closed e) t ≡ new =
       ap (λ p. record { mode = mode; bucket = bucket; key = key; block = n; pending = p; upload = u; tags = tags ++ t ∷ []; count = count; closed = closed; end = e }) (drop_is n closed q r c d)
       ∙ ap (λ v. seen mode bucket key n (drop 1 q) r u (tags ++ t ∷ []) count closed v) y.0 in
-      let no : u ≡ None → tags ++ t ∷ [] ≡ [] = λ z. absurd (none_some y.1.0 (sym y.1.1 ∙ z)) in
+      let no : u ≡ None → tags ++ t ∷ [] ≡ [] = λ z. absurd (none-some y.1.0 (sym z ∙ y.1.1)) in
       let w = next_is mode bucket key n (drop 1 q) r u (tags ++ t ∷ []) count closed k.room.some (cut_rest n closed q r c) no in
       let seen_is : seen mode bucket key n (drop 1 q) r u (tags ++ t ∷ []) count closed x.1 ≡ settled new = ap (λ (v : Option Request × Option StreamEnd). seen mode bucket key n (drop 1 q) r u (tags ++ t ∷ []) count closed v.1) h ∙ w.0 in
       let all = seen_is ∙ ap settled (sym is) in (
@@ -125,8 +115,8 @@ module _ (mode : StreamMode) (bucket key : List ℕ) (n : ℕ) (q : List (List �
         record {
           asks = ap (λ (v : Option Request × Option StreamEnd). v.0) h ∙ w.1 ∙ ap wanted (sym seen_is);
           room = subst HasRoom (sym all) (room_settled (parted (at closed e) t) (room_after (at closed e) t k.room (due (at closed e) y.2)));
-          parts = λ z. absurd (none_some y.1.0 (sym y.1.1 ∙ z));
-          done = λ z w. absurd (none_some y.1.0 (sym y.1.1 ∙ w));
+          parts = λ z. absurd (none-some y.1.0 (sym z ∙ y.1.1));
+          done = λ z w. absurd (none-some y.1.0 (sym w ∙ y.1.1));
           cut = cut_of x.1 n closed (drop 1 q) r (cut_rest n closed q r c);
         },
       )
@@ -151,17 +141,17 @@ module _ (mode : StreamMode) (bucket key : List ℕ) (n : ℕ) (q : List (List �
               ∙ asks_is mode bucket key n q (r ++ piece) u tags (count + length piece) false k.room.some c' ∙ sym new;
           room = subst HasRoom (sym is) (room_wrote (at closed e) piece o few k.room);
           parts = k.parts;
-          done = λ z w. absurd (none_some Done (sym z ∙ p));
+          done = λ z w. absurd (none-some Done (sym p ∙ z));
           cut = cut_of e n closed q (r ++ piece) (subst (λ v. IsCutUp n v q (r ++ piece)) (sym o) c');
         },
       )
 
   -- the fields after a piece that fills blocks
-  pub long_kept : (e : Option StreamEnd) (a b : Option Request) (piece : List ℕ) (closed : Bool) (bs : List (List ℕ)) (rest : List ℕ) → closed ≡ false → e ≡ None → count + length piece ≤ n * 10000 → IsKept (at closed e) q r a
+  pub long_kept : (e : Option StreamEnd) (a : Option Request) (piece : List ℕ) (closed : Bool) (bs : List (List ℕ)) (rest : List ℕ) (x : Option Request × Option StreamEnd) → closed ≡ false → e ≡ None → count + length piece ≤ n * 10000 → IsKept (at closed e) q r a
       → concat bs ++ rest ≡ r ++ piece → AreLong n bs → length rest < n
-      → b ≡ asks_with (stage_by mode n (front_of q bs) false tags u) bucket key (unwrap_or u 0) tags (first_of (front_of q bs))
-      → (seen mode bucket key n (q ++ bs) rest u tags (count + length piece) closed e ≡ wrote (at closed e) piece) × IsKept (seen mode bucket key n (q ++ bs) rest u tags (count + length piece) closed e) (q ++ bs) rest b
-  long_kept e a b piece closed bs rest o p few k joined long short h =
+      → x ≡ next_by mode bucket key n (front_of q bs) false tags u
+      → (seen mode bucket key n (q ++ bs) rest u tags (count + length piece) closed e ≡ wrote (at closed e) piece) × IsKept (seen mode bucket key n (q ++ bs) rest u tags (count + length piece) closed e) (q ++ bs) rest x.0
+  long_kept e a piece closed bs rest x o p few k joined long short h =
       let c : IsCutUp n false q r = subst (λ v. IsCutUp n v q r) o (cut_in closed e p k.cut) in
       let c' : IsCutUp n false (q ++ bs) rest = (long_both n q bs c.0 long, short) in
       let bytes : concat (q ++ bs) ++ rest ≡ (concat q ++ r) ++ piece =
@@ -173,10 +163,10 @@ module _ (mode : StreamMode) (bucket key : List ℕ) (n : ℕ) (q : List (List �
       ap (λ v. wanted (seen mode bucket key n (q ++ bs) rest u tags (count + length piece) v e)) o ∙ ap (λ v. wanted (seen mode bucket key n (q ++ bs) rest u tags (count + length piece) false v)) p in (
         is,
         record {
-          asks = h ∙ front_asks mode bucket key n q bs false tags u ∙ asks_is mode bucket key n (q ++ bs) rest u tags (count + length piece) false k.room.some c' ∙ sym new;
+          asks = ap (λ (v : Option Request × Option StreamEnd). v.0) (h ∙ front_next mode bucket key n q bs false tags u) ∙ (next_is mode bucket key n (q ++ bs) rest u tags (count + length piece) false k.room.some c' k.parts).1 ∙ sym new;
           room = subst HasRoom (sym is) (room_wrote (at closed e) piece o few k.room);
           parts = k.parts;
-          done = λ z w. absurd (none_some Done (sym z ∙ p));
+          done = λ z w. absurd (none-some Done (sym p ∙ z));
           cut = cut_of e n closed (q ++ bs) rest (subst (λ v. IsCutUp n v (q ++ bs) rest) (sym o) c');
         },
       )
@@ -202,7 +192,7 @@ module _ (mode : StreamMode) (bucket key : List ℕ) (n : ℕ) (q : List (List �
           asks = ap (λ (v : Option Request × Option StreamEnd). v.0) (h ∙ front_next mode bucket key n q (last_of r) true tags u) ∙ w.1 ∙ ap wanted (sym seen_is);
           room = subst HasRoom (sym (seen_is ∙ ap settled is)) (room_settled (shut (at closed e)) (room_shut (at closed e) k.room));
           parts = k.parts;
-          done = λ z w. absurd (none_some Done (sym z ∙ ap (λ (m : Stream). m.end) (seen_is ∙ ap (λ b. cond b (ended new Done) new) (unsettled new (first_part new refl (k.parts w))))));
+          done = λ z w. absurd (none-some Done (sym (sym z ∙ ap (λ (m : Stream). m.end) (seen_is ∙ ap (λ b. cond b (ended new Done) new) (unsettled new (first_part new refl (k.parts w)))))));
           cut = cut_of x.1 n true (q ++ last_of r) [] c';
         },
       )
@@ -228,25 +218,22 @@ module _ (mode : StreamMode) (bucket key : List ℕ) (n : ℕ) (q : List (List �
       subst (λ z. IsWroteAs closed e piece q z count' a) (sym hr)
       (subst (λ z. IsWroteAs closed e piece q (r ++ piece) z a) (sym hc) (short_kept e a piece closed o p short few k))
 
-  pub long_in : (closed : Bool) (e : Option StreamEnd) (a b : Option Request) (piece rest : List ℕ) (bs q' f : List (List ℕ)) (count' : ℕ) (g : Stage) → closed ≡ false → e ≡ None → count + length piece ≤ n * 10000 → IsKept (at closed e) q r a
+  pub long_in : (closed : Bool) (e : Option StreamEnd) (a b : Option Request) (piece rest : List ℕ) (bs q' f : List (List ℕ)) (count' : ℕ) (x : Option Request × Option StreamEnd) → closed ≡ false → e ≡ None → count + length piece ≤ n * 10000 → IsKept (at closed e) q r a
       → concat bs ++ rest ≡ r ++ piece → AreLong n bs → length rest < n → count' ≡ count + length piece
-      → f ≡ front_of q bs → g ≡ stage_by mode n f false tags u → b ≡ asks_with g bucket key (unwrap_or u 0) tags (first_of f) → q' ≡ q ++ bs → IsWroteAs closed e piece q' rest count' b
-  long_in closed e a b piece rest bs q' f count' g o p few k joined long short hc hf hg hb hq =
+      → f ≡ front_of q bs → b ≡ x.0 → x ≡ next_by mode bucket key n f false tags u → q' ≡ q ++ bs → IsWroteAs closed e piece q' rest count' b
+  long_in closed e a b piece rest bs q' f count' x o p few k joined long short hc hf hb hx hq =
       subst (λ z. IsWroteAs closed e piece z rest count' b) (sym hq)
       (subst (λ z. IsWroteAs closed e piece (q ++ bs) rest z b) (sym hc)
-      (long_kept e a b piece closed bs rest o p few k joined long short
-      (hb ∙ ap (λ z. asks_with z bucket key (unwrap_or u 0) tags (first_of f)) hg ∙ ap (λ z. asks_with (stage_by mode n z false tags u) bucket key (unwrap_or u 0) tags (first_of z)) hf)))
+      (subst (λ z. IsWroteAs closed e piece (q ++ bs) rest (count + length piece) z) (sym hb)
+      (long_kept e a piece closed bs rest x o p few k joined long short (hx ∙ ap (λ z. next_by mode bucket key n z false tags u) hf))))
 
   abbrev pub IsClosedAs : Bool → Option StreamEnd → List (List ℕ) → List ℕ → Option Request → Option StreamEnd → Type 0
   IsClosedAs closed e q' r' b e' = (seen mode bucket key n q' r' u tags count true e' ≡ close (at closed e)) × IsKept (seen mode bucket key n q' r' u tags count true e') q' r' b
 
-  pub close_in : (closed : Bool) (e : Option StreamEnd) (a b : Option Request) (r' : List ℕ) (l q' f : List (List ℕ)) (g : Stage) (y : Stage × Option StreamEnd) → closed ≡ false → e ≡ None → IsKept (at closed e) q r a
-      → l ≡ last_of r → f ≡ front_of q l → g ≡ stage_by mode n f true tags u → y ≡ settles mode g → b ≡ asks_with y.0 bucket key (unwrap_or u 0) tags (first_of f) → q' ≡ q ++ l → r' ≡ [] → IsClosedAs closed e q' r' b y.1
-  close_in closed e a b r' l q' f g y o p k hl hf hg hy hb hq hr =
-      let x : Option Request × Option StreamEnd = (asks_with y.0 bucket key (unwrap_or u 0) tags (first_of f), y.1) in
-      let is : x ≡ next_by mode bucket key n (front_of q (last_of r)) true tags u =
-      ap (λ z. next_at z bucket key f tags u) (hy ∙ ap (settles mode) hg)
-      ∙ ap (λ z. next_by mode bucket key n z true tags u) (hf ∙ ap (front_of q) hl) in
-      subst (λ z. IsClosedAs closed e z r' b y.1) (sym (hq ∙ ap (λ z. q ++ z) hl))
-      (subst (λ z. IsClosedAs closed e (q ++ last_of r) z b y.1) (sym hr)
-      (subst (λ z. IsClosedAs closed e (q ++ last_of r) [] z y.1) (sym hb) (close_kept e a closed x o p k is)))
+  pub close_in : (closed : Bool) (e : Option StreamEnd) (a b : Option Request) (r' : List ℕ) (l q' f : List (List ℕ)) (x : Option Request × Option StreamEnd) → closed ≡ false → e ≡ None → IsKept (at closed e) q r a
+      → l ≡ last_of r → f ≡ front_of q l → b ≡ x.0 → x ≡ next_by mode bucket key n f true tags u → q' ≡ q ++ l → r' ≡ [] → IsClosedAs closed e q' r' b x.1
+  close_in closed e a b r' l q' f x o p k hl hf hb hx hq hr =
+      subst (λ z. IsClosedAs closed e z r' b x.1) (sym (hq ∙ ap (λ z. q ++ z) hl))
+      (subst (λ z. IsClosedAs closed e (q ++ last_of r) z b x.1) (sym hr)
+      (subst (λ z. IsClosedAs closed e (q ++ last_of r) [] z x.1) (sym hb)
+      (close_kept e a closed x o p k (hx ∙ ap (λ z. next_by mode bucket key n z true tags u) (hf ∙ ap (front_of q) hl)))))

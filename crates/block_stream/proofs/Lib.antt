@@ -1,5 +1,7 @@
 pub mod Blocks
 pub mod Cuts
 pub mod Driven
+pub mod Ended
+pub mod Grown
 pub mod Invariant
 pub mod Written

@@ -1,20 +1,24 @@
 -- What a write and the close keep.
-use Rattle.std.specs.Prelude.{◌≡◌, ◌+◌, ◌*◌, ◌≤◌, ◌&&◌, ℕ, Bool, true, false, nat_lt, cond, List, [], ◌++◌, length, take, Option, Some, None, Result, Ok, Err, OnOk, IsSome}
-use Rattle.std.proofs.Common.{refl, sym, ap, subst, ◌∙◌, arith}
+use Rattle.std.specs.Prelude.{◌≡◌, ◌+◌, ◌*◌, ◌≤◌, ◌&&◌, ℕ, Bool, true, false, nat_lt, cond, List, [], ◌++◌, length, take, Option, Some, None, Result, Ok, Err, OnOk, IsSome, is_some}
+use Rattle.std.proofs.Common.{refl, sym, ap, subst, ◌∙◌, arith, true≢false}
+use Rattle.std.proofs.lemmas.Bool.{and_right}
 use Rattle.std.proofs.lemmas.List.{take-append-le}
-use Rattle.std.proofs.Common.{arith}
 use Rattle.std.proofs.lemmas.Bool.Decides.{nat_tests}
 use Rattle.std.specs.FinMap as fin
 use Rattle.s3_types.specs.Store.{Scene, BucketContent}
+use Rattle.s3_types.specs.Tags.{Spelled}
 use Rattle.block_stream.specs.declared.mode.StreamMode.{StreamMode}
 use Rattle.s3_types.specs.declared.request.Request.{Request}
+use Rattle.block_stream.specs.declared.mode.StreamEnd.{StreamEnd}
 use Rattle.block_stream.specs.declared.mode.StreamEnd.TheVariants.{Done}
 use Rattle.block_stream.specs.declared.stage.Stage.{Stage}
 use Rattle.block_stream.specs.declared.stage.Stage.TheVariants.{Waiting, Putting, Beginning, Sending, Completing, Over}
 use Rattle.block_stream.specs.Stream.{Stream, fresh, is_direct, has_part, is_small, ended, begin_or_wait, complete_or_wait, stage_of, stage, asks_with, id_of, asks, wanted, added, wrote, shut, closed_by, close}
 use Rattle.block_stream.specs.Holds.{Holds}
-use Rattle.block_stream.specs.Filling.{AtStage, at_stage, both_l, both_r, true_false}
-use Rattle.block_stream.specs.Keeping.{asks_alive, open_due, is_due, longer, holds_wrote, holds_close, unsettled}
+use Rattle.block_stream.specs.Kept.{seen}
+use Rattle.block_stream.specs.FillingLaws.{AtStage, at_stage, small_parts}
+use Rattle.block_stream.specs.KeepingLaws.{asks_alive, unsettled}
+use Rattle.block_stream.proofs.Grown.{open_due, is_due, longer, holds_wrote, holds_close}
 
 -- ---- what is held
 
@@ -22,7 +26,7 @@ no_parts : (n : ℕ) → n * 0 + 0 ≡ 0
 no_parts n = grind arith
 
 -- of a stream that was just made nothing was written
-pub fresh_holds : (mode : StreamMode) (bucket key : List ℕ) (n : ℕ) (s : Scene) (c : BucketContent) → 1 ≤ n → fin.get s.content.buckets bucket ≡ Some c → s.content.minimum ≤ n → Holds (fresh mode bucket key n) s false []
+fresh_holds : (mode : StreamMode) (bucket key : List ℕ) (n : ℕ) (s : Scene) (c : BucketContent) → 1 ≤ n → fin.get s.content.buckets bucket ≡ Some c → s.content.minimum ≤ n → Holds (fresh mode bucket key n) s false []
 fresh_holds mode bucket key n s c some there least =
     let few : n * 0 + 0 ≤ n * 10000 = omega (arith, no_parts n) in
     record {
@@ -32,6 +36,13 @@ fresh_holds mode bucket key n s c some there least =
       room = record { some = some; few = few; counted = λ o e. sym (no_parts n) };
       held = (refl, refl);
     }
+
+pub start_holds : (mode : StreamMode) (bucket key : List ℕ) (n : ℕ) (q : List (List ℕ)) (r : List ℕ) (tags : List Spelled) → q ≡ [] → r ≡ [] → tags ≡ [] → (s : Scene) (c : BucketContent) → 1 ≤ n → fin.get s.content.buckets bucket ≡ Some c → s.content.minimum ≤ n
+    → Holds (seen mode bucket key n q r None tags 0 false None) s false []
+start_holds mode bucket key n q r tags hq hr ht s c some there least =
+    subst (λ z. Holds (seen mode bucket key n z r None tags 0 false None) s false []) (sym hq)
+    (subst (λ z. Holds (seen mode bucket key n [] z None tags 0 false None) s false []) (sym hr)
+    (subst (λ z. Holds (seen mode bucket key n [] [] None z 0 false None) s false []) (sym ht) (fresh_holds mode bucket key n s c some there least)))
 
 pub holds_written : {E : Type 0} (r : Result (Unit {0}) E) (m m' : Stream) (piece : List ℕ) → m.closed ≡ false → OnOk r (m' ≡ wrote m piece) → OnOk r (m.count + length piece ≤ m.block * 10000)
     → OnOk r ((s : Scene) (repeated : Bool) (bytes : List ℕ) → Holds m s repeated bytes → Holds m' s repeated (bytes ++ piece))
@@ -53,10 +64,18 @@ part_due m o r w = by (stage m) refl w
     by Over e h = absurd (cc)
     by Putting e h =
         let k : AtStage Putting m = subst (λ g. AtStage g m) e (at_stage m) in
-        absurd (true_false (sym (both_l m.closed (nat_lt (length m.pending) m.block) (both_r (is_direct m.mode) (m.closed && nat_lt (length m.pending) m.block) k.2)) ∙ o))
+        absurd (true≢false (sym (small_parts m k.2).1 ∙ o))
     by Beginning e h = let k : AtStage Beginning m = subst (λ g. AtStage g m) e (at_stage m) in k.2
     by Sending e h = let k : AtStage Sending m = subst (λ g. AtStage g m) e (at_stage m) in k.2
-    by Completing e h = let k : AtStage Completing m = subst (λ g. AtStage g m) e (at_stage m) in absurd (true_false (sym k.3 ∙ o))
+    by Completing e h = let k : AtStage Completing m = subst (λ g. AtStage g m) e (at_stage m) in absurd (true≢false (sym k.3 ∙ o))
+
+-- after a fault the close changes nothing else
+pub shut_ended : (m : Stream) → is_some m.end ≡ true → shut m ≡ close m
+shut_ended m h = by m.end h
+  where
+    by : (e : Option StreamEnd) → is_some e ≡ true → shut m ≡ closed_by e m
+    by (Some e) h = refl
+    by None h = absurd (cc)
 
 -- the stage of a stream with a part to send
 abbrev sends : Option ℕ → Stage
@@ -71,22 +90,13 @@ due_wanted : (m : Stream) → m.end ≡ None → is_small m ≡ false → has_pa
 due_wanted m e s p = ap (λ v. asks (stage_of v m.upload m) m) e ∙ ap (λ g. asks g m) (due_stage m.upload m s p)
 
 open_not_small : (m : Stream) → m.closed ≡ false → is_small m ≡ false
-open_not_small m o = ap (λ b. is_direct m.mode && (b && nat_lt (length m.pending) m.block)) o ∙ and_false (is_direct m.mode)
-  where
-    and_false : (b : Bool) → (b && false) ≡ false
-    and_false true = refl
-    and_false false = refl
+open_not_small m o = ap (λ b. is_direct m.mode && (b && nat_lt (length m.pending) m.block)) o ∙ and_right (is_direct m.mode) false refl
 
 large_not_small : (m : Stream) → m.block ≤ length m.pending → is_small m ≡ false
-large_not_small m l = ap (λ b. is_direct m.mode && (m.closed && b)) (not_less m.block (length m.pending) l) ∙ none (is_direct m.mode) m.closed
+large_not_small m l = and_right (is_direct m.mode) (m.closed && nat_lt (length m.pending) m.block) (and_right m.closed (nat_lt (length m.pending) m.block) (not_less m.block (length m.pending) l))
   where
     not_less : (a b : ℕ) → a ≤ b → nat_lt b a ≡ false
     not_less a b h = grind (arith, nat_tests)
-
-    none : (a b : Bool) → (a && (b && false)) ≡ false
-    none true true = refl
-    none true false = refl
-    none false b = refl
 
 -- with more pending, or closed, the same is asked
 same_asked : (m m' : Stream) (u : Option ℕ) → asks (sends u) m ≡ asks (sends u) m' → wanted m ≡ asks (sends u) m → wanted m' ≡ asks (sends u) m' → wanted m' ≡ wanted m

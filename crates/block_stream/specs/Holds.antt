@@ -5,6 +5,7 @@ use Rattle.std.specs.FinMap as fin
 use Rattle.s3_types.specs.Store.{Scene, BucketContent, Upload, Parts}
 use Rattle.s3_types.specs.Multipart.{live}
 use Rattle.s3_types.specs.Tags.{plain_tag}
+use Rattle.s3_types.specs.declared.limits.TheConstants.{MOST_PARTS}
 use Rattle.block_stream.specs.declared.mode.StreamMode.{StreamMode}
 use Rattle.block_stream.specs.declared.mode.StreamMode.TheVariants.{Direct, Delayed}
 use Rattle.block_stream.specs.declared.mode.StreamEnd.{StreamEnd}
@@ -90,7 +91,7 @@ HoldsIn (Some NoMemory) u m c repeated bytes = Unit {0}
 -- what was written is at most 10,000 blocks, and until the close or a fault it is the parts and what is pending
 pub record HasRoom (m : Stream) : Type 0 where
   pub some : 1 ≤ m.block
-  pub few : m.block * length m.tags + length m.pending ≤ m.block * 10000
+  pub few : m.block * length m.tags + length m.pending ≤ m.block * MOST_PARTS
   pub counted : m.closed ≡ false → m.end ≡ None → m.count ≡ m.block * length m.tags + length m.pending
 
 -- these bytes were written: in a scene with its bucket, and with blocks that are no shorter than the least part, they are stored or pending

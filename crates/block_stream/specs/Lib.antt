@@ -1,8 +1,9 @@
 pub mod Stream
 pub mod Holds
-pub mod Parts
-pub mod Filling
-pub mod Keeping
-pub mod StreamLaws
-pub mod Kept
 pub mod Stored
+pub mod Kept
+pub mod Coded
+pub mod PartLaws
+pub mod FillingLaws
+pub mod KeepingLaws
+pub mod StreamLaws

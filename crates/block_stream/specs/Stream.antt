@@ -9,7 +9,7 @@ use Rattle.s3_types.specs.declared.reply.Reply.TheVariants.{Stored, Upload, Part
 use Rattle.s3_types.specs.declared.reply.Refusal.{Refusal}
 use Rattle.s3_types.specs.declared.reply.Refusal.TheVariants.{NoSuchUpload}
 use Rattle.machine.specs.Item.{Item, Got, WornOut, OutOfMemory, Standing, Fine, Faulted, Broken}
-use Rattle.job_model.specs.Knowledge.{named_from}
+use Rattle.s3_types.specs.Blocks.{named_from}
 use Rattle.block_stream.specs.declared.mode.StreamMode.{StreamMode}
 use Rattle.block_stream.specs.declared.mode.StreamMode.TheVariants.{Direct, Delayed}
 use Rattle.block_stream.specs.declared.mode.StreamEnd.{StreamEnd}

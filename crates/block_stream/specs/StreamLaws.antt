@@ -1,30 +1,19 @@
--- The laws of a stream as a machine.
-use Rattle.std.specs.Prelude.{◌≡◌, ℕ, Bool, true, false, cond, List, Some}
+-- The laws of a stream as a machine. Contracts cite none of them; the machine names `stream_laws` as what holds of it.
+use Rattle.std.specs.Prelude.{◌≡◌, Bool, true, false, cond, Some}
 use Rattle.std.proofs.Common.{refl, sym, ap, ◌∙◌, arith}
 use Rattle.s3_types.specs.declared.reply.Reply.{Reply}
 use Rattle.s3_types.specs.declared.reply.Reply.TheVariants.{Stored, Upload, Part, Completed, Refused}
 use Rattle.s3_types.specs.declared.reply.Refusal.{Refusal}
 use Rattle.machine.specs.Item.{Fine}
 use Rattle.machine.specs.Laws.{Laws}
-use Rattle.machine.specs.Keeping.{Keeps}
 use Rattle.block_stream.specs.declared.mode.StreamEnd.TheVariants.{Done, Gone}
 use Rattle.block_stream.specs.declared.stage.Stage.{Stage}
 use Rattle.block_stream.specs.declared.stage.Stage.TheVariants.{Putting, Beginning, Sending, Completing}
 use Rattle.block_stream.specs.Stream.{Stream, stage, wanted, ended, is_settled, settled, parted, refused, told, moved, answers, Fits, left, standing, standing_of, is_no_upload}
-use Rattle.block_stream.specs.Holds.{Holds, IsReady}
-use Rattle.block_stream.specs.Keeping.{hidden, took, lost, gave_up, fit, falls, some_left, asks_alive}
+use Rattle.block_stream.specs.Holds.{IsReady}
+use Rattle.block_stream.specs.KeepingLaws.{hidden, took, lost, gave_up, fit, falls, some_left, asks_alive}
 
--- each sending keeps what a stream holds
-pub holds_kept : (bytes : List ℕ) → Keeps wanted moved (λ m s repeated. Holds m s repeated bytes)
-holds_kept bytes = record {
-  lost = λ m s b h. lost m s b bytes h;
-  hidden = λ m s r b w h. hidden m s b bytes h r w;
-  took = λ m s r b w h. took m s b bytes h r w;
-  gave_up = λ m s r b w h. gave_up m s b bytes h;
-}
-
--- ---- no reply is a fault of the store or of memory
-
+-- no reply is a fault of the store or of memory
 fine_settled : (m : Stream) → standing m ≡ Fine → standing (settled m) ≡ Fine
 fine_settled m h =
     elim (is_settled m) as (λ z. standing (cond z (ended m Done) m) ≡ Fine) [

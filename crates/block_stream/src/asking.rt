@@ -1,8 +1,9 @@
 ghost use Rattle.std.specs.Prelude.{◌≡◌, ℕ, List, [], ◌∷◌, ◌++◌, ◌+◌, ◌<◌, ◌≤◌, length, IfOk, Option};
 ghost use Rattle.std.specs.Option.{unwrap_or};
-ghost use Rattle.job_model.specs.Knowledge.{named_from};
+ghost use Rattle.s3_types.specs.declared.limits.TheConstants.{MOST_PARTS};
+ghost use Rattle.s3_types.specs.Blocks.{named_from};
 ghost use Rattle.block_stream.specs.Stream.{asks_with, has_some};
-ghost use Rattle.block_stream.specs.Kept.{first_of, stage_by, settles};
+ghost use Rattle.block_stream.specs.Kept.{first_of, next_by, stage_by, settles};
 
 use crate::mode::{StreamEnd, StreamMode};
 use crate::queue::Queue;
@@ -55,7 +56,7 @@ pub fn next_stage(
 }
 
 /// A delayed output ends where it would be completed. Takes no memory.
-pub fn settle(mode: StreamMode, stage: Stage) -> (Stage, Option<StreamEnd>)
+fn settle(mode: StreamMode, stage: Stage) -> (Stage, Option<StreamEnd>)
     ensures { result ≡ settles mode stage }
 {
     match (mode, stage) {
@@ -64,16 +65,9 @@ pub fn settle(mode: StreamMode, stage: Stage) -> (Stage, Option<StreamEnd>)
     }
 }
 
-/// Asks this from now on. Takes no memory.
-pub fn put(asked: &mut Option<Request>, next: Option<Request>)
-    ensures { asked.new ≡ next }
-{
-    *asked = next;
-}
-
 /// The parts as a completion names them, numbered from 1 on.
 fn named(alloc: Global, tags: &TagList) -> Result<PartList, AllocError>
-    requires { length tags.now ≤ 10000 }
+    requires { length tags.now ≤ MOST_PARTS }
     ensures { IfOk result (λ parts. parts ≡ named_from 1 tags.now) }
 {
     let tags = tags.as_slice();
@@ -95,7 +89,7 @@ pub fn ask(
     tags: &TagList,
     queue: &Queue,
 ) -> Result<Option<Request>, AllocError>
-    requires { length tags.now ≤ 10000 }
+    requires { length tags.now ≤ MOST_PARTS }
     ensures { IfOk result (λ asked. asked ≡ asks_with stage output.now.bucket output.now.key (unwrap_or upload 0) tags.now (first_of queue.now)) }
 {
     let Output { bucket, key, .. } = output;
@@ -118,4 +112,22 @@ pub fn ask(
         }
         Stage::Over => Ok(None),
     }
+}
+
+/// What is asked next, or the end, with these blocks and tags.
+pub fn next(
+    alloc: Global,
+    output: &Output,
+    queue: &Queue,
+    closed: bool,
+    tags: &TagList,
+    upload: Option<u64>,
+) -> Result<(Option<Request>, Option<StreamEnd>), AllocError>
+    requires { length tags.now ≤ MOST_PARTS }
+    ensures { IfOk result (λ next. next ≡ next_by output.now.mode output.now.bucket output.now.key output.now.block queue.now closed tags.now upload) }
+{
+    let stage = next_stage(output, queue, closed, tags, upload);
+    let (stage, end) = settle(output.mode, stage);
+    let asked = ask(alloc, stage, output, upload, tags, queue)?;
+    Ok((asked, end))
 }

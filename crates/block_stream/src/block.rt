@@ -1,11 +1,13 @@
 ghost use Rattle.std.specs.Prelude.{◌≡◌};
-ghost use Rattle.job_model.specs.Blocks.{block_of};
+ghost use Rattle.s3_types.specs.Blocks.{block_of};
+
+use s3_types::MOST_PARTS;
 
 /// The length in bytes of a file's parts: the largest of `block`, `minimum`, 1 and what makes 10,000 parts of
 /// `length` bytes. Takes no memory.
 pub fn block_of(length: u64, block: u64, minimum: u64) -> u64
     ensures { result ≡ block_of length block minimum }
 {
-    let least = length.div_ceil(10_000);
+    let least = length.div_ceil(u64::from(MOST_PARTS));
     block.max(minimum).max(least.max(1))
 }

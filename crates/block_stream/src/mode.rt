@@ -2,6 +2,7 @@ ghost use Rattle.std.specs.Prelude.{◌≡◌};
 ghost use Rattle.block_stream.specs.declared.mode.StreamFault.TheVariants.{NoMemory};
 
 use std::alloc::AllocError;
+use thiserror::Error;
 
 /// How a stream's output comes to stand.
 #[derive(Clone, Copy, Debug, PartialEq, Eq)]
@@ -25,10 +26,12 @@ pub enum StreamEnd {
 }
 
 /// Why a piece was not written. The stream is as before.
-#[derive(Clone, Copy, Debug, PartialEq, Eq)]
+#[derive(Clone, Copy, Debug, PartialEq, Eq, Error)]
 pub enum StreamFault {
     /// All that was written would be more than 10,000 blocks.
+    #[error("the output is longer than 10000 blocks")]
     TooLong,
+    #[error("no memory")]
     NoMemory,
 }
 

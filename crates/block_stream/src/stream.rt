@@ -2,6 +2,7 @@ ghost use Rattle.std.specs.Prelude.{◌≡◌, ◌↔◌, ℕ, ◌+◌, ◌*◌,
 ghost use Rattle.std.specs.Option.{option_copied};
 ghost use Rattle.std.specs.FinMap as fin;
 ghost use Rattle.s3_types.specs.Store.{Scene, BucketContent};
+ghost use Rattle.s3_types.specs.declared.limits.TheConstants.{MOST_PARTS};
 ghost use Rattle.machine.specs.Item.{OutOfMemory};
 ghost use Rattle.block_stream.specs.Stream.{fresh, is_direct, delayed_of, stage, wanted, moved, Fits, told, begun, parted, settled, ended, broken, wrote, close, end_of, left, standing};
 ghost use Rattle.block_stream.specs.Holds.{Holds, IsReady};
@@ -11,14 +12,16 @@ ghost use Rattle.block_stream.specs.declared.mode.StreamEnd.TheVariants.{Done};
 ghost use Rattle.block_stream.specs.declared.mode.StreamFault.TheVariants.{TooLong};
 ghost use Rattle.block_stream.specs.declared.stage.Stage.TheVariants.{Beginning, Sending};
 
-use crate::asking::{Output, ask, next_stage, put, settle};
+use crate::asking::{Output, ask, next, next_stage};
 use crate::cutting::cut;
 use crate::delayed::Delayed;
 use crate::mode::{StreamEnd, StreamFault, StreamMode};
 use crate::queue::Queue;
 use crate::stage::Stage;
 use machine::Machine;
-use s3_types::{Bucket, Bytes, Key, Refusal, Reply, Request, Tag, TagList};
+use s3_types::{
+    Bucket, Bytes, Key, MOST_PARTS, Refusal, Reply, Request, Tag, TagList, let_go, put,
+};
 use std::alloc::{AllocError, Global};
 use std::marker::Model;
 
@@ -42,7 +45,8 @@ pub struct BlockStream {
 
 impl Model for BlockStream {
     ghost use Rattle.block_stream.specs.Stream.{Stream};
-    ghost use Rattle.block_stream.specs.Kept.{seen, IsKept, coded_stream};
+    ghost use Rattle.block_stream.specs.Kept.{seen, IsKept};
+    ghost use Rattle.block_stream.specs.Coded.{coded_stream};
 
     ghost Value = { Stream };
 
@@ -68,13 +72,9 @@ impl BlockStream {
         ensures fresh { result ≡ fresh mode bucket key block }
         ensures holds { (s : Scene) (c : BucketContent) → fin.get s.content.buckets bucket ≡ Some c → s.content.minimum ≤ block → Holds result s false [] }
     {
-        BlockStream::made(alloc, mode, bucket, key, block)
-    }
-
-    fn made(alloc: Global, mode: StreamMode, bucket: Bucket, key: Key, block: u64) -> BlockStream
-        requires { 1 ≤ block }
-        ensures { result ≡ fresh mode bucket key block }
-    {
+        let queue = Queue::new(alloc);
+        let rest = Vec::new(alloc);
+        let tags = TagList::new(alloc);
         BlockStream {
             alloc,
             output: Output {
@@ -83,10 +83,10 @@ impl BlockStream {
                 key,
                 block,
             },
-            queue: Queue::new(alloc),
-            rest: Vec::new(alloc),
+            queue,
+            rest,
             upload: None,
-            tags: TagList::new(alloc),
+            tags,
             count: 0,
             closed: false,
             end: None,
@@ -139,30 +139,16 @@ impl BlockStream {
         requires { self.old.closed ≡ false }
         ensures ok { OnOk result (self.new ≡ wrote self.old piece.now) }
         ensures err { OnErr result (self.new ≡ self.old) }
-        ensures long { IsErrOf result TooLong ↔ (self.old.block * 10000 < self.old.count + length piece.now) }
+        ensures long { IsErrOf result TooLong ↔ (self.old.block * MOST_PARTS < self.old.count + length piece.now) }
         ensures holds { OnOk result ((s : Scene) (repeated : Bool) (bytes : List ℕ) → Holds self.old s repeated bytes → Holds self.new s repeated (bytes ++ piece.now)) }
         ensures asked { OnOk result (IsSome (wanted self.old) → wanted self.new ≡ wanted self.old) }
     {
-        self.take_piece(piece)
-    }
-
-    fn take_piece(&mut self, piece: &[u8]) -> Result<(), StreamFault>
-        requires { self.old.closed ≡ false }
-        ensures ok { OnOk result (self.new ≡ wrote self.old piece.now) }
-        ensures err { OnErr result (self.new ≡ self.old) }
-        ensures long { IsErrOf result TooLong ↔ (self.old.block * 10000 < self.old.count + length piece.now) }
-        ensures few { OnOk result (self.old.count + length piece.now ≤ self.old.block * 10000) }
-    {
         let count = self.count as u128 + piece.len() as u128;
-        if count > self.output.block as u128 * 10_000 {
+        if count > self.output.block as u128 * u128::from(MOST_PARTS) {
             return Err(StreamFault::TooLong);
         }
         if count > u64::MAX as u128 {
             return Err(StreamFault::NoMemory);
-        }
-        if self.end.is_some() {
-            self.count = count as u64;
-            return Ok(());
         }
         self.add(piece, count as u64)?;
         Ok(())
@@ -170,31 +156,32 @@ impl BlockStream {
 
     fn add(&mut self, piece: &[u8], count: u64) -> Result<(), AllocError>
         requires unclosed { self.old.closed ≡ false }
-        requires alive { self.old.end ≡ None }
         requires count { count ≡ self.old.count + length piece.now }
-        requires few { self.old.count + length piece.now ≤ self.old.block * 10000 }
+        requires few { self.old.count + length piece.now ≤ self.old.block * MOST_PARTS }
         ensures ok { OnOk result (self.new ≡ wrote self.old piece.now) }
         ensures err { OnErr result (self.new ≡ self.old) }
+        ensures few { OnOk result (self.old.count + length piece.now ≤ self.old.block * MOST_PARTS) }
     {
+        if self.end.is_some() {
+            self.count = count;
+            return Ok(());
+        }
         let room = self.output.block as usize - self.rest.len();
         if piece.len() < room {
             self.rest.extend_from_slice(piece)?;
             self.count = count;
             return Ok(());
         }
-        let this = &*self;
-        let (mut blocks, rest) = cut(this.alloc, this.rest.as_slice(), piece, this.output.block)?;
-        let first = front(&this.queue, &blocks);
-        let stage = next_stage(&this.output, first, false, &this.tags, this.upload);
-        let asked = ask(
-            this.alloc,
-            stage,
-            &this.output,
-            this.upload,
-            &this.tags,
-            first,
+        let (mut blocks, rest) = cut(self.alloc, self.rest.as_slice(), piece, self.output.block)?;
+        let (asked, _end) = follow(
+            self.alloc,
+            &self.output,
+            &mut self.queue,
+            &mut blocks,
+            false,
+            &self.tags,
+            self.upload,
         )?;
-        self.queue.append(&mut blocks)?;
         self.rest = rest;
         self.count = count;
         put(&mut self.asked, asked);
@@ -210,32 +197,20 @@ impl BlockStream {
         ensures holds { OnOk result ((s : Scene) (repeated : Bool) (bytes : List ℕ) → Holds self.old s repeated bytes → Holds self.new s repeated bytes) }
         ensures asked { OnOk result (IsSome (wanted self.old) → wanted self.new ≡ wanted self.old) }
     {
-        self.shut()
-    }
-
-    fn shut(&mut self) -> Result<(), AllocError>
-        requires { self.old.closed ≡ false }
-        ensures ok { OnOk result (self.new ≡ close self.old) }
-        ensures err { OnErr result (self.new ≡ self.old) }
-    {
         if self.end.is_some() {
             self.closed = true;
             return Ok(());
         }
-        let this = &*self;
-        let mut last = last_block(this.alloc, this.rest.as_slice())?;
-        let first = front(&this.queue, &last);
-        let stage = next_stage(&this.output, first, true, &this.tags, this.upload);
-        let (stage, end) = settle(this.output.mode, stage);
-        let asked = ask(
-            this.alloc,
-            stage,
-            &this.output,
-            this.upload,
-            &this.tags,
-            first,
+        let mut last = last_block(self.alloc, self.rest.as_slice())?;
+        let (asked, end) = follow(
+            self.alloc,
+            &self.output,
+            &mut self.queue,
+            &mut last,
+            true,
+            &self.tags,
+            self.upload,
         )?;
-        self.queue.append(&mut last)?;
         self.rest = Vec::new(self.alloc);
         self.closed = true;
         self.end = end;
@@ -254,10 +229,8 @@ impl BlockStream {
     fn fail(&mut self)
         ensures { self.new ≡ broken self.old }
     {
-        self.queue = Queue::new(self.alloc);
-        self.rest = Vec::new(self.alloc);
+        clear(self.alloc, &mut self.queue, &mut self.rest, &mut self.tags);
         self.upload = None;
-        self.tags = TagList::new(self.alloc);
         put(&mut self.asked, None);
         self.end = Some(StreamEnd::NoMemory);
     }
@@ -301,10 +274,8 @@ impl BlockStream {
                 Ok(())
             }
             Err(error) => {
-                self.queue = Queue::new(self.alloc);
-                self.rest = Vec::new(self.alloc);
+                clear(self.alloc, &mut self.queue, &mut self.rest, &mut self.tags);
                 self.upload = None;
-                self.tags = TagList::new(self.alloc);
                 put(&mut self.asked, None);
                 self.end = Some(StreamEnd::NoMemory);
                 Err(error)
@@ -342,6 +313,42 @@ fn front<'q>(queue: &'q Queue, others: &'q Queue) -> &'q Queue
     if queue.has_some() { queue } else { others }
 }
 
+/// Adds blocks behind those that wait, and gives what is asked next, or the end. After an error none is added.
+fn follow(
+    alloc: Global,
+    output: &Output,
+    queue: &mut Queue,
+    blocks: &mut Queue,
+    closed: bool,
+    tags: &TagList,
+    upload: Option<u64>,
+) -> Result<(Option<Request>, Option<StreamEnd>), AllocError>
+    requires { length tags.now ≤ MOST_PARTS }
+    ensures next { IfOk result (λ next. next ≡ next_by output.now.mode output.now.bucket output.now.key output.now.block (front_of queue.old blocks.old) closed tags.now upload) }
+    ensures added { OnOk result (queue.new ≡ queue.old ++ blocks.old) }
+    ensures err { OnErr result (queue.new ≡ queue.old) }
+{
+    let (asked, end) = next(alloc, output, front(queue, blocks), closed, tags, upload)?;
+    match queue.append(blocks) {
+        Ok(()) => Ok((asked, end)),
+        Err(error) => {
+            let_go(asked);
+            Err(error)
+        }
+    }
+}
+
+/// Lets go of what waits and of the tags of the parts. Takes no memory.
+fn clear(alloc: Global, queue: &mut Queue, rest: &mut Vec<u8>, tags: &mut TagList)
+    ensures queue { queue.new ≡ [] }
+    ensures rest { rest.new.items ≡ [] }
+    ensures tags { tags.new ≡ [] }
+{
+    *queue = Queue::new(alloc);
+    *rest = Vec::new(alloc);
+    *tags = TagList::new(alloc);
+}
+
 /// What is left as a block of its own, if anything is.
 fn last_block(alloc: Global, rest: &[u8]) -> Result<Queue, AllocError>
     ensures { IfOk result (λ blocks. blocks ≡ last_of rest.now) }
@@ -363,15 +370,12 @@ fn advance(
     tag: Tag,
     upload: Option<u64>,
 ) -> Result<(Option<Request>, Option<StreamEnd>), AllocError>
-    requires { length tags.old < 10000 }
+    requires { length tags.old < MOST_PARTS }
     ensures tags { OnOk result (tags.new ≡ tags.old ++ tag ∷ []) }
     ensures next { IfOk result (λ next. next ≡ next_by output.now.mode output.now.bucket output.now.key output.now.block queue.now closed (tags.old ++ tag ∷ []) upload) }
 {
     tags.push(tag)?;
-    let stage = next_stage(output, queue, closed, tags, upload);
-    let (stage, end) = settle(output.mode, stage);
-    let asked = ask(alloc, stage, output, upload, tags, queue)?;
-    Ok((asked, end))
+    next(alloc, output, queue, closed, tags, upload)
 }
 
 impl Machine for BlockStream {

@@ -8,15 +8,12 @@ use Rattle.std.specs.Map.{keys_of}
 use Rattle.std.specs.BTreeMap.Range.{entries_between}
 use Rattle.std.specs.Ordering.{is_lt, is_le}
 use Rattle.std.specs.declared.ops.Bound.TheVariants.{Included, Unbounded}
+use Rattle.proof_base.proofs.Bools.{contrary, and_true}
 use Rattle.proof_base.specs.Order.{text_cmp, text_total}
 use Rattle.proof_base.proofs.Less.{lt, le_not, le_le, lt_not}
 use Rattle.s3_types.specs.Pages.{begins}
 use Rattle.s3_types.proofs.Begins.{between, from_prefix}
 use Rattle.cluster_fs.specs.Cluster.{Follows}
-
-contrary : (b : Bool) → (b ≡ true → false ≡ true) → b ≡ false
-contrary true f = absurd (false≢true (f refl))
-contrary false f = refl
 
 none_after : (p k : List ℕ) (ks : List (List ℕ)) → lt text_cmp k p ≡ false → begins p k ≡ false → Follows k ks → filter (begins p) ks ≡ []
 none_after p k [] g n h = refl
@@ -36,10 +33,6 @@ follows_rest p k (q ∷ ks) h = (le_le text_total p k q h.0 h.1.0, h.1.1)
 
 abbrev from_on : List ℕ → List ℕ → Bool
 from_on p k = is_le (text_cmp p k) && true
-
-and_true : (b : Bool) → (b && true) ≡ b
-and_true true = refl
-and_true false = refl
 
 is_from : (p k : List ℕ) → from_on p k ≡ not (lt text_cmp k p)
 is_from p k = and_true _ ∙ le_not text_total p k

@@ -6,7 +6,8 @@ ghost use Rattle.std.specs.Map.{keys_of};
 ghost use Rattle.s3_types.specs.Pages.{begins};
 ghost use Rattle.s3_types.specs.Store.{Content};
 ghost use Rattle.s3_types.specs.Answer.{answer, apply, renamed, rename_answer, read_answer};
-ghost use Rattle.cluster_fs.specs.Cluster.{is_cluster, beside, Follows};
+ghost use Rattle.s3_types.specs.Requests.{is_cluster};
+ghost use Rattle.cluster_fs.specs.Cluster.{beside, Follows};
 
 use s3_types::{Bytes, Refusal, Reply, Request, Text, TextList};
 use std::alloc::{AllocError, Global};
@@ -35,12 +36,6 @@ impl Model for Cluster {
     ghost view = { λ c. map.from_entries c.held.entries };
 }
 
-fn begins(path: &Text, prefix: &Text) -> bool
-    ensures { result ≡ begins prefix.now path.now }
-{
-    path.as_bytes().starts_with(prefix.as_bytes())
-}
-
 /// The paths of the files that are left which begin with a prefix. They stand in front.
 fn paths_of(
     alloc: Global,
@@ -53,7 +48,7 @@ fn paths_of(
     let mut rest = rest;
     let mut paths = Vec::new(alloc);
     while let Some((path, _)) = rest.next() {
-        if !begins(path, prefix) {
+        if !path.starts_with(prefix) {
             return Ok(TextList::from_vec(paths));
         }
         paths.push(path.clone()?)?;
@@ -149,19 +144,5 @@ impl Cluster {
             Request::ClusterList { prefix } => Ok(Reply::ClusterNames(self.list(prefix)?)),
             _ => unreachable!(),
         }
-    }
-}
-
-/// Whether a request is the cluster's and not the store's.
-pub fn is_cluster_request(request: &Request) -> bool
-    ensures { result ≡ is_cluster request.now }
-{
-    match request {
-        Request::ClusterPut { .. } => true,
-        Request::ClusterRename { .. } => true,
-        Request::ClusterGet { .. } => true,
-        Request::ClusterDelete { .. } => true,
-        Request::ClusterList { .. } => true,
-        _ => false,
     }
 }

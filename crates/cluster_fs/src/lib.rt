@@ -3,7 +3,7 @@
 
 mod cluster;
 
-pub use cluster::{Cluster, is_cluster_request};
+pub use cluster::Cluster;
 
 #[cfg(test)]
 mod tests;

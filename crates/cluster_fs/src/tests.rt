@@ -1,4 +1,4 @@
-use crate::{Cluster, is_cluster_request};
+use crate::Cluster;
 use s3_types::{Bytes, Reply, Request, Text};
 use std::alloc::{AllocError, Global};
 use std::test::Fail;
@@ -49,7 +49,7 @@ fn keeps_files(rt: HostRuntime) -> Result<(), Fail> {
     let mut cluster = Cluster::new(alloc);
     for (word, one, two, want) in &STEPS {
         let request = request(alloc, word, one, two)?;
-        assert!(rt; is_cluster_request(&request));
+        assert!(rt; request.is_cluster());
         assert_eq!(rt; size(&cluster.apply(&request)?), *want);
     }
     Ok(())

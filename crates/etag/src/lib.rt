@@ -7,6 +7,7 @@ ghost use Rattle.std.specs.List.{list_all};
 ghost use Rattle.std.specs.Result.{result_unwrap_or};
 ghost use Rattle.hex.specs.Hex.{encode_lower, decode_of};
 ghost use Rattle.s3_types.specs.Tags.{is_hex, digest_of, plain_tag, joined_tag};
+ghost use Rattle.s3_types.specs.declared.limits.TheConstants.{MOST_PARTS};
 
 use md5::{Digest, Md5};
 use s3_types::Tag;
@@ -57,7 +58,7 @@ pub fn part_tag(bytes: &[u8]) -> Tag
 /// behind another, with the number of parts. Takes no memory.
 #[tactic(auto, unfolding(s3_types::specs::Tags::joined_tag))]
 pub fn joined_tag(tags: &[Tag]) -> Tag
-    requires { length tags.now ≤ 10000 }
+    requires { length tags.now ≤ MOST_PARTS }
     ensures { result ≡ joined_tag tags.now }
 {
     let mut hasher = Md5::new();

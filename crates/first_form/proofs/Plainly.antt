@@ -28,6 +28,7 @@ record IsHead (s : Script) : Type 0 where
   tasks : s.tasks ≡ 1
   retries : s.retries ≡ 3
   block : s.block ≡ 0
+  lanes : s.lanes ≡ 1
   stamp : s.stamp ≡ None
 
 magic_is : (c : Committer) → is_magic c ≡ true → c ≡ Magic
@@ -41,11 +42,12 @@ none_is (Some n) h = absurd cc
 
 head_is : (s : Script) → is_plain_head s ≡ true → IsHead s
 head_is s h =
-    let a = and_parts (is_magic s.committer && s.tasks == 1 && s.retries == 3 && s.block == 0) (not (is_some s.stamp)) h in
-    let b = and_parts (is_magic s.committer && s.tasks == 1 && s.retries == 3) (s.block == 0) a.0 in
+    let a = and_parts (is_magic s.committer && s.tasks == 1 && s.retries == 3 && s.block == 0 && s.lanes == 1) (not (is_some s.stamp)) h in
+    let l = and_parts (is_magic s.committer && s.tasks == 1 && s.retries == 3 && s.block == 0) (s.lanes == 1) a.0 in
+    let b = and_parts (is_magic s.committer && s.tasks == 1 && s.retries == 3) (s.block == 0) l.0 in
     let c = and_parts (is_magic s.committer && s.tasks == 1) (s.retries == 3) b.0 in
     let d = and_parts (is_magic s.committer) (s.tasks == 1) c.0 in
-    record { committer = magic_is s.committer d.0; tasks = eqb-true s.tasks 1 d.1; retries = eqb-true s.retries 3 c.1; block = eqb-true s.block 0 b.1; stamp = none_is s.stamp a.1 }
+    record { committer = magic_is s.committer d.0; tasks = eqb-true s.tasks 1 d.1; retries = eqb-true s.retries 3 c.1; block = eqb-true s.block 0 b.1; lanes = eqb-true s.lanes 1 l.1; stamp = none_is s.stamp a.1 }
 
 -- under `magic` the mode and the names are fixed
 magic_fits : (c : Committer) (m : Mode) (u : Bool) → c ≡ Magic → FitsMagic c m u → (m ≡ Append) × (u ≡ false)
@@ -88,16 +90,16 @@ record AreParts (s : Script) (p : File) : Type 0 where
   plain : IsPlain s
   file : file_in s.attempts ≡ Some p
 
-made : (c : Committer) (m : Mode) (u : Bool) (t r b : ℕ) (st : Option ℕ) (fates : FateMap) (attempts : List Declared) (events : List Event) (f : Form)
-    → c ≡ Magic → (m ≡ Append) × (u ≡ false) → t ≡ 1 → r ≡ 3 → b ≡ 0 → st ≡ None → fates ≡ map.empty → attempts ≡ attempts_of f → events ≡ the_events
-    → record { job = f.job; dest = f.dest; committer = c; mode = m; unique = u; tasks = t; retries = r; block = b; stamp = st; fates = fates; attempts = attempts; events = events } ≡ form_script f
-made c m u t r b st fates attempts events f e0 e1 e2 e3 e4 e5 e6 e7 e8 = rw (e0, e1.0, e1.1, e2, e3, e4, e5, e6, e7, e8) refl
+made : (c : Committer) (m : Mode) (u : Bool) (t r b l : ℕ) (st : Option ℕ) (fates : FateMap) (attempts : List Declared) (events : List Event) (f : Form)
+    → c ≡ Magic → (m ≡ Append) × (u ≡ false) → t ≡ 1 → r ≡ 3 → b ≡ 0 → l ≡ 1 → st ≡ None → fates ≡ map.empty → attempts ≡ attempts_of f → events ≡ the_events
+    → record { job = f.job; dest = f.dest; committer = c; mode = m; unique = u; tasks = t; retries = r; block = b; lanes = l; stamp = st; fates = fates; attempts = attempts; events = events } ≡ form_script f
+made c m u t r b l st fates attempts events f e0 e1 e2 e3 e4 e9 e5 e6 e7 e8 = rw (e0, e1.0, e1.1, e2, e3, e4, e9, e5, e6, e7, e8) refl
 
 form_is : (s : Script) (p : File) → IsLegal s → AreParts s p → s ≡ form_script (record { job = s.job; dest = s.dest; path = p.0; bytes = p.1 })
 form_is s p legal h =
     let head = head_is s h.plain.head in
-    made s.committer s.mode s.unique s.tasks s.retries s.block s.stamp s.fates s.attempts s.events (record { job = s.job; dest = s.dest; path = p.0; bytes = p.1 })
-    head.committer (magic_fits s.committer s.mode s.unique head.committer legal.magic) head.tasks head.retries head.block head.stamp
+    made s.committer s.mode s.unique s.tasks s.retries s.block s.lanes s.stamp s.fates s.attempts s.events (record { job = s.job; dest = s.dest; path = p.0; bytes = p.1 })
+    head.committer (magic_fits s.committer s.mode s.unique head.committer legal.magic) head.tasks head.retries head.block head.lanes head.stamp
     (no_fates s.fates legal.fates h.plain.answered) (attempts_are s.attempts p h.file) h.plain.events
 
 names_are : (s : Script) (p : File) → IsLegal s → is_name s.dest.key && is_file_name p.0 && is_rest p.1 ≡ true → IsForm (record { job = s.job; dest = s.dest; path = p.0; bytes = p.1 })

@@ -3,7 +3,7 @@ use Rattle.std.specs.Prelude.{◌≡◌, true, false, ℕ, ◌-◌, ◌&&◌, �
 use Rattle.std.specs.List.{list_all}
 use Rattle.std.specs.Str.{is_utf8}
 use Rattle.s3_types.specs.Names.{is_bucket}
-use Rattle.job_model.specs.Jobs.{is_job_id}
+use Rattle.s3_types.specs.Names.{is_job_id}
 use Rattle.first_form.specs.declared.form.Form.{Form}
 
 -- a letter, a digit or a hyphen

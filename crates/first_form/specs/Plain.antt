@@ -17,9 +17,9 @@ is_magic Magic = true
 is_magic Directory = false
 is_magic Partitioned = false
 
--- `magic`, one task, three retries, no block size and no stamp
+-- `magic`, one task, three retries, no block size, one lane and no stamp
 abbrev pub is_plain_head : Script → Bool
-is_plain_head s = is_magic s.committer && s.tasks == 1 && s.retries == 3 && s.block == 0 && not (is_some s.stamp)
+is_plain_head s = is_magic s.committer && s.tasks == 1 && s.retries == 3 && s.block == 0 && s.lanes == 1 && not (is_some s.stamp)
 
 -- a plain head, each sending answered, and the four events
 pub record IsPlain (s : Script) : Type 0 where

@@ -34,6 +34,7 @@ form_script f = record {
   tasks = 1;
   retries = 3;
   block = 0;
+  lanes = 1;
   stamp = None;
   fates = fin.empty;
   attempts = attempts_of f;

@@ -126,6 +126,7 @@ fn is_plain_head(script: &Script) -> bool
         && script.tasks == 1
         && script.retries == 3
         && script.block == 0
+        && script.lanes == 1
         && script.stamp.is_none()
 }
 
@@ -226,7 +227,7 @@ fn form_with(
 }
 
 /// What a script of the first form says, or None where the script is of another: `magic`, one task, three
-/// retries, no block size, no stamp and no `loss`; one attempt 0.0 with one file; a destination's key, a
+/// retries, no block size, one lane, no stamp and no `loss`; one attempt 0.0 with one file; a destination's key, a
 /// file's path and bytes as `IsForm` has them; and the four events that set up, write and commit. Only
 /// want of memory is an error.
 pub fn form_of(script: &Script) -> Result<Option<Form>, AllocError>

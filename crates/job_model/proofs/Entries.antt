@@ -1,7 +1,8 @@
 -- New entries of an IndexMap, and the last one.
 use Rattle.std.proofs.Common.{◌≡◌, ℕ, zero, suc, ◌+◌, ◌-◌, ◌<◌, Bool, false, true≢false, List, [], ◌∷◌, ◌++◌, length, slice_get, Option, Some, None, is_some, refl, sym, ap, subst, ◌∙◌, arith, Result, Ok, Err}
-use Rattle.std.specs.Prelude.{OnOk, ⊤}
+use Rattle.std.specs.Prelude.{OnOk, OnErr, ⊤}
 use Rattle.std.specs.declared.alloc.AllocError.{AllocError}
+use Rattle.proof_base.proofs.Options.{some_is, none_is}
 use Rattle.job_model.specs.declared.attempts.AttemptName.{AttemptName}
 use Rattle.std.specs.Map.{lookup, values_of}
 use Rattle.indexmap.specs.IndexMap.{IndexMap, insert_entry, set_value_at}
@@ -9,27 +10,20 @@ use Rattle.indexmap.proofs.CallerLemmas.{insert_entry-new}
 use Rattle.job_model.specs.Files.{File}
 use Rattle.job_model.specs.Attempts.{Declared, last_files, with_file}
 
-none_from : {X : Type 0} (o : Option X) → is_some o ≡ false → o ≡ None
-none_from None h = refl
-none_from (Some x) h = absurd (true≢false h)
-
 pub insert_new : {K X S : Type 0} (eq : K → K → Bool) (m : IndexMap K X S) (k : K) (v : X) (es : List (K × X)) → m.entries ≡ es → is_some (lookup (eq k) es) ≡ false → insert_entry eq m.entries k v ≡ es ++ (k, v) ∷ []
 insert_new {K} {X} eq m k v es e h =
-    insert_entry-new eq m k v (ap (lookup (eq k)) e ∙ none_from _ h) ∙ ap (λ (l : List (K × X)). l ++ (k, v) ∷ []) e
-
-some_same : {X : Type 0} (x y : X) → Some x ≡ Some y → x ≡ y
-some_same x y h = cc
+    insert_entry-new eq m k v (ap (lookup (eq k)) e ∙ none_is _ h) ∙ ap (λ (l : List (K × X)). l ++ (k, v) ∷ []) e
 
 last_at : (es : List Declared) (i : ℕ) (fs : List File) → i + 1 ≡ length es → slice_get (values_of es) i ≡ Some fs → last_files es ≡ fs
 last_at [] i fs n h = absurd (omega arith)
-last_at (a ∷ []) zero fs n h = some_same _ _ h
+last_at (a ∷ []) zero fs n h = some_is _ _ h
 last_at (a ∷ []) (suc i) fs n h = absurd (omega arith)
 last_at (a ∷ b ∷ bs) zero fs n h = absurd (omega arith)
 last_at (a ∷ b ∷ bs) (suc i) fs n h = last_at (b ∷ bs) i fs (omega arith) h
 
 added_at : (es : List Declared) (i : ℕ) (fs : List File) (p b : List ℕ) → i + 1 ≡ length es → slice_get (values_of es) i ≡ Some fs → set_value_at es i (fs ++ (p, b) ∷ []) ≡ with_file es p b
 added_at [] i fs p b n h = absurd (omega arith)
-added_at (a ∷ []) zero fs p b n h = ap (λ (l : List File). (a.0, l ++ (p, b) ∷ []) ∷ []) (sym (some_same _ _ h))
+added_at (a ∷ []) zero fs p b n h = ap (λ (l : List File). (a.0, l ++ (p, b) ∷ []) ∷ []) (sym (some_is _ _ h))
 added_at (a ∷ []) (suc i) fs p b n h = absurd (omega arith)
 added_at (a ∷ c ∷ cs) zero fs p b n h = absurd (omega arith)
 added_at (a ∷ c ∷ cs) (suc i) fs p b n h = ap (λ (l : List Declared). a ∷ l) (added_at (c ∷ cs) i fs p b (omega arith) h)
@@ -53,7 +47,7 @@ added_known es now fs more p b e h m =
 
 value_at : (es : List Declared) (i : ℕ) (name : AttemptName) (fs : List File) → Some (name, fs) ≡ slice_get es i → Some fs ≡ slice_get (values_of es) i
 value_at [] i name fs h = absurd cc
-value_at (e ∷ es) zero name fs h = ap (λ (d : Declared). Some d.1) (some_same _ _ h)
+value_at (e ∷ es) zero name fs h = ap (λ (d : Declared). Some d.1) (some_is _ _ h)
 value_at (e ∷ es) (suc i) name fs h = value_at es i name fs h
 
 pub last_entry : (es now : List Declared) (name : AttemptName) (fs : List File) → es ≡ now → Some (name, fs) ≡ slice_get es (length es - 1) → last_files now ≡ fs
@@ -62,3 +56,16 @@ last_entry es now name fs e h = last_known es now fs e (value_at es (length es -
 pub added_ok : (r : Result ⊤ AllocError) (x y : List Declared) (A : Type 0) → OnOk r A → (A → x ≡ y) → OnOk r (x ≡ y)
 added_ok (Ok t) x y A h f = f h
 added_ok (Err e) x y A h f = tt
+
+same_at : (es : List Declared) (i : ℕ) (fs : List File) → slice_get (values_of es) i ≡ Some fs → set_value_at es i fs ≡ es
+same_at [] i fs h = refl
+same_at (a ∷ rest) zero fs h = ap (λ (l : List File). (a.0, l) ∷ rest) (sym (some_is _ _ h))
+same_at (a ∷ rest) (suc i) fs h = ap (λ (l : List Declared). a ∷ l) (same_at rest i fs h)
+
+-- the last files as they were leave the attempts as they were
+pub kept_known : (es now : List Declared) (fs more : List File) → es ≡ now → Some fs ≡ slice_get (values_of es) (length es - 1) → more ≡ fs → set_value_at es (length es - 1) more ≡ now
+kept_known es now fs more e h m = ap (set_value_at es (length es - 1)) m ∙ same_at es (length es - 1) fs (sym h) ∙ e
+
+pub kept_err : (r : Result ⊤ AllocError) (x y : List Declared) (A : Type 0) → OnErr r A → (A → x ≡ y) → OnErr r (x ≡ y)
+kept_err (Ok t) x y A h f = tt
+kept_err (Err e) x y A h f = f h

@@ -6,14 +6,24 @@ use Rattle.s3_types.specs.declared.request.Actor.{Actor}
 use Rattle.s3_types.specs.declared.request.Actor.TheVariants as actor
 use Rattle.job_model.specs.Files.{File}
 
-abbrev pub same_name : AttemptName → AttemptName → Bool
+-- an attempt by its task's number and its own
+abbrev pub Who : Type 0
+Who = AttemptName
+
+-- the actor that an attempt is
+abbrev pub actor_of : Who → Actor
+actor_of a = actor.Attempt a.task a.attempt
+
+-- both are the same attempt
+abbrev pub same_name : Who → Who → Bool
 same_name x y = nat_eq x.task y.task && nat_eq x.attempt y.attempt
 
+-- an attempt with its files, at the paths that the script writes
 abbrev pub Declared : Type 0
-Declared = AttemptName × List File
+Declared = Who × List File
 
 -- some attempt has this name
-abbrev pub declares : List Declared → AttemptName → Bool
+abbrev pub declares : List Declared → Who → Bool
 declares attempts name = is_some (lookup (same_name name) attempts)
 
 -- the files of the last attempt

@@ -10,9 +10,8 @@ use Rattle.s3_types.specs.declared.request.Committer.TheVariants.{Magic, Directo
 use Rattle.s3_types.specs.declared.request.Mode.{Mode}
 use Rattle.s3_types.specs.declared.request.Mode.TheVariants.{Fail, Append, Replace}
 use Rattle.path_keys.specs.Paths.{Path}
-use Rattle.job_model.specs.Attempts.{Declared}
+use Rattle.job_model.specs.Attempts.{Who, Declared}
 use Rattle.job_model.specs.JobScript.{Script}
-use Rattle.job_model.specs.declared.attempts.AttemptName.{AttemptName}
 use Rattle.job_model.specs.declared.events.Op.{Op}
 use Rattle.job_model.specs.declared.events.Op.TheVariants as op
 use Rattle.job_model.specs.declared.events.Event.{Event}
@@ -102,6 +101,8 @@ event_parts (event.Step actor count) = (2, (actor, (op.Setup, count)))
 event_parts (event.Run actor) = (3, (actor, (op.Setup, 0)))
 event_parts (event.Kill actor) = (4, (actor, (op.Setup, 0)))
 event_parts (event.Mix seed) = (5, (Driver, (op.Setup, seed)))
+event_parts event.Restart = (6, (Driver, (op.Setup, 0)))
+event_parts (event.Recover actor) = (7, (actor, (op.Setup, 0)))
 
 abbrev pub event_of : ℕ → Actor → Op → ℕ → Event
 event_of zero actor op number = event.Do actor op
@@ -109,7 +110,9 @@ event_of (suc zero) actor op number = event.Start actor op
 event_of (suc (suc zero)) actor op number = event.Step actor number
 event_of (suc (suc (suc zero))) actor op number = event.Run actor
 event_of (suc (suc (suc (suc zero)))) actor op number = event.Kill actor
-event_of (suc (suc (suc (suc (suc n))))) actor op number = event.Mix number
+event_of (suc (suc (suc (suc (suc zero))))) actor op number = event.Mix number
+event_of (suc (suc (suc (suc (suc (suc zero)))))) actor op number = event.Restart
+event_of (suc (suc (suc (suc (suc (suc (suc n))))))) actor op number = event.Recover actor
 
 abbrev pub event_again : (e : Event) → event_of (event_parts e).0 (event_parts e).1.0 (event_parts e).1.1.0 (event_parts e).1.1.1 ≡ e
 event_again (event.Do actor op) = refl
@@ -118,11 +121,13 @@ event_again (event.Step actor count) = refl
 event_again (event.Run actor) = refl
 event_again (event.Kill actor) = refl
 event_again (event.Mix seed) = refl
+event_again event.Restart = refl
+event_again (event.Recover actor) = refl
 
 abbrev pub coded_event : Coded Event
 coded_event = code_by (ℕ × (Actor × (Op × ℕ))) (coded× coded_ℕ (coded× coded_actor (coded× coded_op coded_ℕ))) event_parts (λ p. event_of p.0 p.1.0 p.1.1.0 p.1.1.1) event_again
 
-abbrev pub coded_name : Coded AttemptName
+abbrev pub coded_name : Coded Who
 coded_name = code_by (ℕ × ℕ) (coded× coded_ℕ coded_ℕ) (λ n. (n.task, n.attempt)) (λ p. record { task = p.0; attempt = p.1 }) (λ _. refl)
 
 abbrev pub coded_declared : Coded Declared
@@ -133,8 +138,8 @@ coded_path = code_by (List ℕ × List ℕ) (coded× coded_text coded_text) (λ 
 
 abbrev pub coded_script : Coded Script
 coded_script =
-    code_by (List ℕ × (Path × (Committer × (Mode × (Bool × (ℕ × (ℕ × (ℕ × (Option ℕ × (FateMap × (List Declared × List Event)))))))))))
-    (coded× coded_text (coded× coded_path (coded× (code_by ℕ coded_ℕ committer_number numbered_committer committer_again) (coded× (code_by ℕ coded_ℕ mode_number numbered_mode mode_again) (coded× coded_bool (coded× coded_ℕ (coded× coded_ℕ (coded× coded_ℕ (coded× (coded_option coded_ℕ) (coded× coded_fates (coded× (coded_list coded_declared) (coded_list coded_event))))))))))))
-    (λ s. (s.job, (s.dest, (s.committer, (s.mode, (s.unique, (s.tasks, (s.retries, (s.block, (s.stamp, (s.fates, (s.attempts, s.events))))))))))))
-    (λ p. record { job = p.0; dest = p.1.0; committer = p.1.1.0; mode = p.1.1.1.0; unique = p.1.1.1.1.0; tasks = p.1.1.1.1.1.0; retries = p.1.1.1.1.1.1.0; block = p.1.1.1.1.1.1.1.0; stamp = p.1.1.1.1.1.1.1.1.0; fates = p.1.1.1.1.1.1.1.1.1.0; attempts = p.1.1.1.1.1.1.1.1.1.1.0; events = p.1.1.1.1.1.1.1.1.1.1.1 })
+    code_by (List ℕ × (Path × (Committer × (Mode × (Bool × (ℕ × (ℕ × (ℕ × (ℕ × (Option ℕ × (FateMap × (List Declared × List Event))))))))))))
+    (coded× coded_text (coded× coded_path (coded× (code_by ℕ coded_ℕ committer_number numbered_committer committer_again) (coded× (code_by ℕ coded_ℕ mode_number numbered_mode mode_again) (coded× coded_bool (coded× coded_ℕ (coded× coded_ℕ (coded× coded_ℕ (coded× coded_ℕ (coded× (coded_option coded_ℕ) (coded× coded_fates (coded× (coded_list coded_declared) (coded_list coded_event)))))))))))))
+    (λ s. (s.job, (s.dest, (s.committer, (s.mode, (s.unique, (s.tasks, (s.retries, (s.block, (s.lanes, (s.stamp, (s.fates, (s.attempts, s.events)))))))))))))
+    (λ p. record { job = p.0; dest = p.1.0; committer = p.1.1.0; mode = p.1.1.1.0; unique = p.1.1.1.1.0; tasks = p.1.1.1.1.1.0; retries = p.1.1.1.1.1.1.0; block = p.1.1.1.1.1.1.1.0; lanes = p.1.1.1.1.1.1.1.1.0; stamp = p.1.1.1.1.1.1.1.1.1.0; fates = p.1.1.1.1.1.1.1.1.1.1.0; attempts = p.1.1.1.1.1.1.1.1.1.1.1.0; events = p.1.1.1.1.1.1.1.1.1.1.1.1 })
     (λ _. refl)

@@ -17,6 +17,7 @@ pub record Script : Type 0 where
   pub tasks : ℕ
   pub retries : ℕ
   pub block : ℕ
+  pub lanes : ℕ
   pub stamp : Option ℕ
   pub fates : FateMap
   pub attempts : List Declared

@@ -4,9 +4,10 @@ use Rattle.std.specs.Prelude.{Some}
 use Rattle.std.specs.List.{list_all}
 use Rattle.std.specs.Str.{is_utf8}
 use Rattle.std.specs.FinMap as map
-use Rattle.line_words.specs.Words.{IsBare}
+use Rattle.words.specs.Words.{IsBare}
 use Rattle.s3_types.specs.Fates.{FateMap, is_answer}
 use Rattle.s3_types.specs.Names.{is_bucket}
+use Rattle.s3_types.specs.declared.limits.TheConstants.{MOST_SCRIPT_BYTES}
 use Rattle.s3_types.specs.declared.fates.Fate.{Fate}
 use Rattle.s3_types.specs.declared.request.Actor.{Actor}
 use Rattle.s3_types.specs.declared.request.Actor.TheVariants as actor
@@ -15,7 +16,7 @@ use Rattle.s3_types.specs.declared.request.Committer.TheVariants as committer
 use Rattle.s3_types.specs.declared.request.Mode.{Mode}
 use Rattle.s3_types.specs.declared.request.Mode.TheVariants as mode
 use Rattle.path_keys.specs.Paths.{Path, is_key}
-use Rattle.job_model.specs.Jobs.{is_job_id}
+use Rattle.s3_types.specs.Names.{is_job_id}
 use Rattle.job_model.specs.Files.{File, has_path}
 use Rattle.job_model.specs.Attempts.{Declared, declares, is_known}
 use Rattle.job_model.specs.declared.events.Op.{Op}
@@ -100,6 +101,12 @@ HasOp (actor.Attempt task attempt) op.Abort = Unit {0}
 HasOp (actor.Attempt task attempt) op.Clean = ⊥
 HasOp actor.Shell op = ⊥
 
+-- a declared attempt
+abbrev pub IsRecovered : List Declared → Actor → Type 0
+IsRecovered attempts actor.Driver = ⊥
+IsRecovered attempts (actor.Attempt task attempt) = declares attempts (record { task = task; attempt = attempt }) ≡ true
+IsRecovered attempts actor.Shell = ⊥
+
 -- an event of the driver or a declared attempt, with its numbers in their ranges
 abbrev pub IsEvent : List Declared → Event → Type 0
 IsEvent attempts (event.Do actor op) = (is_known attempts actor ≡ true) × HasOp actor op
@@ -108,6 +115,8 @@ IsEvent attempts (event.Step actor count) = (is_known attempts actor ≡ true) �
 IsEvent attempts (event.Run actor) = is_known attempts actor ≡ true
 IsEvent attempts (event.Kill actor) = is_known attempts actor ≡ true
 IsEvent attempts (event.Mix seed) = seed ≤ 2147483647
+IsEvent attempts event.Restart = Unit {0}
+IsEvent attempts (event.Recover actor) = IsRecovered attempts actor
 
 -- all events are so
 abbrev pub AreEvents : List Declared → List Event → Type 0
@@ -121,12 +130,14 @@ pub record IsLegal (s : Script) : Type 0 where
   pub magic : FitsMagic s.committer s.mode s.unique
   pub tasks : s.tasks ≤ 1000
   pub retries : s.retries ≤ 9
-  pub block : s.block ≤ 67108864
+  pub block : s.block ≤ MOST_SCRIPT_BYTES
+  pub one_lane : 1 ≤ s.lanes
+  pub few_lanes : s.lanes ≤ 8
   pub stamp : IfSome s.stamp (λ n. n < 10 ^ 18)
   pub fates : AreFates s.fates
   pub attempts : AreAttempts s.tasks [] s.attempts
   pub few_attempts : length s.attempts ≤ 2000
   pub few_files : files_in s.attempts ≤ 20000
-  pub few_bytes : bytes_in s.attempts ≤ 67108864
+  pub few_bytes : bytes_in s.attempts ≤ MOST_SCRIPT_BYTES
   pub events : AreEvents s.attempts s.events
   pub few_events : length s.events ≤ 100000

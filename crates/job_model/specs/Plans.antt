@@ -1,9 +1,11 @@
 -- The bounds of what a job's driver and attempts know.
 use Rattle.std.specs.Prelude.{◌≡◌, ◌⊎◌, ℕ, ◌<◌, ◌≤◌, ◌^◌, true, false, List, [], ◌∷◌, ◌++◌, length, IfSome}
+use Rattle.s3_types.specs.declared.limits.TheConstants.{MOST_MINIMUM, MOST_SCRIPT_BYTES}
 use Rattle.job_model.specs.Files.{File, has_path}
-use Rattle.job_model.specs.Jobs.{Job, Task, is_job_id}
+use Rattle.s3_types.specs.Names.{is_job_id}
+use Rattle.job_model.specs.Jobs.{Job, Task}
 use Rattle.job_model.specs.Legal.{IsDest, FitsMagic, IsGiven, are_bytes, bytes_of}
-use Rattle.job_model.specs.Outputs.{unique_name}
+use Rattle.job_model.specs.Placed.{unique_name}
 
 -- the bounds of a job's head, as a script gives them
 pub record IsJob (j : Job) : Type 0 where
@@ -11,6 +13,9 @@ pub record IsJob (j : Job) : Type 0 where
   pub dest : IsDest j.dest
   pub magic : FitsMagic j.committer j.mode false
   pub tasks : j.tasks ≤ 1000
+  pub retries : j.retries ≤ 9
+  pub one_lane : 1 ≤ j.lanes
+  pub few_lanes : j.lanes ≤ 8
   pub stamp : IfSome j.stamp (λ n. n < 10 ^ 18)
 
 -- a path in the destination: as a script gives it, or made unique to the job
@@ -28,7 +33,7 @@ pub record IsTask (t : Task) : Type 0 where
   pub attempt : t.attempt ≤ 99
   pub files : ArePlaced t.job.job [] t.files
   pub few_files : length t.files ≤ 20000
-  pub few_bytes : bytes_of t.files ≤ 67108864
-  pub block : t.block ≤ 67108864
+  pub few_bytes : bytes_of t.files ≤ MOST_SCRIPT_BYTES
+  pub block : t.block ≤ MOST_SCRIPT_BYTES
   pub some : 1 ≤ t.minimum
-  pub most : t.minimum ≤ 5242880
+  pub most : t.minimum ≤ MOST_MINIMUM

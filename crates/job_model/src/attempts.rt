@@ -1,4 +1,4 @@
-ghost use Rattle.std.specs.Prelude.{◌≡◌, [], ◌∷◌, ◌++◌, length, OnOk, false};
+ghost use Rattle.std.specs.Prelude.{◌≡◌, [], ◌∷◌, ◌++◌, length, OnOk, OnErr, false};
 ghost use Rattle.job_model.specs.Files.{has_path};
 ghost use Rattle.job_model.specs.Attempts.{declares, last_files, with_file};
 
@@ -52,10 +52,12 @@ impl Attempts {
         self.declared.contains_key(&name)
     }
 
-    /// Declares another attempt behind the others, with no file yet.
+    /// Declares another attempt behind the others, with no file yet. After want of memory the attempts are
+    /// as before.
     pub fn declare(&mut self, alloc: Global, name: AttemptName) -> Result<(), AllocError>
         requires { declares self.old name ≡ false }
-        ensures { OnOk result (self.new ≡ self.old ++ (name, []) ∷ []) }
+        ensures ok { OnOk result (self.new ≡ self.old ++ (name, []) ∷ []) }
+        ensures err { OnErr result (self.new ≡ self.old) }
     {
         match self.declared.insert(name, FileList::new(alloc)) {
             Ok(_) => Ok(()),
@@ -73,10 +75,11 @@ impl Attempts {
         }
     }
 
-    /// Adds a file to the last attempt, where there is one.
+    /// Adds a file to the last attempt, where there is one. After want of memory the attempts are as before.
     pub fn add_file(&mut self, path: Text, bytes: Bytes) -> Result<(), AllocError>
         requires { has_path (last_files self.old) path ≡ false }
-        ensures { OnOk result (self.new ≡ with_file self.old path bytes) }
+        ensures ok { OnOk result (self.new ≡ with_file self.old path bytes) }
+        ensures err { OnErr result (self.new ≡ self.old) }
     {
         let Some(files) = self.declared.last_mut() else {
             return Ok(());

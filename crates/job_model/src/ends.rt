@@ -1,5 +1,5 @@
 ghost use Rattle.std.specs.Prelude.{Some};
-ghost use Rattle.job_model.specs.ReportText.{setup_text, task_text, part_word, commit_text, clean_text, outcome_text, fault_word};
+ghost use Rattle.job_model.specs.Words.{setup_text, task_text, part_word, commit_text, clean_text, outcome_text, fault_word};
 
 use s3_types::{Actor, Sequence, Text};
 use std::fmt;
@@ -196,6 +196,8 @@ pub enum EventFault {
     Idle = 3,
     NotSet = 4,
     WrongState = 5,
+    NotDead = 6,
+    NoRecovery = 7,
 }
 
 impl fmt::Display for EventFault {
@@ -208,6 +210,8 @@ impl fmt::Display for EventFault {
             EventFault::Idle => write!(f, "idle"),
             EventFault::NotSet => write!(f, "not-set"),
             EventFault::WrongState => write!(f, "wrong-state"),
+            EventFault::NotDead => write!(f, "not-dead"),
+            EventFault::NoRecovery => write!(f, "no-recovery"),
         }
     }
 }

@@ -1,7 +1,6 @@
 ghost use Rattle.std.specs.Prelude.{Some};
-ghost use Rattle.job_model.specs.ReportText.{op_word, event_text};
+ghost use Rattle.job_model.specs.Words.{op_word, event_text};
 
-use crate::actor_name::ActorName;
 use s3_types::{Actor, Sequence};
 use std::fmt;
 
@@ -44,6 +43,10 @@ pub enum Event {
     Kill { actor: Actor },
     /// The busy actors send in turns that the seed chooses, below 2^31, until none is busy.
     Mix { seed: u32 },
+    /// A new driver takes the place of a dead one.
+    Restart,
+    /// The actor, an attempt, is asked for what an earlier one of its task has done.
+    Recover { actor: Actor },
 }
 
 impl fmt::Display for Event {
@@ -51,27 +54,14 @@ impl fmt::Display for Event {
 
     fn fmt<W: fmt::Write>(&self, f: &mut fmt::Formatter<W>) -> fmt::Result {
         match self {
-            Event::Do { actor, op } => {
-                let actor = ActorName(*actor);
-                write!(f, "do {actor} {op}")
-            }
-            Event::Start { actor, op } => {
-                let actor = ActorName(*actor);
-                write!(f, "start {actor} {op}")
-            }
-            Event::Step { actor, count } => {
-                let actor = ActorName(*actor);
-                write!(f, "step {actor} {count}")
-            }
-            Event::Run { actor } => {
-                let actor = ActorName(*actor);
-                write!(f, "run {actor}")
-            }
-            Event::Kill { actor } => {
-                let actor = ActorName(*actor);
-                write!(f, "kill {actor}")
-            }
+            Event::Do { actor, op } => write!(f, "do {actor} {op}"),
+            Event::Start { actor, op } => write!(f, "start {actor} {op}"),
+            Event::Step { actor, count } => write!(f, "step {actor} {count}"),
+            Event::Run { actor } => write!(f, "run {actor}"),
+            Event::Kill { actor } => write!(f, "kill {actor}"),
             Event::Mix { seed } => write!(f, "mix {seed}"),
+            Event::Restart => write!(f, "restart driver"),
+            Event::Recover { actor } => write!(f, "recover {actor}"),
         }
     }
 }

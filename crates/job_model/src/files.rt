@@ -43,10 +43,11 @@ impl FileList {
         self.files.contains_key(path)
     }
 
-    /// Adds a file of another path behind the others.
+    /// Adds a file of another path behind the others. After want of memory the files are as before.
     pub fn add(&mut self, path: Text, bytes: Bytes) -> Result<(), AllocError>
         requires { has_path self.old path ≡ false }
-        ensures { OnOk result (self.new ≡ self.old ++ (path, bytes) ∷ []) }
+        ensures ok { OnOk result (self.new ≡ self.old ++ (path, bytes) ∷ []) }
+        ensures err { OnErr result (self.new ≡ self.old) }
     {
         match self.files.insert(path, bytes) {
             Ok(_) => Ok(()),

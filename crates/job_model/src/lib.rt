@@ -1,18 +1,15 @@
-//! The plain data of a job: its script, what its actors are to do, how their operations end, and the
-//! report of a run.
+//! The plain data of a job: its script, what its actors are to do, how their operations end, and their
+//! states.
 #![tactic(auto)]
 
-mod actor_name;
 mod attempts;
 mod ends;
 mod events;
 mod files;
+mod laws;
 mod plan;
-mod report;
 mod script;
-mod standing;
-#[cfg(test)]
-mod tests;
+mod states;
 
 pub use attempts::{AttemptName, Attempts};
 pub use ends::{
@@ -21,7 +18,7 @@ pub use ends::{
 };
 pub use events::{Event, EventList, Op};
 pub use files::FileList;
+pub use laws::paths_are_places;
 pub use plan::{JobPlan, TaskPlan, TaskSet};
-pub use report::{Report, report_text};
 pub use script::Script;
-pub use standing::{ActorStage, ActorState, Life, Standings};
+pub use states::{ActorStage, ActorState, Life};

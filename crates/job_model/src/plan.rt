@@ -13,7 +13,8 @@ use std::marker::Model;
 /// What a job's driver and attempts know of the job. It keeps the bounds that a script gives them: its
 /// id has 1 to 64 letters, digits, `_` and `-`; its destination's key has 1 to 400 bytes, no CR at its
 /// end, and no element `__magic` or `__base`; with the committer `magic` its mode is `append`; it has at
-/// most 1,000 tasks, and a stamp is below 10^18.
+/// most 1,000 tasks; a request that got no answer is sent again up to 9 times; its uploads are completed in
+/// 1 to 8 lanes; and a stamp is below 10^18.
 #[derive(Drop)]
 pub struct JobPlan {
     pub job: Text,
@@ -21,6 +22,8 @@ pub struct JobPlan {
     pub committer: Committer,
     pub mode: Mode,
     pub tasks: u32,
+    pub retries: u32,
+    pub lanes: u32,
     pub stamp: Option<u64>,
 }
 
@@ -30,9 +33,9 @@ impl Model for JobPlan {
 
     ghost Value = { Job };
 
-    ghost view = { λ p. record { job = p.job; dest = p.dest; committer = p.committer; mode = p.mode; tasks = p.tasks; stamp = p.stamp } };
+    ghost view = { λ p. record { job = p.job; dest = p.dest; committer = p.committer; mode = p.mode; tasks = p.tasks; retries = p.retries; lanes = p.lanes; stamp = p.stamp } };
 
-    ghost invariant = { λ p. IsJob (record { job = p.job; dest = p.dest; committer = p.committer; mode = p.mode; tasks = p.tasks; stamp = p.stamp }) };
+    ghost invariant = { λ p. IsJob (record { job = p.job; dest = p.dest; committer = p.committer; mode = p.mode; tasks = p.tasks; retries = p.retries; lanes = p.lanes; stamp = p.stamp }) };
 }
 
 /// What an attempt knows and has done: of which job, task and attempt it is, its files, the sizes in

@@ -23,6 +23,8 @@ pub struct Script {
     pub retries: u32,
     /// The size in bytes of an upload's parts, 0 for the store's minimum.
     pub block: u64,
+    /// How many lanes the job's commit completes its uploads in, 1 to 8.
+    pub lanes: u32,
     /// A number that `_SUCCESS` is to carry.
     pub stamp: Option<u64>,
     /// What becomes of each sending, by its number from 1.
@@ -40,7 +42,7 @@ impl Model for Script {
 
     ghost coded = { coded_script };
 
-    ghost view = { λ s. record { job = s.job; dest = s.dest; committer = s.committer; mode = s.mode; unique = s.unique; tasks = s.tasks; retries = s.retries; block = s.block; stamp = s.stamp; fates = s.fates; attempts = s.attempts; events = s.events } };
+    ghost view = { λ s. record { job = s.job; dest = s.dest; committer = s.committer; mode = s.mode; unique = s.unique; tasks = s.tasks; retries = s.retries; block = s.block; lanes = s.lanes; stamp = s.stamp; fates = s.fates; attempts = s.attempts; events = s.events } };
 
-    ghost invariant = { λ s. IsLegal (record { job = s.job; dest = s.dest; committer = s.committer; mode = s.mode; unique = s.unique; tasks = s.tasks; retries = s.retries; block = s.block; stamp = s.stamp; fates = s.fates; attempts = s.attempts; events = s.events }) };
+    ghost invariant = { λ s. IsLegal (record { job = s.job; dest = s.dest; committer = s.committer; mode = s.mode; unique = s.unique; tasks = s.tasks; retries = s.retries; block = s.block; lanes = s.lanes; stamp = s.stamp; fates = s.fates; attempts = s.attempts; events = s.events }) };
 }

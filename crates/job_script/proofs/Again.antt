@@ -5,8 +5,9 @@ use Rattle.std.specs.List.{flat_map, AllByRecursion}
 use Rattle.std.specs.Str.{is_utf8}
 use Rattle.std.specs.FinMap as fin
 use Rattle.std.proofs.lemmas.Bool.{and_parts, eqb-true, le-leb}
+use Rattle.std.specs.Option.{unwrap_or}
 use Rattle.words.specs.Lines.{lines_of}
-use Rattle.line_words.specs.Words.{text_of}
+use Rattle.words.specs.Words.{text_of}
 use Rattle.s3_types.specs.declared.request.Actor.{Actor}
 use Rattle.s3_types.specs.declared.request.Actor.TheVariants as actor
 use Rattle.s3_types.specs.declared.request.Committer.{Committer}
@@ -14,20 +15,20 @@ use Rattle.s3_types.specs.declared.request.Committer.TheVariants as committer
 use Rattle.s3_types.specs.declared.request.Mode.{Mode}
 use Rattle.job_model.specs.Attempts.{Declared, declares, is_known, same_name}
 use Rattle.job_model.specs.JobScript.{Script}
-use Rattle.job_model.specs.Legal.{IsLegal, FitsMagic, AreAttempts, AreEvents, IsEvent, files_in, bytes_in}
+use Rattle.job_model.specs.Legal.{IsLegal, FitsMagic, AreAttempts, AreEvents, IsEvent, IsRecovered, files_in, bytes_in}
 use Rattle.job_model.specs.declared.events.Event.{Event}
 use Rattle.job_model.specs.declared.events.Event.TheVariants as event
 use Rattle.job_script.specs.declared.draft.Draft.{Draft}
 use Rattle.job_script.specs.declared.draft.Head.{Head}
 use Rattle.job_script.specs.declared.draft.Group.TheVariants as group
-use Rattle.job_script.specs.Script.{lines_at, nothing, mode_in, unique_in, or_else, complete, script_of}
-use Rattle.job_script.specs.Print.{block_lines, stamp_lines, loss_lines, head_lines, attempt_lines, event_line, script_lines, script_text}
+use Rattle.job_script.specs.Script.{lines_at, nothing, mode_in, unique_in, complete, script_of}
+use Rattle.job_script.specs.Print.{block_lines, stamp_lines, loss_lines, first_lines, head_lines, attempt_lines, event_line, script_lines, script_text, lanes_lines}
 use Rattle.job_script.proofs.Completes.{completed}
 use Rattle.job_script.proofs.AgainLines.{IsPrinted, lines_printed, printed_utf8, printed_end, Goes, goes_through, goes_all}
-use Rattle.job_script.proofs.AgainHead.{drafted, headed, first_head, first_lines, first_printed, first_again, unless_zero, blocks_printed, block_goes, stamp_printed, stamp_goes}
+use Rattle.job_script.proofs.AgainHead.{drafted, headed, first_head, first_printed, first_again, unless_zero, blocks_printed, block_goes, stamp_printed, stamp_goes, unless_one, lanes_printed, lanes_go}
 use Rattle.job_script.proofs.AgainLosses.{losses_printed, losses_go}
 use Rattle.job_script.proofs.AgainAttempts.{attempts_printed, attempts_go, group_after}
-use Rattle.job_script.proofs.AgainEvents.{IsNamed, IsActor, HasActor, events_printed, events_go, group_at_end}
+use Rattle.job_script.proofs.AgainEvents.{IsNamed, IsActor, IsRecoveredActor, HasActor, events_printed, events_go, group_at_end}
 
 -- ---- the actors of events are declared, so their numbers are in range
 
@@ -56,6 +57,11 @@ actor_named all actor.Driver h k = tt
 actor_named all (actor.Attempt t a) h k = declared_named all t a h k
 actor_named all actor.Shell h k = absurd cc
 
+recovered_named : (all : List Declared) (x : Actor) → AreNamed all → IsRecovered all x → IsRecoveredActor x
+recovered_named all actor.Driver h k = k
+recovered_named all (actor.Attempt t a) h k = declared_named all t a h k
+recovered_named all actor.Shell h k = k
+
 event_named : (all : List Declared) (e : Event) → AreNamed all → IsEvent all e → HasActor e
 event_named all (event.Do x o) h k = actor_named all x h k.0
 event_named all (event.Start x o) h k = actor_named all x h k.0
@@ -63,6 +69,8 @@ event_named all (event.Step x count) h k = actor_named all x h k.0
 event_named all (event.Run x) h k = actor_named all x h k
 event_named all (event.Kill x) h k = actor_named all x h k
 event_named all (event.Mix seed) h k = tt
+event_named all event.Restart h k = tt
+event_named all (event.Recover x) h k = recovered_named all x h k
 
 events_named : (all : List Declared) (es : List Event) → AreNamed all → AreEvents all es → AllByRecursion HasActor es
 events_named all [] h k = tt
@@ -72,17 +80,19 @@ events_named all (e ∷ es) h k = (event_named all e h k.0, events_named all es 
 
 -- the head of a script's lines
 abbrev whole_head : Script → Head
-whole_head s = record (first_head s) { block = unless_zero s.block; stamp = s.stamp; fates = s.fates; losses = length (fin.entries s.fates) }
+whole_head s = record (first_head s) { block = unless_zero s.block; lanes = unless_one s.lanes; stamp = s.stamp; fates = s.fates; losses = length (fin.entries s.fates) }
 
 head_goes : (s : Script) → IsLegal s → fin.len s.fates ≤ 10000 → Goes 1 nothing (head_lines s) (headed (whole_head s))
 head_goes s h few =
     let h1 = first_head s in
     let h2 : Head = record h1 { block = unless_zero s.block } in
-    let h3 : Head = record h2 { stamp = s.stamp } in
-    goes_through 1 nothing (first_lines s) (headed h1) (block_lines s.block ++ (stamp_lines s.stamp ++ loss_lines s.fates)) (headed (whole_head s)) (first_again s h)
-    (λ n. goes_through n (headed h1) (block_lines s.block) (headed h2) (stamp_lines s.stamp ++ loss_lines s.fates) (headed (whole_head s)) (block_goes n h1 s.block h.block refl)
-    (λ m. goes_through m (headed h2) (stamp_lines s.stamp) (headed h3) (loss_lines s.fates) (headed (whole_head s)) (stamp_goes m h2 s.stamp h.stamp refl)
-    (λ k. losses_go k h3 s.fates refl refl h.fates few)))
+    let h4 : Head = record h2 { lanes = unless_one s.lanes } in
+    let h3 : Head = record h4 { stamp = s.stamp } in
+    goes_through 1 nothing (first_lines s) (headed h1) (block_lines s.block ++ (lanes_lines s.lanes ++ (stamp_lines s.stamp ++ loss_lines s.fates))) (headed (whole_head s)) (first_again s h)
+    (λ n. goes_through n (headed h1) (block_lines s.block) (headed h2) (lanes_lines s.lanes ++ (stamp_lines s.stamp ++ loss_lines s.fates)) (headed (whole_head s)) (block_goes n h1 s.block h.block refl)
+    (λ l. goes_through l (headed h2) (lanes_lines s.lanes) (headed h4) (stamp_lines s.stamp ++ loss_lines s.fates) (headed (whole_head s)) (lanes_go l h2 s.lanes h.one_lane h.few_lanes refl)
+    (λ m. goes_through m (headed h4) (stamp_lines s.stamp) (headed h3) (loss_lines s.fates) (headed (whole_head s)) (stamp_goes m h4 s.stamp h.stamp refl)
+    (λ k. losses_go k h3 s.fates refl refl h.fates few))))
 
 -- all that a script's lines have said
 abbrev whole_draft : Script → Draft
@@ -107,24 +117,33 @@ unique_again committer.Magic n m u h = subst (λ (x : Bool). unique_in committer
 unique_again committer.Directory n m u h = refl
 unique_again committer.Partitioned n m u h = refl
 
-block_kept : (x : ℕ) → x ≡ or_else (unless_zero x) 0
+block_kept : (x : ℕ) → x ≡ unwrap_or (unless_zero x) 0
 block_kept x = by (x == 0) refl
   where
-    by : (b : Bool) → (x == 0) ≡ b → x ≡ or_else (if b then None else Some x) 0
+    by : (b : Bool) → (x == 0) ≡ b → x ≡ unwrap_or (if b then None else Some x) 0
     by true e = eqb-true x 0 e
+    by false e = refl
+
+lanes_kept : (x : ℕ) → x ≡ unwrap_or (unless_one x) 1
+lanes_kept x = by (x == 1) refl
+  where
+    by : (b : Bool) → (x == 1) ≡ b → x ≡ unwrap_or (if b then None else Some x) 1
+    by true e = eqb-true x 1 e
     by false e = refl
 
 whole_script : (s : Script) → IsLegal s → complete (whole_draft s) ≡ Ok s
 whole_script s h =
-    completed (whole_draft s) s.job s.dest s.committer s.tasks s.mode s.unique s.retries s.block tt refl refl refl refl
-    (mode_again s.committer 5 s.mode s.unique h.magic) (unique_again s.committer 6 s.mode s.unique h.magic) refl (block_kept s.block) refl
+    completed (whole_draft s) s.job s.dest s.committer s.tasks s.mode s.unique s.retries s.block s.lanes tt refl refl refl refl
+    (mode_again s.committer 5 s.mode s.unique h.magic) (unique_again s.committer 6 s.mode s.unique h.magic) refl (block_kept s.block) (lanes_kept s.lanes) refl
 
 -- ---- the text
 
 script_printed : (s : Script) → IsLegal s → AllByRecursion IsPrinted (script_lines s)
 script_printed s h =
-    let head = printed_end (first_lines s) (block_lines s.block ++ (stamp_lines s.stamp ++ loss_lines s.fates)) (first_printed s h)
-    (printed_end (block_lines s.block) (stamp_lines s.stamp ++ loss_lines s.fates) (blocks_printed s.block h.block) (printed_end (stamp_lines s.stamp) (loss_lines s.fates) (stamp_printed s.stamp h.stamp) (losses_printed s.fates h.fates))) in
+    let head = printed_end (first_lines s) (block_lines s.block ++ (lanes_lines s.lanes ++ (stamp_lines s.stamp ++ loss_lines s.fates))) (first_printed s h)
+    (printed_end (block_lines s.block) (lanes_lines s.lanes ++ (stamp_lines s.stamp ++ loss_lines s.fates)) (blocks_printed s.block h.block)
+    (printed_end (lanes_lines s.lanes) (stamp_lines s.stamp ++ loss_lines s.fates) (lanes_printed s.lanes h.few_lanes)
+    (printed_end (stamp_lines s.stamp) (loss_lines s.fates) (stamp_printed s.stamp h.stamp) (losses_printed s.fates h.fates)))) in
     let named = events_named s.attempts s.events (are_named s.tasks [] s.attempts h.tasks h.attempts) h.events in
     printed_end (head_lines s) (flat_map attempt_lines s.attempts ++ map event_line s.events) head
     (printed_end (flat_map attempt_lines s.attempts) (map event_line s.events) (attempts_printed s.tasks [] s.attempts h.tasks h.attempts) (events_printed s.attempts s.events named h.events))

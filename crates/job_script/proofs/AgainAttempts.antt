@@ -6,13 +6,13 @@ use Rattle.std.proofs.lemmas.Bool.{lt-ltb, le-leb}
 use Rattle.std.proofs.lemmas.List.{append-nil}
 use Rattle.std.proofs.lemmas.List.Concat.{flat_map-cons}
 use Rattle.words.specs.Parts.{parts_of}
-use Rattle.line_words.proofs.Round.{number_in-decimal, two_numbers}
+use Rattle.words.proofs.Round.{number_in-decimal, two_numbers}
 use Rattle.s3_types.specs.declared.request.Actor.TheVariants as actor
 use Rattle.job_model.specs.Files.{File, has_path}
 use Rattle.job_model.specs.Attempts.{Declared, declares, last_files, with_file}
 use Rattle.job_model.specs.Paths.{is_path, is_hidden}
 use Rattle.job_model.specs.Legal.{IsFile, AreFiles, AreAttempts, files_in, bytes_of, bytes_in}
-use Rattle.job_model.specs.ReportText.{actor_text}
+use Rattle.s3_types.specs.Spelling.{actor_text}
 use Rattle.job_model.specs.declared.attempts.AttemptName.{AttemptName}
 use Rattle.job_script.specs.declared.draft.Draft.{Draft}
 use Rattle.job_script.specs.declared.draft.Head.{Head}
@@ -24,6 +24,7 @@ use Rattle.job_script.specs.Content.{hex_bytes, hex_at, content_at}
 use Rattle.job_script.specs.AttemptLines.{name_at, attempt_at, file_at, outside_at}
 use Rattle.job_script.specs.Script.{said_at, words_at}
 use Rattle.job_script.specs.Print.{Line, hex_word, file_line, attempt_lines}
+use Rattle.proof_base.proofs.Lists.{one_longer}
 use Rattle.job_script.proofs.AgainWords.{is_letter, literal_word, plain_word, decimal_letters, letters_end, hex_again, hex_word_letters, hex_word_some}
 use Rattle.job_script.proofs.AgainLines.{IsPrinted, plain_last, printed, Goes, goes_nowhere, goes_on, goes_through}
 use Rattle.job_script.proofs.AgainHead.{drafted}
@@ -201,7 +202,3 @@ attempts_go n g h tasks before (a ∷ more) files bytes enter t most are few som
     (goes_through n d (attempt_lines a) next (flat_map attempt_lines more) _
     (attempt_goes n g h tasks before a files bytes enter t most are.0 are.1 are.2 are.3 (omega (arith, few)) (omega (arith, some, x)) (omega (arith, short, y)))
     (λ m. attempts_go m group.Attempts h tasks (before ++ a ∷ []) more (files + length a.1) (bytes + bytes_of a.1) refl t most are.4 (omega (arith, few, longer)) (omega (arith, some, x)) (omega (arith, short, y)))))
-  where
-    one_longer : (xs : List Declared) (x : Declared) → length (xs ++ x ∷ []) ≡ length xs + 1
-    one_longer [] x = refl
-    one_longer (y ∷ xs) x = let old = one_longer xs x in omega (arith, old)

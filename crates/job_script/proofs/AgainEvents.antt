@@ -6,14 +6,16 @@ use Rattle.std.proofs.lemmas.Bool.{lt-ltb}
 use Rattle.std.proofs.lemmas.Fmt.{decimal_nonempty}
 use Rattle.std.proofs.lemmas.List.{append-nil}
 use Rattle.std.proofs.lemmas.Slice.Eq.{bytes_eq-Decides}
+use Rattle.proof_base.specs.Reading.{◌>>=◌}
 use Rattle.words.specs.Parts.{parts_of}
 use Rattle.words.proofs.Split.{lone_from}
-use Rattle.line_words.proofs.Round.{number_in-decimal, two_numbers}
+use Rattle.words.proofs.Round.{number_in-decimal, two_numbers}
 use Rattle.s3_types.specs.declared.request.Actor.{Actor}
 use Rattle.s3_types.specs.declared.request.Actor.TheVariants as actor
-use Rattle.job_model.specs.Attempts.{Declared, is_known}
+use Rattle.job_model.specs.Attempts.{Declared, declares, is_known}
 use Rattle.job_model.specs.Legal.{IsEvent, AreEvents, HasOp, IsScriptWord}
-use Rattle.job_model.specs.ReportText.{actor_text, op_word}
+use Rattle.s3_types.specs.Spelling.{actor_text}
+use Rattle.job_model.specs.Words.{op_word}
 use Rattle.job_model.specs.declared.attempts.AttemptName.{AttemptName}
 use Rattle.job_model.specs.declared.events.Op.{Op}
 use Rattle.job_model.specs.declared.events.Op.TheVariants as op
@@ -26,12 +28,12 @@ use Rattle.job_script.specs.declared.draft.Group.TheVariants as group
 use Rattle.job_script.specs.declared.kinds.EventWord.{EventWord}
 use Rattle.job_script.specs.declared.kinds.EventWord.TheVariants as words
 use Rattle.job_script.specs.declared.kinds.Kind.TheVariants as kind
-use Rattle.job_script.specs.Fault.{◌>>=◌}
 use Rattle.job_script.specs.Kinds.{kind_of, enters}
 use Rattle.job_script.specs.AttemptLines.{name_at}
-use Rattle.job_script.specs.EventLines.{is_driver, actor_at, op_of, order_at, alone_at, do_at, start_at, step_at, run_at, kill_at, mix_at, event_at, event_line_at}
+use Rattle.job_script.specs.EventLines.{is_driver, actor_at, op_of, order_at, alone_at, do_at, start_at, step_at, run_at, kill_at, mix_at, restart_at, recover_at, event_at, event_line_at}
 use Rattle.job_script.specs.Script.{said_at, words_at}
 use Rattle.job_script.specs.Print.{Line, event_line}
+use Rattle.proof_base.proofs.Lists.{one_longer}
 use Rattle.job_script.proofs.AgainWords.{is_letter, literal_word, plain_word, decimal_letters}
 use Rattle.job_script.proofs.AgainLines.{IsPrinted, plain_last, printed, Goes, goes_nowhere, goes_on}
 use Rattle.job_script.proofs.AgainHead.{drafted}
@@ -115,6 +117,12 @@ op_letters op.Clean = (refl, omega arith)
 
 -- ---- events
 
+-- an attempt that scripts name
+abbrev pub IsRecoveredActor : Actor → Type 0
+IsRecoveredActor actor.Driver = ⊥
+IsRecoveredActor (actor.Attempt t a) = IsNamed t a
+IsRecoveredActor actor.Shell = ⊥
+
 -- what holds of an event's actor
 abbrev pub HasActor : Event → Type 0
 HasActor (event.Do x o) = IsActor x
@@ -123,6 +131,8 @@ HasActor (event.Step x count) = IsActor x
 HasActor (event.Run x) = IsActor x
 HasActor (event.Kill x) = IsActor x
 HasActor (event.Mix seed) = Unit {0}
+HasActor event.Restart = Unit {0}
+HasActor (event.Recover x) = IsRecoveredActor x
 
 order_from : (n : ℕ) (d : Draft) (word other : List ℕ) (x : Actor) (o : Op) → op_of word other ≡ Some o → actor_at n word ≡ Ok x → is_known d.attempts x ≡ true → order_at n d (word ∷ other ∷ []) ≡ Ok (x, o)
 unfolding order_at
@@ -156,6 +166,24 @@ mix_from : (n seed : ℕ) → seed ≤ 2147483647 → mix_at n (decimal seed ∷
 unfolding mix_at
 mix_from n seed h = rw (number_in-decimal 0 2147483647 seed (omega arith) h (lit< tt)) refl
 
+restart_from : (n : ℕ) → restart_at n (codes "driver" ∷ []) ≡ Ok event.Restart
+unfolding restart_at
+restart_from n = refl
+
+recover_from : (n t a : ℕ) (d : Draft) (word : List ℕ) → name_at n word ≡ Ok (record { task = t; attempt = a }) → declares d.attempts (record { task = t; attempt = a }) ≡ true → recover_at n d (word ∷ []) ≡ Ok (event.Recover (actor.Attempt t a))
+unfolding recover_at
+recover_from n t a d word e k = rw (e, k) refl
+
+recover_again : (n : ℕ) (d : Draft) (x : Actor) → IsRecoveredActor x → IsEvent d.attempts (event.Recover x) → recover_at n d (actor_text x ∷ []) ≡ Ok (event.Recover x)
+recover_again n d actor.Driver h k = absurd h
+recover_again n d (actor.Attempt t a) h k = recover_from n t a d (actor_text (actor.Attempt t a)) (name_again n t a h.task h.attempt) k
+recover_again n d actor.Shell h k = absurd h
+
+recovered_actor : (x : Actor) → IsRecoveredActor x → IsActor x
+recovered_actor actor.Driver h = tt
+recovered_actor (actor.Attempt t a) h = h
+recovered_actor actor.Shell h = h
+
 -- the word of an event's line, and the words behind it
 abbrev event_word : Event → EventWord
 event_word (event.Do x o) = words.Do
@@ -164,6 +192,8 @@ event_word (event.Step x count) = words.Step
 event_word (event.Run x) = words.Run
 event_word (event.Kill x) = words.Kill
 event_word (event.Mix seed) = words.Mix
+event_word event.Restart = words.Restart
+event_word (event.Recover x) = words.Recover
 
 abbrev first_word : Event → List ℕ
 first_word (event.Do x o) = codes "do"
@@ -172,6 +202,8 @@ first_word (event.Step x count) = codes "step"
 first_word (event.Run x) = codes "run"
 first_word (event.Kill x) = codes "kill"
 first_word (event.Mix seed) = codes "mix"
+first_word event.Restart = codes "restart"
+first_word (event.Recover x) = codes "recover"
 
 abbrev other_words : Event → Line
 other_words (event.Do x o) = actor_text x ∷ op_word o ∷ []
@@ -180,6 +212,8 @@ other_words (event.Step x count) = actor_text x ∷ decimal count ∷ []
 other_words (event.Run x) = actor_text x ∷ []
 other_words (event.Kill x) = actor_text x ∷ []
 other_words (event.Mix seed) = decimal seed ∷ []
+other_words event.Restart = codes "driver" ∷ []
+other_words (event.Recover x) = actor_text x ∷ []
 
 parted_line : (e : Event) → event_line e ≡ first_word e ∷ other_words e
 parted_line (event.Do x o) = refl
@@ -188,6 +222,8 @@ parted_line (event.Step x count) = refl
 parted_line (event.Run x) = refl
 parted_line (event.Kill x) = refl
 parted_line (event.Mix seed) = refl
+parted_line event.Restart = refl
+parted_line (event.Recover x) = refl
 
 kind_again : (e : Event) → kind_of (first_word e) ≡ Some (kind.Event (event_word e))
 kind_again (event.Do x o) = refl
@@ -196,6 +232,8 @@ kind_again (event.Step x count) = refl
 kind_again (event.Run x) = refl
 kind_again (event.Kill x) = refl
 kind_again (event.Mix seed) = refl
+kind_again event.Restart = refl
+kind_again (event.Recover x) = refl
 
 event_again : (n : ℕ) (d : Draft) (e : Event) → HasActor e → IsEvent d.attempts e → event_at n (event_word e) d (other_words e) ≡ Ok e
 event_again n d (event.Do x o) a h = do_from n d (actor_text x ∷ op_word o ∷ []) x o (order_from n d (actor_text x) (op_word o) x o (op_again x o a h.1) (actor_again n x a) h.0)
@@ -204,6 +242,8 @@ event_again n d (event.Step x count) a h = step_from n d (actor_text x) x count 
 event_again n d (event.Run x) a h = run_from n d (actor_text x ∷ []) x (alone_from n d (actor_text x) x (actor_again n x a) h)
 event_again n d (event.Kill x) a h = kill_from n d (actor_text x ∷ []) x (alone_from n d (actor_text x) x (actor_again n x a) h)
 event_again n d (event.Mix seed) a h = mix_from n seed h
+event_again n d event.Restart a h = restart_from n
+event_again n d (event.Recover x) a h = recover_again n d x a h
 
 event_added : (n : ℕ) (word : EventWord) (values : List (List ℕ)) (d : Draft) (e : Event) → event_at n word d values ≡ Ok e → length d.events < 100000 → event_line_at n word d values ≡ Ok (record d { events = d.events ++ e ∷ [] })
 unfolding event_line_at
@@ -240,6 +280,10 @@ event_printed all (event.Mix seed) a h =
     let fits : seed < 2 ^ 64 = omega (arith, h) in
     let letters = decimal_letters seed fits in
     printed (codes "mix" ∷ []) (decimal seed) (literal_word (codes "mix") refl, (literal_word (decimal seed) letters, tt)) (plain_last (decimal seed) (decimal_nonempty seed fits) (plain_word (decimal seed) letters)) refl
+event_printed all event.Restart a h = printed (codes "restart" ∷ []) (codes "driver") (literal_word (codes "restart") refl, (literal_word (codes "driver") refl, tt)) (plain_last (codes "driver") (omega arith) (plain_word (codes "driver") refl)) refl
+event_printed all (event.Recover x) a h =
+    let named = recovered_actor x a in
+    printed (codes "recover" ∷ []) (actor_text x) (literal_word (codes "recover") refl, (literal_word (actor_text x) (actor_word x named), tt)) (plain_last (actor_text x) (some_actor x) (plain_word (actor_text x) (actor_word x named))) refl
 
 pub events_printed : (all : List Declared) (es : List Event) → AllByRecursion HasActor es → AreEvents all es → AllByRecursion IsPrinted (map event_line es)
 events_printed all [] a h = tt
@@ -267,7 +311,3 @@ events_go n g h all files bytes before (e ∷ es) a are few =
     subst (λ (l : Line). Goes n d (l ∷ map event_line es) (drafted group.Events h all files bytes (before ++ e ∷ es))) (sym (parted_line e))
     (subst (λ (f : Draft). Goes n d ((first_word e ∷ other_words e) ∷ map event_line es) f) end
     (goes_on n d next (first_word e) (other_words e) (map event_line es) _ (event_printed all e a.0 are.0) (event_read n g h all files bytes before e a.0 are.0 (omega (arith, few))) old))
-  where
-    one_longer : (xs : List Event) (x : Event) → length (xs ++ x ∷ []) ≡ length xs + 1
-    one_longer [] x = refl
-    one_longer (y ∷ xs) x = let old = one_longer xs x in omega (arith, old)

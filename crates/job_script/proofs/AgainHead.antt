@@ -5,14 +5,14 @@ use Rattle.std.specs.List.{list_all, AllByRecursion}
 use Rattle.std.specs.FinMap as fin
 use Rattle.std.proofs.lemmas.Bool.{and_parts, leb-true, lt-ltb}
 use Rattle.std.proofs.lemmas.Fmt.{decimal_nonempty}
-use Rattle.line_words.proofs.Round.{number_in-decimal}
+use Rattle.words.proofs.Round.{number_in-decimal}
 use Rattle.s3_types.specs.declared.request.Committer.{Committer}
 use Rattle.s3_types.specs.declared.request.Committer.TheVariants as committer
 use Rattle.s3_types.specs.declared.request.Mode.{Mode}
 use Rattle.s3_types.specs.declared.request.Mode.TheVariants as mode
 use Rattle.path_keys.specs.Paths.{Path, path_in}
 use Rattle.pending_json.specs.Trees.{committer_word}
-use Rattle.job_model.specs.Jobs.{is_job_id}
+use Rattle.s3_types.specs.Names.{is_job_id}
 use Rattle.job_model.specs.Paths.{is_dest_key}
 use Rattle.job_model.specs.Attempts.{Declared}
 use Rattle.job_model.specs.JobScript.{Script}
@@ -26,10 +26,10 @@ use Rattle.job_script.specs.declared.kinds.HeadWord.{HeadWord}
 use Rattle.job_script.specs.declared.kinds.HeadWord.TheVariants as head
 use Rattle.job_script.specs.declared.kinds.Kind.TheVariants as kind
 use Rattle.job_script.specs.Kinds.{kind_of, named, committers, modes, answers}
-use Rattle.job_script.specs.HeadLines.{head_at, job_at, dest_at, committer_at, tasks_at, mode_at, unique_at, retries_at, block_at, stamp_at}
+use Rattle.job_script.specs.HeadLines.{head_at, job_at, dest_at, committer_at, tasks_at, mode_at, unique_at, retries_at, block_at, lanes_at, stamp_at}
 use Rattle.job_script.specs.Script.{is_skipped, said_at, words_at, no_head, nothing}
-use Rattle.job_script.specs.Print.{Line, path_text, mode_word, answer_word, block_lines, stamp_lines}
-use Rattle.job_script.proofs.Steps.{not_so}
+use Rattle.job_script.specs.Print.{path_text, mode_word, answer_word, block_lines, lanes_lines, stamp_lines, first_lines}
+use Rattle.proof_base.proofs.Bools.{not_so}
 use Rattle.job_script.proofs.SoundWords.{either}
 use Rattle.job_script.proofs.AgainWords.{is_letter, literal_word, plain_word, decimal_letters, id_letters, id_some}
 use Rattle.job_script.proofs.AgainPaths.{path_again, path_word, path_last}
@@ -99,6 +99,10 @@ block_again : (n : ℕ) (h : Head) (x : ℕ) → 1 ≤ x → x ≤ 67108864 → 
 unfolding block_at
 block_again n h x some le e = rw (number_in-decimal 1 67108864 x some le (lit< tt), e) refl
 
+lanes_again : (n : ℕ) (h : Head) (x : ℕ) → 1 ≤ x → x ≤ 8 → h.lanes ≡ None → lanes_at n h (decimal x ∷ []) ≡ Ok (record h { lanes = Some x })
+unfolding lanes_at
+lanes_again n h x some le e = rw (number_in-decimal 1 8 x some le (lit< tt), e) refl
+
 stamp_again : (n : ℕ) (h : Head) (x : ℕ) → x < 10 ^ 18 → h.stamp ≡ None → stamp_at n h (decimal x ∷ []) ≡ Ok (record h { stamp = Some x })
 unfolding stamp_at
 stamp_again n h x lt e = rw (number_in-decimal 0 999999999999999999 x (omega arith) (omega (arith, lt)) (lit< tt), e) refl
@@ -135,21 +139,9 @@ answer_letters false = (refl, omega arith)
 
 -- ---- the lines
 
--- the head that the lines give but for `block`, `stamp` and `loss`
+-- the head that the lines give but for `block`, `lanes`, `stamp` and `loss`
 abbrev pub first_head : Script → Head
-first_head s = record { job = Some s.job; dest = Some s.dest; committer = Some s.committer; tasks = Some s.tasks; mode = Some (5, s.mode); unique = Some (6, s.unique); retries = Some s.retries; block = None; stamp = None; fates = fin.empty; losses = 0 }
-
--- the lines but for `block`, `stamp` and `loss`
-abbrev pub first_lines : Script → List Line
-first_lines s =
-    (codes "job" ∷ s.job ∷ [])
-    ∷ (codes "dest" ∷ path_text s.dest ∷ [])
-    ∷ (codes "committer" ∷ committer_word s.committer ∷ [])
-    ∷ (codes "tasks" ∷ decimal s.tasks ∷ [])
-    ∷ (codes "mode" ∷ mode_word s.mode ∷ [])
-    ∷ (codes "unique" ∷ answer_word s.unique ∷ [])
-    ∷ (codes "retries" ∷ decimal s.retries ∷ [])
-    ∷ []
+first_head s = record { job = Some s.job; dest = Some s.dest; committer = Some s.committer; tasks = Some s.tasks; mode = Some (5, s.mode); unique = Some (6, s.unique); retries = Some s.retries; block = None; lanes = None; stamp = None; fates = fin.empty; losses = 0 }
 
 key_some : (p : Path) → IsDest p → 0 < length p.key
 key_some p h = omega (arith, leb-true 1 (length p.key) (and_parts _ _ (and_parts _ _ (and_parts _ _ h.below).0).0).0)
@@ -218,6 +210,25 @@ block_goes n h x le e = by (x == 0) refl
     by false k =
         let next : Head = record h { block = Some x } in
         goes_on n (headed h) (headed next) (codes "block") (decimal x ∷ []) [] (headed next) (block_printed x le) (head_line n (codes "block") head.Block (decimal x ∷ []) h next refl (block_again n h x (not_zero k) le e)) (goes_nowhere (n + 1) (headed next))
+
+-- the number, unless it is 1
+abbrev pub unless_one : ℕ → Option ℕ
+unless_one x = if x == 1 then None else Some x
+
+lane_printed : (x : ℕ) → x ≤ 8 → IsPrinted (codes "lanes" ∷ decimal x ∷ [])
+lane_printed x h = number_line (codes "lanes") x (literal_word (codes "lanes") refl) (omega (arith, h)) (λ v. refl)
+
+pub lanes_printed : (x : ℕ) → x ≤ 8 → AllByRecursion IsPrinted (lanes_lines x)
+lanes_printed x h = either (AllByRecursion IsPrinted) (x == 1) [] ((codes "lanes" ∷ decimal x ∷ []) ∷ []) (λ e. tt) (λ e. (lane_printed x h, tt))
+
+pub lanes_go : (n : ℕ) (h : Head) (x : ℕ) → 1 ≤ x → x ≤ 8 → h.lanes ≡ None → Goes n (headed h) (lanes_lines x) (headed (record h { lanes = unless_one x }))
+lanes_go n h x some le e = by (x == 1)
+  where
+    by : (b : Bool) → Goes n (headed h) (if b then [] else (codes "lanes" ∷ decimal x ∷ []) ∷ []) (headed (record h { lanes = if b then None else Some x }))
+    by true = subst (λ (o : Option ℕ). Goes n (headed h) [] (headed (record h { lanes = o }))) e (goes_nowhere n (headed h))
+    by false =
+        let next : Head = record h { lanes = Some x } in
+        goes_on n (headed h) (headed next) (codes "lanes") (decimal x ∷ []) [] (headed next) (lane_printed x le) (head_line n (codes "lanes") head.Lanes (decimal x ∷ []) h next refl (lanes_again n h x some le e)) (goes_nowhere (n + 1) (headed next))
 
 pub stamp_printed : (o : Option ℕ) → IfSome o (λ n. n < 10 ^ 18) → AllByRecursion IsPrinted (stamp_lines o)
 stamp_printed None h = tt

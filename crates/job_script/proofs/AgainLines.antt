@@ -5,12 +5,12 @@ use Rattle.std.specs.Str.{IsUtf8, is_utf8}
 use Rattle.std.proofs.lemmas.List.Concat.{flat_map-cons}
 use Rattle.std.proofs.lemmas.Str.{IsUtf8-append, IsUtf8-nil, IsUtf8-from_ascii, IsUtf8-from_is_utf8, is_utf8-from_IsUtf8}
 use Rattle.std.proofs.lemmas.Str.Ascii.{IsAscii-nil, IsAscii-cons}
+use Rattle.proof_base.specs.Reading.{◌>>=◌}
 use Rattle.words.specs.Lines.{lines_of, without_return}
-use Rattle.line_words.specs.Words.{joined, ended, text_of, IsBare, IsWord}
-use Rattle.line_words.proofs.Round.{AreLines, lines_again, bare-joined, kept_end}
+use Rattle.words.specs.Words.{joined, ended, text_of, IsBare, IsWord}
+use Rattle.words.proofs.Round.{AreLines, lines_again, bare-joined, kept_end}
 use Rattle.job_model.specs.Legal.{IsScriptWord}
 use Rattle.job_script.specs.declared.draft.Draft.{Draft}
-use Rattle.job_script.specs.Fault.{◌>>=◌}
 use Rattle.job_script.specs.Print.{Line}
 use Rattle.job_script.specs.Script.{is_skipped, words_at, line_at, lines_at}
 

@@ -13,7 +13,7 @@ use Rattle.std.proofs.lemmas.Map.Lookups.{exact_unsigned}
 use Rattle.std.specs.Cmp.{nat_cmp_total}
 use Rattle.std.proofs.lemmas.Bool.Decides.{nat_tests}
 use Rattle.proof_base.proofs.Tree.{map_sorted}
-use Rattle.line_words.proofs.Round.{number_in-decimal}
+use Rattle.words.proofs.Round.{number_in-decimal}
 use Rattle.s3_types.specs.Fates.{FateMap, with_fates, is_answer}
 use Rattle.s3_types.specs.declared.fates.Fate.{Fate}
 use Rattle.s3_types.specs.declared.fates.Fate.TheVariants as fate
@@ -24,7 +24,8 @@ use Rattle.job_script.specs.declared.kinds.HeadWord.TheVariants as head
 use Rattle.job_script.specs.Kinds.{named, fates}
 use Rattle.job_script.specs.HeadLines.{loss_at, loss_of, named_at, has_one}
 use Rattle.job_script.specs.Print.{fate_word, loss_line, loss_lines}
-use Rattle.job_script.proofs.PrintEntries.{AreAbove, other_key, is_below, find_head, find_other, not_found}
+use Rattle.proof_base.proofs.Numbers.{less_is}
+use Rattle.proof_base.proofs.EntriesFrom.{AreAbove, other_key, find_head, find_other, not_found}
 use Rattle.job_script.proofs.AgainWords.{is_letter, literal_word, plain_word, decimal_letters}
 use Rattle.job_script.proofs.AgainLines.{IsPrinted, plain_last, printed, Goes, goes_nowhere, goes_on}
 use Rattle.job_script.proofs.AgainHead.{headed, head_line}
@@ -126,7 +127,7 @@ AreNew m es = AllByRecursion (λ e. fin.get m e.0 ≡ None) es
 still_new : (m : FateMap) (k : ℕ) (f : Fate) (es : List (ℕ × Fate)) → AreAbove k es → AreNew m es → AreNew (fin.insert m k f) es
 still_new m k f [] above h = tt
 still_new m k f (e ∷ es) above h =
-    let lt = is_below k e.0 above.0 in
+    let lt = less_is k e.0 above.0 in
     (fin.get-insert nat_cmp_total m k f e.0 ∙ ap (λ b. cond b (Some f) (fin.get m e.0)) (other_key e.0 k (λ q. omega (arith, lt, q))) ∙ h.0, still_new m k f es above.1 h.1)
 
 all_new : (es : List (ℕ × Fate)) → AreNew fin.empty es

@@ -2,6 +2,7 @@
 use Rattle.std.proofs.Common.{◌≡◌, ◌≢◌, ℕ, suc, ◌-◌, ◌<◌, ◌≤◌, ◌==◌, Bool, true, false, not, List, [], ◌∷◌, ◌++◌, length, drop, get_or, Option, Some, None, Result, Ok, refl, sym, ap, ◌∙◌, arith, append_assoc}
 use Rattle.std.specs.Prelude.{if◌then◌else◌, ◌&&◌, nat_eq, nat_lt, codes, bytes_eq}
 use Rattle.std.specs.List.{list_all, ends_with}
+use Rattle.std.specs.Option.{option_or}
 use Rattle.std.specs.Cmp.Lexicographic.{pointwise}
 use Rattle.std.proofs.lemmas.Bool.{and_parts, leb-true}
 use Rattle.std.proofs.lemmas.List.{length-append, get_or-append_right}
@@ -12,10 +13,10 @@ use Rattle.std.proofs.Math.ListN.{drop_of_length-le}
 use Rattle.words.specs.Lines.{without_return}
 use Rattle.words.specs.Parts.{parts_of, is_other}
 use Rattle.words.proofs.Split.{part_from}
-use Rattle.line_words.specs.Words.{is_bare}
+use Rattle.words.specs.Words.{is_bare}
 use Rattle.s3_types.specs.Names.{is_bucket, is_name_byte, is_element, trimmed}
 use Rattle.s3_types.proofs.Utf8.{bucket_utf8}
-use Rattle.path_keys.specs.Paths.{Path, is_key, path_in, path_of, named, bucket_in, key_of, element_fault, first_fault, or_else}
+use Rattle.path_keys.specs.Paths.{Path, is_key, path_in, path_of, named, bucket_in, key_of, element_fault, first_fault}
 use Rattle.path_keys.specs.declared.fault.PathFault.{PathFault}
 use Rattle.path_keys.specs.declared.fault.PathFault.TheVariants.{EmptyElement, DotElement}
 use Rattle.path_keys.proofs.Ends.{no_end}
@@ -24,8 +25,9 @@ use Rattle.path_keys.proofs.Faults.{text_fits}
 use Rattle.path_keys.proofs.Last.{parts_round}
 use Rattle.job_model.specs.Legal.{IsDest, IsScriptWord}
 use Rattle.job_script.specs.Print.{path_text}
-use Rattle.job_script.proofs.Steps.{not_so}
-use Rattle.job_script.proofs.AgainWords.{literal_word, weaker}
+use Rattle.proof_base.proofs.Bools.{not_so}
+use Rattle.proof_base.proofs.Lists.{weaker}
+use Rattle.job_script.proofs.AgainWords.{literal_word}
 use Rattle.job_script.proofs.AgainLines.{IsLast}
 
 -- ---- the bucket
@@ -50,7 +52,7 @@ element_kept e h = kept_if (length e == 0) (not (bytes_eq e (codes "."))) (not (
 
 elements_kept : (es : List (List ℕ)) → list_all is_element es ≡ true → first_fault es ≡ None
 elements_kept [] h = refl
-elements_kept (e ∷ es) h = let p = and_parts (is_element e) (list_all is_element es) h in ap (λ (f : Option PathFault). or_else f (first_fault es)) (element_kept e p.0) ∙ elements_kept es p.1
+elements_kept (e ∷ es) h = let p = and_parts (is_element e) (list_all is_element es) h in ap (λ (f : Option PathFault). option_or f (first_fault es)) (element_kept e p.0) ∙ elements_kept es p.1
 
 key_again : (key : List ℕ) → 0 < length key → is_key key ≡ true → key_of (parts_of 47 key) ≡ Ok key
 key_again key some h = let k = some_key key some h in text_fits key (sym (elements_kept (parts_of 47 key) k.0)) k.1

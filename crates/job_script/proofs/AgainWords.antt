@@ -7,17 +7,14 @@ use Rattle.std.proofs.lemmas.Bool.{and_parts, leb-true, ltb-true, lt-ltb, le-leb
 use Rattle.std.proofs.lemmas.List.Concat.{flat_map-cons}
 use Rattle.std.proofs.lemmas.Str.{IsUtf8-from_ascii, is_utf8-from_IsUtf8}
 use Rattle.std.proofs.lemmas.Str.Ascii.{IsAscii-nil, IsAscii-cons}
-use Rattle.line_words.specs.Words.{is_plain, IsWord}
-use Rattle.line_words.specs.Numbers.{is_digit}
-use Rattle.line_words.proofs.Round.{word_bare, digit_inside}
-use Rattle.job_model.specs.Jobs.{is_job_id, is_id_byte}
+use Rattle.proof_base.proofs.Lists.{weaker}
+use Rattle.words.specs.Words.{is_plain, IsWord}
+use Rattle.words.specs.Numbers.{is_digit}
+use Rattle.words.proofs.Round.{word_bare, digit_inside}
+use Rattle.s3_types.specs.Names.{is_job_id, is_id_byte}
 use Rattle.job_model.specs.Legal.{IsScriptWord, are_bytes}
 use Rattle.job_script.specs.Content.{hex_digit, unhex, hex_bytes}
 use Rattle.job_script.specs.Print.{lower_digit, hex_digits, hex_word}
-
-pub weaker : (p q : ℕ → Bool) → ((b : ℕ) → p b ≡ true → q b ≡ true) → (xs : List ℕ) → list_all p xs ≡ true → list_all q xs ≡ true
-weaker p q f [] h = refl
-weaker p q f (x ∷ xs) h = let k = and_parts (p x) (list_all p xs) h in rw (f x k.0, weaker p q f xs k.1) refl
 
 -- ASCII without blank and line ends
 abbrev pub is_letter : ℕ → Bool
@@ -108,35 +105,40 @@ lower_letter d h = (lower_at (nat_lt d 10) d h refl).0
 pub lower_again : (d : ℕ) → d < 16 → hex_digit (lower_digit d) ≡ Some d
 lower_again d h = (lower_at (nat_lt d 10) d h refl).1
 
+-- a byte's halves, and the bytes behind it
+record Halved (b : ℕ) (bytes : List ℕ) : Type 0 where
+  pub high : b / 16 < 16
+  pub low : b % 16 < 16
+  pub rest : are_bytes bytes ≡ true
+
+halved : (b : ℕ) (bytes : List ℕ) → are_bytes (b ∷ bytes) ≡ true → Halved b bytes
+halved b bytes h =
+    let p = and_parts (nat_lt b 256) (are_bytes bytes) h in
+    let k = ltb-true b 256 p.0 in
+    record { high = omega (arith, k); low = omega arith; rest = p.1 }
+
+digits_first : (b : ℕ) (bytes : List ℕ) → hex_digits (b ∷ bytes) ≡ lower_digit (b / 16) ∷ lower_digit (b % 16) ∷ hex_digits bytes
+digits_first b bytes = flat_map-cons (λ (b : ℕ). lower_digit (b / 16) ∷ lower_digit (b % 16) ∷ []) b bytes
+
 pub hex_letters : (bytes : List ℕ) → are_bytes bytes ≡ true → list_all is_letter (hex_digits bytes) ≡ true
 hex_letters [] h = refl
 hex_letters (b ∷ bytes) h =
-    let p = and_parts (nat_lt b 256) (are_bytes bytes) h in
-    let k = ltb-true b 256 p.0 in
-    let high : b / 16 < 16 = omega (arith, k) in
-    let low : b % 16 < 16 = omega arith in
-    ap (list_all is_letter) (flat_map-cons (λ (b : ℕ). lower_digit (b / 16) ∷ lower_digit (b % 16) ∷ []) b bytes) ∙ rw (lower_letter (b / 16) high, lower_letter (b % 16) low, hex_letters bytes p.1) refl
+    let p = halved b bytes h in
+    ap (list_all is_letter) (digits_first b bytes) ∙ rw (lower_letter (b / 16) p.high, lower_letter (b % 16) p.low, hex_letters bytes p.rest) refl
 
 pub unhex_again : (bytes : List ℕ) → are_bytes bytes ≡ true → unhex (hex_digits bytes) ≡ Some bytes
 unfolding unhex
 unhex_again [] h = refl
 unhex_again (b ∷ bytes) h =
-    let p = and_parts (nat_lt b 256) (are_bytes bytes) h in
-    let k = ltb-true b 256 p.0 in
-    let high : b / 16 < 16 = omega (arith, k) in
-    let low : b % 16 < 16 = omega arith in
+    let p = halved b bytes h in
     let whole : b / 16 * 16 + b % 16 ≡ b = omega arith in
-    ap unhex (flat_map-cons (λ (b : ℕ). lower_digit (b / 16) ∷ lower_digit (b % 16) ∷ []) b bytes)
-    ∙ rw (lower_again (b / 16) high, lower_again (b % 16) low, unhex_again bytes p.1) (ap (λ (x : ℕ). Some (x ∷ bytes)) whole)
+    ap unhex (digits_first b bytes) ∙ rw (lower_again (b / 16) p.high, lower_again (b % 16) p.low, unhex_again bytes p.rest) (ap (λ (x : ℕ). Some (x ∷ bytes)) whole)
 
 -- two digits a byte are not the one `-`
 pub hex_again : (bytes : List ℕ) → are_bytes bytes ≡ true → hex_bytes (hex_word bytes) ≡ Some bytes
 hex_again [] h = refl
-hex_again (b ∷ bytes) h = ap hex_bytes cons ∙ long (lower_digit (b / 16)) (lower_digit (b % 16)) (hex_digits bytes) ∙ ap unhex (sym cons) ∙ unhex_again (b ∷ bytes) h
+hex_again (b ∷ bytes) h = ap hex_bytes (digits_first b bytes) ∙ long (lower_digit (b / 16)) (lower_digit (b % 16)) (hex_digits bytes) ∙ ap unhex (sym (digits_first b bytes)) ∙ unhex_again (b ∷ bytes) h
   where
-    cons : hex_digits (b ∷ bytes) ≡ lower_digit (b / 16) ∷ lower_digit (b % 16) ∷ hex_digits bytes
-    cons = flat_map-cons (λ (b : ℕ). lower_digit (b / 16) ∷ lower_digit (b % 16) ∷ []) b bytes
-
     long_if : (dash some : Bool) (x y : ℕ) (rest : List ℕ) → some ≡ true → (if dash && false then Some [] else (if some then unhex (x ∷ y ∷ rest) else None)) ≡ unhex (x ∷ y ∷ rest)
     long_if true some x y rest h = rw h refl
     long_if false some x y rest h = rw h refl
@@ -150,4 +152,4 @@ hex_word_letters (b ∷ bytes) h = hex_letters (b ∷ bytes) h
 
 pub hex_word_some : (bytes : List ℕ) → 0 < length (hex_word bytes)
 hex_word_some [] = omega arith
-hex_word_some (b ∷ bytes) = subst (λ (l : List ℕ). 0 < length l) (sym (flat_map-cons (λ (b : ℕ). lower_digit (b / 16) ∷ lower_digit (b % 16) ∷ []) b bytes)) (omega arith)
+hex_word_some (b ∷ bytes) = subst (λ (l : List ℕ). 0 < length l) (sym (digits_first b bytes)) (omega arith)

@@ -2,7 +2,6 @@ pub mod Completes
 pub mod Ends
 pub mod Hex
 pub mod Losses
-pub mod Only
 pub mod Steps
 pub mod SoundWords
 pub mod SoundPaths
@@ -11,7 +10,6 @@ pub mod SoundHead
 pub mod SoundAttempts
 pub mod SoundEvents
 pub mod Sound
-pub mod PrintEntries
 pub mod PrintHex
 pub mod PrintLines
 pub mod PrintLosses

@@ -3,6 +3,7 @@ use Rattle.std.proofs.Common.{◌≡◌, ◌↔◌, ℕ, zero, suc, ◌+◌, ◌
 use Rattle.std.specs.Prelude.{⊤, IsErrOf, OnOk}
 use Rattle.std.specs.FinMap.{get}
 use Rattle.std.proofs.lemmas.Bool.{cases_lt}
+use Rattle.proof_base.proofs.Options.{none_is}
 use Rattle.s3_types.specs.Fates.{FateMap, with_fates, IsFirstNamed}
 use Rattle.s3_types.specs.declared.fates.FateFault.{FateFault}
 use Rattle.s3_types.specs.declared.fates.FateFault.TheVariants.{Taken}
@@ -17,10 +18,6 @@ or_right false = refl
 or_none : (a b : Bool) → a || b ≡ false → (a ≡ false) × (b ≡ false)
 or_none true b h = absurd (true≢false h)
 or_none false b h = (refl, h)
-
-no_value : {A : Type 0} (o : Option A) → is_some o ≡ false → o ≡ None
-no_value None h = refl
-no_value (Some x) h = absurd (true≢false h)
 
 -- a sending in the row that has a fate is one
 pub some_named : (m : FateMap) (first count n : ℕ) → first ≤ n → n < first + count → is_some (get m n) ≡ true → has_one m first count ≡ true
@@ -40,7 +37,7 @@ none_named m first (suc c) n h low high =
     let parts = or_none (has_one m first c) _ h in
     elim (cases_lt n (first + c)) [
       | inl lt ↦ none_named m first c n parts.0 low lt
-      | inr le ↦ let e : first + c ≡ n = omega (arith, le, high) in ap (get m) (sym e) ∙ no_value _ parts.1
+      | inr le ↦ let e : first + c ≡ n = omega (arith, le, high) in ap (get m) (sym e) ∙ none_is _ parts.1
     ]
 
 wider : (m : FateMap) (first c : ℕ) → ((n : ℕ) × IsFirstNamed m first c n) → (n : ℕ) × IsFirstNamed m first (suc c) n

@@ -3,11 +3,11 @@ use Rattle.std.proofs.Common.{◌≡◌, ℕ, List, [], ◌∷◌, ◌++◌, map
 use Rattle.std.specs.List.{flat_map}
 use Rattle.std.specs.Fmt.{decimal}
 use Rattle.std.proofs.lemmas.List.Concat.{flat_map-append}
-use Rattle.line_words.specs.Words.{ended, text_of}
+use Rattle.words.specs.Words.{ended, text_of}
 use Rattle.pending_json.specs.Trees.{committer_word}
 use Rattle.job_model.specs.JobScript.{Script}
 use Rattle.job_model.specs.declared.events.Event.{Event}
-use Rattle.job_script.specs.Print.{Line, mode_word, answer_word, path_text, block_lines, stamp_lines, loss_lines, head_lines, attempt_lines, event_line, script_text}
+use Rattle.job_script.specs.Print.{Line, mode_word, answer_word, path_text, block_lines, lanes_lines, stamp_lines, loss_lines, head_lines, attempt_lines, event_line, script_text}
 
 -- lines behind lines
 text_of_both : (xs ys : List Line) → text_of (xs ++ ys) ≡ text_of xs ++ text_of ys
@@ -15,6 +15,9 @@ text_of_both xs ys = flat_map-append ended xs ys
 
 text_of_three : (xs ys zs : List Line) → text_of (xs ++ (ys ++ zs)) ≡ text_of xs ++ (text_of ys ++ text_of zs)
 text_of_three xs ys zs = text_of_both xs (ys ++ zs) ∙ ap (λ l. text_of xs ++ l) (text_of_both ys zs)
+
+text_of_four : (ws xs ys zs : List Line) → text_of (ws ++ (xs ++ (ys ++ zs))) ≡ text_of ws ++ (text_of xs ++ (text_of ys ++ text_of zs))
+text_of_four ws xs ys zs = text_of_both ws (xs ++ (ys ++ zs)) ∙ ap (λ l. text_of ws ++ l) (text_of_three xs ys zs)
 
 -- one text, and the next behind it
 both : (old one new first second : List ℕ) → one ≡ old ++ first → new ≡ one ++ second → new ≡ old ++ (first ++ second)
@@ -29,7 +32,7 @@ pub numbered : (old new name : List ℕ) (number same : ℕ) → new ≡ old ++ 
 numbered old new name number same e f = e ∙ ap (λ n. old ++ ended (name ∷ decimal n ∷ [])) f
 
 -- what is written line by line is the head
-pub head_is : (s t : Script) (old job dest committer tasks mode unique retries block stamp all : List ℕ) → t ≡ s
+pub head_is : (s t : Script) (old job dest committer tasks mode unique retries block lanes stamp all : List ℕ) → t ≡ s
     → job ≡ old ++ ended (codes "job" ∷ t.job ∷ [])
     → dest ≡ job ++ ended (codes "dest" ∷ path_text t.dest ∷ [])
     → committer ≡ dest ++ ended (codes "committer" ∷ committer_word t.committer ∷ [])
@@ -38,11 +41,12 @@ pub head_is : (s t : Script) (old job dest committer tasks mode unique retries b
     → unique ≡ mode ++ ended (codes "unique" ∷ answer_word t.unique ∷ [])
     → retries ≡ unique ++ ended (codes "retries" ∷ decimal t.retries ∷ [])
     → block ≡ retries ++ text_of (block_lines t.block)
-    → stamp ≡ block ++ text_of (stamp_lines t.stamp)
+    → lanes ≡ block ++ text_of (lanes_lines t.lanes)
+    → stamp ≡ lanes ++ text_of (stamp_lines t.stamp)
     → all ≡ stamp ++ text_of (loss_lines t.fates)
     → all ≡ old ++ text_of (head_lines s)
-head_is s t old job dest committer tasks mode unique retries block stamp all same e1 e2 e3 e4 e5 e6 e7 e8 e9 e10 =
-    let others = both retries block all _ _ e8 (both block stamp all _ _ e9 e10) ∙ ap (λ l. retries ++ l) (sym (text_of_three (block_lines t.block) (stamp_lines t.stamp) (loss_lines t.fates))) in
+head_is s t old job dest committer tasks mode unique retries block lanes stamp all same e1 e2 e3 e4 e5 e6 e7 e8 e11 e9 e10 =
+    let others = both retries block all _ _ e8 (both block lanes all _ _ e11 (both lanes stamp all _ _ e9 e10)) ∙ ap (λ l. retries ++ l) (sym (text_of_four (block_lines t.block) (lanes_lines t.lanes) (stamp_lines t.stamp) (loss_lines t.fates))) in
     both old job all _ _ e1 (both job dest all _ _ e2 (both dest committer all _ _ e3 (both committer tasks all _ _ e4 (both tasks mode all _ _ e5 (both mode unique all _ _ e6 (both unique retries all _ _ e7 others))))))
     ∙ ap (λ (w : Script). old ++ text_of (head_lines w)) same
 

@@ -2,11 +2,11 @@
 use Rattle.std.proofs.Common.{◌≡◌, ℕ, ◌+◌, ◌≤◌, List, ◌∷◌, ◌++◌, map, Some, None, sym, ap, ◌∙◌, append_assoc}
 use Rattle.std.specs.FinMap.{get}
 use Rattle.std.proofs.lemmas.List.{append-nil}
-use Rattle.line_words.specs.Words.{ended, text_of}
+use Rattle.words.specs.Words.{ended, text_of}
 use Rattle.s3_types.specs.Fates.{FateMap, IsFirstFrom}
 use Rattle.s3_types.specs.declared.fates.Fate.{Fate}
 use Rattle.job_script.specs.Print.{loss_line, loss_lines}
-use Rattle.job_script.proofs.PrintEntries.{entries_from, no_entry_from, entry_from, all_entries_from}
+use Rattle.proof_base.proofs.EntriesFrom.{entries_from, no_entry_from, entry_from, all_entries_from}
 
 -- the lines of the sendings from n on
 abbrev pub losses_from : ℕ → FateMap → List ℕ

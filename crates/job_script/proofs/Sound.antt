@@ -5,8 +5,11 @@ use Rattle.std.specs.List.{AllByRecursion}
 use Rattle.std.specs.Str.{is_utf8}
 use Rattle.std.specs.FinMap as map
 use Rattle.std.specs.Ordering.{nat_cmp}
+use Rattle.std.specs.Option.{unwrap_or}
+use Rattle.proof_base.specs.Reading.{need}
+use Rattle.proof_base.proofs.Reading.{parted, same_ok, needed}
 use Rattle.words.specs.Lines.{lines_of, is_inside}
-use Rattle.line_words.specs.Words.{words_of}
+use Rattle.words.specs.Words.{words_of}
 use Rattle.s3_types.specs.declared.fates.Fate.{Fate}
 use Rattle.s3_types.specs.declared.request.Committer.{Committer}
 use Rattle.s3_types.specs.declared.request.Committer.TheVariants as committer
@@ -21,15 +24,13 @@ use Rattle.job_script.specs.declared.draft.Group.{Group}
 use Rattle.job_script.specs.declared.draft.Group.TheVariants as group
 use Rattle.job_script.specs.declared.kinds.Kind.{Kind}
 use Rattle.job_script.specs.declared.kinds.Kind.TheVariants as kind
-use Rattle.job_script.specs.Fault.{need}
 use Rattle.job_script.specs.Kinds.{kind_of, enters}
 use Rattle.job_script.specs.HeadLines.{head_at}
-use Rattle.job_script.specs.Script.{is_skipped, said_at, words_at, line_at, lines_at, nothing, mode_in, unique_in, all_inside, or_else, complete}
+use Rattle.job_script.specs.Script.{is_skipped, said_at, words_at, line_at, lines_at, nothing, mode_in, unique_in, all_inside, complete}
 use Rattle.job_model.specs.Legal.{IsLegal, FitsMagic, AreAttempts, IsScriptWord}
-use Rattle.job_script.proofs.Steps.{parted, same_ok, needed}
 use Rattle.job_script.proofs.SoundWords.{IsClean, text_clean, line_words}
 use Rattle.job_script.proofs.SoundHead.{IsSoundHead, head_sound}
-use Rattle.job_script.proofs.SoundAttempts.{IsSoundAttempts, attempt_sound, file_sound, attempt_keeps, file_keeps}
+use Rattle.job_script.proofs.SoundAttempts.{IsSoundAttempts, SameElse, attempt_sound, file_sound}
 use Rattle.job_script.proofs.SoundEvents.{IsSoundEvents, event_added, event_sound, no_events}
 
 -- what a group's lines have not said yet
@@ -77,31 +78,12 @@ moved d g early s =
 -- a line's group comes behind those before it
 entered : (k : Kind) (now g : Group) (d : Draft) → enters k now ≡ Some g → IsEarly now d → IsEarly g d
 entered (kind.Head w) group.Head group.Head d h e = e
-entered (kind.Head w) group.Head group.Attempts d h e = absurd cc
-entered (kind.Head w) group.Head group.Events d h e = absurd cc
-entered (kind.Head w) group.Attempts g d h e = absurd cc
-entered (kind.Head w) group.Events g d h e = absurd cc
-entered kind.Attempt group.Head group.Head d h e = absurd cc
 entered kind.Attempt group.Head group.Attempts d h e = e.1
-entered kind.Attempt group.Head group.Events d h e = tt
-entered kind.Attempt group.Attempts group.Head d h e = absurd cc
 entered kind.Attempt group.Attempts group.Attempts d h e = e
-entered kind.Attempt group.Attempts group.Events d h e = tt
-entered kind.Attempt group.Events g d h e = absurd cc
-entered kind.File group.Head g d h e = absurd cc
-entered kind.File group.Attempts group.Head d h e = absurd cc
 entered kind.File group.Attempts group.Attempts d h e = e
-entered kind.File group.Attempts group.Events d h e = tt
-entered kind.File group.Events g d h e = absurd cc
 entered (kind.Event w) group.Head group.Head d h e = absurd cc
-entered (kind.Event w) group.Head group.Attempts d h e = absurd cc
-entered (kind.Event w) group.Head group.Events d h e = tt
-entered (kind.Event w) group.Attempts group.Head d h e = absurd cc
-entered (kind.Event w) group.Attempts group.Attempts d h e = absurd cc
-entered (kind.Event w) group.Attempts group.Events d h e = tt
-entered (kind.Event w) group.Events group.Head d h e = absurd cc
-entered (kind.Event w) group.Events group.Attempts d h e = absurd cc
-entered (kind.Event w) group.Events group.Events d h e = tt
+entered k now group.Events d h e = tt
+entered k now g d h e = absurd cc
 
 -- the group that a kind of line is of
 abbrev group_of : Kind → Group
@@ -112,32 +94,29 @@ group_of (kind.Event w) = group.Events
 
 its_group : (k : Kind) (now g : Group) → enters k now ≡ Some g → g ≡ group_of k
 its_group (kind.Head w) group.Head g h = cc
-its_group (kind.Head w) group.Attempts g h = absurd cc
-its_group (kind.Head w) group.Events g h = absurd cc
 its_group kind.Attempt group.Head g h = cc
 its_group kind.Attempt group.Attempts g h = cc
-its_group kind.Attempt group.Events g h = absurd cc
-its_group kind.File group.Head g h = absurd cc
 its_group kind.File group.Attempts g h = cc
-its_group kind.File group.Events g h = absurd cc
 its_group (kind.Event w) group.Head g h = cc
 its_group (kind.Event w) group.Attempts g h = cc
 its_group (kind.Event w) group.Events g h = cc
+its_group k now g h = absurd cc
 
 -- a line of attempts or files leaves no event behind it
-grown : (d e : Draft) → d.group ≡ group.Attempts → (e.events ≡ d.events) × (e.head ≡ d.head) × (e.group ≡ d.group) → IsSoundAttempts e → IsSound d → IsSound e
-grown d e g kept is s =
+grown : (d e : Draft) → d.group ≡ group.Attempts → IsSoundAttempts e × SameElse d e → IsSound d → IsSound e
+grown d e g is s =
+    let kept = is.1 in
     let none : d.events ≡ [] = subst (λ (x : Group). IsEarly x d) g s.early in
     let empty = kept.0 ∙ none in
-    record { head = subst IsSoundHead (sym kept.1) s.head; attempts = is; events = no_events e empty; early = subst (λ (x : Group). IsEarly x e) (sym (kept.2 ∙ g)) empty }
+    record { head = subst IsSoundHead (sym kept.1) s.head; attempts = is.0; events = no_events e empty; early = subst (λ (x : Group). IsEarly x e) (sym (kept.2 ∙ g)) empty }
 
 said_sound : (n : ℕ) (k : Kind) (d e : Draft) (values : List (List ℕ)) → AllByRecursion IsScriptWord values → d.group ≡ group_of k → said_at n k d values ≡ Ok e → IsSound d → IsSound e
 unfolding said_at
 said_sound n (kind.Head x) d e values w g h s =
     let a = parted (head_at n x d.head values) _ _ h in
     subst IsSound (same_ok (record d { head = a.value }) e a.next) (head_kept d a.value g (head_sound n x d.head a.value values w a.first s.head) s)
-said_sound n kind.Attempt d e values w g h s = grown d e g (attempt_keeps n d e values h) (attempt_sound n d e values h s.attempts) s
-said_sound n kind.File d e values w g h s = grown d e g (file_keeps n d e values h) (file_sound n d e values w h s.attempts) s
+said_sound n kind.Attempt d e values w g h s = grown d e g (attempt_sound n d e values h s.attempts) s
+said_sound n kind.File d e values w g h s = grown d e g (file_sound n d e values w h s.attempts) s
 said_sound n (kind.Event x) d e values w g h s =
     let a = event_added n x d e values h in
     let events = event_sound d e a s.events in
@@ -178,7 +157,7 @@ no_fate n fate h = no_value fate (sym (map.get-empty nat_cmp n) ∙ h)
 
 nothing_sound : IsSound nothing
 nothing_sound = record {
-  head = record { job = λ x h. absurd cc; dest = λ x h. absurd cc; tasks = λ n h. absurd cc; retries = λ n h. absurd cc; block = λ n h. absurd cc; stamp = λ n h. absurd cc; fates = λ n fate h. absurd (no_fate n fate h) };
+  head = record { job = λ x h. absurd cc; dest = λ x h. absurd cc; tasks = λ n h. absurd cc; retries = λ n h. absurd cc; block = λ n h. absurd cc; lanes = λ n h. absurd cc; stamp = λ n h. absurd cc; fates = λ n fate h. absurd (no_fate n fate h) };
   attempts = record { attempts = λ tasks t o. tt; few = omega arith; counted = omega arith; few_files = omega arith; measured = omega arith; few_bytes = omega arith };
   events = record { events = tt; few = omega arith };
   early = (refl, refl);
@@ -200,9 +179,13 @@ magic_fits committer.Magic m u x unique h k = (magic_mode m x h, magic_unique u 
 magic_fits committer.Directory m u x unique h k = tt
 magic_fits committer.Partitioned m u x unique h k = tt
 
-or_fits : (o : Option ℕ) (default most : ℕ) → default ≤ most → ((n : ℕ) → o ≡ Some n → n ≤ most) → or_else o default ≤ most
+or_fits : (o : Option ℕ) (default most : ℕ) → default ≤ most → ((n : ℕ) → o ≡ Some n → n ≤ most) → unwrap_or o default ≤ most
 or_fits None default most d h = d
 or_fits (Some n) default most d h = h n refl
+
+lanes_fit : (o : Option ℕ) → ((n : ℕ) → o ≡ Some n → (1 ≤ n) × (n ≤ 8)) → (1 ≤ unwrap_or o 1) × (unwrap_or o 1 ≤ 8)
+lanes_fit None h = (omega arith, omega arith)
+lanes_fit (Some n) h = h n refl
 
 stamp_fits : (o : Option ℕ) → ((n : ℕ) → o ≡ Some n → n < 10 ^ 18) → IfSome o (λ n. n < 10 ^ 18)
 stamp_fits None h = tt
@@ -225,7 +208,7 @@ complete_sound d s h is =
     let tasks = needed d.head.tasks MissingHead f.value f.first in
     let three : 3 ≤ 9 = omega arith in
     let zero : 0 ≤ 67108864 = omega arith in
-    subst IsLegal (same_ok (record { job = a.value; dest = b.value; committer = c.value; mode = g.value; unique = k.value; tasks = f.value; retries = or_else d.head.retries 3; block = or_else d.head.block 0; stamp = d.head.stamp; fates = d.head.fates; attempts = d.attempts; events = d.events }) s l.next)
+    subst IsLegal (same_ok (record { job = a.value; dest = b.value; committer = c.value; mode = g.value; unique = k.value; tasks = f.value; retries = unwrap_or d.head.retries 3; block = unwrap_or d.head.block 0; lanes = unwrap_or d.head.lanes 1; stamp = d.head.stamp; fates = d.head.fates; attempts = d.attempts; events = d.events }) s l.next)
     (record {
       job = is.head.job a.value (needed d.head.job MissingHead a.value a.first);
       dest = is.head.dest b.value (needed d.head.dest MissingHead b.value b.first);
@@ -233,6 +216,8 @@ complete_sound d s h is =
       tasks = is.head.tasks f.value tasks;
       retries = or_fits d.head.retries 3 9 three is.head.retries;
       block = or_fits d.head.block 0 67108864 zero is.head.block;
+      one_lane = (lanes_fit d.head.lanes is.head.lanes).0;
+      few_lanes = (lanes_fit d.head.lanes is.head.lanes).1;
       stamp = stamp_fits d.head.stamp is.head.stamp;
       fates = is.head.fates;
       attempts = is.attempts.attempts f.value tasks (inside_none d.outside l.value l.first);

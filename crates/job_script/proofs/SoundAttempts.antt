@@ -3,22 +3,26 @@ use Rattle.std.proofs.Common.{◌≡◌, ℕ, ◌+◌, ◌<◌, ◌≤◌, Bool,
 use Rattle.std.specs.Prelude.{nat_le, nat_lt, not, if◌then◌else◌}
 use Rattle.std.specs.List.{AllByRecursion}
 use Rattle.std.proofs.lemmas.Bool.{leb-true, ltb-true}
+use Rattle.proof_base.proofs.Options.{some_is}
+use Rattle.proof_base.specs.Reading.{need, check}
+use Rattle.proof_base.proofs.Reading.{parted, same_ok, needed, checked}
 use Rattle.words.specs.Parts.{parts_of}
-use Rattle.line_words.specs.Numbers.{number_in}
-use Rattle.line_words.specs.Shapes.{one, two, two_and_more}
+use Rattle.words.specs.Numbers.{number_in}
+use Rattle.words.specs.Shapes.{one, two, two_and_more}
 use Rattle.job_model.specs.Files.{File, has_path}
 use Rattle.job_model.specs.Attempts.{Declared, declares, last_files, with_file}
 use Rattle.job_model.specs.declared.attempts.AttemptName.{AttemptName}
 use Rattle.job_script.specs.declared.fault.ScriptFault.TheVariants.{BadLine, RepeatedName, BadPath, HiddenPath, TooLarge, BadNumber}
 use Rattle.job_script.specs.declared.draft.Draft.{Draft}
-use Rattle.job_script.specs.Fault.{need, check}
-use Rattle.job_script.specs.Kinds.{first_of}
+use Rattle.std.specs.Option.{option_or}
 use Rattle.job_model.specs.Paths.{is_path, is_hidden}
 use Rattle.job_script.specs.Content.{content_at}
 use Rattle.job_script.specs.AttemptLines.{name_at, attempt_at, file_at, outside_at}
 use Rattle.job_model.specs.Legal.{IsScriptWord, IsFile, AreFiles, AreAttempts, files_in, bytes_of, bytes_in}
 use Rattle.job_script.proofs.SoundContent.{content_sound}
-use Rattle.job_script.proofs.Steps.{parted, same_ok, needed, checked, number_bounds, not_so}
+use Rattle.proof_base.proofs.Bools.{not_so}
+use Rattle.proof_base.proofs.Lists.{one_longer}
+use Rattle.job_script.proofs.Steps.{needed_bounds}
 
 -- ---- lists that grow at their end
 
@@ -54,10 +58,6 @@ files_declared (a ∷ rest) name = ap (λ (n : ℕ). length a.1 + n) (files_decl
 bytes_declared : (all : List Declared) (name : AttemptName) → bytes_in (all ++ (name, []) ∷ []) ≡ bytes_in all
 bytes_declared [] name = refl
 bytes_declared (a ∷ rest) name = ap (λ (n : ℕ). bytes_of a.1 + n) (bytes_declared rest name)
-
-one_longer : {A : Type 0} (xs : List A) (x : A) → length (xs ++ x ∷ []) ≡ length xs + 1
-one_longer [] x = refl
-one_longer (y ∷ xs) x = let old = one_longer xs x in omega (arith, old)
 
 bytes_more : (fs : List File) (f : File) → bytes_of (fs ++ f ∷ []) ≡ bytes_of fs + length f.1
 bytes_more [] f = omega arith
@@ -100,11 +100,11 @@ name_sound n word name h =
     let a = parted (need (two (parts_of 46 word)) (BadLine n)) _ _ h in
     let b = parted (need (number_in 0 999 a.value.0) (BadNumber n)) _ _ a.next in
     let c = parted (need (number_in 0 99 a.value.1) (BadNumber n)) _ _ b.next in
-    let t = number_bounds 0 999 a.value.0 (BadNumber n) b.value b.first in
-    let u = number_bounds 0 99 a.value.1 (BadNumber n) c.value c.first in
+    let t = needed_bounds 0 999 a.value.0 (BadNumber n) b.value b.first in
+    let u = needed_bounds 0 99 a.value.1 (BadNumber n) c.value c.first in
     subst IsName (same_ok (record { task = b.value; attempt = c.value }) name c.next) (record { task = t.1; attempt = u.1 })
 
-none_of : (a b : Option ℕ) → first_of a b ≡ None → (a ≡ None) × (b ≡ None)
+none_of : (a b : Option ℕ) → option_or a b ≡ None → (a ≡ None) × (b ≡ None)
 none_of (Some x) b h = absurd cc
 none_of None b h = (refl, h)
 
@@ -116,7 +116,11 @@ inside : (n : ℕ) (o : Option ℕ) (tasks : ℕ) (name : AttemptName) → o ≡
 inside n None tasks name e h = absurd cc
 inside n (Some t) tasks name e h = let k : t ≡ tasks = cc in let lt : name.task < t = ltb-true _ _ (below_at (nat_lt name.task t) n h) in omega (arith, lt, k)
 
-pub attempt_sound : (n : ℕ) (d e : Draft) (values : List (List ℕ)) → attempt_at n d values ≡ Ok e → IsSoundAttempts d → IsSoundAttempts e
+-- head, group and events stay as they are
+abbrev pub SameElse : Draft → Draft → Type 0
+SameElse d e = (e.events ≡ d.events) × (e.head ≡ d.head) × (e.group ≡ d.group)
+
+pub attempt_sound : (n : ℕ) (d e : Draft) (values : List (List ℕ)) → attempt_at n d values ≡ Ok e → IsSoundAttempts d → IsSoundAttempts e × SameElse d e
 unfolding attempt_at
 attempt_sound n d e values h s =
     let a = parted (need (one values) (BadLine n)) _ _ h in
@@ -129,18 +133,17 @@ attempt_sound n d e values h s =
     let longer = one_longer d.attempts (b.value, []) in
     let files = files_declared d.attempts b.value in
     let bytes = bytes_declared d.attempts b.value in
-    subst IsSoundAttempts (same_ok (record d { attempts = d.attempts ++ (b.value, []) ∷ []; outside = first_of d.outside (outside_at n d.head.tasks b.value) }) e f.next)
-    (record {
-      attempts = λ tasks t o. let p = none_of d.outside (outside_at n d.head.tasks b.value) o in attempts_more tasks [] d.attempts b.value (inside n d.head.tasks tasks b.value t p.1) name.attempt new (s.attempts tasks t p.0);
-      few = omega (arith, few, longer);
-      counted = subst (λ (k : ℕ). k ≤ d.files) (sym files) s.counted;
-      few_files = s.few_files;
-      measured = subst (λ (k : ℕ). k ≤ d.bytes) (sym bytes) s.measured;
-      few_bytes = s.few_bytes;
-    })
-
-some_is : {A : Type 0} (x y : A) → Some x ≡ Some y → x ≡ y
-some_is x y h = cc
+    subst (λ (x : Draft). IsSoundAttempts x × SameElse d x) (same_ok (record d { attempts = d.attempts ++ (b.value, []) ∷ []; outside = option_or d.outside (outside_at n d.head.tasks b.value) }) e f.next) (
+      record {
+        attempts = λ tasks t o. let p = none_of d.outside (outside_at n d.head.tasks b.value) o in attempts_more tasks [] d.attempts b.value (inside n d.head.tasks tasks b.value t p.1) name.attempt new (s.attempts tasks t p.0);
+        few = omega (arith, few, longer);
+        counted = subst (λ (k : ℕ). k ≤ d.files) (sym files) s.counted;
+        few_files = s.few_files;
+        measured = subst (λ (k : ℕ). k ≤ d.bytes) (sym bytes) s.measured;
+        few_bytes = s.few_bytes;
+      },
+      (refl, refl, refl),
+    )
 
 both_words : (values : List (List ℕ)) (w v : List ℕ) (more : List (List ℕ)) → two_and_more values ≡ Some (w, v, more) → AllByRecursion IsScriptWord values → IsScriptWord w × AllByRecursion IsScriptWord more
 both_words [] w v more h all = absurd cc
@@ -151,7 +154,7 @@ both_words (x ∷ y ∷ rest) w v more h all =
     let f : rest ≡ more = ap (λ (t : List ℕ × List ℕ × List (List ℕ)). t.2) k in
     (subst IsScriptWord e all.0, subst (AllByRecursion IsScriptWord) f all.1.1)
 
-pub file_sound : (n : ℕ) (d e : Draft) (values : List (List ℕ)) → AllByRecursion IsScriptWord values → file_at n d values ≡ Ok e → IsSoundAttempts d → IsSoundAttempts e
+pub file_sound : (n : ℕ) (d e : Draft) (values : List (List ℕ)) → AllByRecursion IsScriptWord values → file_at n d values ≡ Ok e → IsSoundAttempts d → IsSoundAttempts e × SameElse d e
 unfolding file_at
 file_sound n d e values all h s =
     let a = parted (need (two_and_more values) (BadLine n)) _ _ h in
@@ -171,37 +174,14 @@ file_sound n d e values all h s =
     let same = length_kept d.attempts a.value.0 b.value in
     let files = files_counted d.attempts a.value.0 b.value in
     let bytes = bytes_counted d.attempts a.value.0 b.value in
-    subst IsSoundAttempts (same_ok (record d { attempts = with_file d.attempts a.value.0 b.value; files = d.files + 1; bytes = d.bytes + length b.value }) e l.next)
-    (record {
-      attempts = λ tasks t o. file_more tasks [] d.attempts a.value.0 b.value (record { path = record { stated = stated; shown = seen; word = words.0 }; bytes = bytes_are }) new (s.attempts tasks t o);
-      few = omega (arith, same, s.few);
-      counted = omega (arith, files, s.counted);
-      few_files = omega (arith, few);
-      measured = omega (arith, bytes, s.measured);
-      few_bytes = short;
-    })
-
--- an attempt's line leaves head, group and events as they are
-pub attempt_keeps : (n : ℕ) (d e : Draft) (values : List (List ℕ)) → attempt_at n d values ≡ Ok e → (e.events ≡ d.events) × (e.head ≡ d.head) × (e.group ≡ d.group)
-unfolding attempt_at
-attempt_keeps n d e values h =
-    let a = parted (need (one values) (BadLine n)) _ _ h in
-    let b = parted (name_at n a.value) _ _ a.next in
-    let c = parted (check (not (declares d.attempts b.value)) (RepeatedName n)) _ _ b.next in
-    let f = parted (check (nat_lt (length d.attempts) 2000) TooLarge) _ _ c.next in
-    let x = same_ok (record d { attempts = d.attempts ++ (b.value, []) ∷ []; outside = first_of d.outside (outside_at n d.head.tasks b.value) }) e f.next in
-    (sym (ap (λ (y : Draft). y.events) x), sym (ap (λ (y : Draft). y.head) x), sym (ap (λ (y : Draft). y.group) x))
-
--- so does a file's
-pub file_keeps : (n : ℕ) (d e : Draft) (values : List (List ℕ)) → file_at n d values ≡ Ok e → (e.events ≡ d.events) × (e.head ≡ d.head) × (e.group ≡ d.group)
-unfolding file_at
-file_keeps n d e values h =
-    let a = parted (need (two_and_more values) (BadLine n)) _ _ h in
-    let b = parted (content_at n a.value.1 a.value.2) _ _ a.next in
-    let c = parted (check (is_path a.value.0) (BadPath n)) _ _ b.next in
-    let f = parted (check (not (is_hidden a.value.0)) (HiddenPath n)) _ _ c.next in
-    let g = parted (check (not (has_path (last_files d.attempts) a.value.0)) (RepeatedName n)) _ _ f.next in
-    let k = parted (check (nat_lt d.files 20000) TooLarge) _ _ g.next in
-    let l = parted (check (nat_le (d.bytes + length b.value) 67108864) TooLarge) _ _ k.next in
-    let x = same_ok (record d { attempts = with_file d.attempts a.value.0 b.value; files = d.files + 1; bytes = d.bytes + length b.value }) e l.next in
-    (sym (ap (λ (y : Draft). y.events) x), sym (ap (λ (y : Draft). y.head) x), sym (ap (λ (y : Draft). y.group) x))
+    subst (λ (x : Draft). IsSoundAttempts x × SameElse d x) (same_ok (record d { attempts = with_file d.attempts a.value.0 b.value; files = d.files + 1; bytes = d.bytes + length b.value }) e l.next) (
+      record {
+        attempts = λ tasks t o. file_more tasks [] d.attempts a.value.0 b.value (record { path = record { stated = stated; shown = seen; word = words.0 }; bytes = bytes_are }) new (s.attempts tasks t o);
+        few = omega (arith, same, s.few);
+        counted = omega (arith, files, s.counted);
+        few_files = omega (arith, few);
+        measured = omega (arith, bytes, s.measured);
+        few_bytes = short;
+      },
+      (refl, refl, refl),
+    )

@@ -7,14 +7,15 @@ use Rattle.std.proofs.lemmas.Bool.{and_parts, lt-ltb, ltb-true, leb-true}
 use Rattle.std.proofs.lemmas.List.Folds.{list_all-append}
 use Rattle.std.proofs.lemmas.Str.{encodes-chars, scalars-chars, IsUtf8-from_is_utf8}
 use Rattle.std.proofs.Math.Utf8.{encode, encodes, next, scalar, scalars, scalar_cases}
-use Rattle.line_words.specs.Words.{joined}
-use Rattle.line_words.specs.Numbers.{number_in}
-use Rattle.line_words.specs.Shapes.{one, two, text}
+use Rattle.proof_base.specs.Reading.{need}
+use Rattle.proof_base.proofs.Reading.{parted, same_ok, needed}
+use Rattle.words.specs.Words.{joined}
+use Rattle.words.specs.Numbers.{number_in}
+use Rattle.words.specs.Shapes.{one, two, text}
 use Rattle.job_model.specs.Legal.{IsScriptWord, are_bytes}
 use Rattle.job_script.specs.declared.fault.ScriptFault.TheVariants.{BadLine, BadNumber}
-use Rattle.job_script.specs.Fault.{need}
 use Rattle.job_script.specs.Content.{hex_digit, unhex, hex_bytes, text_at, hex_at, fill_at, content_at}
-use Rattle.job_script.proofs.Steps.{parted, same_ok, needed, number_bounds}
+use Rattle.job_script.proofs.Steps.{needed_bounds}
 use Rattle.job_script.proofs.SoundWords.{either}
 
 -- ---- UTF-8
@@ -130,7 +131,7 @@ fill_sound n words x h =
     let a = parted (need (two words) (BadLine n)) _ _ h in
     let b = parted (need (number_in 0 67108864 a.value.0) (BadNumber n)) _ _ a.next in
     let c = parted (need (number_in 0 255 a.value.1) (BadNumber n)) _ _ b.next in
-    let bounds = number_bounds 0 255 a.value.1 (BadNumber n) c.value c.first in
+    let bounds = needed_bounds 0 255 a.value.1 (BadNumber n) c.value c.first in
     subst (λ (l : List ℕ). are_bytes l ≡ true) (same_ok (replicate b.value c.value) x c.next) (fill_bytes b.value c.value bounds.1)
 
 -- what a file's line says of its bytes are bytes

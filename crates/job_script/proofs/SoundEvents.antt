@@ -1,12 +1,14 @@
 -- The bounds of what events say.
-use Rattle.std.proofs.Common.{◌≡◌, ℕ, ◌+◌, ◌<◌, ◌≤◌, Bool, true, false, List, [], ◌∷◌, ◌++◌, length, Some, Ok, refl, sym, ap, subst, arith}
+use Rattle.std.proofs.Common.{◌≡◌, ℕ, ◌<◌, ◌≤◌, Bool, true, false, List, [], ◌∷◌, ◌++◌, length, Some, Ok, sym, ap, subst, arith}
 use Rattle.std.specs.Prelude.{nat_lt, if◌then◌else◌}
 use Rattle.std.proofs.lemmas.Bool.{ltb-true}
-use Rattle.line_words.specs.Numbers.{number_in}
-use Rattle.line_words.specs.Shapes.{one, two}
+use Rattle.proof_base.specs.Reading.{◌>>=◌, need, check}
+use Rattle.proof_base.proofs.Reading.{parted, same_ok, needed, checked, made_so}
+use Rattle.words.specs.Numbers.{number_in}
+use Rattle.words.specs.Shapes.{one, two}
 use Rattle.s3_types.specs.declared.request.Actor.{Actor}
 use Rattle.s3_types.specs.declared.request.Actor.TheVariants as actor
-use Rattle.job_model.specs.Attempts.{Declared, is_known}
+use Rattle.job_model.specs.Attempts.{Declared, actor_of, declares, is_known}
 use Rattle.job_model.specs.declared.events.Op.{Op}
 use Rattle.job_model.specs.declared.events.Event.{Event}
 use Rattle.job_model.specs.declared.events.Event.TheVariants as event
@@ -14,15 +16,12 @@ use Rattle.job_script.specs.declared.fault.ScriptFault.TheVariants.{BadLine, Unk
 use Rattle.job_script.specs.declared.draft.Draft.{Draft}
 use Rattle.job_script.specs.declared.kinds.EventWord.{EventWord}
 use Rattle.job_script.specs.declared.kinds.EventWord.TheVariants as words
-use Rattle.job_script.specs.Fault.{◌>>=◌, need, check}
 use Rattle.job_script.specs.Kinds.{named, driver_ops, attempt_ops}
 use Rattle.job_script.specs.AttemptLines.{name_at}
-use Rattle.job_script.specs.EventLines.{is_driver, actor_at, op_of, order_at, alone_at, do_at, start_at, step_at, run_at, kill_at, mix_at, event_at, event_line_at}
+use Rattle.job_script.specs.EventLines.{is_driver, actor_at, op_of, order_at, alone_at, do_at, start_at, step_at, run_at, kill_at, mix_at, restart_at, recover_at, event_at, event_line_at}
 use Rattle.job_model.specs.Legal.{HasOp, IsEvent, AreEvents}
-use Rattle.job_script.proofs.Steps.{parted, same_ok, needed, checked, number_bounds, named_all}
-
-same_some : {A : Type 0} (x y : A) → Some x ≡ Some y → x ≡ y
-same_some x y h = cc
+use Rattle.proof_base.proofs.Lists.{one_longer}
+use Rattle.job_script.proofs.Steps.{needed_bounds, named_all}
 
 -- the operation is one of the actor's
 has_op_at : (b : Bool) (n : ℕ) (word name : List ℕ) (a : Actor) (o : Op) → (if b then named driver_ops name else named attempt_ops name) ≡ Some o → (if b then Ok actor.Driver else (name_at n word >>= λ m. Ok (actor.Attempt m.task m.attempt))) ≡ Ok a → HasOp a o
@@ -56,20 +55,6 @@ alone_sound n d values who h =
     let c = parted (check (is_known d.attempts b.value) (UnknownActor n)) _ _ b.next in
     subst (λ (x : Actor). is_known d.attempts x ≡ true) (same_ok b.value who c.next) (checked _ (UnknownActor n) _ c.first)
 
-do_sound : (n : ℕ) (d : Draft) (values : List (List ℕ)) (e : Event) → do_at n d values ≡ Ok e → IsEvent d.attempts e
-unfolding do_at
-do_sound n d values e h =
-    let a = parted (order_at n d values) _ _ h in
-    let o = order_sound n d values a.value a.first in
-    subst (IsEvent d.attempts) (same_ok (event.Do a.value.0 a.value.1) e a.next) (o.known, o.op)
-
-start_sound : (n : ℕ) (d : Draft) (values : List (List ℕ)) (e : Event) → start_at n d values ≡ Ok e → IsEvent d.attempts e
-unfolding start_at
-start_sound n d values e h =
-    let a = parted (order_at n d values) _ _ h in
-    let o = order_sound n d values a.value a.first in
-    subst (IsEvent d.attempts) (same_ok (event.Start a.value.0 a.value.1) e a.next) (o.known, o.op)
-
 step_sound : (n : ℕ) (d : Draft) (values : List (List ℕ)) (e : Event) → step_at n d values ≡ Ok e → IsEvent d.attempts e
 unfolding step_at
 step_sound n d values e h =
@@ -77,43 +62,45 @@ step_sound n d values e h =
     let b = parted (actor_at n a.value.0) _ _ a.next in
     let c = parted (need (number_in 1 1000000 a.value.1) (BadNumber n)) _ _ b.next in
     let f = parted (check (is_known d.attempts b.value) (UnknownActor n)) _ _ c.next in
-    let bounds = number_bounds 1 1000000 a.value.1 (BadNumber n) c.value c.first in
+    let bounds = needed_bounds 1 1000000 a.value.1 (BadNumber n) c.value c.first in
     subst (IsEvent d.attempts) (same_ok (event.Step b.value c.value) e f.next) (checked _ (UnknownActor n) _ f.first, bounds.0, bounds.1)
-
-run_sound : (n : ℕ) (d : Draft) (values : List (List ℕ)) (e : Event) → run_at n d values ≡ Ok e → IsEvent d.attempts e
-unfolding run_at
-run_sound n d values e h =
-    let a = parted (alone_at n d values) _ _ h in
-    subst (IsEvent d.attempts) (same_ok (event.Run a.value) e a.next) (alone_sound n d values a.value a.first)
-
-kill_sound : (n : ℕ) (d : Draft) (values : List (List ℕ)) (e : Event) → kill_at n d values ≡ Ok e → IsEvent d.attempts e
-unfolding kill_at
-kill_sound n d values e h =
-    let a = parted (alone_at n d values) _ _ h in
-    subst (IsEvent d.attempts) (same_ok (event.Kill a.value) e a.next) (alone_sound n d values a.value a.first)
 
 mix_sound : (n : ℕ) (attempts : List Declared) (values : List (List ℕ)) (e : Event) → mix_at n values ≡ Ok e → IsEvent attempts e
 unfolding mix_at
 mix_sound n attempts values e h =
     let a = parted (need (one values) (BadLine n)) _ _ h in
     let b = parted (need (number_in 0 2147483647 a.value) (BadNumber n)) _ _ a.next in
-    subst (IsEvent attempts) (same_ok (event.Mix b.value) e b.next) (number_bounds 0 2147483647 a.value (BadNumber n) b.value b.first).1
+    subst (IsEvent attempts) (same_ok (event.Mix b.value) e b.next) (needed_bounds 0 2147483647 a.value (BadNumber n) b.value b.first).1
+
+restart_sound : (n : ℕ) (attempts : List Declared) (values : List (List ℕ)) (e : Event) → restart_at n values ≡ Ok e → IsEvent attempts e
+unfolding restart_at
+restart_sound n attempts values e h =
+    let a = parted (need (one values) (BadLine n)) _ _ h in
+    let b = parted (check (is_driver a.value) (BadLine n)) _ _ a.next in
+    subst (IsEvent attempts) (same_ok event.Restart e b.next) tt
+
+recover_sound : (n : ℕ) (d : Draft) (values : List (List ℕ)) (e : Event) → recover_at n d values ≡ Ok e → IsEvent d.attempts e
+unfolding recover_at
+recover_sound n d values e h =
+    let a = parted (need (one values) (BadLine n)) _ _ h in
+    let b = parted (name_at n a.value) _ _ a.next in
+    let c = parted (check (declares d.attempts b.value) (UnknownActor n)) _ _ b.next in
+    subst (IsEvent d.attempts) (same_ok (event.Recover (actor_of b.value)) e c.next) (checked _ (UnknownActor n) _ c.first)
 
 one_sound : (n : ℕ) (word : EventWord) (d : Draft) (values : List (List ℕ)) (e : Event) → event_at n word d values ≡ Ok e → IsEvent d.attempts e
-one_sound n words.Do d values e h = do_sound n d values e h
-one_sound n words.Start d values e h = start_sound n d values e h
+unfolding do_at start_at run_at kill_at
+one_sound n words.Do d values e h = made_so (IsEvent d.attempts) (order_at n d values) (λ order. event.Do order.0 order.1) e h (λ order is. let o = order_sound n d values order is in (o.known, o.op))
+one_sound n words.Start d values e h = made_so (IsEvent d.attempts) (order_at n d values) (λ order. event.Start order.0 order.1) e h (λ order is. let o = order_sound n d values order is in (o.known, o.op))
 one_sound n words.Step d values e h = step_sound n d values e h
-one_sound n words.Run d values e h = run_sound n d values e h
-one_sound n words.Kill d values e h = kill_sound n d values e h
+one_sound n words.Run d values e h = made_so (IsEvent d.attempts) (alone_at n d values) event.Run e h (alone_sound n d values)
+one_sound n words.Kill d values e h = made_so (IsEvent d.attempts) (alone_at n d values) event.Kill e h (alone_sound n d values)
 one_sound n words.Mix d values e h = mix_sound n d.attempts values e h
+one_sound n words.Restart d values e h = restart_sound n d.attempts values e h
+one_sound n words.Recover d values e h = recover_sound n d values e h
 
 events_more : (attempts : List Declared) (es : List Event) (e : Event) → IsEvent attempts e → AreEvents attempts es → AreEvents attempts (es ++ e ∷ [])
 events_more attempts [] e is all = (is, tt)
 events_more attempts (f ∷ es) e is all = (all.0, events_more attempts es e is all.1)
-
-one_longer : {A : Type 0} (xs : List A) (x : A) → length (xs ++ x ∷ []) ≡ length xs + 1
-one_longer [] x = refl
-one_longer (y ∷ xs) x = let old = one_longer xs x in omega (arith, old)
 
 -- a line that adds an event
 pub record Added (d e : Draft) : Type 0 where

@@ -4,38 +4,44 @@ use Rattle.std.specs.Prelude.{◌⊎◌, ◌&&◌, nat_le, nat_lt, not}
 use Rattle.std.specs.List.{AllByRecursion}
 use Rattle.std.specs.FinMap.{get}
 use Rattle.std.proofs.lemmas.Bool.{and_parts, leb-true, ltb-true}
-use Rattle.line_words.specs.Numbers.{number_in}
-use Rattle.line_words.specs.Shapes.{one, two_and_more, at_most_one}
+use Rattle.proof_base.specs.Reading.{◌>>=◌, need, check, free}
+use Rattle.proof_base.proofs.Reading.{parted, same_ok, needed, checked, made_so}
+use Rattle.words.specs.Numbers.{number_in}
+use Rattle.words.specs.Shapes.{one, two_and_more, at_most_one}
 use Rattle.s3_types.specs.Fates.{FateMap, with_fates, is_answer}
 use Rattle.s3_types.specs.declared.fates.Fate.{Fate}
 use Rattle.s3_types.proofs.Spans.{get_with_fates}
 use Rattle.path_keys.specs.Paths.{Path, path_in}
 use Rattle.path_keys.specs.declared.fault.PathFault.{PathFault}
-use Rattle.job_model.specs.Jobs.{is_job_id}
+use Rattle.s3_types.specs.Names.{is_job_id}
 use Rattle.job_script.specs.declared.fault.ScriptFault.{ScriptFault}
 use Rattle.job_script.specs.declared.fault.ScriptFault.TheVariants.{BadLine, RepeatedName, BadPath, DestIsRoot, TooLarge, BadNumber}
 use Rattle.job_script.specs.declared.draft.Head.{Head}
 use Rattle.job_script.specs.declared.draft.Loss.{Loss}
 use Rattle.job_script.specs.declared.kinds.HeadWord.{HeadWord}
 use Rattle.job_script.specs.declared.kinds.HeadWord.TheVariants as head
-use Rattle.job_script.specs.Fault.{need, check, free}
 use Rattle.job_script.specs.Kinds.{fates, committers, modes, answers, named as named_in}
 use Rattle.job_model.specs.Paths.{is_dest_key}
-use Rattle.job_script.specs.HeadLines.{head_at, job_at, dest_at, committer_at, tasks_at, mode_at, unique_at, retries_at, block_at, stamp_at, loss_at, loss_of, named_at, count_of, has_one, as_path}
+use Rattle.job_script.specs.HeadLines.{first_value, head_at, job_at, dest_at, committer_at, tasks_at, mode_at, unique_at, retries_at, block_at, lanes_at, stamp_at, loss_at, loss_of, named_at, count_of, has_one, as_path}
 use Rattle.job_model.specs.Legal.{IsDest, AreFates, IsScriptWord}
 use Rattle.job_script.proofs.SoundWords.{script_word, word_clean}
 use Rattle.job_script.proofs.SoundPaths.{IsCleanPath, IsCleanKey, path_sound}
-use Rattle.job_script.proofs.Steps.{parted, same_ok, needed, checked, number_bounds, named_all}
+use Rattle.job_script.proofs.Steps.{number_bounds, needed_bounds, named_all}
+
+-- bounds of values that head lines gave
+pub record AreBounded (id : Option (List ℕ)) (path : Option Path) (t r b l s : Option ℕ) (m : FateMap) : Type 0 where
+  pub job : (x : List ℕ) → id ≡ Some x → is_job_id x ≡ true
+  pub dest : (x : Path) → path ≡ Some x → IsDest x
+  pub tasks : (n : ℕ) → t ≡ Some n → n ≤ 1000
+  pub retries : (n : ℕ) → r ≡ Some n → n ≤ 9
+  pub block : (n : ℕ) → b ≡ Some n → n ≤ 67108864
+  pub lanes : (n : ℕ) → l ≡ Some n → (1 ≤ n) × (n ≤ 8)
+  pub stamp : (n : ℕ) → s ≡ Some n → n < 10 ^ 18
+  pub fates : AreFates m
 
 -- the bounds of what the head lines said so far
-pub record IsSoundHead (h : Head) : Type 0 where
-  pub job : (id : List ℕ) → h.job ≡ Some id → is_job_id id ≡ true
-  pub dest : (dest : Path) → h.dest ≡ Some dest → IsDest dest
-  pub tasks : (n : ℕ) → h.tasks ≡ Some n → n ≤ 1000
-  pub retries : (n : ℕ) → h.retries ≡ Some n → n ≤ 9
-  pub block : (n : ℕ) → h.block ≡ Some n → n ≤ 67108864
-  pub stamp : (n : ℕ) → h.stamp ≡ Some n → n < 10 ^ 18
-  pub fates : AreFates h.fates
+abbrev pub IsSoundHead : Head → Type 0
+IsSoundHead h = AreBounded h.job h.dest h.tasks h.retries h.block h.lanes h.stamp h.fates
 
 of_some : {A : Type 0} (P : A → Type 0) (x y : A) → P x → Some x ≡ Some y → P y
 of_some P x y p h = let e : x ≡ y = cc in subst P e p
@@ -63,7 +69,7 @@ one_word (v ∷ u ∷ us) w h all = absurd cc
 
 count_bounds : (third : Option (List ℕ)) (e : ScriptFault) (x : ℕ) → need (count_of third) e ≡ Ok x → (1 ≤ x) × (x ≤ 1000)
 count_bounds None e x h = let k : 1 ≡ x = cc in (omega (arith, k), omega (arith, k))
-count_bounds (Some word) e x h = number_bounds 1 1000 word e x h
+count_bounds (Some word) e x h = needed_bounds 1 1000 word e x h
 
 -- the bounds of a row of sendings
 pub record IsLoss (l : Loss) : Type 0 where
@@ -80,7 +86,7 @@ loss_sound n values l h =
     let d = parted (need (number_in 1 1000000000 a.value.0) (BadNumber n)) _ _ c.next in
     let f = parted (need (count_of b.value) (BadNumber n)) _ _ d.next in
     let g = parted (check (nat_le (d.value + f.value) 1000000001) (BadNumber n)) _ _ f.next in
-    let first = number_bounds 1 1000000000 a.value.0 (BadNumber n) d.value d.first in
+    let first = needed_bounds 1 1000000000 a.value.0 (BadNumber n) d.value d.first in
     let last : d.value + f.value ≤ 1000000001 = leb-true _ _ (checked _ (BadNumber n) _ g.first) in
     let lost = named_all (λ fate. is_answer fate ≡ false) fates a.value.1 c.value (refl, (refl, (refl, tt))) (needed _ (BadLine n) _ c.first) in
     subst IsLoss (same_ok (record { first = d.value; fate = c.value; count = f.value }) l g.next) (record { first = first.0; last = last; lost = lost })
@@ -111,7 +117,7 @@ job_sound n h k values e s =
     let b = parted (check (is_job_id a.value) (BadLine n)) _ _ a.next in
     let c = parted (free h.job (RepeatedName n)) _ _ b.next in
     subst IsSoundHead (same_ok (record h { job = Some a.value }) k c.next)
-    (record { job = λ id i. of_some (λ x. is_job_id x ≡ true) a.value id (checked _ (BadLine n) _ b.first) i; dest = s.dest; tasks = s.tasks; retries = s.retries; block = s.block; stamp = s.stamp; fates = s.fates })
+    (record { job = λ id i. of_some (λ x. is_job_id x ≡ true) a.value id (checked _ (BadLine n) _ b.first) i; dest = s.dest; tasks = s.tasks; retries = s.retries; block = s.block; lanes = s.lanes; stamp = s.stamp; fates = s.fates })
 
 dest_sound : (n : ℕ) (h k : Head) (values : List (List ℕ)) → AllByRecursion IsScriptWord values → dest_at n h values ≡ Ok k → IsSoundHead h → IsSoundHead k
 unfolding dest_at
@@ -125,75 +131,16 @@ dest_sound n h k values words e s =
     let p = path_sound a.value b.value (word_clean a.value word) (as_path_ok n (path_in a.value) b.value b.first) in
     let some : 0 < length b.value.key = ltb-true 0 (length b.value.key) (checked _ DestIsRoot _ c.first) in
     subst IsSoundHead (same_ok (record h { dest = Some b.value }) k f.next)
-    (record { job = s.job; dest = λ x i. of_some IsDest b.value x (dest_legal b.value p some (checked _ (BadPath n) _ d.first)) i; tasks = s.tasks; retries = s.retries; block = s.block; stamp = s.stamp; fates = s.fates })
+    (record { job = s.job; dest = λ x i. of_some IsDest b.value x (dest_legal b.value p some (checked _ (BadPath n) _ d.first)) i; tasks = s.tasks; retries = s.retries; block = s.block; lanes = s.lanes; stamp = s.stamp; fates = s.fates })
 
-committer_sound : (n : ℕ) (h k : Head) (values : List (List ℕ)) → committer_at n h values ≡ Ok k → IsSoundHead h → IsSoundHead k
-unfolding committer_at
-committer_sound n h k values e s =
-    let a = parted (need (one values) (BadLine n)) _ _ e in
-    let b = parted (need (named_in committers a.value) (BadLine n)) _ _ a.next in
-    let c = parted (free h.committer (RepeatedName n)) _ _ b.next in
-    subst IsSoundHead (same_ok (record h { committer = Some b.value }) k c.next)
-    (record { job = s.job; dest = s.dest; tasks = s.tasks; retries = s.retries; block = s.block; stamp = s.stamp; fates = s.fates })
-
-tasks_sound : (n : ℕ) (h k : Head) (values : List (List ℕ)) → tasks_at n h values ≡ Ok k → IsSoundHead h → IsSoundHead k
-unfolding tasks_at
-tasks_sound n h k values e s =
-    let a = parted (need (one values) (BadLine n)) _ _ e in
-    let b = parted (need (number_in 0 1000 a.value) (BadNumber n)) _ _ a.next in
-    let c = parted (free h.tasks (RepeatedName n)) _ _ b.next in
-    let bounds = number_bounds 0 1000 a.value (BadNumber n) b.value b.first in
-    subst IsSoundHead (same_ok (record h { tasks = Some b.value }) k c.next)
-    (record { job = s.job; dest = s.dest; tasks = λ x i. of_some (λ y. y ≤ 1000) b.value x bounds.1 i; retries = s.retries; block = s.block; stamp = s.stamp; fates = s.fates })
-
-mode_sound : (n : ℕ) (h k : Head) (values : List (List ℕ)) → mode_at n h values ≡ Ok k → IsSoundHead h → IsSoundHead k
-unfolding mode_at
-mode_sound n h k values e s =
-    let a = parted (need (one values) (BadLine n)) _ _ e in
-    let b = parted (need (named_in modes a.value) (BadLine n)) _ _ a.next in
-    let c = parted (free h.mode (RepeatedName n)) _ _ b.next in
-    subst IsSoundHead (same_ok (record h { mode = Some (n, b.value) }) k c.next)
-    (record { job = s.job; dest = s.dest; tasks = s.tasks; retries = s.retries; block = s.block; stamp = s.stamp; fates = s.fates })
-
-unique_sound : (n : ℕ) (h k : Head) (values : List (List ℕ)) → unique_at n h values ≡ Ok k → IsSoundHead h → IsSoundHead k
-unfolding unique_at
-unique_sound n h k values e s =
-    let a = parted (need (one values) (BadLine n)) _ _ e in
-    let b = parted (need (named_in answers a.value) (BadLine n)) _ _ a.next in
-    let c = parted (free h.unique (RepeatedName n)) _ _ b.next in
-    subst IsSoundHead (same_ok (record h { unique = Some (n, b.value) }) k c.next)
-    (record { job = s.job; dest = s.dest; tasks = s.tasks; retries = s.retries; block = s.block; stamp = s.stamp; fates = s.fates })
-
-retries_sound : (n : ℕ) (h k : Head) (values : List (List ℕ)) → retries_at n h values ≡ Ok k → IsSoundHead h → IsSoundHead k
-unfolding retries_at
-retries_sound n h k values e s =
-    let a = parted (need (one values) (BadLine n)) _ _ e in
-    let b = parted (need (number_in 0 9 a.value) (BadNumber n)) _ _ a.next in
-    let c = parted (free h.retries (RepeatedName n)) _ _ b.next in
-    let bounds = number_bounds 0 9 a.value (BadNumber n) b.value b.first in
-    subst IsSoundHead (same_ok (record h { retries = Some b.value }) k c.next)
-    (record { job = s.job; dest = s.dest; tasks = s.tasks; retries = λ x i. of_some (λ y. y ≤ 9) b.value x bounds.1 i; block = s.block; stamp = s.stamp; fates = s.fates })
-
-block_sound : (n : ℕ) (h k : Head) (values : List (List ℕ)) → block_at n h values ≡ Ok k → IsSoundHead h → IsSoundHead k
-unfolding block_at
-block_sound n h k values e s =
-    let a = parted (need (one values) (BadLine n)) _ _ e in
-    let b = parted (need (number_in 1 67108864 a.value) (BadNumber n)) _ _ a.next in
-    let c = parted (free h.block (RepeatedName n)) _ _ b.next in
-    let bounds = number_bounds 1 67108864 a.value (BadNumber n) b.value b.first in
-    subst IsSoundHead (same_ok (record h { block = Some b.value }) k c.next)
-    (record { job = s.job; dest = s.dest; tasks = s.tasks; retries = s.retries; block = λ x i. of_some (λ y. y ≤ 67108864) b.value x bounds.1 i; stamp = s.stamp; fates = s.fates })
-
-stamp_sound : (n : ℕ) (h k : Head) (values : List (List ℕ)) → stamp_at n h values ≡ Ok k → IsSoundHead h → IsSoundHead k
-unfolding stamp_at
-stamp_sound n h k values e s =
-    let a = parted (need (one values) (BadLine n)) _ _ e in
-    let b = parted (need (number_in 0 999999999999999999 a.value) (BadNumber n)) _ _ a.next in
-    let c = parted (free h.stamp (RepeatedName n)) _ _ b.next in
-    let bounds = number_bounds 0 999999999999999999 a.value (BadNumber n) b.value b.first in
-    let below : b.value < 10 ^ 18 = omega (arith, bounds.1) in
-    subst IsSoundHead (same_ok (record h { stamp = Some b.value }) k c.next)
-    (record { job = s.job; dest = s.dest; tasks = s.tasks; retries = s.retries; block = s.block; stamp = λ x i. of_some (λ y. y < 10 ^ 18) b.value x below i; fates = s.fates })
+-- what a line of one value gave was of its kind
+value_sound : {A B : Type 0} (n : ℕ) (kind : List ℕ → Option A) (fault : ScriptFault) (before : Option B) (values : List (List ℕ)) (make : A → Head) (k : Head)
+    → (first_value n kind fault before values >>= λ x. Ok (make x)) ≡ Ok k → ((x : A) (word : List ℕ) → kind word ≡ Some x → IsSoundHead (make x)) → IsSoundHead k
+value_sound n kind fault before values make k e is = made_so IsSoundHead (first_value n kind fault before values) make k e (λ x h.
+    let a = parted (need (one values) (BadLine n)) _ _ h in
+    let b = parted (need (kind a.value) fault) _ _ a.next in
+    let c = parted (free before (RepeatedName n)) _ _ b.next in
+    is x a.value (needed (kind a.value) fault b.value b.first ∙ ap Some (same_ok b.value x c.next)))
 
 named_ok : (n : ℕ) (l : Loss) (m after : FateMap) → named_at n l m ≡ Ok after → IsLoss l → AreFates m → AreFates after
 unfolding named_at
@@ -208,17 +155,22 @@ losses_sound n h k values e s =
     let b = parted (named_at n a.value h.fates) _ _ a.next in
     let c = parted (check (nat_lt h.losses 10000) TooLarge) _ _ b.next in
     subst IsSoundHead (same_ok (record h { fates = b.value; losses = h.losses + 1 }) k c.next)
-    (record { job = s.job; dest = s.dest; tasks = s.tasks; retries = s.retries; block = s.block; stamp = s.stamp; fates = named_ok n a.value h.fates b.value b.first (loss_sound n values a.value a.first) s.fates })
+    (record { job = s.job; dest = s.dest; tasks = s.tasks; retries = s.retries; block = s.block; lanes = s.lanes; stamp = s.stamp; fates = named_ok n a.value h.fates b.value b.first (loss_sound n values a.value a.first) s.fates })
+
+below_next : (x : ℕ) → x ≤ 999999999999999999 → x < 10 ^ 18
+below_next x h = omega (arith, h)
 
 -- a head line keeps the bounds
 pub head_sound : (n : ℕ) (word : HeadWord) (h k : Head) (values : List (List ℕ)) → AllByRecursion IsScriptWord values → head_at n word h values ≡ Ok k → IsSoundHead h → IsSoundHead k
+unfolding committer_at tasks_at mode_at unique_at retries_at block_at lanes_at stamp_at
 head_sound n head.Job h k values words e s = job_sound n h k values e s
 head_sound n head.Dest h k values words e s = dest_sound n h k values words e s
-head_sound n head.Committer h k values words e s = committer_sound n h k values e s
-head_sound n head.Tasks h k values words e s = tasks_sound n h k values e s
-head_sound n head.Mode h k values words e s = mode_sound n h k values e s
-head_sound n head.Unique h k values words e s = unique_sound n h k values e s
-head_sound n head.Retries h k values words e s = retries_sound n h k values e s
-head_sound n head.Block h k values words e s = block_sound n h k values e s
-head_sound n head.Stamp h k values words e s = stamp_sound n h k values e s
+head_sound n head.Committer h k values words e s = value_sound n (named_in committers) (BadLine n) h.committer values (λ x. record h { committer = Some x }) k e (λ x word is. s)
+head_sound n head.Tasks h k values words e s = value_sound n (number_in 0 1000) (BadNumber n) h.tasks values (λ x. record h { tasks = Some x }) k e (λ x word is. record { job = s.job; dest = s.dest; tasks = λ y i. of_some (λ z. z ≤ 1000) x y (number_bounds 0 1000 word x is).1 i; retries = s.retries; block = s.block; lanes = s.lanes; stamp = s.stamp; fates = s.fates })
+head_sound n head.Mode h k values words e s = value_sound n (named_in modes) (BadLine n) h.mode values (λ x. record h { mode = Some (n, x) }) k e (λ x word is. s)
+head_sound n head.Unique h k values words e s = value_sound n (named_in answers) (BadLine n) h.unique values (λ x. record h { unique = Some (n, x) }) k e (λ x word is. s)
+head_sound n head.Retries h k values words e s = value_sound n (number_in 0 9) (BadNumber n) h.retries values (λ x. record h { retries = Some x }) k e (λ x word is. record { job = s.job; dest = s.dest; tasks = s.tasks; retries = λ y i. of_some (λ z. z ≤ 9) x y (number_bounds 0 9 word x is).1 i; block = s.block; lanes = s.lanes; stamp = s.stamp; fates = s.fates })
+head_sound n head.Block h k values words e s = value_sound n (number_in 1 67108864) (BadNumber n) h.block values (λ x. record h { block = Some x }) k e (λ x word is. record { job = s.job; dest = s.dest; tasks = s.tasks; retries = s.retries; block = λ y i. of_some (λ z. z ≤ 67108864) x y (number_bounds 1 67108864 word x is).1 i; lanes = s.lanes; stamp = s.stamp; fates = s.fates })
+head_sound n head.Lanes h k values words e s = value_sound n (number_in 1 8) (BadNumber n) h.lanes values (λ x. record h { lanes = Some x }) k e (λ x word is. record { job = s.job; dest = s.dest; tasks = s.tasks; retries = s.retries; block = s.block; lanes = λ y i. of_some (λ z. (1 ≤ z) × (z ≤ 8)) x y (number_bounds 1 8 word x is) i; stamp = s.stamp; fates = s.fates })
+head_sound n head.Stamp h k values words e s = value_sound n (number_in 0 999999999999999999) (BadNumber n) h.stamp values (λ x. record h { stamp = Some x }) k e (λ x word is. record { job = s.job; dest = s.dest; tasks = s.tasks; retries = s.retries; block = s.block; lanes = s.lanes; stamp = λ y i. of_some (λ z. z < 10 ^ 18) x y (below_next x (number_bounds 0 999999999999999999 word x is).1) i; fates = s.fates })
 head_sound n head.Loss h k values words e s = losses_sound n h k values e s

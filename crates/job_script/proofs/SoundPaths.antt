@@ -1,13 +1,17 @@
 -- What is read as a path.
-use Rattle.std.proofs.Common.{◌≡◌, ℕ, ◌==◌, Bool, true, false, cond, List, [], ◌∷◌, ◌++◌, length, drop, Option, Some, None, Result, Ok, Err, refl, sym, ap, subst, ◌∙◌, arith, inl, inr, append_assoc}
-use Rattle.std.specs.Prelude.{◌⊎◌, nat_le, nat_eq, codes, if◌then◌else◌}
+use Rattle.std.proofs.Common.{◌≡◌, ℕ, ◌==◌, Bool, true, false, List, [], ◌∷◌, ◌++◌, length, drop, Option, Some, None, Result, Ok, refl, sym, ap, subst, ◌∙◌, arith, inl, inr, append_assoc}
+use Rattle.std.specs.Prelude.{◌⊎◌, nat_le, nat_eq, codes}
 use Rattle.std.specs.List.{starts_with}
 use Rattle.std.proofs.lemmas.Bool.{and_parts, leb-true, eqb-true}
+use Rattle.std.proofs.lemmas.Option.{cond_some}
+use Rattle.proof_base.specs.Reading.{need}
+use Rattle.proof_base.proofs.Reading.{parted, same_ok, needed, passed}
 use Rattle.words.specs.Parts.{parts_of, parts_from}
-use Rattle.line_words.specs.Words.{is_bare}
+use Rattle.words.specs.Words.{is_bare}
 use Rattle.s3_types.specs.Names.{is_bucket, trimmed}
-use Rattle.path_keys.specs.Paths.{Path, is_key, path_in, path_of, named, named_if, bucket_in, key_of, without_scheme, first_fault}
+use Rattle.path_keys.specs.Paths.{Path, is_key, path_in, path_of, named, bucket_in, key_of, without_scheme, first_fault}
 use Rattle.path_keys.specs.declared.fault.PathFault.{PathFault}
+use Rattle.path_keys.specs.declared.fault.PathFault.TheVariants.{BadScheme, BadBucket, TooLong}
 use Rattle.path_keys.proofs.Faults.{key_is, key_of_text}
 use Rattle.job_script.proofs.SoundWords.{IsClean, clean_cut, clean_end}
 
@@ -15,22 +19,15 @@ record Both (bucket key : Result (List ℕ) PathFault) (p : Path) : Type 0 where
   pub bucket_is : bucket ≡ Ok p.bucket
   pub key_is : key ≡ Ok p.key
 
-same_path : (x y : Path) → (let r : Result Path PathFault = Ok x in r ≡ Ok y) → x ≡ y
-same_path x y h = cc
-
 both : (bucket key : Result (List ℕ) PathFault) (p : Path) → path_of bucket key ≡ Ok p → Both bucket key p
-both (Err f) key p h = absurd cc
-both (Ok b) (Err f) p h = absurd cc
-both (Ok b) (Ok k) p h =
-    let e = same_path (record { bucket = b; key = k }) p h in
-    record { bucket_is = ap (λ (q : Path). Ok q.bucket) e; key_is = ap (λ (q : Path). Ok q.key) e }
-
-bucket_at : (b : Bool) (name x : List ℕ) (f : PathFault) → cond b (Ok name) (Err f) ≡ Ok x → (b ≡ true) × (name ≡ x)
-bucket_at true name x f h = (refl, cc)
-bucket_at false name x f h = absurd cc
+both bucket key p h =
+    let b = parted bucket _ p h in
+    let k = parted key _ p b.next in
+    let e = same_ok (record { bucket = b.value; key = k.value }) p k.next in
+    record { bucket_is = b.first ∙ ap (λ (q : Path). Ok q.bucket) e; key_is = k.first ∙ ap (λ (q : Path). Ok q.key) e }
 
 bucket_sound : (name x : List ℕ) → bucket_in name ≡ Ok x → is_bucket x ≡ true
-bucket_sound name x h = let p = bucket_at (is_bucket name) name x _ h in subst (λ (l : List ℕ). is_bucket l ≡ true) p.1 p.0
+bucket_sound name x h = let p = passed (is_bucket name) BadBucket name x h in subst (λ (l : List ℕ). is_bucket l ≡ true) p.1 p.0
 
 -- the parts behind the first one are those of what stands behind a separator
 record Behind (s : ℕ) (text : List ℕ) (more : List (List ℕ)) : Type 0 where
@@ -64,7 +61,7 @@ pub record IsCleanKey (x : List ℕ) : Type 0 where
 key_at : (rest x : List ℕ) (f : Option PathFault) → f ≡ first_fault (parts_of 47 rest) → key_of (parts_of 47 rest) ≡ Ok x → IsClean is_bare rest → IsCleanKey x
 key_at rest x None e h c =
     let k = sym (key_of_text rest None e) ∙ h in
-    let p = bucket_at (nat_le (length rest) 1023) rest x _ k in
+    let p = passed (nat_le (length rest) 1023) TooLong rest x k in
     subst IsCleanKey p.1 (record { key = key_is rest e (leb-true (length rest) 1023 p.0); clean = c })
 key_at rest x (Some f) e h c = let k = sym (key_of_text rest (Some f) e) ∙ h in absurd cc
 
@@ -89,10 +86,6 @@ named_sound text (name ∷ elements) p c e h =
     let b = both (bucket_in name) (key_of elements) p h in
     record { bucket = bucket_sound name p.bucket b.bucket_is; key = key_sound text elements p.key c (behind 47 [] text name elements e) b.key_is }
 
-path_at : (o : Option (List ℕ)) (p : Path) → ((rest : List ℕ) → o ≡ Some rest → IsClean is_bare rest) → named_if o ≡ Ok p → IsCleanPath p
-path_at None p c h = absurd cc
-path_at (Some rest) p c h = named_sound (trimmed rest) (parts_of 47 (trimmed rest)) p (clean_end is_bare 47 rest (omega arith) (c rest refl)) refl h
-
 begun : (text front : List ℕ) → starts_with nat_eq text front ≡ true → text ≡ front ++ drop (length front) text
 begun text [] h = refl
 begun [] (y ∷ front) h = absurd cc
@@ -101,17 +94,16 @@ begun (x ∷ text) (y ∷ front) h =
     let is : y ≡ x = eqb-true y x p.0 in
     ap (λ (l : List ℕ). x ∷ l) (begun text front p.1) ∙ ap (λ (z : ℕ). z ∷ front ++ drop (length front) text) (sym is)
 
-some_rest : (b : Bool) (x rest : List ℕ) → (if b then Some x else None) ≡ Some rest → (b ≡ true) × (x ≡ rest)
-some_rest true x rest h = (refl, cc)
-some_rest false x rest h = absurd cc
-
 scheme_clean : (text : List ℕ) → IsClean is_bare text → (rest : List ℕ) → without_scheme text ≡ Some rest → IsClean is_bare rest
 scheme_clean text c rest h =
-    let p = some_rest (starts_with nat_eq text (codes "s3a://")) (drop 6 text) rest h in
+    let p = cond_some (starts_with nat_eq text (codes "s3a://")) (drop 6 text) rest h in
     let whole = begun text (codes "s3a://") p.0 in
     let halves = clean_cut is_bare 47 (codes "s3a:/") (drop 6 text) (omega arith) (subst (IsClean is_bare) whole c) in
     subst (IsClean is_bare) p.1 halves.1
 
 -- a path that was read has a bucket and a key, of bytes of the text
 pub path_sound : (text : List ℕ) (p : Path) → IsClean is_bare text → path_in text ≡ Ok p → IsCleanPath p
-path_sound text p c h = path_at (without_scheme text) p (scheme_clean text c) h
+path_sound text p c h =
+    let a = parted (need (without_scheme text) BadScheme) _ p h in
+    let rest = scheme_clean text c a.value (needed (without_scheme text) BadScheme a.value a.first) in
+    named_sound (trimmed a.value) (parts_of 47 (trimmed a.value)) p (clean_end is_bare 47 a.value (omega arith) rest) refl a.next

@@ -10,7 +10,7 @@ use Rattle.std.proofs.lemmas.Str.{IsUtf8-take, IsUtf8-drop, IsCharBoundary-befor
 use Rattle.std.proofs.Math.Seq.{take-append_seam, drop-append-add, get_or-append_seam}
 use Rattle.words.specs.Lines.{lines_of, lines_from, unless_empty, is_inside, without_return}
 use Rattle.words.specs.Parts.{parts_from}
-use Rattle.line_words.specs.Words.{words_of, is_bare, IsBare}
+use Rattle.words.specs.Words.{words_of, is_bare, IsBare}
 use Rattle.job_model.specs.Legal.{IsScriptWord}
 
 pub either : {A : Type 0} (P : A → Type 0) (b : Bool) (x y : A) → (b ≡ true → P x) → (b ≡ false → P y) → P (cond b x y)

@@ -1,16 +1,17 @@
 -- What an attempt's line and a file's line say.
 use Rattle.std.specs.Prelude.{ℕ, ◌+◌, not, List, [], ◌∷◌, ◌++◌, length, Option, Some, None, Result, Ok, nat_le, nat_lt, if◌then◌else◌}
+use Rattle.proof_base.specs.Reading.{◌>>=◌, need, check}
 use Rattle.words.specs.Parts.{parts_of}
-use Rattle.line_words.specs.Numbers.{number_in}
-use Rattle.line_words.specs.Shapes.{one, two, two_and_more}
+use Rattle.words.specs.Numbers.{number_in}
+use Rattle.words.specs.Shapes.{one, two, two_and_more}
+use Rattle.s3_types.specs.declared.limits.TheConstants.{MOST_SCRIPT_BYTES}
 use Rattle.job_model.specs.Files.{has_path}
 use Rattle.job_model.specs.Attempts.{declares, last_files, with_file}
 use Rattle.job_model.specs.declared.attempts.AttemptName.{AttemptName}
 use Rattle.job_script.specs.declared.fault.ScriptFault.{ScriptFault}
 use Rattle.job_script.specs.declared.fault.ScriptFault.TheVariants.{BadLine, RepeatedName, BadPath, HiddenPath, TooLarge, BadNumber}
 use Rattle.job_script.specs.declared.draft.Draft.{Draft}
-use Rattle.job_script.specs.Fault.{◌>>=◌, need, check}
-use Rattle.job_script.specs.Kinds.{first_of}
+use Rattle.std.specs.Option.{option_or}
 use Rattle.job_model.specs.Paths.{is_path, is_hidden}
 use Rattle.job_script.specs.Content.{content_at}
 
@@ -34,7 +35,7 @@ attempt_at n d values = do
   name ← name_at n word
   new ← check (not (declares d.attempts name)) (RepeatedName n)
   few ← check (nat_lt (length d.attempts) 2000) TooLarge
-  Ok (record d { attempts = d.attempts ++ (name, []) ∷ []; outside = first_of d.outside (outside_at n d.head.tasks name) })
+  Ok (record d { attempts = d.attempts ++ (name, []) ∷ []; outside = option_or d.outside (outside_at n d.head.tasks name) })
 
 -- file PATH and what its bytes are
 unfoldable pub file_at : ℕ → Draft → List (List ℕ) → Result Draft ScriptFault
@@ -45,5 +46,5 @@ file_at n d values = do
   seen ← check (not (is_hidden words.0)) (HiddenPath n)
   new ← check (not (has_path (last_files d.attempts) words.0)) (RepeatedName n)
   few ← check (nat_lt d.files 20000) TooLarge
-  short ← check (nat_le (d.bytes + length bytes) 67108864) TooLarge
+  short ← check (nat_le (d.bytes + length bytes) MOST_SCRIPT_BYTES) TooLarge
   Ok (record d { attempts = with_file d.attempts words.0 bytes; files = d.files + 1; bytes = d.bytes + length bytes })

@@ -1,10 +1,11 @@
 -- The bytes of a file.
 use Rattle.std.specs.Prelude.{ℕ, ◌+◌, ◌*◌, ◌-◌, List, [], ◌∷◌, length, Option, Some, None, Result, Ok, Err, nat_le, nat_lt, codes, bytes_eq, option_map, option_and_then, replicate, if◌then◌else◌, ◌&&◌}
-use Rattle.line_words.specs.Numbers.{number_in}
-use Rattle.line_words.specs.Shapes.{one, two, text}
+use Rattle.proof_base.specs.Reading.{◌>>=◌, need}
+use Rattle.words.specs.Numbers.{number_in}
+use Rattle.words.specs.Shapes.{one, two, text}
+use Rattle.s3_types.specs.declared.limits.TheConstants.{MOST_SCRIPT_BYTES}
 use Rattle.job_script.specs.declared.fault.ScriptFault.{ScriptFault}
 use Rattle.job_script.specs.declared.fault.ScriptFault.TheVariants.{BadLine, BadNumber}
-use Rattle.job_script.specs.Fault.{◌>>=◌, need}
 
 -- the value of a hex digit in either case
 abbrev pub hex_digit : ℕ → Option ℕ
@@ -34,7 +35,7 @@ hex_at n words = do
 unfoldable pub fill_at : ℕ → List (List ℕ) → Result (List ℕ) ScriptFault
 fill_at n words = do
   numbers ← need (two words) (BadLine n)
-  count ← need (number_in 0 67108864 numbers.0) (BadNumber n)
+  count ← need (number_in 0 MOST_SCRIPT_BYTES numbers.0) (BadNumber n)
   byte ← need (number_in 0 255 numbers.1) (BadNumber n)
   Ok (replicate count byte)
 

@@ -1,8 +1,9 @@
 -- What an event's line says.
 use Rattle.std.specs.Prelude.{ℕ, Bool, List, [], ◌∷◌, ◌++◌, length, Option, Result, Ok, nat_lt, codes, bytes_eq, if◌then◌else◌}
-use Rattle.line_words.specs.Numbers.{number_in}
-use Rattle.line_words.specs.Shapes.{one, two}
-use Rattle.job_model.specs.Attempts.{is_known}
+use Rattle.proof_base.specs.Reading.{◌>>=◌, need, check}
+use Rattle.words.specs.Numbers.{number_in}
+use Rattle.words.specs.Shapes.{one, two}
+use Rattle.job_model.specs.Attempts.{is_known, actor_of, declares}
 use Rattle.s3_types.specs.declared.request.Actor.{Actor}
 use Rattle.s3_types.specs.declared.request.Actor.TheVariants as actor
 use Rattle.job_model.specs.declared.events.Op.{Op}
@@ -13,7 +14,6 @@ use Rattle.job_script.specs.declared.fault.ScriptFault.TheVariants.{BadLine, Unk
 use Rattle.job_script.specs.declared.draft.Draft.{Draft}
 use Rattle.job_script.specs.declared.kinds.EventWord.{EventWord}
 use Rattle.job_script.specs.declared.kinds.EventWord.TheVariants as words
-use Rattle.job_script.specs.Fault.{◌>>=◌, need, check}
 use Rattle.job_script.specs.Kinds.{named, driver_ops, attempt_ops}
 use Rattle.job_script.specs.AttemptLines.{name_at}
 
@@ -78,6 +78,21 @@ mix_at n values = do
   seed ← need (number_in 0 2147483647 word) (BadNumber n)
   Ok (event.Mix seed)
 
+-- restart driver
+unfoldable pub restart_at : ℕ → List (List ℕ) → Result Event ScriptFault
+restart_at n values = do
+  word ← need (one values) (BadLine n)
+  driver ← check (is_driver word) (BadLine n)
+  Ok event.Restart
+
+-- recover T.A, a declared attempt
+unfoldable pub recover_at : ℕ → Draft → List (List ℕ) → Result Event ScriptFault
+recover_at n d values = do
+  word ← need (one values) (BadLine n)
+  name ← name_at n word
+  known ← check (declares d.attempts name) (UnknownActor n)
+  Ok (event.Recover (actor_of name))
+
 -- the event of a line of this kind
 abbrev pub event_at : ℕ → EventWord → Draft → List (List ℕ) → Result Event ScriptFault
 event_at n words.Do d values = do_at n d values
@@ -86,6 +101,8 @@ event_at n words.Step d values = step_at n d values
 event_at n words.Run d values = run_at n d values
 event_at n words.Kill d values = kill_at n d values
 event_at n words.Mix d values = mix_at n values
+event_at n words.Restart d values = restart_at n values
+event_at n words.Recover d values = recover_at n d values
 
 -- one more event
 unfoldable pub event_line_at : ℕ → EventWord → Draft → List (List ℕ) → Result Draft ScriptFault

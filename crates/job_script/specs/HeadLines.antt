@@ -1,19 +1,20 @@
 -- What a head line with these values says, after the head lines before it.
 use Rattle.std.specs.Prelude.{ℕ, ◌+◌, not, ◌||◌, Bool, zero, suc, false, is_some, List, Option, Some, None, Result, Ok, Err, length, nat_le, nat_lt}
 use Rattle.std.specs.FinMap as map
-use Rattle.line_words.specs.Numbers.{number_in}
-use Rattle.line_words.specs.Shapes.{one, two_and_more, at_most_one}
+use Rattle.proof_base.specs.Reading.{◌>>=◌, need, check, free}
+use Rattle.words.specs.Numbers.{number_in}
+use Rattle.words.specs.Shapes.{one, two_and_more, at_most_one}
 use Rattle.s3_types.specs.Fates.{FateMap, with_fates}
+use Rattle.s3_types.specs.declared.limits.TheConstants.{MOST_SCRIPT_BYTES}
 use Rattle.path_keys.specs.Paths.{Path, path_in}
 use Rattle.path_keys.specs.declared.fault.PathFault.{PathFault}
-use Rattle.job_model.specs.Jobs.{is_job_id}
+use Rattle.s3_types.specs.Names.{is_job_id}
 use Rattle.job_script.specs.declared.fault.ScriptFault.{ScriptFault}
 use Rattle.job_script.specs.declared.fault.ScriptFault.TheVariants.{BadLine, RepeatedName, BadPath, DestIsRoot, TooLarge, BadNumber}
 use Rattle.job_script.specs.declared.draft.Head.{Head}
 use Rattle.job_script.specs.declared.draft.Loss.{Loss}
 use Rattle.job_script.specs.declared.kinds.HeadWord.{HeadWord}
 use Rattle.job_script.specs.declared.kinds.HeadWord.TheVariants as head
-use Rattle.job_script.specs.Fault.{◌>>=◌, need, check, free}
 use Rattle.job_script.specs.Kinds.{named, committers, modes, answers, fates}
 use Rattle.job_model.specs.Paths.{is_dest_key}
 
@@ -40,61 +41,45 @@ dest_at n h values = do
   first ← free h.dest (RepeatedName n)
   Ok (record h { dest = Some path })
 
+-- what the one value of a line is, where it is of this kind and no line before gave one
+abbrev pub first_value : {A B : Type 0} → ℕ → (List ℕ → Option A) → ScriptFault → Option B → List (List ℕ) → Result A ScriptFault
+first_value n kind fault before values = do
+  word ← need (one values) (BadLine n)
+  value ← need (kind word) fault
+  first ← free before (RepeatedName n)
+  Ok value
+
 -- committer NAME
 unfoldable pub committer_at : ℕ → Head → List (List ℕ) → Result Head ScriptFault
-committer_at n h values = do
-  word ← need (one values) (BadLine n)
-  committer ← need (named committers word) (BadLine n)
-  first ← free h.committer (RepeatedName n)
-  Ok (record h { committer = Some committer })
+committer_at n h values = first_value n (named committers) (BadLine n) h.committer values >>= λ committer. Ok (record h { committer = Some committer })
 
 -- tasks N
 unfoldable pub tasks_at : ℕ → Head → List (List ℕ) → Result Head ScriptFault
-tasks_at n h values = do
-  word ← need (one values) (BadLine n)
-  tasks ← need (number_in 0 1000 word) (BadNumber n)
-  first ← free h.tasks (RepeatedName n)
-  Ok (record h { tasks = Some tasks })
+tasks_at n h values = first_value n (number_in 0 1000) (BadNumber n) h.tasks values >>= λ tasks. Ok (record h { tasks = Some tasks })
 
 -- mode NAME, kept with its line
 unfoldable pub mode_at : ℕ → Head → List (List ℕ) → Result Head ScriptFault
-mode_at n h values = do
-  word ← need (one values) (BadLine n)
-  mode ← need (named modes word) (BadLine n)
-  first ← free h.mode (RepeatedName n)
-  Ok (record h { mode = Some (n, mode) })
+mode_at n h values = first_value n (named modes) (BadLine n) h.mode values >>= λ mode. Ok (record h { mode = Some (n, mode) })
 
 -- unique NAME, kept with its line
 unfoldable pub unique_at : ℕ → Head → List (List ℕ) → Result Head ScriptFault
-unique_at n h values = do
-  word ← need (one values) (BadLine n)
-  answer ← need (named answers word) (BadLine n)
-  first ← free h.unique (RepeatedName n)
-  Ok (record h { unique = Some (n, answer) })
+unique_at n h values = first_value n (named answers) (BadLine n) h.unique values >>= λ unique. Ok (record h { unique = Some (n, unique) })
 
 -- retries N
 unfoldable pub retries_at : ℕ → Head → List (List ℕ) → Result Head ScriptFault
-retries_at n h values = do
-  word ← need (one values) (BadLine n)
-  retries ← need (number_in 0 9 word) (BadNumber n)
-  first ← free h.retries (RepeatedName n)
-  Ok (record h { retries = Some retries })
+retries_at n h values = first_value n (number_in 0 9) (BadNumber n) h.retries values >>= λ retries. Ok (record h { retries = Some retries })
 
 -- block N
 unfoldable pub block_at : ℕ → Head → List (List ℕ) → Result Head ScriptFault
-block_at n h values = do
-  word ← need (one values) (BadLine n)
-  block ← need (number_in 1 67108864 word) (BadNumber n)
-  first ← free h.block (RepeatedName n)
-  Ok (record h { block = Some block })
+block_at n h values = first_value n (number_in 1 MOST_SCRIPT_BYTES) (BadNumber n) h.block values >>= λ block. Ok (record h { block = Some block })
+
+-- lanes N
+unfoldable pub lanes_at : ℕ → Head → List (List ℕ) → Result Head ScriptFault
+lanes_at n h values = first_value n (number_in 1 8) (BadNumber n) h.lanes values >>= λ lanes. Ok (record h { lanes = Some lanes })
 
 -- stamp N
 unfoldable pub stamp_at : ℕ → Head → List (List ℕ) → Result Head ScriptFault
-stamp_at n h values = do
-  word ← need (one values) (BadLine n)
-  stamp ← need (number_in 0 999999999999999999 word) (BadNumber n)
-  first ← free h.stamp (RepeatedName n)
-  Ok (record h { stamp = Some stamp })
+stamp_at n h values = first_value n (number_in 0 999999999999999999) (BadNumber n) h.stamp values >>= λ stamp. Ok (record h { stamp = Some stamp })
 
 -- COUNT, which is 1 where it is absent
 abbrev pub count_of : Option (List ℕ) → Option ℕ
@@ -141,5 +126,6 @@ head_at n head.Mode h values = mode_at n h values
 head_at n head.Unique h values = unique_at n h values
 head_at n head.Retries h values = retries_at n h values
 head_at n head.Block h values = block_at n h values
+head_at n head.Lanes h values = lanes_at n h values
 head_at n head.Stamp h values = stamp_at n h values
 head_at n head.Loss h values = loss_at n h values

@@ -1,5 +1,6 @@
 -- The words of a script, and what they name.
 use Rattle.std.specs.Prelude.{ℕ, Bool, true, false, List, [], ◌∷◌, Option, Some, None, option_map, codes, bytes_eq, if◌then◌else◌}
+use Rattle.std.specs.Option.{option_or}
 use Rattle.job_script.specs.declared.kinds.HeadWord.{HeadWord}
 use Rattle.job_script.specs.declared.kinds.HeadWord.TheVariants as head
 use Rattle.job_script.specs.declared.kinds.EventWord.{EventWord}
@@ -21,43 +22,28 @@ use Rattle.job_model.specs.declared.events.Op.TheVariants as op
 abbrev pub Names : Type 0 → Type 0
 Names A = List (List ℕ × A)
 
+-- what a word names in a table
 abbrev pub named : {A : Type 0} → Names A → List ℕ → Option A
 named [] word = None
 named (row ∷ rows) word = if bytes_eq word row.0 then Some row.1 else named rows word
 
+-- the words of head lines
 abbrev pub head_words : Names HeadWord
 head_words =
-    (codes "job", head.Job)
-    ∷ (codes "dest", head.Dest)
-    ∷ (codes "committer", head.Committer)
-    ∷ (codes "tasks", head.Tasks)
-    ∷ (codes "mode", head.Mode)
-    ∷ (codes "unique", head.Unique)
-    ∷ (codes "retries", head.Retries)
-    ∷ (codes "block", head.Block)
-    ∷ (codes "stamp", head.Stamp)
-    ∷ (codes "loss", head.Loss)
-    ∷ []
+    (codes "job", head.Job) ∷ (codes "dest", head.Dest) ∷ (codes "committer", head.Committer) ∷ (codes "tasks", head.Tasks) ∷ (codes "mode", head.Mode)
+    ∷ (codes "unique", head.Unique) ∷ (codes "retries", head.Retries) ∷ (codes "block", head.Block) ∷ (codes "lanes", head.Lanes) ∷ (codes "stamp", head.Stamp) ∷ (codes "loss", head.Loss) ∷ []
 
+-- the words of events
 abbrev pub event_words : Names EventWord
 event_words =
-    (codes "do", event.Do)
-    ∷ (codes "start", event.Start)
-    ∷ (codes "step", event.Step)
-    ∷ (codes "run", event.Run)
-    ∷ (codes "kill", event.Kill)
-    ∷ (codes "mix", event.Mix)
-    ∷ []
+    (codes "do", event.Do) ∷ (codes "start", event.Start) ∷ (codes "step", event.Step) ∷ (codes "run", event.Run) ∷ (codes "kill", event.Kill) ∷ (codes "mix", event.Mix)
+    ∷ (codes "restart", event.Restart) ∷ (codes "recover", event.Recover) ∷ []
 
 -- a head word, `attempt`, `file` or an event's word
-abbrev pub first_of : {A : Type 0} → Option A → Option A → Option A
-first_of (Some x) other = Some x
-first_of None other = other
-
 abbrev pub kind_of : List ℕ → Option Kind
-kind_of word = first_of (option_map kind.Head (named head_words word)) (if bytes_eq word (codes "attempt") then Some kind.Attempt else (if bytes_eq word (codes "file") then Some kind.File else option_map kind.Event (named event_words word)))
+kind_of word = option_or (option_map kind.Head (named head_words word)) (if bytes_eq word (codes "attempt") then Some kind.Attempt else (if bytes_eq word (codes "file") then Some kind.File else option_map kind.Event (named event_words word)))
 
--- The group after a line of this kind, where it may stand there.
+-- the group after a line of this kind, where it may stand there.
 abbrev pub enters : Kind → Group → Option Group
 enters (kind.Head w) group.Head = Some group.Head
 enters (kind.Head w) group.Attempts = None
@@ -72,20 +58,26 @@ enters (kind.Event w) group.Head = Some group.Events
 enters (kind.Event w) group.Attempts = Some group.Events
 enters (kind.Event w) group.Events = Some group.Events
 
+-- the words of committers
 abbrev pub committers : Names Committer
 committers = (codes "magic", committer.Magic) ∷ (codes "directory", committer.Directory) ∷ (codes "partitioned", committer.Partitioned) ∷ []
 
+-- the words of modes
 abbrev pub modes : Names Mode
 modes = (codes "fail", mode.Fail) ∷ (codes "append", mode.Append) ∷ (codes "replace", mode.Replace) ∷ []
 
+-- the words of answers
 abbrev pub answers : Names Bool
 answers = (codes "yes", true) ∷ (codes "no", false) ∷ []
 
+-- the words of fates
 abbrev pub fates : Names Fate
 fates = (codes "slow", fate.Slow) ∷ (codes "before", fate.Before) ∷ (codes "after", fate.After) ∷ []
 
+-- the words of the driver's operations
 abbrev pub driver_ops : Names Op
 driver_ops = (codes "setup", op.Setup) ∷ (codes "commit", op.Commit) ∷ (codes "abort", op.Abort) ∷ (codes "clean", op.Clean) ∷ []
 
+-- the words of an attempt's operations
 abbrev pub attempt_ops : Names Op
 attempt_ops = (codes "write", op.Write) ∷ (codes "commit", op.Commit) ∷ (codes "abort", op.Abort) ∷ []

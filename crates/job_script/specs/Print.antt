@@ -3,7 +3,7 @@ use Rattle.std.specs.Prelude.{ℕ, ◌==◌, ◌+◌, ◌/◌, ◌%◌, Bool, tr
 use Rattle.std.specs.List.{flat_map}
 use Rattle.std.specs.Fmt.{decimal}
 use Rattle.std.specs.FinMap as fin
-use Rattle.line_words.specs.Words.{text_of}
+use Rattle.words.specs.Words.{text_of}
 use Rattle.s3_types.specs.Fates.{FateMap}
 use Rattle.s3_types.specs.declared.fates.Fate.{Fate}
 use Rattle.s3_types.specs.declared.fates.Fate.TheVariants as fate
@@ -14,10 +14,11 @@ use Rattle.pending_json.specs.Trees.{committer_word}
 use Rattle.job_model.specs.Files.{File}
 use Rattle.job_model.specs.Attempts.{Declared}
 use Rattle.job_model.specs.JobScript.{Script}
-use Rattle.job_model.specs.ReportText.{actor_text, op_word}
+use Rattle.s3_types.specs.Spelling.{actor_text}
+use Rattle.job_model.specs.Words.{op_word}
 use Rattle.s3_types.specs.declared.request.Actor.TheVariants.{Attempt}
 use Rattle.job_model.specs.declared.events.Event.{Event}
-use Rattle.job_model.specs.declared.events.Event.TheVariants.{Do, Start, Step, Run, Kill, Mix}
+use Rattle.job_model.specs.declared.events.Event.TheVariants.{Do, Start, Step, Run, Kill, Mix, Restart, Recover}
 
 -- a line by its words
 abbrev pub Line : Type 0
@@ -49,6 +50,10 @@ path_text p = codes "s3a://" ++ (p.bucket ++ 47 ∷ p.key)
 abbrev pub block_lines : ℕ → List Line
 block_lines n = if n == 0 then [] else (codes "block" ∷ decimal n ∷ []) ∷ []
 
+-- no line where it is one
+abbrev pub lanes_lines : ℕ → List Line
+lanes_lines n = if n == 1 then [] else (codes "lanes" ∷ decimal n ∷ []) ∷ []
+
 -- no line where there is none
 abbrev pub stamp_lines : Option ℕ → List Line
 stamp_lines None = []
@@ -62,9 +67,9 @@ loss_line l = codes "loss" ∷ decimal l.0 ∷ fate_word l.1 ∷ []
 abbrev pub loss_lines : FateMap → List Line
 loss_lines fates = map loss_line (fin.entries fates)
 
--- every head line, in the order in which the format lists them
-abbrev pub head_lines : Script → List Line
-head_lines s =
+-- the head lines that every script has
+abbrev pub first_lines : Script → List Line
+first_lines s =
     (codes "job" ∷ s.job ∷ [])
     ∷ (codes "dest" ∷ path_text s.dest ∷ [])
     ∷ (codes "committer" ∷ committer_word s.committer ∷ [])
@@ -72,7 +77,11 @@ head_lines s =
     ∷ (codes "mode" ∷ mode_word s.mode ∷ [])
     ∷ (codes "unique" ∷ answer_word s.unique ∷ [])
     ∷ (codes "retries" ∷ decimal s.retries ∷ [])
-    ∷ (block_lines s.block ++ (stamp_lines s.stamp ++ loss_lines s.fates))
+    ∷ []
+
+-- every head line, in the order in which the format lists them
+abbrev pub head_lines : Script → List Line
+head_lines s = first_lines s ++ (block_lines s.block ++ (lanes_lines s.lanes ++ (stamp_lines s.stamp ++ loss_lines s.fates)))
 
 -- a hex digit in lower case
 abbrev pub lower_digit : ℕ → ℕ
@@ -103,6 +112,8 @@ event_line (Step actor count) = codes "step" ∷ actor_text actor ∷ decimal co
 event_line (Run actor) = codes "run" ∷ actor_text actor ∷ []
 event_line (Kill actor) = codes "kill" ∷ actor_text actor ∷ []
 event_line (Mix seed) = codes "mix" ∷ decimal seed ∷ []
+event_line Restart = codes "restart" ∷ codes "driver" ∷ []
+event_line (Recover actor) = codes "recover" ∷ actor_text actor ∷ []
 
 -- the lines of a script: its head, its attempts with their files, and its events
 abbrev pub script_lines : Script → List Line

@@ -1,9 +1,12 @@
 -- What the bytes of a script mean.
 use Rattle.std.specs.Prelude.{ℕ, ◌+◌, ◌==◌, Bool, true, false, List, [], ◌∷◌, length, Option, Some, None, Result, Ok, Err, nat_le, ⊤, if◌then◌else◌}
+use Rattle.std.specs.Option.{unwrap_or}
 use Rattle.std.specs.Str.{is_utf8}
+use Rattle.proof_base.specs.Reading.{◌>>=◌, need, check}
 use Rattle.words.specs.Lines.{lines_of}
-use Rattle.line_words.specs.Words.{words_of}
+use Rattle.words.specs.Words.{words_of}
 use Rattle.std.specs.FinMap as map
+use Rattle.s3_types.specs.declared.limits.TheConstants.{MOST_SCRIPT_BYTES}
 use Rattle.s3_types.specs.declared.request.Committer.{Committer}
 use Rattle.s3_types.specs.declared.request.Committer.TheVariants as committer
 use Rattle.s3_types.specs.declared.request.Mode.{Mode}
@@ -16,7 +19,6 @@ use Rattle.job_script.specs.declared.draft.Group.TheVariants as group
 use Rattle.job_model.specs.JobScript.{Script}
 use Rattle.job_script.specs.declared.kinds.Kind.{Kind}
 use Rattle.job_script.specs.declared.kinds.Kind.TheVariants as kind
-use Rattle.job_script.specs.Fault.{◌>>=◌, need, check}
 use Rattle.job_script.specs.Kinds.{kind_of, enters}
 use Rattle.job_script.specs.HeadLines.{head_at}
 use Rattle.job_script.specs.AttemptLines.{attempt_at, file_at}
@@ -55,7 +57,7 @@ lines_at n d (text ∷ texts) = do
 
 -- before the first line
 abbrev pub no_head : Head
-no_head = record { job = None; dest = None; committer = None; tasks = None; mode = None; unique = None; retries = None; block = None; stamp = None; fates = map.empty; losses = 0 }
+no_head = record { job = None; dest = None; committer = None; tasks = None; mode = None; unique = None; retries = None; block = None; lanes = None; stamp = None; fates = map.empty; losses = 0 }
 
 -- before the first line
 abbrev pub nothing : Draft
@@ -87,11 +89,6 @@ abbrev pub all_inside : Option ℕ → Result ⊤ ScriptFault
 all_inside None = Ok tt
 all_inside (Some n) = Err (UnknownActor n)
 
--- the number, or the one that stands for none
-abbrev pub or_else : Option ℕ → ℕ → ℕ
-or_else None default = default
-or_else (Some x) default = x
-
 -- the checks after the last line, and the whole script
 unfoldable pub complete : Draft → Result Script ScriptFault
 complete d = do
@@ -102,12 +99,12 @@ complete d = do
   mode ← mode_in committer d.head.mode
   unique ← unique_in committer d.head.unique
   inside ← all_inside d.outside
-  Ok (record { job = job; dest = dest; committer = committer; mode = mode; unique = unique; tasks = tasks; retries = or_else d.head.retries 3; block = or_else d.head.block 0; stamp = d.head.stamp; fates = d.head.fates; attempts = d.attempts; events = d.events })
+  Ok (record { job = job; dest = dest; committer = committer; mode = mode; unique = unique; tasks = tasks; retries = unwrap_or d.head.retries 3; block = unwrap_or d.head.block 0; lanes = unwrap_or d.head.lanes 1; stamp = d.head.stamp; fates = d.head.fates; attempts = d.attempts; events = d.events })
 
 -- what the bytes mean as a script, or the first fault
 unfoldable pub script_of : List ℕ → Result Script ScriptFault
 script_of bytes = do
-  small ← check (nat_le (length bytes) 67108864) TooLarge
+  small ← check (nat_le (length bytes) MOST_SCRIPT_BYTES) TooLarge
   text ← check (is_utf8 bytes) NotUtf8
   d ← lines_at 1 nothing (lines_of bytes)
   complete d

@@ -1,19 +1,17 @@
 ghost use Rattle.std.specs.Prelude.{◌≡◌, option_map};
-ghost use Rattle.line_words.specs.Words.{words_after};
+ghost use Rattle.words.specs.Words.{words_after};
 ghost use Rattle.job_script.specs.Fault.{Gives, Makes};
 ghost use Rattle.job_script.specs.AttemptLines as lines;
-ghost use Rattle.job_script.specs.Kinds.{first_of};
+ghost use Rattle.std.specs.Option.{option_or};
 
 use crate::content::content_of;
 use crate::draft::Draft;
 use crate::fault::ScriptFault;
 use crate::paths::{is_hidden, is_path};
 use job_model::AttemptName;
-use line_words::{number_within, one, two_and_more, two_parts};
-use s3_types::Text;
+use s3_types::{MOST_SCRIPT_BYTES, Text};
 use std::alloc::Global;
-
-const MOST_BYTES: u64 = 67_108_864;
+use words::{number_within, one, two_and_more, two_parts};
 
 /// The attempt that a word T.A names, of a task from 0 to 999 and a number from 0 to 99.
 #[tactic(auto, unfolding(crate::specs::AttemptLines::name_at))]
@@ -37,7 +35,7 @@ pub fn name_of(line: u64, word: &str) -> Result<AttemptName, ScriptFault>
 
 /// The line of the first attempt whose task is not below the number of tasks, with this one.
 fn outside_of(line: u64, outside: Option<u64>, tasks: Option<u32>, name: AttemptName) -> Option<u64>
-    ensures { result ≡ first_of outside (lines.outside_at line tasks name) }
+    ensures { result ≡ option_or outside (lines.outside_at line tasks name) }
 {
     match (outside, tasks) {
         (Some(earlier), _) => Some(earlier),
@@ -99,7 +97,7 @@ pub fn file_line(
         return Err(ScriptFault::TooLarge);
     }
     let length = bytes.as_slice().len() as u64;
-    if draft.bytes > MOST_BYTES || length > MOST_BYTES - draft.bytes {
+    if draft.bytes > MOST_SCRIPT_BYTES || length > MOST_SCRIPT_BYTES - draft.bytes {
         return Err(ScriptFault::TooLarge);
     }
     draft.attempts.add_file(path, bytes)?;

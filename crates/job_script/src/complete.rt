@@ -1,7 +1,9 @@
 ghost use Rattle.std.specs.Prelude.{◌≡◌, Ok};
+ghost use Rattle.std.specs.Option.{unwrap_or};
+ghost use Rattle.proof_base.specs.Reading.{need};
 ghost use Rattle.job_model.specs.JobScript.{Script};
 ghost use Rattle.job_model.specs.Legal.{IsLegal};
-ghost use Rattle.job_script.specs.Fault.{Gives, need};
+ghost use Rattle.job_script.specs.Fault.{Gives};
 ghost use Rattle.job_script.specs.declared.fault.ScriptFault.TheVariants.{MissingHead};
 ghost use Rattle.job_script.specs.Script as script;
 
@@ -55,7 +57,7 @@ fn all_inside(outside: Option<u64>) -> Result<(), ScriptFault>
 
 /// The number, or the one that stands for none.
 fn or_else(value: Option<u64>, default: u64) -> u64
-    ensures { result ≡ script.or_else value default }
+    ensures { result ≡ unwrap_or value default }
 {
     match value {
         Some(x) => x,
@@ -65,7 +67,7 @@ fn or_else(value: Option<u64>, default: u64) -> u64
 
 /// The same of a shorter number.
 fn or_else_u32(value: Option<u32>, default: u32) -> u32
-    ensures { result ≡ script.or_else value default }
+    ensures { result ≡ unwrap_or value default }
 {
     match value {
         Some(x) => x,
@@ -96,6 +98,7 @@ pub fn complete(draft: Draft) -> Result<Script, ScriptFault>
         tasks,
         retries: or_else_u32(head.retries, 3),
         block: or_else(head.block, 0),
+        lanes: or_else_u32(head.lanes, 1),
         stamp: head.stamp,
         fates: head.fates,
         attempts: draft.attempts,

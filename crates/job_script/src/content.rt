@@ -1,12 +1,12 @@
 ghost use Rattle.std.specs.Prelude.{◌≡◌, option_map, ◌<◌, IfSome, IfOk};
-ghost use Rattle.line_words.specs.Words.{words_after};
+ghost use Rattle.words.specs.Words.{words_after};
 ghost use Rattle.job_script.specs.Fault.{Gives};
 ghost use Rattle.job_script.specs.Content as content;
 
 use crate::fault::ScriptFault;
-use line_words::{number_within, one, text, two};
-use s3_types::Bytes;
+use s3_types::{Bytes, MOST_SCRIPT_BYTES};
 use std::alloc::{AllocError, Global};
+use words::{number_within, one, text, two};
 
 /// The value of a hex digit in either case.
 fn hex_digit(b: u8) -> Option<u8>
@@ -93,7 +93,7 @@ fn fill_of(alloc: Global, line: u64, rest: Option<&str>) -> Result<Bytes, Script
     let Some((count, byte)) = two(rest) else {
         return Err(ScriptFault::BadLine(line));
     };
-    let Some(count) = number_within(0, 67_108_864, count) else {
+    let Some(count) = number_within(0, MOST_SCRIPT_BYTES, count) else {
         return Err(ScriptFault::BadNumber(line));
     };
     let Some(byte) = number_within(0, 255, byte) else {

@@ -21,6 +21,7 @@ pub struct Head {
     pub unique: Option<(u64, bool)>,
     pub retries: Option<u32>,
     pub block: Option<u64>,
+    pub lanes: Option<u32>,
     pub stamp: Option<u64>,
     pub fates: Fates,
     /// The number of lines `loss`.

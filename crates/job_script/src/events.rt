@@ -1,5 +1,5 @@
 ghost use Rattle.std.specs.Prelude.{◌≡◌, option_map};
-ghost use Rattle.line_words.specs.Words.{words_after};
+ghost use Rattle.words.specs.Words.{words_after};
 ghost use Rattle.job_model.specs.Attempts.{is_known};
 ghost use Rattle.job_script.specs.Fault.{Gives, Makes};
 ghost use Rattle.job_script.specs.EventLines as lines;
@@ -9,8 +9,8 @@ use crate::draft::Draft;
 use crate::fault::ScriptFault;
 use crate::kinds::{EventWord, attempt_op, driver_op};
 use job_model::{AttemptName, Attempts, Event, Op};
-use line_words::{number_within, one, two};
 use s3_types::Actor;
+use words::{number_within, one, two};
 
 fn is_driver(word: &str) -> bool
     ensures { result ≡ lines.is_driver word.now }
@@ -147,6 +147,38 @@ fn mix_event(line: u64, rest: Option<&str>) -> Result<Event, ScriptFault>
     Ok(Event::Mix { seed: seed as u32 })
 }
 
+#[tactic(auto, unfolding(crate::specs::EventLines::restart_at))]
+fn restart_event(line: u64, rest: Option<&str>) -> Result<Event, ScriptFault>
+    ensures { Gives result (lines.restart_at line (words_after (option_map (λ r. r.now) rest.entry))) }
+{
+    let Some(word) = one(rest) else {
+        return Err(ScriptFault::BadLine(line));
+    };
+    if !is_driver(word) {
+        return Err(ScriptFault::BadLine(line));
+    }
+    Ok(Event::Restart)
+}
+
+#[tactic(auto, unfolding(crate::specs::EventLines::recover_at))]
+fn recover_event(draft: &Draft, line: u64, rest: Option<&str>) -> Result<Event, ScriptFault>
+    ensures { Gives result (lines.recover_at line draft.now (words_after (option_map (λ r. r.now) rest.entry))) }
+{
+    let Some(word) = one(rest) else {
+        return Err(ScriptFault::BadLine(line));
+    };
+    let name = name_of(line, word)?;
+    if !draft.attempts.declares(name) {
+        return Err(ScriptFault::UnknownActor(line));
+    }
+    Ok(Event::Recover {
+        actor: Actor::Attempt {
+            task: name.task,
+            attempt: name.attempt,
+        },
+    })
+}
+
 fn event_of(
     draft: &Draft,
     line: u64,
@@ -162,6 +194,8 @@ fn event_of(
         EventWord::Run => run_event(draft, line, rest),
         EventWord::Kill => kill_event(draft, line, rest),
         EventWord::Mix => mix_event(line, rest),
+        EventWord::Restart => restart_event(line, rest),
+        EventWord::Recover => recover_event(draft, line, rest),
     }
 }
 

@@ -1,9 +1,9 @@
 ghost use Rattle.std.specs.Prelude.{◌≡◌, option_map};
 ghost use Rattle.std.specs.List.{list_all};
-ghost use Rattle.line_words.specs.Words.{words_after};
+ghost use Rattle.words.specs.Words.{words_after};
 ghost use Rattle.job_script.specs.Fault.{Gives, Makes};
 ghost use Rattle.path_keys.specs.Paths.{path_in};
-ghost use Rattle.job_model.specs.Jobs.{is_id_byte, is_job_id};
+ghost use Rattle.s3_types.specs.Names.{is_id_byte, is_job_id};
 ghost use Rattle.job_script.specs.HeadLines as lines;
 
 use crate::draft::Head;
@@ -11,10 +11,10 @@ use crate::fault::ScriptFault;
 use crate::kinds::{HeadWord, answer_of, committer_of, mode_of};
 use crate::loss::loss_line;
 use crate::paths::is_dest_key;
-use line_words::{number_within, one};
 use path_keys::{PathFault, S3Path};
-use s3_types::Text;
+use s3_types::{MOST_SCRIPT_BYTES, Text};
 use std::alloc::Global;
+use words::{number_within, one};
 
 fn is_id_byte(b: u8) -> bool
     ensures { result ≡ is_id_byte b }
@@ -186,13 +186,30 @@ fn block_line(head: &mut Head, line: u64, rest: Option<&str>) -> Result<(), Scri
     let Some(word) = one(rest) else {
         return Err(ScriptFault::BadLine(line));
     };
-    let Some(block) = number_within(1, 67_108_864, word) else {
+    let Some(block) = number_within(1, MOST_SCRIPT_BYTES, word) else {
         return Err(ScriptFault::BadNumber(line));
     };
     if let Some(_) = head.block {
         return Err(ScriptFault::RepeatedName(line));
     }
     head.block = Some(block);
+    Ok(())
+}
+
+#[tactic(auto, unfolding(crate::specs::HeadLines::lanes_at))]
+fn lanes_line(head: &mut Head, line: u64, rest: Option<&str>) -> Result<(), ScriptFault>
+    ensures { Makes result head.new (lines.lanes_at line head.old (words_after (option_map (λ r. r.now) rest.entry))) }
+{
+    let Some(word) = one(rest) else {
+        return Err(ScriptFault::BadLine(line));
+    };
+    let Some(lanes) = number_within(1, 8, word) else {
+        return Err(ScriptFault::BadNumber(line));
+    };
+    if let Some(_) = head.lanes {
+        return Err(ScriptFault::RepeatedName(line));
+    }
+    head.lanes = Some(lanes as u32);
     Ok(())
 }
 
@@ -232,6 +249,7 @@ pub fn head_line(
         HeadWord::Unique => unique_line(head, line, rest),
         HeadWord::Retries => retries_line(head, line, rest),
         HeadWord::Block => block_line(head, line, rest),
+        HeadWord::Lanes => lanes_line(head, line, rest),
         HeadWord::Stamp => stamp_line(head, line, rest),
         HeadWord::Loss => loss_line(head, line, rest),
     }

@@ -16,6 +16,7 @@ pub enum HeadWord {
     Unique,
     Retries,
     Block,
+    Lanes,
     Stamp,
     Loss,
 }
@@ -28,6 +29,8 @@ pub enum EventWord {
     Run,
     Kill,
     Mix,
+    Restart,
+    Recover,
 }
 
 /// The kinds of lines.
@@ -51,6 +54,7 @@ pub fn head_word(word: &str) -> Option<HeadWord>
         "unique" => Some(HeadWord::Unique),
         "retries" => Some(HeadWord::Retries),
         "block" => Some(HeadWord::Block),
+        "lanes" => Some(HeadWord::Lanes),
         "stamp" => Some(HeadWord::Stamp),
         "loss" => Some(HeadWord::Loss),
         _ => None,
@@ -67,6 +71,8 @@ pub fn event_word(word: &str) -> Option<EventWord>
         "run" => Some(EventWord::Run),
         "kill" => Some(EventWord::Kill),
         "mix" => Some(EventWord::Mix),
+        "restart" => Some(EventWord::Restart),
+        "recover" => Some(EventWord::Recover),
         _ => None,
     }
 }

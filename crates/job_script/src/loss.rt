@@ -1,5 +1,5 @@
 ghost use Rattle.std.specs.Prelude.{◌≡◌, ◌+◌, ◌≤◌, false, option_map, IfOk, IfSome};
-ghost use Rattle.line_words.specs.Words.{words_after};
+ghost use Rattle.words.specs.Words.{words_after};
 ghost use Rattle.s3_types.specs.Fates.{is_answer, with_fates};
 ghost use Rattle.job_script.specs.Fault.{Gives, Makes};
 ghost use Rattle.job_script.specs.HeadLines as lines;
@@ -7,8 +7,8 @@ ghost use Rattle.job_script.specs.HeadLines as lines;
 use crate::draft::{Head, Loss};
 use crate::fault::ScriptFault;
 use crate::kinds::fate_of;
-use line_words::{at_most_one, number_within, two_and_more};
 use s3_types::{FateFault, Fates};
+use words::{at_most_one, number_within, two_and_more};
 
 /// COUNT, which is 1 where it is absent.
 fn count_of(word: Option<&str>) -> Option<u64>

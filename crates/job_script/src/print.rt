@@ -2,6 +2,7 @@ ghost use Rattle.std.specs.Prelude.{◌≡◌, ◌≤◌, length, IfOk, Ok};
 ghost use Rattle.std.specs.FinMap as map;
 ghost use Rattle.job_script.specs.Print.{script_text};
 ghost use Rattle.job_script.specs.Script.{script_of};
+ghost use Rattle.s3_types.specs.declared.limits.TheConstants.{MOST_SCRIPT_BYTES};
 
 use crate::print_events::put_events;
 use crate::print_files::put_attempts;
@@ -19,7 +20,7 @@ use std::alloc::{AllocError, Global};
 /// are kept.
 pub fn print_script(alloc: Global, script: &Script) -> Result<Bytes, AllocError>
     ensures text { IfOk result (λ bytes. bytes ≡ script_text script.now) }
-    ensures again { IfOk result (λ bytes. map.len script.now.fates ≤ 10000 → length bytes ≤ 67108864 → script_of bytes ≡ Ok script.now) }
+    ensures again { IfOk result (λ bytes. map.len script.now.fates ≤ 10000 → length bytes ≤ MOST_SCRIPT_BYTES → script_of bytes ≡ Ok script.now) }
 {
     let mut out = String::new(alloc);
     put_head(&mut out, script)?;

@@ -1,12 +1,12 @@
 ghost use Rattle.std.specs.Prelude.{◌≡◌, ◌++◌, ◌∷◌, [], map, codes, string_bytes, OnOk, IfOk};
 ghost use Rattle.std.specs.List.{flat_map};
-ghost use Rattle.line_words.specs.Words.{ended, text_of};
+ghost use Rattle.words.specs.Words.{ended, text_of};
 ghost use Rattle.s3_types.specs.declared.request.Actor.TheVariants.{Attempt};
-ghost use Rattle.job_model.specs.ReportText.{actor_text};
+ghost use Rattle.s3_types.specs.Spelling.{actor_text};
 ghost use Rattle.job_script.specs.Print.{hex_word, file_line, attempt_lines};
 
 use job_model::{AttemptName, Attempts, FileList};
-use s3_types::{Bytes, Text};
+use s3_types::{Actor, Bytes, Text};
 use std::alloc::{AllocError, Global};
 
 /// The bytes in hex, or `-` where there are none.
@@ -39,9 +39,11 @@ fn put_files(alloc: Global, out: &mut String, files: &FileList) -> Result<(), Al
 fn put_name(out: &mut String, name: AttemptName) -> Result<(), AllocError>
     ensures { OnOk result (string_bytes out.new ≡ string_bytes out.old ++ ended (codes "attempt" ∷ actor_text (Attempt name.task name.attempt) ∷ [])) }
 {
-    let task = name.task;
-    let attempt = name.attempt;
-    write!(out, "attempt {task}.{attempt}\n")
+    let actor = Actor::Attempt {
+        task: name.task,
+        attempt: name.attempt,
+    };
+    write!(out, "attempt {actor}\n")
 }
 
 /// An attempt and its files.

@@ -1,7 +1,7 @@
 ghost use Rattle.std.specs.Prelude.{◌≡◌, ◌++◌, ◌∷◌, [], codes, string_bytes, OnOk};
 ghost use Rattle.std.specs.Fmt.{decimal};
-ghost use Rattle.line_words.specs.Words.{ended, text_of};
-ghost use Rattle.job_script.specs.Print.{block_lines, stamp_lines, path_text, head_lines};
+ghost use Rattle.words.specs.Words.{ended, text_of};
+ghost use Rattle.job_script.specs.Print.{block_lines, stamp_lines, path_text, head_lines, lanes_lines};
 
 use crate::print_losses::put_losses;
 use crate::print_words::{answer_word, committer_word, mode_word};
@@ -41,6 +41,16 @@ fn put_block(out: &mut String, block: u64) -> Result<(), AllocError>
     put_number(out, "block", block)
 }
 
+/// No line where it is one.
+fn put_lanes(out: &mut String, lanes: u32) -> Result<(), AllocError>
+    ensures { OnOk result (string_bytes out.new ≡ string_bytes out.old ++ text_of (lanes_lines lanes)) }
+{
+    if lanes == 1 {
+        return Ok(());
+    }
+    put_number(out, "lanes", u64::from(lanes))
+}
+
 /// No line where there is none.
 fn put_stamp(out: &mut String, stamp: Option<u64>) -> Result<(), AllocError>
     ensures { OnOk result (string_bytes out.new ≡ string_bytes out.old ++ text_of (stamp_lines stamp)) }
@@ -63,6 +73,7 @@ pub fn put_head(out: &mut String, script: &Script) -> Result<(), AllocError>
     put_word(out, "unique", answer_word(script.unique))?;
     put_number(out, "retries", u64::from(script.retries))?;
     put_block(out, script.block)?;
+    put_lanes(out, script.lanes)?;
     put_stamp(out, script.stamp)?;
     put_losses(out, &script.fates)
 }

@@ -1,9 +1,9 @@
 ghost use Rattle.std.specs.Prelude.{◌≡◌, ◌≤◌, length, option_map, is_some, IfSome, IfOk, Ok};
 ghost use Rattle.std.specs.Str.{is_utf8};
 ghost use Rattle.words.specs.Lines.{lines_of};
-ghost use Rattle.line_words.specs.Words.{words_after};
+ghost use Rattle.words.specs.Words.{words_after};
 ghost use Rattle.job_model.specs.JobScript.{Script};
-ghost use Rattle.job_script.specs.Fault.{Gives, Makes, ReadAs};
+ghost use Rattle.job_script.specs.Fault.{Gives, Makes};
 ghost use Rattle.job_script.specs.Script as script;
 
 use crate::attempts::{attempt_line, file_line};
@@ -14,11 +14,9 @@ use crate::fault::ScriptFault;
 use crate::head::head_line;
 use crate::kinds::{Kind, enters, kind_of};
 use job_model::{Attempts, EventList, Script};
-use line_words::{next_line, next_part};
-use s3_types::Fates;
+use s3_types::{Fates, MOST_SCRIPT_BYTES};
 use std::alloc::Global;
-
-const MOST_BYTES: usize = 67_108_864;
+use words::{next_field, next_line};
 
 fn nothing(alloc: Global) -> Draft
     ensures { result ≡ script.nothing }
@@ -32,6 +30,7 @@ fn nothing(alloc: Global) -> Draft
         unique: None,
         retries: None,
         block: None,
+        lanes: None,
         stamp: None,
         fates: Fates::new(alloc),
         losses: 0,
@@ -82,7 +81,7 @@ fn line_of(alloc: Global, draft: &mut Draft, line: u64, text: &str) -> Result<()
     if is_skipped(text) {
         return Ok(());
     }
-    let (word, rest) = next_part(' ', text);
+    let (word, rest) = next_field(' ', text);
     let Some(kind) = kind_of(word) else {
         return Err(ScriptFault::UnknownWord(line));
     };
@@ -95,7 +94,7 @@ fn line_of(alloc: Global, draft: &mut Draft, line: u64, text: &str) -> Result<()
 
 #[tactic(auto, unfolding(crate::specs::Script::lines_at))]
 fn draft_of(alloc: Global, text: &str) -> Result<Draft, ScriptFault>
-    requires { length text.now ≤ 67108864 }
+    requires { length text.now ≤ MOST_SCRIPT_BYTES }
     ensures { Gives result (script.lines_at 1 script.nothing (lines_of text.now)) }
 {
     let mut draft = nothing(alloc);
@@ -125,7 +124,7 @@ fn text_of(bytes: &[u8]) -> Option<&str>
 fn script_in(alloc: Global, bytes: &[u8]) -> Result<Script, ScriptFault>
     ensures { Gives result (script.script_of bytes.now) }
 {
-    if bytes.len() > MOST_BYTES {
+    if bytes.len() > MOST_SCRIPT_BYTES as usize {
         return Err(ScriptFault::TooLarge);
     }
     let Some(text) = text_of(bytes) else {
@@ -142,7 +141,7 @@ fn script_in(alloc: Global, bytes: &[u8]) -> Result<Script, ScriptFault>
 pub fn read_script(alloc: Global, bytes: &[u8]) -> Result<Script, ScriptFault>
     ensures exact { Gives result (script.script_of bytes.now) }
     ensures found { IfOk result (λ s. script.script_of bytes.now ≡ Ok s) }
-    ensures only { (s : Script) → script.script_of bytes.now ≡ Ok s → ReadAs result s }
+    ensures only { (s : Script) → script.script_of bytes.now ≡ Ok s → Gives result (Ok s) }
 {
     script_in(alloc, bytes)
 }

@@ -1,13 +1,9 @@
 -- The three walks: over keys, over the entries of a folder, and over live uploads.
-use Rattle.std.specs.Prelude.{◌≡◌, ℕ, Bool, true, false, List, [], ◌∷◌, Option, Some, None, option_map, refl}
-use Rattle.std.specs.Coded.{Coded, code_by, coded×, coded⊎, coded_ℕ, coded_option}
-use Rattle.std.specs.Prelude.{◌⊎◌}
-use Rattle.std.proofs.Common.{inl, inr}
+use Rattle.std.specs.Prelude.{ℕ, true, false, List, [], ◌∷◌, Option, Some, None, option_map}
 use Rattle.std.specs.FinMap as fin
 use Rattle.s3_types.specs.Store.{Scene, BucketContent}
 use Rattle.s3_types.specs.Pages.{listed, text_in}
 use Rattle.s3_types.specs.Multipart.{listed as listed_uploads}
-use Rattle.s3_types.specs.Coded.{coded_text, coded_ref}
 use Rattle.s3_types.specs.declared.request.Request.{Request}
 use Rattle.s3_types.specs.declared.request.Request.TheVariants.{ListPage, ListUploads}
 use Rattle.s3_types.specs.declared.request.UploadRef.{UploadRef}
@@ -17,7 +13,7 @@ use Rattle.s3_types.specs.declared.reply.Reply.{Reply}
 use Rattle.s3_types.specs.declared.reply.Reply.TheVariants.{Page, Uploads, Refused}
 use Rattle.s3_types.specs.declared.reply.Refusal.{Refusal}
 use Rattle.s3_types.specs.declared.reply.Refusal.TheVariants.{NoSuchBucket}
-use Rattle.list_walk.specs.Walk.{Walk, Told, coded_walk}
+use Rattle.list_walk.specs.Walks.{Told}
 
 -- the refusal is that there is no bucket
 abbrev pub no_bucket : {E : Type 0} → Refusal → Told E
@@ -89,39 +85,3 @@ after_uploads m rs = last_of (λ r. Some r) m rs
 -- the live uploads whose keys begin with p and that come behind m, in order
 abbrev pub uploads_from : Scene → List ℕ → List ℕ → Option UploadRef → Option (List UploadRef)
 uploads_from s b p m = in_bucket s b (λ c. listed_uploads p m c.uploads)
-
--- ---- what is walked
-
-abbrev pub Keys : Type 0
-Keys = Walk (List ℕ) (List ℕ)
-
-abbrev pub Folder : Type 0
-Folder = Walk PageEntry (List ℕ)
-
-abbrev pub LiveUploads : Type 0
-LiveUploads = Walk UploadRef (Option UploadRef)
-
-abbrev pub to_sum : PageEntry → (List ℕ × ℕ) ⊎ List ℕ
-to_sum (Single k n) = inl (k, n)
-to_sum (Prefix t) = inr t
-
-abbrev pub of_sum : (List ℕ × ℕ) ⊎ List ℕ → PageEntry
-of_sum (inl p) = Single p.0 p.1
-of_sum (inr t) = Prefix t
-
-abbrev pub sum_and_back : (e : PageEntry) → of_sum (to_sum e) ≡ e
-sum_and_back (Single k n) = refl
-sum_and_back (Prefix t) = refl
-
-abbrev pub coded_keys : Coded Keys
-coded_keys = coded_walk coded_text coded_text
-
-abbrev pub coded_folder : Coded Folder
-coded_folder = coded_walk (code_by ((List ℕ × ℕ) ⊎ List ℕ) (coded⊎ (coded× coded_text coded_ℕ) coded_text) to_sum of_sum sum_and_back) coded_text
-
-abbrev pub coded_live : Coded LiveUploads
-coded_live = coded_walk coded_ref (coded_option coded_ref)
-
--- a new walk
-abbrev pub start : {E M : Type 0} → M → List ℕ → List ℕ → Walk E M
-start m b p = record { bucket = b; prefix = p; mark = m; found = []; end = None }

@@ -1,5 +1,5 @@
 pub mod Appends
-pub mod Walk
+pub mod Walks
 pub mod Kinds
+pub mod PageLaws
 pub mod WalkLaws
-pub mod Pages

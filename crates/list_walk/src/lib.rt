@@ -3,10 +3,14 @@
 
 mod flat;
 mod folder;
+mod listing;
 mod uploads;
+mod walk;
 mod walk_end;
 
-pub use flat::{FlatWalk, list_keys};
-pub use folder::{FolderWalk, list_folder};
-pub use uploads::{UploadWalk, list_uploads};
+pub use flat::{FlatWalk, Keys};
+pub use folder::{Folder, FolderWalk};
+pub use listing::{Listing, list};
+pub use uploads::{UploadWalk, Uploads};
+pub use walk::{Kind, PageEnd, Walk};
 pub use walk_end::WalkEnd;

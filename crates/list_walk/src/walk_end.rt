@@ -1,5 +1,8 @@
 ghost use Rattle.std.specs.Prelude.{◌≡◌};
-ghost use Rattle.list_walk.specs.Walk.{is_absent};
+ghost use Rattle.list_walk.specs.Walks.{ended};
+
+use operations::Stage;
+use s3_types::Sequence;
 
 /// How a walk ended.
 #[derive(Clone, Copy, Debug, PartialEq, Eq)]
@@ -13,15 +16,15 @@ pub enum WalkEnd {
     NoMemory,
 }
 
-/// Whether a walk ended because the bucket is not there.
-pub(crate) fn is_absent(end: Option<WalkEnd>) -> bool
-    ensures { result ≡ is_absent end }
+/// How a walk ended, by where it stands.
+pub(crate) fn end_of<P, E>(stage: &Stage<P, Option<Sequence<E>>>) -> Option<WalkEnd>
+    ensures { result ≡ ended stage.now }
 {
-    match end {
-        Some(WalkEnd::NoSuchBucket) => true,
-        Some(WalkEnd::Whole) => false,
-        Some(WalkEnd::StoreFault) => false,
-        Some(WalkEnd::NoMemory) => false,
-        None => false,
+    match stage {
+        Stage::On(_) => None,
+        Stage::Over(Some(_)) => Some(WalkEnd::Whole),
+        Stage::Over(None) => Some(WalkEnd::NoSuchBucket),
+        Stage::StoreFault => Some(WalkEnd::StoreFault),
+        Stage::NoMemory => Some(WalkEnd::NoMemory),
     }
 }

@@ -18,8 +18,10 @@ use Rattle.machine.specs.Turns.{Follows, run, step, wears, has_worn, unanswered,
 use Rattle.std.proofs.Common.{append_assoc, length-append}
 use Rattle.std.proofs.lemmas.Bool.Decides.{nat_tests}
 use Rattle.machine.specs.declared.retrying.Turn.TheVariants.{Again, WornOut as Worn}
+use Rattle.machine.specs.Counted.{Counted}
 use Rattle.machine.specs.Drove.{IsRun, IsSent, Driving, standing_after}
 use Rattle.machine.specs.declared.retrying.Retrying.{Retrying}
+use Rattle.machine.proofs.Counts.{counted_then}
 
 pub after_all_more : (s : Scene) (part : List Entry) (e : Entry) → after_all s (part ++ e ∷ []) ≡ effect (after_all s part) e.request e.outcome
 after_all_more s [] e = refl
@@ -161,33 +163,34 @@ told_more p n (x ∷ part) e h k =
     let m : n + suc (length part) ≡ (n + 1) + length part = omega arith in
     (h.0, told_more p (n + 1) part e h.1 (subst (λ v. IsForetold (p v) e.outcome) m k))
 
+-- the number of the next request
+pub next_number : (old new part : List Entry) (first requests : ℕ) → new ≡ old ++ part → requests + length old ≡ first + length new → requests + 1 ≡ first + 1 + length part
+next_number old new part first requests e h = let n : length new ≡ length (old ++ part) = ap length e in omega (arith, n, length-append old part, h)
+
 pub driving_more : {M : Type 0} {wants : M → Option Request} {after : M → Item → M} {fits : M → Reply → Bool → Type 0} {ready : M → Scene → Bool → Type 0} {left : M → Scene → ℕ} {standing : M → Standing} (laws : Laws wants after fits ready left standing)
     (actor : Actor) (event : ℕ) (t t' t'' : Retrying M) (s s' s'' : Scene) (old new new' : List Entry) (before now now' : ℕ) (told tells tells' : ℕ → Option Fate) (first requests requests' : ℕ) (worn worn' : Bool) (e : Entry)
     → Driving after wants ready standing actor event t t' s s' old new before now told tells first requests worn
     → IsSent wants actor event t' s' e s''
     → new' ≡ new ++ e ∷ []
     → t'' ≡ step after t' e.outcome
-    → requests' ≤ length new'
-    → now ≤ now'
+    → Counted new new' requests requests' now now' tells tells'
     → (IsTrue (is_unanswered e.outcome) → now < now')
     → worn' ≡ (worn || wears t' e.outcome)
-    → IsForetold (tells (requests + 1)) e.outcome → ((n : ℕ) → tells' n ≡ tells n) → requests' ≡ requests + 1
+    → IsForetold (tells (requests + 1)) e.outcome
     → Driving after wants ready standing actor event t t'' s s'' old new' before now' told tells' first requests' worn'
-driving_more {wants = wants} {after = after} {fits = fits} {ready = ready} {standing = standing} laws actor event t t' t'' s s' s'' old new new' before now now' told tells tells' first requests requests' worn worn' e d k en et ec el lost ew it ts one = record {
+driving_more {wants = wants} {after = after} {fits = fits} {ready = ready} {standing = standing} laws actor event t t' t'' s s' s'' old new new' before now now' told tells tells' first requests requests' worn worn' e d k en et ec lost ew it = record {
   part = d.part ++ e ∷ [];
   appended = en ∙ ap (λ v. v ++ e ∷ []) d.appended ∙ append_assoc old d.part (e ∷ []);
   is_run = is_run_more wants after actor event t s d.part s' t' e s'' d.there d.is_run k;
   there = et ∙ ap (λ v. step after v e.outcome) d.there ∙ sym (run_more after t d.part e);
   wore = ew ∙ ap (λ v. v || wears t' e.outcome) d.wore ∙ ap (λ v. has_worn after t d.part || wears v e.outcome) d.there ∙ sym (worn_more after t d.part e);
   ready_still = subst (λ v. ready v.machine s'' v.repeated) (sym et) (subst (λ v. ready (step after t' e.outcome).machine v (step after t' e.outcome).repeated) (sym k.scene) (ready_step laws t' s' e.request e.outcome k.wanted d.ready_still k.honest));
-  foretold = let n : requests + 1 ≡ first + 1 + length d.part = omega (arith, d.number) in told_more told (first + 1) d.part e d.foretold (subst (λ v. IsForetold v e.outcome) (d.same (requests + 1) ∙ ap told n) it);
-  number = omega (arith, one, d.number, length-append d.part (e ∷ []));
-  same = λ n. ts n ∙ d.same n;
-  counted = ec;
-  losses = omega (arith, d.losses, el);
+  foretold = let n : requests + 1 ≡ first + 1 + length d.part = next_number old new d.part first requests d.appended d.counts.made in told_more told (first + 1) d.part e d.foretold (subst (λ v. IsForetold v e.outcome) (d.counts.foretold (requests + 1) ∙ ap told n) it);
+  counted = omega (arith, d.counted, ec.made);
+  counts = counted_then old new new' d.part (e ∷ []) first requests requests' before now now' told tells tells' d.appended en d.counts ec;
   stands = ap (λ v. standing v.machine) et ∙ standing_step laws t' s' e.request e.outcome k.wanted d.ready_still k.honest ∙ ap (standing_after (wears t' e.outcome)) d.stands
       ∙ standing_both worn (wears t' e.outcome) (standing t.machine) ∙ ap (λ b. standing_after b (standing t.machine)) (sym ew);
-  lost = λ h. lost_now worn (wears t' e.outcome) before now now' d.losses el d.lost (λ w. lost (lost_if_worn t' e.outcome w)) (sym ew ∙ h);
+  lost = λ h. lost_now worn (wears t' e.outcome) before now now' d.counts.losses ec.losses d.lost (λ w. lost (lost_if_worn t' e.outcome w)) (sym ew ∙ h);
 }
 
 -- what each sending keeps, a run keeps, at its end and at each moment of it

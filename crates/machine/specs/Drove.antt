@@ -11,6 +11,7 @@ use Rattle.s3_types.specs.declared.reply.Reply.{Reply}
 use Rattle.s3_types.specs.declared.journal.Entry.{Entry}
 use Rattle.machine.specs.Item.{Item, Standing, Faulted}
 use Rattle.machine.specs.Turns.{Follows, run, step, has_worn, turn_of, AreBy}
+use Rattle.machine.specs.Counted.{Counted}
 use Rattle.machine.specs.Tries.{Tried}
 use Rattle.machine.specs.declared.retrying.Retrying.{Retrying}
 use Rattle.machine.specs.declared.retrying.Turn.{Turn}
@@ -87,10 +88,8 @@ pub record Driving {M : Type 0} (after : M → Item → M) (wants : M → Option
   pub wore : worn ≡ has_worn after t part
   pub ready_still : ready t'.machine s' t'.repeated
   pub foretold : AreForetold told (first + 1) part
-  pub number : requests ≡ first + length part
-  pub same : (n : ℕ) → tells n ≡ told n
   pub counted : requests ≤ length new
-  pub losses : before ≤ now
+  pub counts : Counted old new first requests before now told tells
   pub stands : standing t'.machine ≡ standing_after worn (standing t.machine)
   pub lost : worn ≡ true → before < now
 

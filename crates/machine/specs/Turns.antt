@@ -6,7 +6,7 @@ use Rattle.s3_types.specs.declared.reply.Reply.{Reply}
 use Rattle.s3_types.specs.declared.journal.Outcome.{Outcome}
 use Rattle.s3_types.specs.declared.journal.Outcome.TheVariants.{Answered, Slow, RequestLost, ReplyLost}
 use Rattle.s3_types.specs.declared.journal.Entry.{Entry}
-use Rattle.machine.specs.Item.{Item, Got, WornOut}
+use Rattle.machine.specs.Item.{Item, Got, WornOut, OutOfMemory}
 use Rattle.machine.specs.declared.retrying.Retrying.{Retrying}
 use Rattle.machine.specs.declared.retrying.Turn.{Turn}
 use Rattle.machine.specs.declared.retrying.Turn.TheVariants.{Again, Moved, WornOut as Worn}
@@ -29,6 +29,10 @@ step after t (Answered r) = record { machine = after t.machine (Got r t.repeated
 step after t Slow = unanswered after t t.repeated
 step after t RequestLost = unanswered after t true
 step after t ReplyLost = unanswered after t true
+
+-- without memory: the machine is told so, and all else is as before
+abbrev pub broken : {M : Type 0} → (M → Item → M) → Retrying M → Retrying M
+broken after t = record { machine = after t.machine OutOfMemory; retries = t.retries; spare = t.spare; repeated = t.repeated }
 
 -- the sending was the last that its request had, and got no answer
 abbrev pub wears : {M : Type 0} → Retrying M → Outcome → Bool

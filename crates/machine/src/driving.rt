@@ -1,9 +1,10 @@
 ghost use Rattle.std.specs.Prelude.{◌≡◌, ℕ, ◌+◌, ◌^◌, ◌<◌, ◌≤◌, [], ◌∷◌, ◌++◌, length, OnOk, OnErr, IfOk};
+ghost use Rattle.machine.specs.Counted.{Counted};
 ghost use Rattle.machine.specs.Drove.{Drove, DueFits, Sent, SentNone};
 
 use crate::operation::Machine;
 use crate::retrying::{Retrying, Turn};
-use s3_types::{Actor, Entry, Journal, ObjectStore, Outcome, Request};
+use s3_types::{Actor, Entry, Journal, ObjectStore, Outcome, Request, let_go};
 use std::alloc::{AllocError, Global};
 
 /// Why driving stopped short.
@@ -33,26 +34,33 @@ fn write_down(journal: &mut Journal, event: u32, actor: Actor, request: Request,
 /// are as before; else the entry stands, and the machine asks nothing more.
 pub fn send<M: Machine, S: ObjectStore>(
     alloc: Global,
-    machine: &mut Retrying<M>,
     store: &mut S,
+    journal: &mut Journal,
+    machine: &mut Retrying<M>,
     actor: Actor,
     event: u32,
-    journal: &mut Journal,
 ) -> Result<Option<Turn>, AllocError>
     requires due { DueFits M.wants M.fits machine.old (S.scene store.old) }
     requires counted { S.requests store.old ≤ length journal.old.entries }
     ensures sent { IfOk result (λ turn. Sent M.wants M.after actor event machine.old machine.new (S.scene store.old) (S.scene store.new) journal.old.entries journal.new.entries (S.losses store.old) (S.losses store.new) (S.foretold store.old) (S.requests store.old) (S.requests store.new) turn) }
-    ensures foretold { (n : ℕ) → S.foretold store.new n ≡ S.foretold store.old n }
-    ensures counted { OnOk result (S.requests store.new ≤ length journal.new.entries) }
-    ensures losses { S.losses store.old ≤ S.losses store.new }
+    ensures counts { Counted journal.old.entries journal.new.entries (S.requests store.old) (S.requests store.new) (S.losses store.old) (S.losses store.new) (S.foretold store.old) (S.foretold store.new) }
     ensures err { OnErr result (SentNone M.wants actor event machine.old (S.scene store.old) (S.scene store.new) journal.old.entries journal.new.entries (S.foretold store.old) (S.requests store.old)) }
 {
     let request = match machine.request() {
         None => return Ok(None),
         Some(request) => request.copied(alloc)?,
     };
-    journal.reserve()?;
-    let outcome = store.request(&request)?;
+    if let Err(error) = journal.reserve() {
+        let_go(request);
+        return Err(error);
+    }
+    let outcome = match store.request(&request) {
+        Ok(outcome) => outcome,
+        Err(error) => {
+            let_go(request);
+            return Err(error);
+        }
+    };
     let turn = machine.take(&outcome);
     write_down(journal, event, actor, request, outcome);
     Ok(Some(turn?))
@@ -71,11 +79,12 @@ pub fn drive<M: Machine, S: ObjectStore>(
 ) -> Result<(), DriveStop>
     requires ready { M.ready machine.old.machine (S.scene store.old) machine.old.repeated }
     requires counted { S.requests store.old ≤ length journal.old.entries }
-    ensures { Drove M.wants M.after M.ready M.standing actor event machine.old machine.new (S.scene store.old) (S.scene store.new) journal.old.entries journal.new.entries (S.losses store.old) (S.losses store.new) (S.foretold store.old) (S.requests store.old) result }
+    ensures drove { Drove M.wants M.after M.ready M.standing actor event machine.old machine.new (S.scene store.old) (S.scene store.new) journal.old.entries journal.new.entries (S.losses store.old) (S.losses store.new) (S.foretold store.old) (S.requests store.old) result }
+    ensures counts { Counted journal.old.entries journal.new.entries (S.requests store.old) (S.requests store.new) (S.losses store.old) (S.losses store.new) (S.foretold store.old) (S.foretold store.new) }
 {
     let mut worn = false;
     'sending: loop {
-        match send(alloc, machine, store, actor, event, journal) {
+        match send(alloc, store, journal, machine, actor, event) {
             Err(_) => return Err(DriveStop::NoMemory),
             Ok(None) => break,
             Ok(Some(turn)) => worn |= turn.is_worn(),

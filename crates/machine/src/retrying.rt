@@ -1,7 +1,6 @@
 ghost use Rattle.std.specs.Prelude.{◌≡◌, ◌≤◌, Option, IfOk, OnOk, OnErr, IsSome};
 ghost use Rattle.std.specs.Option.{option_copied};
-ghost use Rattle.machine.specs.Item.{OutOfMemory};
-ghost use Rattle.machine.specs.Turns.{fresh, step, unanswered, turn_of, turn_unanswered, tells_worn, FitsOutcome};
+ghost use Rattle.machine.specs.Turns.{fresh, step, broken, unanswered, turn_of, turn_unanswered, tells_worn, FitsOutcome};
 
 use crate::operation::Machine;
 use s3_types::{Outcome, Request};
@@ -51,13 +50,14 @@ impl<M: Machine> Retrying<M> {
         self.machine.request()
     }
 
-    /// Takes the outcome of a sending of the present request. After want of memory nothing more is asked.
+    /// Takes the outcome of a sending of the present request. After want of memory nothing more is asked,
+    /// and what is counted here is as before.
     pub fn take(&mut self, outcome: &Outcome) -> Result<Turn, AllocError>
         requires asked { IsSome (M.wants self.old.machine) }
         requires fits { FitsOutcome M.fits self.old outcome.now }
         ensures ok { OnOk result (self.new ≡ step M.after self.old outcome.now) }
         ensures turn { IfOk result (λ turn. turn ≡ turn_of self.old outcome.now) }
-        ensures err { OnErr result (self.new.machine ≡ M.after self.old.machine OutOfMemory) }
+        ensures err { OnErr result (self.new ≡ broken M.after self.old) }
     {
         match outcome {
             Outcome::Answered(reply) => {
@@ -66,19 +66,16 @@ impl<M: Machine> Retrying<M> {
                 self.repeated = false;
                 Ok(Turn::Moved)
             }
-            Outcome::Slow => self.unanswered(),
-            Outcome::RequestLost | Outcome::ReplyLost => {
-                self.repeated = true;
-                self.unanswered()
-            }
+            Outcome::Slow => self.unanswered(self.repeated),
+            Outcome::RequestLost | Outcome::ReplyLost => self.unanswered(true),
         }
     }
 
-    fn unanswered(&mut self) -> Result<Turn, AllocError>
+    fn unanswered(&mut self, repeated: bool) -> Result<Turn, AllocError>
         requires asked { IsSome (M.wants self.old.machine) }
-        ensures ok { OnOk result (self.new ≡ unanswered M.after self.old self.old.repeated) }
+        ensures ok { OnOk result (self.new ≡ unanswered M.after self.old repeated) }
         ensures turn { IfOk result (λ turn. turn ≡ turn_unanswered self.old) }
-        ensures err { OnErr result (self.new.machine ≡ M.after self.old.machine OutOfMemory) }
+        ensures err { OnErr result (self.new ≡ broken M.after self.old) }
     {
         if self.spare == 0 {
             self.machine.worn()?;
@@ -87,6 +84,7 @@ impl<M: Machine> Retrying<M> {
             Ok(Turn::WornOut)
         } else {
             self.spare -= 1;
+            self.repeated = repeated;
             Ok(Turn::Again)
         }
     }

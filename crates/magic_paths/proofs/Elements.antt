@@ -8,7 +8,7 @@ use Rattle.std.proofs.lemmas.List.Folds.{list_all-append}
 use Rattle.std.proofs.lemmas.Fmt.{decimal_by_steps, decimal_nonempty}
 use Rattle.words.specs.Parts.{parts_from, is_other}
 use Rattle.words.proofs.Pieces.{one_part}
-use Rattle.s3_types.specs.Names.{are_elements, is_element}
+use Rattle.s3_types.specs.Names.{are_elements, is_element, is_id_byte, is_job_id}
 use Rattle.path_keys.specs.Paths.{is_key}
 use Rattle.path_keys.proofs.Keys.{some_key}
 use Rattle.path_keys.proofs.Beneath.{elements_append}
@@ -29,16 +29,20 @@ digits_only n h = decimal_by_steps (λ m ds. list_all is_digit ds ≡ true) one 
     more : (m : ℕ) (ds : List ℕ) → 10 ≤ m → list_all is_digit ds ≡ true → list_all is_digit (ds ++ ((48 + m % 10) ∷ [])) ≡ true
     more m ds le old = list_all-append is_digit ds ((48 + m % 10) ∷ []) ∙ rw (old, a_digit (m % 10) (omega arith)) refl
 
-digit_other : (b : ℕ) → is_digit b ≡ true → is_other 47 b ≡ true
-digit_other b h = grind (arith, nat_tests)
+digit_other : (s b : ℕ) → is_digit s ≡ false → is_digit b ≡ true → is_other s b ≡ true
+digit_other s b n h = grind (arith, nat_tests)
 
-digits_others : (ds : List ℕ) → list_all is_digit ds ≡ true → list_all (is_other 47) ds ≡ true
-digits_others [] h = refl
-digits_others (d ∷ ds) h = let p = and_parts (is_digit d) (list_all is_digit ds) h in rw (digit_other d p.0, digits_others ds p.1) refl
+digits_others : (s : ℕ) (ds : List ℕ) → is_digit s ≡ false → list_all is_digit ds ≡ true → list_all (is_other s) ds ≡ true
+digits_others s [] n h = refl
+digits_others s (d ∷ ds) n h = let p = and_parts (is_digit d) (list_all is_digit ds) h in rw (digit_other s d n p.0, digits_others s ds n p.1) refl
+
+-- a decimal has none of a byte that is no digit
+pub decimal_without : (s n : ℕ) → is_digit s ≡ false → n < 2 ^ 64 → list_all (is_other s) (decimal n) ≡ true
+decimal_without s n h lt = digits_others s (decimal n) h (digits_only n lt)
 
 -- a decimal has no `/`
 decimal_others : (n : ℕ) → n < 2 ^ 64 → list_all (is_other 47) (decimal n) ≡ true
-decimal_others n h = digits_others (decimal n) (digits_only n h)
+decimal_others n h = decimal_without 47 n refl h
 
 -- a word that does not begin with a dot is an element
 word_is_element : (b : ℕ) (bs : List ℕ) → b ≢ 46 → is_element (b ∷ bs) ≡ true
@@ -72,11 +76,32 @@ set_elements task t =
     lone_element (codes "task_" ++ (decimal task ++ codes ".pendingset")) (three_others (codes "task_") (decimal task) (codes ".pendingset") refl (decimal_others task t) refl)
     (word_is_element 116 (codes "ask_" ++ (decimal task ++ codes ".pendingset")) (λ e. absurd (omega arith)))
 
-fixed_tasks : are_elements (codes "__magic/tasks") ≡ true
+-- the element job-ID of a job
+id_other : (b : ℕ) → is_id_byte b ≡ true → is_other 47 b ≡ true
+id_other b h = grind (arith, nat_tests)
+
+ids_others : (id : List ℕ) → list_all is_id_byte id ≡ true → list_all (is_other 47) id ≡ true
+ids_others [] h = refl
+ids_others (b ∷ id) h = let p = and_parts (is_id_byte b) (list_all is_id_byte id) h in rw (id_other b p.0, ids_others id p.1) refl
+
+-- a job's id has no `/`
+pub id_others : (id : List ℕ) → is_job_id id ≡ true → list_all (is_other 47) id ≡ true
+id_others id h = ids_others id (and_parts _ _ h).1
+
+job_elements : (id : List ℕ) → is_job_id id ≡ true → are_elements (codes "job-" ++ id) ≡ true
+job_elements id h =
+    lone_element (codes "job-" ++ id) (list_all-append (is_other 47) (codes "job-") id ∙ rw (id_others id h) refl)
+    (word_is_element 106 (codes "ob-" ++ id) (λ e. absurd (omega arith)))
+
+fixed_magic : are_elements (codes "__magic") ≡ true
+unfolding parts_from
+fixed_magic = refl
+
+fixed_tasks : are_elements (codes "tasks") ≡ true
 unfolding parts_from
 fixed_tasks = refl
 
-fixed_sets : are_elements (codes "__magic/sets") ≡ true
+fixed_sets : are_elements (codes "sets") ≡ true
 unfolding parts_from
 fixed_sets = refl
 
@@ -88,17 +113,25 @@ fixed_success : are_elements (codes "_SUCCESS") ≡ true
 unfolding parts_from
 fixed_success = refl
 
-pub attempt_key_elements : (dest : List ℕ) (task attempt : ℕ) → are_elements dest ≡ true → task < 2 ^ 64 → attempt < 2 ^ 64 → are_elements (attempt_key dest task attempt) ≡ true
-attempt_key_elements dest task attempt d t a =
+-- what stands below a job's magic directory
+in_job : (dest id tail : List ℕ) → are_elements dest ≡ true → is_job_id id ≡ true → are_elements tail ≡ true → are_elements (dest ++ (codes "/__magic/job-" ++ (id ++ (codes "/" ++ tail)))) ≡ true
+in_job dest id tail d h t =
+    let below = elements_append (codes "job-" ++ id) tail (job_elements id h) t in
+    let assoc : (codes "job-" ++ id) ++ (codes "/" ++ tail) ≡ codes "job-" ++ (id ++ (codes "/" ++ tail)) = append_assoc (codes "job-") id (codes "/" ++ tail) in
+    let magic = elements_append (codes "__magic") (codes "job-" ++ (id ++ (codes "/" ++ tail))) fixed_magic (ap are_elements (sym assoc) ∙ below) in
+    elements_append dest (codes "__magic/job-" ++ (id ++ (codes "/" ++ tail))) d magic
+
+pub attempt_key_elements : (dest id : List ℕ) (task attempt : ℕ) → are_elements dest ≡ true → is_job_id id ≡ true → task < 2 ^ 64 → attempt < 2 ^ 64 → are_elements (attempt_key dest id task attempt) ≡ true
+attempt_key_elements dest id task attempt d h t a =
     let word = decimal task ++ (codes "_" ++ decimal attempt) in
     let behind : word ++ codes "/__base" ≡ decimal task ++ (codes "_" ++ (decimal attempt ++ codes "/__base")) = append_assoc (decimal task) (codes "_" ++ decimal attempt) (codes "/__base") in
-    let tail = elements_append (codes "__magic/tasks") (word ++ codes "/__base") fixed_tasks (elements_append word (codes "__base") (attempt_elements task attempt t a) fixed_base) in
-    elements_append dest (codes "__magic/tasks/" ++ (decimal task ++ (codes "_" ++ (decimal attempt ++ codes "/__base")))) d (ap (λ (l : List ℕ). are_elements (codes "__magic/tasks/" ++ l)) (sym behind) ∙ tail)
+    let tail = elements_append (codes "tasks") (word ++ codes "/__base") fixed_tasks (elements_append word (codes "__base") (attempt_elements task attempt t a) fixed_base) in
+    in_job dest id (codes "tasks/" ++ (decimal task ++ (codes "_" ++ (decimal attempt ++ codes "/__base")))) d h (ap (λ (l : List ℕ). are_elements (codes "tasks/" ++ l)) (sym behind) ∙ tail)
 
-pub set_key_elements : (dest : List ℕ) (task : ℕ) → are_elements dest ≡ true → task < 2 ^ 64 → are_elements (set_key dest task) ≡ true
-set_key_elements dest task d t =
-    elements_append dest (codes "__magic/sets/task_" ++ (decimal task ++ codes ".pendingset")) d
-    (elements_append (codes "__magic/sets") (codes "task_" ++ (decimal task ++ codes ".pendingset")) fixed_sets (set_elements task t))
+pub set_key_elements : (dest id : List ℕ) (task : ℕ) → are_elements dest ≡ true → is_job_id id ≡ true → task < 2 ^ 64 → are_elements (set_key dest id task) ≡ true
+set_key_elements dest id task d h t =
+    in_job dest id (codes "sets/task_" ++ (decimal task ++ codes ".pendingset")) d h
+    (elements_append (codes "sets") (codes "task_" ++ (decimal task ++ codes ".pendingset")) fixed_sets (set_elements task t))
 
 pub success_key_elements : (dest : List ℕ) → are_elements dest ≡ true → are_elements (success_key dest) ≡ true
 success_key_elements dest d = elements_append dest (codes "_SUCCESS") d fixed_success

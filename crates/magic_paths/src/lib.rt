@@ -1,16 +1,21 @@
 //! Where the magic committer keeps what it needs below a job's destination, and where a file that is
-//! written there stands in the end. (Hadoop, S3A committer architecture, the magic committer; the layout
-//! below `__magic` is this profile's.)
+//! written there stands in the end; and where the staging committers keep theirs in the cluster's file
+//! system. (Hadoop, S3A committer architecture; the layout below `__magic` and `jobs` is this profile's.)
 #![tactic(auto)]
 
 mod cut;
 mod finals;
+mod laws;
 mod layout;
 mod refusal;
 mod texts;
 
 pub use finals::{final_path, is_magic};
-pub use layout::{attempt_dir, file_key, magic_prefix, set_key, success_key};
+pub use laws::places_apart;
+pub use layout::{
+    attempt_dir, cluster_prefix, file_key, magic_prefix, set_key, staged_set_path, success_key,
+    temporary_path,
+};
 pub use refusal::MagicRefusal;
 
 #[cfg(test)]

@@ -1,4 +1,5 @@
-ghost use Rattle.std.specs.Prelude.{◌≤◌, IfOk, length};
+ghost use Rattle.std.specs.Prelude.{◌≡◌, ◌≤◌, true, IfOk, length};
+ghost use Rattle.s3_types.specs.Names.{is_job_id};
 
 use super::*;
 use path_keys::{PathFault, S3Path};
@@ -21,13 +22,19 @@ fn text_of(alloc: Global, key: &Key) -> Result<String, AllocError> {
     String::from_str(alloc, key.as_text().as_str())
 }
 
+fn job(alloc: Global) -> Result<Text, AllocError>
+    ensures { IfOk result (λ id. is_job_id id ≡ true) }
+{
+    Text::copied(alloc, "j_1")
+}
+
 fn attempt_text(alloc: Global) -> Result<String, PathFault> {
-    let dir = attempt_dir(alloc, &dest(alloc)?, 7, 0)?;
+    let dir = attempt_dir(alloc, &dest(alloc)?, &job(alloc)?, 7, 0)?;
     Ok(String::from_str(alloc, dir.key().as_str())?)
 }
 
 fn set_text(alloc: Global, task: u32) -> Result<String, PathFault> {
-    Ok(text_of(alloc, &set_key(alloc, &dest(alloc)?, task)?)?)
+    Ok(text_of(alloc, &set_key(alloc, &dest(alloc)?, &job(alloc)?, task)?)?)
 }
 
 fn success_text(alloc: Global) -> Result<String, PathFault> {
@@ -35,13 +42,13 @@ fn success_text(alloc: Global) -> Result<String, PathFault> {
 }
 
 fn prefix_text(alloc: Global) -> Result<Text, PathFault> {
-    Ok(magic_prefix(alloc, &dest(alloc)?)?)
+    Ok(magic_prefix(alloc, &dest(alloc)?, &job(alloc)?)?)
 }
 
 #[test]
 fn attempts(rt: HostRuntime) -> Result<(), Fail> {
     let text = attempt_text(rt.alloc())?;
-    assert_eq!(rt; text.as_str(), "out/__magic/tasks/7_0/__base");
+    assert_eq!(rt; text.as_str(), "out/__magic/job-j_1/tasks/7_0/__base");
     Ok(())
 }
 
@@ -50,7 +57,7 @@ fn sets(rt: HostRuntime) -> Result<(), Fail> {
     let text = set_text(rt.alloc(), 4294967295)?;
     assert_eq!(rt;
         text.as_str(),
-        "out/__magic/sets/task_4294967295.pendingset"
+        "out/__magic/job-j_1/sets/task_4294967295.pendingset"
     );
     Ok(())
 }
@@ -60,7 +67,20 @@ fn marker_and_prefix(rt: HostRuntime) -> Result<(), Fail> {
     let text = success_text(rt.alloc())?;
     assert_eq!(rt; text.as_str(), "out/_SUCCESS");
     let text = prefix_text(rt.alloc())?;
-    assert_eq!(rt; text.as_str(), "out/__magic/");
+    assert_eq!(rt; text.as_str(), "out/__magic/job-j_1/");
+    Ok(())
+}
+
+#[test]
+fn cluster_paths(rt: HostRuntime) -> Result<(), Fail> {
+    let alloc = rt.alloc();
+    let job = job(alloc)?;
+    let prefix = cluster_prefix(alloc, &job)?;
+    assert_eq!(rt; prefix.as_str(), "jobs/j_1/");
+    let temporary = temporary_path(alloc, &job, 7, 0)?;
+    assert_eq!(rt; temporary.as_str(), "jobs/j_1/tmp/7_0.pendingset");
+    let set = staged_set_path(alloc, &job, 7)?;
+    assert_eq!(rt; set.as_str(), "jobs/j_1/sets/task_7.pendingset");
     Ok(())
 }
 

@@ -1,35 +1,59 @@
 ghost use Rattle.std.specs.Prelude.{◌≡◌, ◌++◌, IfOk, string_bytes};
-ghost use Rattle.magic_paths.specs.Layout.{attempt_key, set_key, success_key, magic_prefix};
+ghost use Rattle.magic_paths.specs.Layout as keys;
 
 use std::alloc::{AllocError, Global};
 
 pub fn attempt_text(
     alloc: Global,
     dest: &str,
+    job: &str,
     task: u32,
     attempt: u32,
 ) -> Result<String, AllocError>
-    ensures { IfOk result (λ text. string_bytes text ≡ attempt_key dest.now task attempt) }
+    ensures { IfOk result (λ text. string_bytes text ≡ keys.attempt_key dest.now job.now task attempt) }
 {
-    format!(in alloc; "{dest}/__magic/tasks/{task}_{attempt}/__base")
+    format!(in alloc; "{dest}/__magic/job-{job}/tasks/{task}_{attempt}/__base")
 }
 
-pub fn set_text(alloc: Global, dest: &str, task: u32) -> Result<String, AllocError>
-    ensures { IfOk result (λ text. string_bytes text ≡ set_key dest.now task) }
+pub fn set_text(alloc: Global, dest: &str, job: &str, task: u32) -> Result<String, AllocError>
+    ensures { IfOk result (λ text. string_bytes text ≡ keys.set_key dest.now job.now task) }
 {
-    format!(in alloc; "{dest}/__magic/sets/task_{task}.pendingset")
+    format!(in alloc; "{dest}/__magic/job-{job}/sets/task_{task}.pendingset")
 }
 
 pub fn success_text(alloc: Global, dest: &str) -> Result<String, AllocError>
-    ensures { IfOk result (λ text. string_bytes text ≡ success_key dest.now) }
+    ensures { IfOk result (λ text. string_bytes text ≡ keys.success_key dest.now) }
 {
     format!(in alloc; "{dest}/_SUCCESS")
 }
 
-pub fn prefix_text(alloc: Global, dest: &str) -> Result<String, AllocError>
-    ensures { IfOk result (λ text. string_bytes text ≡ magic_prefix dest.now) }
+pub fn prefix_text(alloc: Global, dest: &str, job: &str) -> Result<String, AllocError>
+    ensures { IfOk result (λ text. string_bytes text ≡ keys.magic_prefix dest.now job.now) }
 {
-    format!(in alloc; "{dest}/__magic/")
+    format!(in alloc; "{dest}/__magic/job-{job}/")
+}
+
+pub fn cluster_text(alloc: Global, job: &str) -> Result<String, AllocError>
+    ensures { IfOk result (λ text. string_bytes text ≡ keys.cluster_prefix job.now) }
+{
+    format!(in alloc; "jobs/{job}/")
+}
+
+pub fn temporary_text(
+    alloc: Global,
+    job: &str,
+    task: u32,
+    attempt: u32,
+) -> Result<String, AllocError>
+    ensures { IfOk result (λ text. string_bytes text ≡ keys.temporary_path job.now task attempt) }
+{
+    format!(in alloc; "jobs/{job}/tmp/{task}_{attempt}.pendingset")
+}
+
+pub fn staged_set_text(alloc: Global, job: &str, task: u32) -> Result<String, AllocError>
+    ensures { IfOk result (λ text. string_bytes text ≡ keys.staged_set_path job.now task) }
+{
+    format!(in alloc; "jobs/{job}/sets/task_{task}.pendingset")
 }
 
 pub fn final_text(alloc: Global, front: &str, kept: &str) -> Result<String, AllocError>

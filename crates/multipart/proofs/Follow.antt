@@ -14,8 +14,9 @@ use Rattle.std.specs.declared.cmp.Ordering.{Ordering}
 use Rattle.std.specs.declared.cmp.Ordering.TheVariants.{Less, Equal, Greater}
 use Rattle.std.specs.declared.ops.Bound.{Bound}
 use Rattle.std.specs.declared.ops.Bound.TheVariants.{Included, Excluded, Unbounded}
+use Rattle.proof_base.proofs.Bools.{contrary, and_true}
 use Rattle.proof_base.specs.Order.{text_cmp, text_total}
-use Rattle.proof_base.proofs.Less.{lt, lt_back, le_le, lt_le}
+use Rattle.proof_base.proofs.Less.{lt, lt_back, le_le, lt_le, less_of}
 use Rattle.proof_base.proofs.Tree.{map_sorted}
 use Rattle.s3_types.specs.Pages.{begins}
 use Rattle.s3_types.specs.Store.{Uploads}
@@ -23,7 +24,7 @@ use Rattle.s3_types.specs.Multipart.{ref_cmp, refs, is_behind, listed}
 use Rattle.s3_types.specs.declared.request.UploadRef.{UploadRef}
 use Rattle.multipart.specs.Index.{keyed}
 use Rattle.multipart.specs.Listing.{below, Follows, AreOwn}
-use Rattle.multipart.proofs.Begins.{between, from_prefix}
+use Rattle.s3_types.proofs.Begins.{between, from_prefix}
 use Rattle.multipart.proofs.Keyed.{keys_keyed, keyed_own}
 
 -- ---- the end of a page
@@ -32,14 +33,10 @@ pub follows_rest : (p : List ℕ) (r : UploadRef) (rs : List UploadRef) → Foll
 follows_rest p r [] h = tt
 follows_rest p r (s ∷ rs) h = (le_le text_total p r.key s.key h.0 h.1.0, h.1.1)
 
-not_below : (b : Bool) → (b ≡ true → false ≡ true) → b ≡ false
-not_below true f = absurd (false≢true (f refl))
-not_below false f = refl
-
 none_after : (p k : List ℕ) (rs : List UploadRef) → lt text_cmp k p ≡ false → begins p k ≡ false → Follows k rs → below p rs ≡ []
 none_after p k [] g n h = refl
 none_after p k (s ∷ rs) g n h =
-    let m : begins p s.key ≡ false = not_below (begins p s.key) (λ t. sym n ∙ between p k s.key g h.0 t) in
+    let m : begins p s.key ≡ false = contrary (begins p s.key) (λ t. sym n ∙ between p k s.key g h.0 t) in
     ap (λ b. cond b (s ∷ below p rs) (below p rs)) m ∙ none_after p s.key rs (le_le text_total p k s.key g h.0) m h.1
 
 -- behind a key that does not begin with p there is none that does
@@ -112,15 +109,6 @@ all_follow p f (r ∷ rs) s h = by (all_follow p f rs (sorted_tail ref_cmp r rs 
     by : Follows p (filter f rs) → (b : Bool) → f r ≡ b → Follows p (cond b (r ∷ filter f rs) (filter f rs))
     by ih true t = (h r t, kept_follows f r rs s)
     by ih false t = ih
-
-and_true : (b : Bool) → (b && true) ≡ b
-and_true true = refl
-and_true false = refl
-
-Less_is : (r : Ordering) → is_lt r ≡ true → r ≡ Less
-Less_is Less h = refl
-Less_is Equal h = absurd (false≢true h)
-Less_is Greater h = absurd (false≢true h)
 
 -- the places from a start on
 abbrev from_start : Bound UploadRef → UploadRef → Bool
@@ -201,7 +189,7 @@ first_rest p k m rest e q = subst (IsRest p None m) (sym (e ∙ ap (λ k. from_p
 
 pub later_rest : (p : List ℕ) (a b : UploadRef) (m : Uploads) (rest : List (UploadRef × List ℕ)) → rest ≡ from_place (Excluded b) m → b ≡ a → lt text_cmp a.key p ≡ false → IsRest p (Some a) m rest
 later_rest p a b m rest e q l = subst (IsRest p (Some a) m) (sym (e ∙ ap (λ b. from_place (Excluded b) m) q)) (record {
-  follows = follows_from p (Excluded a) m (λ r h. le_le text_total p a.key r.key l (not_falling a r (Less_is _ (sym (and_true _) ∙ h))));
+  follows = follows_from p (Excluded a) m (λ r h. le_le text_total p a.key r.key l (not_falling a r (less_of _ (sym (and_true _) ∙ h))));
   own = own_from (Excluded a) m;
   listed_all = listed_from p (Excluded a) (Some a) m (λ r b. and_true _);
 })

@@ -13,6 +13,7 @@ use Rattle.std.specs.declared.alloc.AllocError.{AllocError}
 use Rattle.std.proofs.lemmas.Cmp.{then_total, on_total}
 use Rattle.std.proofs.lemmas.Bool.{false≢true}
 use Rattle.std.proofs.lemmas.Map.Lookups.{CmpEqualImpliesEq, exact_pairs, exact_bytes, exact_unsigned}
+use Rattle.proof_base.proofs.Bools.{and_true}
 use Rattle.proof_base.specs.Order.{text_cmp, text_total}
 use Rattle.proof_base.proofs.Tree.{entries_empty, tied}
 use Rattle.s3_types.specs.Store.{Upload, Uploads}
@@ -32,10 +33,6 @@ both_tied : (r s : Ordering) → is_eq (ordering_then r s) ≡ (is_eq r && is_eq
 both_tied Less s = refl
 both_tied Equal s = refl
 both_tied Greater s = refl
-
-and_true : (b : Bool) → (b && true) ≡ b
-and_true true = refl
-and_true false = refl
 
 and_false : (b : Bool) → (b && false) ≡ false
 and_false true = refl

@@ -1,4 +1,3 @@
 pub mod Keyed
 pub mod Numbered
-pub mod Begins
 pub mod Follow

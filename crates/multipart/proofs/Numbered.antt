@@ -13,6 +13,7 @@ use Rattle.std.proofs.lemmas.Map.Entries.{length-keys_of}
 use Rattle.std.proofs.lemmas.Map.Keys.{sorted_head, sorted_tail}
 use Rattle.std.proofs.lemmas.Bool.{false≢true, and_parts}
 use Rattle.std.proofs.lemmas.Map.Lookups.{exact_unsigned}
+use Rattle.proof_base.proofs.Numbers.{less_is}
 use Rattle.s3_types.specs.Store.{Parts}
 use Rattle.s3_types.specs.Multipart.{is_part_number, rises, rises_from}
 use Rattle.s3_types.specs.declared.request.NamedPart.{NamedPart}
@@ -39,7 +40,7 @@ few_from n (x ∷ ns) m r s =
     let p = and_parts _ (rises_from x.number ns) r in
     let q = and_parts (is_part_number x.number) (list_all (λ p. is_part_number p.number) ns) s in
     let most : x.number ≤ 10000 = small x.number q.0 in
-    let less : n < x.number = above n x.number p.0 in
+    let less_is : n < x.number = above n x.number p.0 in
     let rest : length ns + x.number ≤ 10000 = few_from x.number ns most p.1 q.1 in
     omega arith
   where
@@ -76,13 +77,10 @@ pub numbers : (es : List (ℕ × List ℕ)) → ((n : ℕ) → is_some (find nat
 numbers [] h = tt
 numbers (e ∷ es) h = (h e.0 (here e.0 e.1 (find nat_cmp e.0 es)), numbers es (λ n g. h n (later (eq_by_cmp nat_cmp n e.0) e.1 (find nat_cmp n es) g)))
 
-less : (a b : ℕ) → nat_cmp a b ≡ Less → a < b
-less a b h = grind (arith, nat_tests)
-
 rising : (x : ℕ) (ks : List ℕ) → IsStrictlySortedBy nat_cmp (x ∷ ks) → is_part_number x ≡ true → AllByRecursion (λ k. is_part_number k ≡ true) ks → length ks + x ≤ 10000
 rising x [] s h a = grind arith
 rising x (y ∷ ks) s h a =
-    let up : x < y = less x y (sorted_head nat_cmp x (y ∷ ks) s).0 in
+    let up : x < y = less_is x y (sorted_head nat_cmp x (y ∷ ks) s).0 in
     let rest : length ks + y ≤ 10000 = rising y ks (sorted_tail nat_cmp x (y ∷ ks) s) a.0 a.1 in
     omega arith
 

@@ -2,28 +2,18 @@ ghost use Rattle.std.specs.Prelude.{◌≡◌};
 ghost use Rattle.multipart.specs.declared.fault.UploadFault.TheVariants.{Refused, NoMemory};
 
 use s3_types::Refusal;
-use std::alloc::{AllocError, AllocFailed};
-use std::error::Error;
-use std::fmt;
+use std::alloc::AllocError;
+use thiserror::Error;
 
 /// Why a call on an upload gave nothing.
-#[derive(Clone, Copy, Debug, PartialEq, Eq)]
+#[derive(Clone, Copy, Debug, PartialEq, Eq, Error)]
 pub enum UploadFault {
     /// S3 refuses the request.
+    #[error("the request is refused: {0:?}")]
     Refused(Refusal),
+    #[error("no memory")]
     NoMemory,
 }
-
-impl fmt::Display for UploadFault {
-    fn fmt<W: fmt::Write>(&self, f: &mut fmt::Formatter<W>) -> fmt::Result {
-        match self {
-            UploadFault::Refused(refusal) => write!(f, "the request is refused: {refusal:?}"),
-            UploadFault::NoMemory => write!(f, "no memory"),
-        }
-    }
-}
-
-impl Error for UploadFault {}
 
 impl From<Refusal> for UploadFault {
     ghost from_gives = { λ refusal e. e ≡ Refused refusal };
@@ -37,14 +27,6 @@ impl From<AllocError> for UploadFault {
     ghost from_gives = { λ _ e. e ≡ NoMemory };
 
     fn from(_e: AllocError) -> UploadFault {
-        UploadFault::NoMemory
-    }
-}
-
-impl<T: Drop> From<AllocFailed<T>> for UploadFault {
-    ghost from_gives = { λ _ e. e ≡ NoMemory };
-
-    fn from(_e: AllocFailed<T>) -> UploadFault {
         UploadFault::NoMemory
     }
 }

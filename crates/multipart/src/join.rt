@@ -3,6 +3,7 @@ ghost use Rattle.std.specs.List.{list_all, flat_map};
 ghost use Rattle.s3_types.specs.Tags.{joined_tag};
 ghost use Rattle.s3_types.specs.Multipart.{live, rises, rises_from, is_sent, is_large, is_part_number, bytes_of, joined};
 ghost use Rattle.multipart.specs.Faults.{IfRefused};
+ghost use Rattle.s3_types.specs.declared.limits.TheConstants.{MOST_PARTS};
 
 use crate::fault::UploadFault;
 use crate::part::Parts;
@@ -86,7 +87,7 @@ fn all_large(held: &Parts, minimum: u64, parts: &[NamedPart]) -> bool
 fn check(live: &Live, parts: &[NamedPart], minimum: u64) -> Result<(), Refusal>
     ensures ok { OnOk result (joined (Some live.now) parts.now minimum ≡ Ok (flat_map (bytes_of live.now.parts) parts.now)) }
     ensures refused { IfErr result (λ refusal. joined (Some live.now) parts.now minimum ≡ Err refusal) }
-    ensures few { OnOk result (length parts.now ≤ 10000) }
+    ensures few { OnOk result (length parts.now ≤ MOST_PARTS) }
 {
     if parts.is_empty() {
         return Err(Refusal::MalformedList);

@@ -17,6 +17,3 @@ pub use join::Joined;
 pub use list::UploadPage;
 pub use part::Parts;
 pub use uploads::{LiveUpload, Uploads};
-
-#[cfg(test)]
-mod tests;

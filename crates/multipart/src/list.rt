@@ -1,7 +1,6 @@
 ghost use Rattle.std.specs.Option.{option_copied};
 ghost use Rattle.std.specs.Prelude.{◌≡◌, ◌≤◌, ℕ, List, Some, None, length, nat_lt, take, IfOk};
 ghost use Rattle.std.specs.Map.{keys_of};
-ghost use Rattle.s3_types.specs.Pages.{begins};
 ghost use Rattle.s3_types.specs.Multipart.{listed};
 ghost use Rattle.multipart.specs.Listing.{below, Follows, AreOwn};
 
@@ -19,12 +18,6 @@ pub struct UploadPage {
     pub more: bool,
 }
 
-fn begins(prefix: &Text, text: &Text) -> bool
-    ensures { result ≡ begins prefix.now text.now }
-{
-    text.as_bytes().starts_with(prefix.as_bytes())
-}
-
 /// A page of the uploads that are left whose keys begin with a prefix.
 fn page_of(
     alloc: Global,
@@ -40,7 +33,7 @@ fn page_of(
     let mut rest = rest;
     let mut entries = Vec::new(alloc);
     while let Some((place, key)) = rest.next() {
-        if !begins(prefix, &place.text) {
+        if !place.text.starts_with(prefix) {
             return Ok(UploadPage {
                 entries: UploadList::from_vec(entries),
                 more: false,

@@ -4,6 +4,7 @@ ghost use Rattle.std.specs.FinMap as fin;
 ghost use Rattle.s3_types.specs.Tags.{plain_tag};
 ghost use Rattle.s3_types.specs.Multipart.{is_part_number, sizes};
 ghost use Rattle.multipart.specs.Next.{next_of};
+ghost use Rattle.s3_types.specs.declared.limits.TheConstants.{MOST_PARTS};
 
 use etag::part_tag;
 use s3_types::{Bytes, PartSize, PartSizes, Tag};
@@ -124,7 +125,7 @@ impl Parts {
     /// How many parts there are, at most 10,000.
     pub fn count(&self) -> u32
         ensures count { result ≡ fin.len self.now }
-        ensures most { result ≤ 10000 }
+        ensures most { result ≤ MOST_PARTS }
     {
         self.held.len() as u32
     }

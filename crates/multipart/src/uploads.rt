@@ -13,7 +13,7 @@ ghost use Rattle.multipart.specs.Next.{next_of, shown};
 use crate::fault::UploadFault;
 use crate::part::Part;
 use crate::tables::{Index, Live, Lives, Place};
-use s3_types::{Bytes, Key, PartSizes, Refusal, Reply, Tag};
+use s3_types::{Bytes, Key, MOST_PARTS, PartSizes, Refusal, Reply, Tag};
 use std::alloc::{AllocError, Global};
 use std::collections::btree_map::Range;
 use std::marker::Model;
@@ -138,7 +138,7 @@ impl Uploads {
         if self.live(key, upload).is_none() {
             return Err(UploadFault::Refused(Refusal::NoSuchUpload));
         }
-        if number < 1 || number > 10_000 {
+        if number < 1 || number > MOST_PARTS {
             return Err(UploadFault::Refused(Refusal::BadPartNumber));
         }
         let part = Part::new(bytes);

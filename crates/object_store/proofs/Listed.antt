@@ -17,7 +17,8 @@ use Rattle.object_store.specs.Walk.{text_by, text_of, walked}
 use Rattle.std.specs.FinMap.{entries}
 use Rattle.proof_base.proofs.Tree.{map_sorted}
 use Rattle.s3_types.specs.Store.{Objects}
-use Rattle.object_store.proofs.Prefix.{lt, between, lt_back, lt_le, le_lt, le_le, lt_not, irrefl}
+use Rattle.s3_types.proofs.Begins.{between}
+use Rattle.object_store.proofs.Prefix.{lt, lt_back, lt_le, le_lt, le_le, lt_not, irrefl}
 use Rattle.object_store.proofs.Walked.{stems, text_le}
 
 -- each entry whose text is greater than the last

@@ -36,27 +36,6 @@ lt_le = less.lt_le text_total
 pub le_le : (a b c : List ℕ) → lt b a ≡ false → lt c b ≡ false → lt c a ≡ false
 le_le = less.le_le text_total
 
-step_between : (y z w : ℕ) (r s : Ordering) (b c : Bool) → (is_lt r ≡ false → is_lt s ≡ false → b ≡ true → c ≡ true)
-    → is_lt (ordering_then (nat_cmp z y) r) ≡ false → is_lt (ordering_then (nat_cmp w z) s) ≡ false → (nat_eq y w && b) ≡ true → (nat_eq y z && c) ≡ true
-step_between y z w r s b c ih h g k = grind (arith, nat_tests)
-
--- what lies between a text and a key that begins with it begins with it too
-pub between : (t x q : List ℕ) → lt x t ≡ false → lt q x ≡ false → begins t q ≡ true → begins t x ≡ true
-between [] x q h g k = refl
-between (y ∷ t) [] q h g k = absurd (true≢false h)
-between (y ∷ t) (z ∷ x) [] h g k = absurd (false≢true k)
-between (y ∷ t) (z ∷ x) (w ∷ q) h g k = step_between y z w (text_cmp x t) (text_cmp q x) (begins t q) (begins t x) (between t x q) h g k
-
-step_from : (y w : ℕ) (r : Ordering) (b : Bool) → (b ≡ true → is_lt r ≡ false) → (nat_eq y w && b) ≡ true → is_lt (ordering_then (nat_cmp w y) r) ≡ false
-step_from y w r b ih k = grind (arith, nat_tests)
-
--- a key is not less than what it begins with
-pub from_prefix : (t q : List ℕ) → begins t q ≡ true → lt q t ≡ false
-from_prefix [] [] k = refl
-from_prefix [] (w ∷ q) k = refl
-from_prefix (y ∷ t) [] k = absurd (false≢true k)
-from_prefix (y ∷ t) (w ∷ q) k = step_from y w (text_cmp q t) (begins t q) (from_prefix t q) k
-
 step_up : (y w : ℕ) (r : Ordering) (b : Bool) → (b ≡ true → is_lt r ≡ true) → (nat_eq y w && b) ≡ true → is_lt (ordering_then (nat_cmp w y) r) ≡ true
 step_up y w r b ih k = grind (arith, nat_tests)
 

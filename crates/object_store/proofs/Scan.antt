@@ -3,13 +3,7 @@ use Rattle.std.proofs.Common.{◌≡◌, ◌≢◌, ℕ, ◌+◌, ◌<◌, ◌�
 use Rattle.std.proofs.lemmas.Bool.{false≢true, true≢false, ne_eqb, and_parts, eq-eqb}
 use Rattle.std.proofs.lemmas.List.{take_more, drop_more, drop_all}
 use Rattle.std.specs.Option.{option_map}
-use Rattle.std.specs.List.{starts_with}
 use Rattle.s3_types.specs.Pages.{begins, before_slash, stem}
-
-pub begins_is : (p q : List ℕ) → starts_with nat_eq q p ≡ begins p q
-begins_is [] q = refl
-begins_is (x ∷ p) [] = refl
-begins_is (x ∷ p) (y ∷ q) = ap (λ b. nat_eq x y && b) (begins_is p q)
 
 pub stem_none : (p q : List ℕ) → begins p q ≡ false → stem p q ≡ None
 stem_none [] q h = absurd (true≢false h)

@@ -1,4 +1,3 @@
-pub mod Fault
 pub mod Held
 pub mod Objects
 pub mod Walk

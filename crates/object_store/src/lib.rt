@@ -11,6 +11,3 @@ pub use entries::Entries;
 pub use fault::CopyFault;
 pub use objects::Objects;
 pub use page::Page;
-
-#[cfg(test)]
-mod tests;

@@ -12,14 +12,11 @@ ghost use Rattle.object_store.specs.Objects.{head_of, next_of, IsNext};
 use crate::entries::Entries;
 use crate::fault::CopyFault;
 use crate::page::Page;
-use s3_types::{Bytes, Head, Key, LengthHeader, Object, PageLimit, Refusal, Text};
+use s3_types::{Bytes, Head, Key, LengthHeader, MOST_ENTRIES, Object, PageLimit, Refusal, Text};
 use std::alloc::{AllocError, Global};
 use std::collections::BTreeMap;
 use std::marker::Model;
 use std::ops::Bound;
-
-/// The most keys that one request may delete. (Amazon S3 API, DeleteObjects.)
-const MOST_DELETED: usize = 1000;
 
 /// What the tree has at a key's text.
 #[derive(Drop)]
@@ -113,12 +110,12 @@ impl Objects {
     /// Removes what stands at these keys, in O(log n) for each of them. TooManyKeys comes where there
     /// are more than 1,000, and then nothing is removed. (Amazon S3 API, DeleteObjects.)
     pub fn delete_many(&mut self, keys: &[Key]) -> Result<(), Refusal>
-        ensures many { IsErrOf result Refusal.TooManyKeys ↔ (1000 < length keys.now) }
+        ensures many { IsErrOf result Refusal.TooManyKeys ↔ (MOST_ENTRIES < length keys.now) }
         ensures only { IsOkUnless result Refusal.TooManyKeys }
         ensures ok { OnOk result (self.new ≡ without self.old keys.now) }
         ensures err { OnErr result (self.new ≡ self.old) }
     {
-        if keys.len() > MOST_DELETED {
+        if keys.len() > MOST_ENTRIES as usize {
             return Err(Refusal::TooManyKeys);
         }
         for key in keys {
@@ -166,7 +163,7 @@ impl Objects {
         ensures entries { IfOk result (λ page. page.entries ≡ take limit (listed prefix.now delimited after.now self.now)) }
         ensures more { IfOk result (λ page. page.more ≡ nat_lt limit (length (listed prefix.now delimited after.now self.now))) }
     {
-        self.walk(self.alloc, prefix, delimited, after, limit.get())
+        self.walk(prefix, delimited, after, limit.get())
     }
 
     /// The first entry from a bound on.

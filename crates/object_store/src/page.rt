@@ -4,7 +4,7 @@ ghost use Rattle.std.specs.FinMap as map;
 ghost use Rattle.std.specs.BTreeMap.Range.{entries_between};
 ghost use Rattle.std.specs.declared.ops.Bound.TheVariants.{Unbounded};
 ghost use Rattle.proof_base.specs.Order.{text_cmp};
-ghost use Rattle.s3_types.specs.Pages.{begins, stem, stem_if, entry_of, listed};
+ghost use Rattle.s3_types.specs.Pages.{stem, stem_if, entry_of, listed};
 ghost use Rattle.object_store.specs.Walk.{text_of, walked, start, ComesNext};
 
 use crate::objects::Objects;
@@ -19,29 +19,24 @@ pub struct Page {
     pub more: bool,
 }
 
-fn begins(text: &str, prefix: &str) -> bool
-    ensures { result ≡ begins prefix.now text.now }
-{
-    text.as_bytes().starts_with(prefix.as_bytes())
-}
-
 /// What stands before the first `/` after the prefix, in a text that begins with the prefix.
-fn stem_of<'a>(prefix: &str, text: &'a str) -> Option<&'a str>
+fn stem_of<'a>(prefix: &Text, text: &'a Text) -> Option<&'a str>
     ensures { option_map (λ s. s.now) result ≡ stem prefix.now text.now }
 {
-    if !begins(text, prefix) {
+    if !text.starts_with(prefix) {
         return None;
     }
-    let bytes = text.as_bytes();
-    for i in prefix.len()..bytes.len() {
+    let whole = text.as_str();
+    let bytes = whole.as_bytes();
+    for i in prefix.as_str().len()..bytes.len() {
         if bytes[i] == b'/' {
-            return Some(&text[..i]);
+            return Some(&whole[..i]);
         }
     }
     None
 }
 
-fn stem_if<'a>(delimited: bool, prefix: &str, text: &'a str) -> Option<&'a str>
+fn stem_if<'a>(delimited: bool, prefix: &Text, text: &'a Text) -> Option<&'a str>
     ensures { option_map (λ s. s.now) result ≡ stem_if delimited prefix.now text.now }
 {
     if delimited {
@@ -71,7 +66,7 @@ fn entry_at(
     ensures entry { IfOk result (λ r. r.0 ≡ entry_of prefix.now delimited (key.now, object.now)) }
     ensures text { IfOk result (λ r. r.1 ≡ text_of prefix.now delimited key.now) }
 {
-    match stem_if(delimited, prefix.as_str(), key.as_text().as_str()) {
+    match stem_if(delimited, prefix, key.as_text()) {
         Some(stem) => {
             let text = joined(alloc, stem, "/")?;
             Ok((PageEntry::Prefix(text.clone()?), text))
@@ -89,16 +84,15 @@ impl Objects {
     /// The first entry from where the entries after a text may stand.
     fn first_after(
         &self,
-        alloc: Global,
         prefix: &Text,
         delimited: bool,
         last: &Text,
     ) -> Result<Option<(&Key, &Object)>, AllocError>
         ensures { IfOk result (λ r. option_map (λ p. (p.0.now, p.1.now)) r ≡ slice_get (entries_between text_cmp (start prefix.now delimited last.now) Unbounded (map.entries self.now)) 0) }
     {
-        match stem_if(delimited, prefix.as_str(), last.as_str()) {
+        match stem_if(delimited, prefix, last) {
             Some(stem) => {
-                let past = joined(alloc, stem, "0")?;
+                let past = joined(self.alloc, stem, "0")?;
                 Ok(self.first_from(Bound::Included(&past)))
             }
             None => {
@@ -113,16 +107,15 @@ impl Objects {
     /// The entry that is listed next after a text.
     fn next_listed(
         &self,
-        alloc: Global,
         prefix: &Text,
         delimited: bool,
         last: &Text,
     ) -> Result<Option<(&Key, &Object)>, AllocError>
         ensures { IfOk result (λ r. ComesNext prefix.now delimited last.now (map.entries self.now) (option_map (λ p. (p.0.now, p.1.now)) r)) }
     {
-        match self.first_after(alloc, prefix, delimited, last)? {
+        match self.first_after(prefix, delimited, last)? {
             Some((key, object)) => {
-                if begins(key.as_text().as_str(), prefix.as_str()) {
+                if key.as_text().starts_with(prefix) {
                     return Ok(Some((key, object)));
                 }
                 Ok(None)
@@ -134,7 +127,6 @@ impl Objects {
     /// At most so many entries after a text, found one after another.
     pub(crate) fn walk(
         &self,
-        alloc: Global,
         prefix: &Text,
         delimited: bool,
         after: &Text,
@@ -144,10 +136,10 @@ impl Objects {
         ensures entries { IfOk result (λ page. page.entries ≡ take limit (walked prefix.now delimited after.now (map.entries self.now))) }
         ensures more { IfOk result (λ page. page.more ≡ nat_lt limit (length (walked prefix.now delimited after.now (map.entries self.now)))) }
     {
-        let mut entries = Vec::new(alloc);
+        let mut entries = Vec::new(self.alloc);
         let mut last = after.clone()?;
         loop {
-            let Some((key, object)) = self.next_listed(alloc, prefix, delimited, &last)? else {
+            let Some((key, object)) = self.next_listed(prefix, delimited, &last)? else {
                 return Ok(Page {
                     entries: EntryList::from_vec(entries),
                     more: false,
@@ -159,7 +151,7 @@ impl Objects {
                     more: true,
                 });
             }
-            let (entry, text) = entry_at(alloc, prefix, delimited, key, object)?;
+            let (entry, text) = entry_at(self.alloc, prefix, delimited, key, object)?;
             entries.push(entry)?;
             last = text;
         }

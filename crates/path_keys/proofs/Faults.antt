@@ -1,15 +1,16 @@
 -- Faults of a key's elements.
 use Rattle.std.proofs.Common.{◌≡◌, ℕ, ◌==◌, ◌<◌, ◌≤◌, Bool, true, false, List, [], ◌∷◌, length, Option, Some, None, Ok, Err, if◌then◌else◌, refl, sym, ap, ◌∙◌, arith}
 use Rattle.std.specs.List.{list_all}
+use Rattle.std.specs.Option.{option_or}
 use Rattle.words.specs.Parts.{parts_of}
 use Rattle.words.proofs.Pieces.{join_parts}
 use Rattle.s3_types.specs.Names.{is_element}
 use Rattle.path_keys.specs.declared.fault.PathFault.{PathFault}
 use Rattle.path_keys.specs.declared.fault.PathFault.TheVariants.{EmptyElement, DotElement, TooLong}
-use Rattle.path_keys.specs.Paths.{first_fault, or_else, checked, key_of, is_key}
+use Rattle.path_keys.specs.Paths.{first_fault, checked, key_of, is_key}
 use Rattle.path_keys.proofs.Keys.{key_from}
 
-picked : (empty sound : Bool) (other : Option PathFault) → or_else (if empty then Some EmptyElement else if sound then None else Some DotElement) other ≡ None → (sound ≡ true) × (other ≡ None)
+picked : (empty sound : Bool) (other : Option PathFault) → option_or (if empty then Some EmptyElement else if sound then None else Some DotElement) other ≡ None → (sound ≡ true) × (other ≡ None)
 picked true sound other h = absurd (cc)
 picked false true other h = (refl, h)
 picked false false other h = absurd (cc)

@@ -1,6 +1,9 @@
 -- Paths `s3a://BUCKET/KEY` (Hadoop FileSystem specification, paths; Amazon S3, object key names).
-use Rattle.std.specs.Prelude.{◌≡◌, ℕ, ◌==◌, ◌&&◌, nat_le, nat_eq, Bool, true, List, [], ◌∷◌, ◌++◌, length, drop, codes, Option, Some, None, Result, Ok, Err, if◌then◌else◌}
+use Rattle.std.specs.Prelude.{ℕ, ◌==◌, ◌&&◌, nat_le, nat_eq, Bool, true, false, List, [], ◌∷◌, ◌++◌, length, drop, codes, Option, Some, None, Result, Ok, Err, if◌then◌else◌}
 use Rattle.std.specs.List.{starts_with, join_with_byte}
+use Rattle.std.specs.Option.{option_or}
+use Rattle.proof_base.specs.Reading as reading
+use Rattle.proof_base.specs.Reading.{◌>>=◌, need}
 use Rattle.words.specs.Parts.{parts_of}
 use Rattle.s3_types.specs.Names.{are_elements, is_element, is_bucket, trimmed}
 use Rattle.path_keys.specs.declared.fault.PathFault.{PathFault}
@@ -20,14 +23,10 @@ is_key (x ∷ xs) = are_elements (x ∷ xs) && nat_le (length (x ∷ xs)) 1023
 abbrev pub element_fault : List ℕ → Option PathFault
 element_fault e = if length e == 0 then Some EmptyElement else if is_element e then None else Some DotElement
 
-abbrev pub or_else : Option PathFault → Option PathFault → Option PathFault
-or_else (Some fault) other = Some fault
-or_else None other = other
-
 -- the fault of the first such element
 abbrev pub first_fault : List (List ℕ) → Option PathFault
 first_fault [] = None
-first_fault (e ∷ es) = or_else (element_fault e) (first_fault es)
+first_fault (e ∷ es) = option_or (element_fault e) (first_fault es)
 
 -- a key that has this fault in its elements, or that may be too long
 abbrev pub checked : Option PathFault → List ℕ → Result (List ℕ) PathFault
@@ -41,19 +40,17 @@ key_of elements = checked (first_fault elements) (join_with_byte 47 elements)
 abbrev pub bucket_in : List ℕ → Result (List ℕ) PathFault
 bucket_in name = if is_bucket name then Ok name else Err BadBucket
 
+-- the path of a bucket and a key
 abbrev pub path_of : Result (List ℕ) PathFault → Result (List ℕ) PathFault → Result Path PathFault
-path_of (Err fault) key = Err fault
-path_of (Ok bucket) (Err fault) = Err fault
-path_of (Ok bucket) (Ok key) = Ok (record { bucket = bucket; key = key })
+path_of bucket key = do
+  b ← bucket
+  k ← key
+  Ok (record { bucket = b; key = k })
 
 -- the first part names the bucket, the others are the key's elements
 abbrev pub named : List (List ℕ) → Result Path PathFault
 named [] = Err BadBucket
 named (name ∷ elements) = path_of (bucket_in name) (key_of elements)
-
-abbrev pub named_if : Option (List ℕ) → Result Path PathFault
-named_if None = Err BadScheme
-named_if (Some rest) = named (parts_of 47 (trimmed rest))
 
 -- what stands behind `s3a://`
 abbrev pub without_scheme : List ℕ → Option (List ℕ)
@@ -61,7 +58,9 @@ without_scheme text = if starts_with nat_eq text (codes "s3a://") then Some (dro
 
 -- a text read as a path: its scheme, then its bucket, then its key, without one `/` at the end
 abbrev pub path_in : List ℕ → Result Path PathFault
-path_in text = named_if (without_scheme text)
+path_in text = do
+  rest ← need (without_scheme text) BadScheme
+  named (parts_of 47 (trimmed rest))
 
 -- what stands behind a key and a `/`, or alone at the root
 abbrev pub below : List ℕ → List ℕ → List ℕ
@@ -86,8 +85,11 @@ parent_of p = if length p.key == 0 then None else Some (record { bucket = p.buck
 abbrev pub relative_in : List ℕ → List ℕ → Option (List ℕ)
 relative_in key text = if starts_with nat_eq text (below key []) then Some (drop (length (below key [])) text) else None
 
+-- want of memory
+abbrev pub wanting : PathFault → Bool
+wanting NoMemory = true
+wanting fault = false
+
 -- what a call returned is what reading gives, unless memory ran out
-abbrev pub Gives : {X : Type 0} → Result X PathFault → Result X PathFault → Type 0
-Gives (Ok x) read = read ≡ Ok x
-Gives (Err NoMemory) read = Unit {0}
-Gives (Err fault) read = read ≡ Err fault
+abbrev pub Gives : {A : Type 0} → Result A PathFault → Result A PathFault → Type 0
+Gives result read = reading.Gives wanting result read

@@ -6,5 +6,6 @@ pub mod Ordered
 pub mod Parsed
 pub mod Printed
 pub mod Relations
+pub mod PartLengths
 pub mod RoundTrip
 pub mod Values

@@ -10,6 +10,8 @@ use Rattle.std.proofs.lemmas.Map.Text.{is_eq-slice_cmp}
 use Rattle.std.proofs.lemmas.Slice.Eq.{bytes_eq-Decides}
 use Rattle.serde_json.specs.Data.{Data, null, boolean, number, string, array, object, Members, no_members, member, put}
 use Rattle.serde_json.specs.Find.{get_member}
+use Rattle.proof_base.proofs.Less.{less_of}
+use Rattle.proof_base.proofs.Options.{some_is}
 use Rattle.pending_json.specs.declared.fault.RecordFault.TheVariants.{ExtraField}
 use Rattle.pending_json.specs.Fields.{is_one_of, only_fields}
 
@@ -67,9 +69,6 @@ put_rising k d (member l e ms) r = put_rising_at k l d e ms r (put_rising k d ms
 
 pub some_none : {A P : Type 0} (x : A) → Some x ≡ None → P
 some_none x e = absurd cc
-
-some_is : {A : Type 0} (x y : A) → Some x ≡ Some y → x ≡ y
-some_is x y e = cc
 
 -- the rest of two lists with one first name
 rest_agrees_at : (k m : List ℕ) (d e : Data) (cs bs : Members) → Above k cs → Above k bs → get_member m (member k d cs) ≡ get_member m (member k e bs) → (o : Ordering) → slice_cmp nat_cmp m k ≡ o → get_member m cs ≡ get_member m bs
@@ -150,14 +149,9 @@ abbrev pub rises : Members → Bool
 rises no_members = true
 rises (member k d ms) = below k ms && rises ms
 
-less : (o : Ordering) → is_lt o ≡ true → o ≡ Less
-less Less h = refl
-less Equal h = absurd cc
-less Greater h = absurd cc
-
 above_by : (k : List ℕ) (ms : Members) → below k ms ≡ true → Above k ms
 above_by k no_members h = tt
-above_by k (member l e ms) h = let p = and_parts _ _ h in (less _ p.0, above_by k ms p.1)
+above_by k (member l e ms) h = let p = and_parts _ _ h in (less_of _ p.0, above_by k ms p.1)
 
 pub rising_by : (ms : Members) → rises ms ≡ true → Rising ms
 rising_by no_members h = tt

@@ -1,11 +1,12 @@
 -- What is printed of a record is read as that record.
-use Rattle.std.proofs.Common.{◌≡◌, ℕ, ◌<◌, ◌≤◌, ◌^◌, lit≤, lit<, List, [], ◌∷◌, map, true, Option, Some, None, Ok, codes, refl, sym, subst, arith}
+use Rattle.std.proofs.Common.{◌≡◌, ℕ, ◌<◌, ◌≤◌, ◌^◌, lit≤, lit<, List, [], ◌∷◌, map, true, Option, Some, None, is_some, length, Ok, codes, refl, sym, subst, arith}
 use Rattle.std.specs.List.{AllByRecursion, list_all}
 use Rattle.std.specs.Str.{IsUtf8, is_utf8}
 use Rattle.std.proofs.lemmas.Bool.{and_parts}
 use Rattle.std.proofs.lemmas.Str.{IsUtf8-from_is_utf8}
 use Rattle.json.specs.Tree as tr
 use Rattle.json.proofs.Printed.Utf8.{IsUtf8-are_ascii, are_ascii}
+use Rattle.serde_json.specs.Data.{no_members, member, Members}
 use Rattle.serde_json.specs.Read.{of_json, of_items, max_depth}
 use Rattle.serde_json.specs.View.{items_of}
 use Rattle.serde_json.specs.Written.{outline, items_outline, compact_text}
@@ -17,12 +18,13 @@ use Rattle.s3_types.proofs.Utf8.{bucket_utf8, hex_utf8}
 use Rattle.pending_json.specs.declared.records.PendingSet.{PendingSet}
 use Rattle.pending_json.specs.declared.records.SuccessMark.{SuccessMark}
 use Rattle.pending_json.specs.Fields.{is_count}
-use Rattle.pending_json.specs.Pending.{Pending}
+use Rattle.pending_json.specs.Pending.{Pending, are_sizes}
 use Rattle.pending_json.specs.Reading.{pending_of, set_of, success_of}
 use Rattle.pending_json.specs.Records.{IsPending, IsSet, IsMark, IsStamp}
-use Rattle.pending_json.specs.Trees.{texts, tag_digits, committer_word, pending_tree, set_tree, success_tree}
-use Rattle.pending_json.proofs.Printed.{Plain, PlainItems, printed_is_read}
+use Rattle.pending_json.specs.Trees.{whole, wholes, with_sizes, version_of, texts, tag_digits, committer_word, with_stamp, pending_tree, set_tree, success_tree}
+use Rattle.pending_json.proofs.Printed.{Plain, PlainItems, PlainMembers, printed_is_read}
 use Rattle.pending_json.proofs.Relations.{pending_only, set_only, success_only}
+use Rattle.pending_json.proofs.PartLengths.{each_below}
 
 small : (n : ℕ) → n < 2 ^ 32 → n < 2 ^ 64
 small n h = omega arith
@@ -48,10 +50,33 @@ tags_plain : (ts : List Spelled) → list_all is_plain_tag ts ≡ true → Plain
 tags_plain [] h = tt
 tags_plain (t ∷ ts) h = let p = and_parts (is_plain_tag t) _ h in (tag_plain t p.0, tags_plain ts p.1)
 
+-- ---- lists of numbers
+
+wholes_depth : (ns : List ℕ) → tr.items_depth (items_outline (wholes ns)) ≡ 0
+wholes_depth [] = refl
+wholes_depth (n ∷ ns) = rw (wholes_depth ns) refl
+
+wholes_back : (ns : List ℕ) → AllByRecursion (λ n. n < 2 ^ 64) ns → of_items (items_outline (wholes ns)) ≡ Some (wholes ns)
+wholes_back [] h = refl
+wholes_back (n ∷ ns) h = rw (number_of-decimal n h.0, wholes_back ns h.1) refl
+
+wholes_plain : (ns : List ℕ) → AllByRecursion (λ n. n < 2 ^ 64) ns → PlainItems (wholes ns)
+wholes_plain [] h = tt
+wholes_plain (n ∷ ns) h = (h.0, wholes_plain ns h.1)
+
 -- ---- pending uploads
 
 key : (k : List ℕ) → are_ascii k ≡ true → IsUtf8 k
 key k h = IsUtf8-are_ascii k h
+
+-- the members after a file's length
+abbrev later : Pending → Option (List ℕ) → Members
+later p sizes = with_sizes sizes (member (codes "task") (whole p.task) (member (codes "upload") (whole p.upload) (member (codes "version") (whole (version_of (is_some sizes))) no_members)))
+
+later_plain : (p : Pending) (sizes : Option (List ℕ)) → are_sizes sizes p.tags p.length ≡ true → IsPending p → PlainMembers (later p sizes)
+later_plain p None h f = (key (codes "task") refl, small _ f.task, (key (codes "upload") refl, f.upload, (key (codes "version") refl, lit< tt, tt)))
+later_plain p (Some ns) h f =
+    (key (codes "sizes") refl, wholes_plain ns (each_below ns (length p.tags) p.length h f.length), (key (codes "task") refl, small _ f.task, (key (codes "upload") refl, f.upload, (key (codes "version") refl, lit< tt, tt))))
 
 pending_plain : (p : Pending) → IsPending p → Plain (pending_tree p)
 pending_plain p f = (
@@ -69,30 +94,26 @@ pending_plain p f = (
         (
           key (codes "kind") refl,
           key (codes "pending") refl,
-          (
-            key (codes "length") refl,
-            f.length,
-            (
-              key (codes "task") refl,
-              small _ f.task,
-              (
-                key (codes "upload") refl,
-                f.upload,
-                (key (codes "version") refl, lit< tt, tt),
-              ),
-            ),
-          ),
+          (key (codes "length") refl, f.length, later_plain p p.sizes f.sizes f),
         ),
       ),
     ),
   ),
 )
 
+pending_depth_at : (p : Pending) (sizes : Option (List ℕ)) → p.sizes ≡ sizes → tr.depth (outline (pending_tree p)) ≡ 2
+pending_depth_at p None is = rw (is, texts_depth (map tag_digits p.tags)) refl
+pending_depth_at p (Some ns) is = rw (is, texts_depth (map tag_digits p.tags), wholes_depth ns) refl
+
 pending_depth : (p : Pending) → tr.depth (outline (pending_tree p)) ≡ 2
-pending_depth p = rw (texts_depth (map tag_digits p.tags)) refl
+pending_depth p = pending_depth_at p p.sizes refl
+
+pending_back_at : (p : Pending) (sizes : Option (List ℕ)) → p.sizes ≡ sizes → are_sizes sizes p.tags p.length ≡ true → IsPending p → of_json (outline (pending_tree p)) ≡ Some (pending_tree p)
+pending_back_at p None is told f = rw (is, number_of-decimal p.attempt (small _ f.attempt), texts_back (map tag_digits p.tags), number_of-decimal p.length f.length, number_of-decimal p.task (small _ f.task), number_of-decimal p.upload f.upload, number_of-decimal 1 (lit< tt)) refl
+pending_back_at p (Some ns) is told f = rw (is, number_of-decimal p.attempt (small _ f.attempt), texts_back (map tag_digits p.tags), number_of-decimal p.length f.length, wholes_back ns (each_below ns (length p.tags) p.length told f.length), number_of-decimal p.task (small _ f.task), number_of-decimal p.upload f.upload, number_of-decimal 2 (lit< tt)) refl
 
 pending_back : (p : Pending) → IsPending p → of_json (outline (pending_tree p)) ≡ Some (pending_tree p)
-pending_back p f = rw (number_of-decimal p.attempt (small _ f.attempt), texts_back (map tag_digits p.tags), number_of-decimal p.length f.length, number_of-decimal p.task (small _ f.task), number_of-decimal p.upload f.upload, number_of-decimal 1 (lit< tt)) refl
+pending_back p f = pending_back_at p p.sizes refl f.sizes f
 
 at_most : (n k : ℕ) → n ≡ k → k ≤ max_depth → n ≤ max_depth
 at_most n k e h = subst (λ m. m ≤ max_depth) (sym e) h
@@ -154,53 +175,33 @@ committer_plain Magic = key (codes "magic") refl
 committer_plain Directory = key (codes "directory") refl
 committer_plain Partitioned = key (codes "partitioned") refl
 
-mark_text_at : (m : SuccessMark) → IsMark m → (stamp : Option ℕ) → m.stamp ≡ stamp → IsStamp stamp → success_of (compact_text (success_tree m)) ≡ Ok m
-mark_text_at m f None e h =
-    success_only _ m (printed_is_read (success_tree m)
-    (rw e (
-      key (codes "committer") refl,
-      committer_plain m.committer,
-      (
-        key (codes "files") refl,
-        texts_plain m.files f.files,
-        (
-          key (codes "job") refl,
-          IsUtf8-from_is_utf8 m.job f.job,
-          (
-            key (codes "kind") refl,
-            key (codes "success") refl,
-            (key (codes "version") refl, lit< tt, tt),
-          ),
-        ),
-      ),
-    ))
-    (rw (e, texts_depth m.files) (lit≤ tt))
-    (rw (e, texts_back m.files, number_of-decimal 1 (lit< tt)) refl))
-mark_text_at m f (Some n) e h =
-    success_only _ m (printed_is_read (success_tree m)
-    (rw e (
-      key (codes "committer") refl,
-      committer_plain m.committer,
-      (
-        key (codes "files") refl,
-        texts_plain m.files f.files,
-        (
-          key (codes "job") refl,
-          IsUtf8-from_is_utf8 m.job f.job,
-          (
-            key (codes "kind") refl,
-            key (codes "success") refl,
-            (
-              key (codes "stamp") refl,
-              h,
-              (key (codes "version") refl, lit< tt, tt),
-            ),
-          ),
-        ),
-      ),
-    ))
-    (rw (e, texts_depth m.files) (lit≤ tt))
-    (rw (e, texts_back m.files, number_of-decimal n h, number_of-decimal 1 (lit< tt)) refl))
+-- the last members of a marker
+stamp_plain : (stamp : Option ℕ) → IsStamp stamp → PlainMembers (with_stamp stamp (member (codes "version") (whole 1) no_members))
+stamp_plain None h = (key (codes "version") refl, lit< tt, tt)
+stamp_plain (Some n) h = (key (codes "stamp") refl, h, (key (codes "version") refl, lit< tt, tt))
+
+mark_plain : (m : SuccessMark) → IsMark m → Plain (success_tree m)
+mark_plain m f = (
+  key (codes "committer") refl,
+  committer_plain m.committer,
+  (
+    key (codes "files") refl,
+    texts_plain m.files f.files,
+    (
+      key (codes "job") refl,
+      IsUtf8-from_is_utf8 m.job f.job,
+      (key (codes "kind") refl, key (codes "success") refl, stamp_plain m.stamp f.stamp),
+    ),
+  ),
+)
+
+mark_depth : (m : SuccessMark) (stamp : Option ℕ) → m.stamp ≡ stamp → tr.depth (outline (success_tree m)) ≤ max_depth
+mark_depth m None e = rw (e, texts_depth m.files) (lit≤ tt)
+mark_depth m (Some n) e = rw (e, texts_depth m.files) (lit≤ tt)
+
+mark_back : (m : SuccessMark) (stamp : Option ℕ) → m.stamp ≡ stamp → IsStamp stamp → of_json (outline (success_tree m)) ≡ Some (success_tree m)
+mark_back m None e h = rw (e, texts_back m.files, number_of-decimal 1 (lit< tt)) refl
+mark_back m (Some n) e h = rw (e, texts_back m.files, number_of-decimal n h, number_of-decimal 1 (lit< tt)) refl
 
 pub success_text : (m : SuccessMark) → IsMark m → success_of (compact_text (success_tree m)) ≡ Ok m
-success_text m f = mark_text_at m f m.stamp refl f.stamp
+success_text m f = success_only _ m (printed_is_read (success_tree m) (mark_plain m f) (mark_depth m m.stamp refl) (mark_back m m.stamp refl f.stamp))

@@ -1,26 +1,24 @@
 -- What a value of a kind is, and that it is read as such.
-use Rattle.std.proofs.Common.{◌≡◌, ℕ, ◌<◌, ltb, leb, ◌^◌, Bool, true, false, ◌&&◌, cond, List, [], ◌∷◌, map, length, Option, Some, None, option_map, option_and_then, Result, Ok, Err, codes, bytes_eq, refl, sym, ap, ap₂, subst, ◌∙◌}
+use Rattle.std.proofs.Common.{◌≡◌, ℕ, ◌<◌, ◌==◌, ltb, leb, ◌^◌, Bool, true, false, ◌&&◌, cond, List, [], ◌∷◌, map, length, Option, Some, None, is_some, option_map, option_and_then, Result, Ok, Err, codes, bytes_eq, refl, sym, ap, ap₂, subst, ◌∙◌}
 use Rattle.std.specs.List.{list_all}
 use Rattle.std.proofs.lemmas.Bool.{ltb-true, and_parts, eqb-true}
 use Rattle.std.proofs.lemmas.Option.{cond_some, option_and_then_some}
 use Rattle.std.proofs.lemmas.Slice.Eq.{bytes_eq-Decides}
-use Rattle.serde_json.specs.Data.{unsigned, negative, float, Data, null, boolean, number, string, array, object, Items, no_items, item, Members}
+use Rattle.proof_base.proofs.Options.{some_is}
+use Rattle.proof_base.proofs.Reading.{parted, passed, same_ok}
+use Rattle.serde_json.specs.Data.{unsigned, Data, number, string, array, object, Items, no_items, item, Members}
 use Rattle.serde_json.specs.Find.{get, as_str, as_array, as_object}
 use Rattle.serde_json.specs.View.{items_of}
 use Rattle.s3_types.specs.Tags.{Spelled, is_plain_tag}
 use Rattle.s3_types.specs.declared.request.Committer.{Committer}
 use Rattle.s3_types.specs.declared.request.Committer.TheVariants.{Magic, Directory, Partitioned}
 use Rattle.pending_json.specs.declared.fault.RecordFault.{RecordFault}
-use Rattle.pending_json.specs.Fault.{◌>>=◌}
-use Rattle.pending_json.specs.Fields.{of_kind, present, field, kept, as_whole, as_u32, as_word, committer_of, as_committer, all_of, as_texts, is_tag_text, tag_of, as_tag, is_count, as_tags, version_in}
-use Rattle.pending_json.specs.Pending.{are_tags}
-use Rattle.pending_json.specs.Trees.{whole, texts, tag_digits, committer_word}
+use Rattle.pending_json.specs.declared.fault.RecordFault.TheVariants.{WrongVersion}
+use Rattle.pending_json.specs.Fields.{of_kind, present, field, kept, as_whole, as_u32, as_word, committer_of, as_committer, all_of, as_texts, is_tag_text, tag_of, as_tag, is_count, as_tags, as_sizes, version_in, is_sized, sizes_in}
+use Rattle.pending_json.specs.Pending.{are_tags, fit}
+use Rattle.pending_json.specs.Trees.{whole, wholes, version_of, texts, tag_digits, committer_word}
 
 -- ---- steps that gave something
-
-pub bind_ok : {A B : Type 0} (r : Result A RecordFault) (f : A → Result B RecordFault) (y : B) → (r >>= f) ≡ Ok y → (x : A) × (r ≡ Ok x) × (f x ≡ Ok y)
-bind_ok (Ok x) f y e = (x, refl, e)
-bind_ok (Err fault) f y e = absurd cc
 
 pub of_kind_ok : {A : Type 0} (name : List ℕ) (o : Option A) (x : A) → of_kind name o ≡ Ok x → o ≡ Some x
 of_kind_ok name None x e = absurd cc
@@ -32,44 +30,26 @@ present_ok name (Some y) x e = cc
 
 pub field_ok : {A : Type 0} (kind : Data → Option A) (name : List ℕ) (d : Data) (x : A) → field kind name d ≡ Ok x → (v : Data) × (get name d ≡ Some v) × (kind v ≡ Some x)
 field_ok kind name d x e =
-    let p = bind_ok (present name (get name d)) (λ v. of_kind name (kind v)) x e in
-    (p.0, present_ok name _ _ p.1, of_kind_ok name _ _ p.2)
+    let p = parted (present name (get name d)) (λ v. of_kind name (kind v)) x e in
+    (p.value, present_ok name _ _ p.first, of_kind_ok name _ _ p.next)
 
 -- ---- kinds
 
 pub is_number : (v : Data) (n : ℕ) → as_whole v ≡ Some n → v ≡ whole n
-is_number null n e = absurd cc
-is_number (boolean b) n e = absurd cc
 is_number (number (unsigned m)) n e = cc
-is_number (number (negative z)) n e = absurd cc
-is_number (number (float x)) n e = absurd cc
-is_number (string s) n e = absurd cc
-is_number (array ds) n e = absurd cc
-is_number (object ms) n e = absurd cc
+is_number v n e = absurd cc
 
 pub is_string : (v : Data) (s : List ℕ) → as_str v ≡ Some s → v ≡ string s
-is_string null s e = absurd cc
-is_string (boolean b) s e = absurd cc
-is_string (number n) s e = absurd cc
 is_string (string t) s e = cc
-is_string (array ds) s e = absurd cc
-is_string (object ms) s e = absurd cc
+is_string v s e = absurd cc
 
 pub is_array : (v : Data) (ds : Items) → as_array v ≡ Some ds → v ≡ array ds
-is_array null s e = absurd cc
-is_array (boolean b) s e = absurd cc
-is_array (number n) s e = absurd cc
-is_array (string t) s e = absurd cc
 is_array (array ds) s e = cc
-is_array (object ms) s e = absurd cc
+is_array v s e = absurd cc
 
 pub is_an_object : (v : Data) (ms : Members) → as_object v ≡ Some ms → v ≡ object ms
-is_an_object null s e = absurd cc
-is_an_object (boolean b) s e = absurd cc
-is_an_object (number n) s e = absurd cc
-is_an_object (string t) s e = absurd cc
-is_an_object (array ds) s e = absurd cc
 is_an_object (object ms) s e = cc
+is_an_object v s e = absurd cc
 
 kept_ok : {A : Type 0} (test : A → Bool) (x y : A) → kept test x ≡ Some y → (x ≡ y) × (test y ≡ true)
 kept_ok test x y e = let p = cond_some (test x) x y e in (p.1, subst (λ z. test z ≡ true) p.1 p.0)
@@ -151,6 +131,12 @@ is_tags v ts e = option_and_then_some (λ ds. option_and_then (kept is_count) (a
 pub is_texts : (v : Data) (ts : List (List ℕ)) → as_texts v ≡ Some ts → v ≡ array (texts ts)
 is_texts v ts e = option_and_then_some (all_of as_str) (as_array v) ts e (λ ds e1 e2. is_array v ds e1 ∙ ap array (items_are as_str string is_string ds ts e2))
 
+is_sizes : (count total : ℕ) (v : Data) (ns : List ℕ) → as_sizes count total v ≡ Some ns → v ≡ array (wholes ns)
+is_sizes count total v ns e = option_and_then_some (λ ds. option_and_then (kept (λ x. fit x count total)) (all_of as_whole ds)) (as_array v) ns e
+    (λ ds e1 e2. option_and_then_some (kept (λ x. fit x count total)) (all_of as_whole ds) ns e2
+    (λ us e3 e4. let q = kept_ok (λ x. fit x count total) us ns e4 in
+    is_array v ds e1 ∙ ap array (items_are as_whole whole is_number ds ns (e3 ∙ ap Some q.0))))
+
 -- ---- and back
 
 abbrev spelled : List ℕ → ℕ → Option Spelled
@@ -170,6 +156,13 @@ pub texts_again : (ts : List (List ℕ)) → all_of as_str (texts ts) ≡ Some t
 texts_again [] = refl
 texts_again (t ∷ ts) = rw (texts_again ts) refl
 
+wholes_again : (ns : List ℕ) → all_of as_whole (wholes ns) ≡ Some ns
+wholes_again [] = refl
+wholes_again (n ∷ ns) = rw (wholes_again ns) refl
+
+pub sizes_again : (ns : List ℕ) (count total : ℕ) → fit ns count total ≡ true → as_sizes count total (array (wholes ns)) ≡ Some ns
+sizes_again ns count total h = rw (wholes_again ns, h) refl
+
 pub committer_again : (c : Committer) → as_committer (string (committer_word c)) ≡ Some c
 committer_again Magic = refl
 committer_again Directory = refl
@@ -177,13 +170,35 @@ committer_again Partitioned = refl
 
 -- ---- the version
 
-guard_ok : {A : Type 0} (b : Bool) (fault : RecordFault) (x y : A) → cond b (Ok x) (Err fault) ≡ Ok y → b ≡ true
-guard_ok true fault x y e = refl
-guard_ok false fault x y e = absurd cc
-
 pub version_ok : (d : Data) → version_in d ≡ Ok tt → get (codes "version") d ≡ Some (whole 1)
 unfolding version_in
 version_ok d e =
-    let a = bind_ok (field as_whole (codes "version") d) _ tt e in
-    let f = field_ok as_whole (codes "version") d a.0 a.1 in
-    f.1 ∙ ap Some (is_number f.0 1 (f.2 ∙ ap Some (eqb-true a.0 1 (guard_ok _ _ _ _ a.2))))
+    let a = parted (field as_whole (codes "version") d) _ tt e in
+    let f = field_ok as_whole (codes "version") d a.value a.first in
+    f.1 ∙ ap Some (is_number f.0 1 (f.2 ∙ ap Some (eqb-true a.value 1 (passed (a.value == 1) (WrongVersion a.value) tt tt a.next).0)))
+
+-- the versions of a pending upload's form
+versions : (n : ℕ) (sized : Bool) (r : Result Bool RecordFault) → cond (n == 1) (Ok false) (cond (n == 2) (Ok true) (Err (WrongVersion n))) ≡ r → r ≡ Ok sized → n ≡ version_of sized
+versions n sized r e is = by (n == 1) refl (n == 2) refl (e ∙ is)
+  where
+    by : (a : Bool) → (n == 1) ≡ a → (b : Bool) → (n == 2) ≡ b → cond a (Ok false) (cond b (Ok true) (Err (WrongVersion n))) ≡ Ok sized → n ≡ version_of sized
+    by true first b second h = eqb-true n 1 first ∙ ap version_of (same_ok false sized h)
+    by false first true second h = eqb-true n 2 second ∙ ap version_of (same_ok true sized h)
+    by false first false second h = absurd cc
+
+pub sized_ok : (d : Data) (sized : Bool) → is_sized d ≡ Ok sized → get (codes "version") d ≡ Some (whole (version_of sized))
+unfolding is_sized
+sized_ok d sized e =
+    let a = parted (field as_whole (codes "version") d) _ sized e in
+    let f = field_ok as_whole (codes "version") d a.value a.first in
+    f.1 ∙ ap Some (is_number f.0 (version_of sized) (f.2 ∙ ap Some (versions a.value sized _ refl a.next)))
+
+-- the lengths of parts are told where the version says so, and are there
+pub sizes_ok : (sized : Bool) (count total : ℕ) (d : Data) (sizes : Option (List ℕ)) → sizes_in sized count total d ≡ Ok sizes
+    → (is_some sizes ≡ sized) × ((ns : List ℕ) → sizes ≡ Some ns → get (codes "sizes") d ≡ Some (array (wholes ns)))
+sizes_ok false count total d sizes e = let s : None ≡ sizes = same_ok None sizes e in (ap is_some (sym s), λ ns is. let bad : None ≡ Some ns = s ∙ is in absurd cc)
+sizes_ok true count total d sizes e =
+    let p = parted (field (as_sizes count total) (codes "sizes") d) _ sizes e in
+    let s : Some p.value ≡ sizes = same_ok (Some p.value) sizes p.next in
+    let f = field_ok (as_sizes count total) (codes "sizes") d p.value p.first in
+    (ap is_some (sym s), λ ns is. f.1 ∙ ap Some (is_sizes count total f.0 p.value f.2 ∙ ap (λ x. array (wholes x)) (some_is p.value ns (s ∙ is))))

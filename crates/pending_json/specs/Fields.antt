@@ -1,15 +1,17 @@
 -- The fields of a JSON object and their kinds.
-use Rattle.std.specs.Prelude.{ℕ, ◌^◌, ◌==◌, ◌&&◌, nat_lt, nat_le, List, [], ◌∷◌, length, Bool, Option, Some, None, Result, Ok, Err, option_map, option_and_then, codes, bytes_eq, if◌then◌else◌, ⊤}
+use Rattle.std.specs.Prelude.{ℕ, ◌^◌, ◌==◌, ◌&&◌, nat_lt, nat_le, List, [], ◌∷◌, length, Bool, true, false, Option, Some, None, Result, Ok, Err, option_map, option_and_then, codes, bytes_eq, if◌then◌else◌, ⊤}
 use Rattle.std.specs.List.{list_all, list_any}
+use Rattle.proof_base.specs.Reading.{◌>>=◌}
 use Rattle.serde_json.specs.Data.{Data, Items, no_items, item, Members, no_members, member}
 use Rattle.serde_json.specs.Find.{get, as_number, as_u64, as_str, as_array, as_object}
 use Rattle.s3_types.specs.Names.{is_bucket, is_key}
 use Rattle.s3_types.specs.Tags.{Spelled, is_hex}
+use Rattle.s3_types.specs.declared.limits.TheConstants.{MOST_PARTS}
 use Rattle.s3_types.specs.declared.request.Committer.{Committer}
 use Rattle.s3_types.specs.declared.request.Committer.TheVariants.{Magic, Directory, Partitioned}
 use Rattle.pending_json.specs.declared.fault.RecordFault.{RecordFault}
 use Rattle.pending_json.specs.declared.fault.RecordFault.TheVariants.{MissingField, WrongKind, WrongVersion, ExtraField}
-use Rattle.pending_json.specs.Fault.{◌>>=◌}
+use Rattle.pending_json.specs.Pending.{fit}
 use Rattle.pending_json.specs.Trees.{committer_word}
 
 -- a value that is of its field's kind
@@ -86,11 +88,15 @@ as_tag d = option_and_then tag_of (as_str d)
 
 -- 1 to 10,000 of them
 abbrev pub is_count : List Spelled → Bool
-is_count tags = nat_le 1 (length tags) && nat_le (length tags) 10000
+is_count tags = nat_le 1 (length tags) && nat_le (length tags) MOST_PARTS
 
 -- the tags of 1 to 10,000 parts
 abbrev pub as_tags : Data → Option (List Spelled)
 as_tags d = option_and_then (λ ds. option_and_then (kept is_count) (all_of as_tag ds)) (as_array d)
+
+-- the lengths of so many parts, together a file's
+abbrev pub as_sizes : ℕ → ℕ → Data → Option (List ℕ)
+as_sizes count total d = option_and_then (λ ds. option_and_then (kept (λ sizes. fit sizes count total)) (all_of as_whole ds)) (as_array d)
 
 -- an object
 abbrev pub members_in : Data → Result Members RecordFault
@@ -101,6 +107,17 @@ unfoldable pub version_in : Data → Result ⊤ RecordFault
 version_in d = do
   version ← field as_whole (codes "version") d
   if version == 1 then Ok tt else Err (WrongVersion version)
+
+-- whether a pending upload tells the lengths of its parts, by the version of its form
+unfoldable pub is_sized : Data → Result Bool RecordFault
+is_sized d = do
+  version ← field as_whole (codes "version") d
+  if version == 1 then Ok false else (if version == 2 then Ok true else Err (WrongVersion version))
+
+-- the lengths of so many parts, where they are told
+abbrev pub sizes_in : Bool → ℕ → ℕ → Data → Result (Option (List ℕ)) RecordFault
+sizes_in false count total d = Ok None
+sizes_in true count total d = field (as_sizes count total) (codes "sizes") d >>= λ sizes. Ok (Some sizes)
 
 -- one of these names
 abbrev pub is_one_of : List (List ℕ) → List ℕ → Bool

@@ -1,9 +1,10 @@
 -- A pending upload (Hadoop, S3A committer architecture: SinglePendingCommit).
-use Rattle.std.specs.Prelude.{ℕ, ◌&&◌, nat_le, Bool, List, length}
-use Rattle.std.specs.List.{list_all}
+use Rattle.std.specs.Prelude.{ℕ, ◌&&◌, ◌==◌, nat_le, Bool, true, List, length, Option, Some, None}
+use Rattle.std.specs.List.{list_all, sum}
 use Rattle.s3_types.specs.Tags.{Spelled, is_plain_tag}
+use Rattle.s3_types.specs.declared.limits.TheConstants.{MOST_PARTS}
 
--- whose upload it is, where its file will be, and what completes it
+-- whose upload it is, where its file will be, what completes it, and the lengths of its parts where they are told
 pub record Pending : Type 0 where
   pub task : ℕ
   pub attempt : ℕ
@@ -12,7 +13,17 @@ pub record Pending : Type 0 where
   pub upload : ℕ
   pub length : ℕ
   pub tags : List Spelled
+  pub sizes : Option (List ℕ)
 
 -- the tags of 1 to 10,000 parts
 abbrev pub are_tags : List Spelled → Bool
-are_tags tags = nat_le 1 (length tags) && nat_le (length tags) 10000 && list_all is_plain_tag tags
+are_tags tags = nat_le 1 (length tags) && nat_le (length tags) MOST_PARTS && list_all is_plain_tag tags
+
+-- so many lengths, which are together a file's
+abbrev pub fit : List ℕ → ℕ → ℕ → Bool
+fit sizes count total = length sizes == count && sum sizes == total
+
+-- the lengths of the parts with these tags, where they are told, of a file of this length
+abbrev pub are_sizes : Option (List ℕ) → List Spelled → ℕ → Bool
+are_sizes None tags total = true
+are_sizes (Some sizes) tags total = fit sizes (length tags) total

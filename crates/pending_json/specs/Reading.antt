@@ -1,6 +1,7 @@
 -- Reading a JSON tree as a record: the first fault in the order of the checks, or the record.
-use Rattle.std.specs.Prelude.{ℕ, Bool, List, [], ◌∷◌, Option, Some, None, Result, Ok, Err, codes, if◌then◌else◌}
+use Rattle.std.specs.Prelude.{ℕ, Bool, true, false, List, [], ◌∷◌, length, Option, None, Result, Ok, codes, if◌then◌else◌}
 use Rattle.std.specs.Str.{is_utf8}
+use Rattle.proof_base.specs.Reading.{◌>>=◌, need}
 use Rattle.serde_json.specs.Data.{Data, Items, no_items, item}
 use Rattle.serde_json.specs.Find.{get, as_str, as_array}
 use Rattle.serde_json.specs.Read as json
@@ -11,12 +12,12 @@ use Rattle.pending_json.specs.declared.table.Table.TheVariants as tables
 use Rattle.pending_json.specs.declared.records.PendingSet.{PendingSet}
 use Rattle.pending_json.specs.declared.records.SuccessMark.{SuccessMark}
 use Rattle.pending_json.specs.Pending.{Pending}
-use Rattle.pending_json.specs.Fault.{◌>>=◌}
-use Rattle.pending_json.specs.Fields.{field, of_kind_if, as_whole, as_u32, as_word, as_bucket, as_key, as_committer, as_texts, as_tags, members_in, version_in, is_one_of, only_fields}
+use Rattle.pending_json.specs.Fields.{field, of_kind_if, as_whole, as_u32, as_word, as_bucket, as_key, as_committer, as_texts, as_tags, sizes_in, members_in, version_in, is_sized, is_one_of, only_fields}
 
 -- the names of each record's fields
 abbrev pub field_names : Table → List (List ℕ)
 field_names tables.Pending = codes "attempt" ∷ codes "bucket" ∷ codes "destination" ∷ codes "etags" ∷ codes "kind" ∷ codes "length" ∷ codes "task" ∷ codes "upload" ∷ codes "version" ∷ []
+field_names tables.SizedPending = codes "attempt" ∷ codes "bucket" ∷ codes "destination" ∷ codes "etags" ∷ codes "kind" ∷ codes "length" ∷ codes "sizes" ∷ codes "task" ∷ codes "upload" ∷ codes "version" ∷ []
 field_names tables.Set = codes "attempt" ∷ codes "commits" ∷ codes "job" ∷ codes "kind" ∷ codes "task" ∷ codes "version" ∷ []
 field_names tables.Success = codes "committer" ∷ codes "files" ∷ codes "job" ∷ codes "kind" ∷ codes "stamp" ∷ codes "version" ∷ []
 
@@ -24,21 +25,27 @@ field_names tables.Success = codes "committer" ∷ codes "files" ∷ codes "job"
 abbrev pub is_field_of : Table → List ℕ → Bool
 is_field_of table name = is_one_of (field_names table) name
 
+-- the table of a pending upload that tells the lengths of its parts or does not
+abbrev pub pending_table : Bool → Table
+pending_table false = tables.Pending
+pending_table true = tables.SizedPending
+
 -- a pending upload
 unfoldable pub pending_in : Data → Result Pending RecordFault
 pending_in d = do
   members ← members_in d
-  version ← version_in d
+  sized ← is_sized d
   attempt ← field as_u32 (codes "attempt") d
   bucket ← field as_bucket (codes "bucket") d
   destination ← field as_key (codes "destination") d
   tags ← field as_tags (codes "etags") d
   kind ← field (as_word (codes "pending")) (codes "kind") d
-  length ← field as_whole (codes "length") d
+  total ← field as_whole (codes "length") d
+  sizes ← sizes_in sized (length tags) total d
   task ← field as_u32 (codes "task") d
   upload ← field as_whole (codes "upload") d
-  others ← only_fields (is_field_of tables.Pending) members
-  Ok (record { task = task; attempt = attempt; bucket = bucket; destination = destination; upload = upload; length = length; tags = tags })
+  others ← only_fields (is_field_of (pending_table sized)) members
+  Ok (record { task = task; attempt = attempt; bucket = bucket; destination = destination; upload = upload; length = total; tags = tags; sizes = sizes })
 
 -- pending uploads, of which the first with a fault gives it
 unfoldable pub pendings_in : Items → Result (List Pending) RecordFault
@@ -81,8 +88,7 @@ tree_read bytes = if is_utf8 bytes then json.read bytes else None
 
 -- a text that is JSON
 abbrev pub parsed : Option Data → Result Data RecordFault
-parsed None = Err NotJson
-parsed (Some d) = Ok d
+parsed tree = need tree NotJson
 
 -- the pending upload that bytes spell
 unfoldable pub pending_of : List ℕ → Result Pending RecordFault

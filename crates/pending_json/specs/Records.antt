@@ -10,10 +10,10 @@ use Rattle.s3_types.specs.Names.{is_bucket, is_key}
 use Rattle.pending_json.specs.declared.table.Table.{Table}
 use Rattle.pending_json.specs.declared.records.PendingSet.{PendingSet}
 use Rattle.pending_json.specs.declared.records.SuccessMark.{SuccessMark}
-use Rattle.pending_json.specs.Pending.{Pending, are_tags}
+use Rattle.pending_json.specs.Pending.{Pending, are_tags, are_sizes}
 use Rattle.pending_json.specs.Reading.{is_field_of, tree_read}
 
--- a pending upload whose numbers have their widths and whose names and tags are such
+-- a pending upload whose numbers have their widths, whose names and tags are such, and whose parts' lengths fit
 pub record IsPending (p : Pending) : Type 0 where
   pub task : p.task < 2 ^ 32
   pub attempt : p.attempt < 2 ^ 32
@@ -22,6 +22,7 @@ pub record IsPending (p : Pending) : Type 0 where
   pub upload : p.upload < 2 ^ 64
   pub length : p.length < 2 ^ 64
   pub tags : are_tags p.tags ≡ true
+  pub sizes : are_sizes p.sizes p.tags p.length ≡ true
 
 -- the same of a set's
 pub record IsSet (s : PendingSet) : Type 0 where

@@ -1,5 +1,5 @@
 -- The records as JSON, each object's members in the byte order of their names (Hadoop, S3A committer architecture).
-use Rattle.std.specs.Prelude.{ℕ, List, map, codes, Option, Some, None}
+use Rattle.std.specs.Prelude.{ℕ, Bool, true, false, List, map, codes, Option, Some, None, is_some}
 use Rattle.serde_json.specs.Data.{unsigned, Data, number, string, array, object, Items, Members, no_members, member}
 use Rattle.serde_json.specs.View.{items_of}
 use Rattle.s3_types.specs.Tags.{Spelled}
@@ -12,6 +12,10 @@ use Rattle.pending_json.specs.declared.records.SuccessMark.{SuccessMark}
 abbrev pub whole : ℕ → Data
 whole n = number (unsigned n)
 
+-- a list of whole numbers
+abbrev pub wholes : List ℕ → Items
+wholes all = items_of (map whole all)
+
 -- a list of strings
 abbrev pub texts : List (List ℕ) → Items
 texts all = items_of (map string all)
@@ -19,18 +23,33 @@ texts all = items_of (map string all)
 abbrev pub tag_digits : Spelled → List ℕ
 tag_digits tag = tag.digits
 
--- a pending upload
-abbrev pub pending_tree : Pending → Data
-pending_tree p = object
+-- the lengths of parts, where they are told, before other members
+abbrev pub with_sizes : Option (List ℕ) → Members → Members
+with_sizes None others = others
+with_sizes (Some sizes) others = member (codes "sizes") (array (wholes sizes)) others
+
+-- the version of a pending upload's form: the second tells the lengths of the parts
+abbrev pub version_of : Bool → ℕ
+version_of false = 1
+version_of true = 2
+
+-- a pending upload whose parts have these lengths, where they are told
+abbrev pub upload_tree : Pending → Option (List ℕ) → Data
+upload_tree p sizes = object
     (member (codes "attempt") (whole p.attempt)
     (member (codes "bucket") (string p.bucket)
     (member (codes "destination") (string p.destination)
     (member (codes "etags") (array (texts (map tag_digits p.tags)))
     (member (codes "kind") (string (codes "pending"))
     (member (codes "length") (whole p.length)
+    (with_sizes sizes
     (member (codes "task") (whole p.task)
     (member (codes "upload") (whole p.upload)
-    (member (codes "version") (whole 1) no_members)))))))))
+    (member (codes "version") (whole (version_of (is_some sizes))) no_members))))))))))
+
+-- a pending upload
+abbrev pub pending_tree : Pending → Data
+pending_tree p = upload_tree p p.sizes
 
 -- a task's set of pending uploads
 abbrev pub set_tree : PendingSet → Data

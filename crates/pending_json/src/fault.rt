@@ -4,26 +4,32 @@ ghost use Rattle.pending_json.specs.Fault.{IsFault};
 
 use s3_types::Text;
 use std::alloc::{AllocError, AllocFailed, Global};
-use std::error::Error;
 use std::fmt;
+use thiserror::Error;
 
 /// Why bytes could not be read as a record. Where several hold, the first check of these decides: that the
 /// text is JSON, that it is an object, its version, the other fields in the byte order of their names, and
 /// last the fields that no such record has.
-#[derive(Drop)]
+#[derive(Drop, Error)]
 pub enum RecordFault {
     /// The bytes are no JSON text (RFC 8259), or one that nests deeper than 127.
+    #[error("the bytes are not JSON")]
     NotJson,
     /// A field of this name is wanted and absent.
+    #[error("no field '{}'", .0.as_str())]
     MissingField(Text),
     /// The field of this name has a value that is not of its kind or out of its range; with no name, the
     /// value that should be the record is not an object.
+    #[error("a wrong value of '{}'", .0.as_str())]
     WrongKind(Text),
-    /// The record has this version, and not 1.
+    /// The record has this version, which no such record has.
+    #[error("version {0} is unknown")]
     WrongVersion(u64),
     /// No such record has a field of this name, the least of these by its bytes.
+    #[error("an unknown field '{}'", .0.as_str())]
     ExtraField(Text),
     /// Memory ran out.
+    #[error("no memory")]
     NoMemory,
 }
 
@@ -39,21 +45,6 @@ impl fmt::Debug for RecordFault {
         }
     }
 }
-
-impl fmt::Display for RecordFault {
-    fn fmt<W: fmt::Write>(&self, f: &mut fmt::Formatter<W>) -> fmt::Result {
-        match self {
-            RecordFault::NotJson => write!(f, "the bytes are not JSON"),
-            RecordFault::MissingField(name) => write!(f, "no field '{}'", name.as_str()),
-            RecordFault::WrongKind(name) => write!(f, "a wrong value of '{}'", name.as_str()),
-            RecordFault::WrongVersion(version) => write!(f, "version {version} is unknown"),
-            RecordFault::ExtraField(name) => write!(f, "an unknown field '{}'", name.as_str()),
-            RecordFault::NoMemory => write!(f, "no memory"),
-        }
-    }
-}
-
-impl Error for RecordFault {}
 
 impl From<AllocError> for RecordFault {
     ghost from_gives = { λ _ e. e ≡ NoMemory };

@@ -2,7 +2,7 @@ ghost use Rattle.std.specs.Prelude.{◌≡◌, codes};
 ghost use Rattle.serde_json.specs.View.{view, members_view, items_view};
 ghost use Rattle.serde_json.specs.Find.{get, as_str, as_array};
 ghost use Rattle.pending_json.specs.Fault.{Gives, GivesBy};
-ghost use Rattle.pending_json.specs.Fields.{present, field, of_kind, of_kind_if, as_whole, as_u32, as_word, as_bucket, as_key, version_in, members_in};
+ghost use Rattle.pending_json.specs.Fields.{present, field, of_kind, of_kind_if, as_whole, as_u32, as_word, as_bucket, as_key, version_in, is_sized, members_in};
 
 use crate::fault::{RecordFault, missing, wrong_kind};
 use s3_types::{Bucket, Key, NameFault, Text};
@@ -137,6 +137,23 @@ pub fn version_field(alloc: Global, value: &Value) -> Result<(), RecordFault>
     let version = whole_field(alloc, value, "version")?;
     if version == 1 {
         Ok(())
+    } else {
+        Err(RecordFault::WrongVersion(version))
+    }
+}
+
+/// Whether a pending upload tells the lengths of its parts: not at version 1, and at version 2. Else
+/// WrongVersion.
+#[tactic(auto, unfolding(crate::specs::Fields::is_sized))]
+pub fn is_sized(alloc: Global, value: &Value) -> Result<bool, RecordFault>
+    ensures { Gives result (is_sized (view value.now)) }
+{
+    let version = whole_field(alloc, value, "version")?;
+    if version == 1 {
+        return Ok(false);
+    }
+    if version == 2 {
+        Ok(true)
     } else {
         Err(RecordFault::WrongVersion(version))
     }

@@ -25,6 +25,7 @@ mod pending_reading;
 mod printing;
 mod records;
 mod set_reading;
+mod sizes;
 mod success_reading;
 mod table;
 mod tags;

@@ -1,12 +1,13 @@
-ghost use Rattle.std.specs.Prelude.{◌≡◌, true};
-ghost use Rattle.pending_json.specs.Pending.{are_tags};
+ghost use Rattle.std.specs.Prelude.{◌≡◌, true, option_map};
+ghost use Rattle.pending_json.specs.Pending.{are_tags, are_sizes};
 
-use s3_types::{Bucket, Key, TagList};
+use s3_types::{Bucket, Key, SizeList, TagList};
 use std::marker::Model;
 
 /// A finished upload that its job's commit will complete: of which task and attempt it is, the bucket
-/// and the key where the file will be, the upload's id, the file's length in bytes, and the tags of the
-/// parts in their order, 1 to 10,000 of them, each of a part.
+/// and the key where the file will be, the upload's id, the file's length in bytes, the tags of the parts
+/// in their order, 1 to 10,000 of them, each of a part, and, where they are told, the lengths of the parts
+/// in bytes: as many as the tags, and together the file's length.
 #[derive(Drop)]
 pub struct PendingUpload {
     task: u32,
@@ -16,17 +17,18 @@ pub struct PendingUpload {
     upload: u64,
     length: u64,
     tags: TagList,
+    sizes: Option<SizeList>,
 }
 
 impl Model for PendingUpload {
     ghost use Rattle.std.specs.Prelude.{◌≡◌, true};
-    ghost use Rattle.pending_json.specs.Pending.{Pending, are_tags};
+    ghost use Rattle.pending_json.specs.Pending.{Pending, are_tags, are_sizes};
 
     ghost Value = { Pending };
 
-    ghost view = { λ p. record { task = p.task; attempt = p.attempt; bucket = p.bucket; destination = p.destination; upload = p.upload; length = p.length; tags = p.tags } };
+    ghost view = { λ p. record { task = p.task; attempt = p.attempt; bucket = p.bucket; destination = p.destination; upload = p.upload; length = p.length; tags = p.tags; sizes = p.sizes } };
 
-    ghost invariant = { λ p. are_tags p.tags ≡ true };
+    ghost invariant = { λ p. (are_tags p.tags ≡ true) × (are_sizes p.sizes p.tags p.length ≡ true) };
 }
 
 impl PendingUpload {
@@ -39,9 +41,11 @@ impl PendingUpload {
         upload: u64,
         length: u64,
         tags: TagList,
+        sizes: Option<SizeList>,
     ) -> PendingUpload
-        requires { are_tags tags ≡ true }
-        ensures { result ≡ record { task = task; attempt = attempt; bucket = bucket; destination = destination; upload = upload; length = length; tags = tags } }
+        requires tags { are_tags tags ≡ true }
+        requires sizes { are_sizes sizes tags length ≡ true }
+        ensures { result ≡ record { task = task; attempt = attempt; bucket = bucket; destination = destination; upload = upload; length = length; tags = tags; sizes = sizes } }
     {
         PendingUpload {
             task,
@@ -51,6 +55,7 @@ impl PendingUpload {
             upload,
             length,
             tags,
+            sizes,
         }
     }
 
@@ -99,5 +104,13 @@ impl PendingUpload {
         ensures plain { are_tags result.now ≡ true }
     {
         &self.tags
+    }
+
+    /// The lengths of the parts in bytes, in their order, where they are told.
+    pub fn sizes(&self) -> Option<&SizeList>
+        ensures value { option_map (λ s. s.now) result ≡ self.now.sizes }
+        ensures told { are_sizes self.now.sizes self.now.tags self.now.length ≡ true }
+    {
+        self.sizes.as_ref()
     }
 }

@@ -8,11 +8,12 @@ ghost use Rattle.pending_json.specs.Trees.{pending_tree};
 
 use crate::fault::RecordFault;
 use crate::fields::{
-    bucket_field, key_field, members_of, u32_field, version_field, whole_field, word_field,
+    bucket_field, is_sized, key_field, members_of, u32_field, whole_field, word_field,
 };
 use crate::parsing::tree;
 use crate::pending::PendingUpload;
-use crate::table::{Table, no_others};
+use crate::sizes::sizes_field;
+use crate::table::{no_others, pending_table};
 use crate::tags::tags_field;
 use serde_json::Value;
 use std::alloc::Global;
@@ -22,17 +23,27 @@ pub fn pending_in(alloc: Global, value: &Value) -> Result<PendingUpload, RecordF
     ensures { Gives result (pending_in (view value.now)) }
 {
     let members = members_of(alloc, value)?;
-    version_field(alloc, value)?;
+    let sized = is_sized(alloc, value)?;
     let attempt = u32_field(alloc, value, "attempt")?;
     let bucket = bucket_field(alloc, value, "bucket")?;
     let destination = key_field(alloc, value, "destination")?;
     let tags = tags_field(alloc, value, "etags")?;
     word_field(alloc, value, "kind", "pending")?;
     let length = whole_field(alloc, value, "length")?;
+    let sizes = sizes_field(alloc, value, sized, &tags, length)?;
     let task = u32_field(alloc, value, "task")?;
     let upload = whole_field(alloc, value, "upload")?;
-    no_others(alloc, members, Table::Pending)?;
-    Ok(PendingUpload::new(task, attempt, bucket, destination, upload, length, tags))
+    no_others(alloc, members, pending_table(sized))?;
+    Ok(PendingUpload::new(
+        task,
+        attempt,
+        bucket,
+        destination,
+        upload,
+        length,
+        tags,
+        sizes,
+    ))
 }
 
 #[tactic(auto, unfolding(crate::specs::Reading::pending_of))]
@@ -53,7 +64,8 @@ impl PendingUpload {
     /// order of their names; ExtraField, with the least name that no pending upload has. A field is of
     /// its kind where `attempt` and `task` are whole numbers below 2^32, `length` and `upload` below 2^64,
     /// `bucket` is a bucket's name, `destination` a key, `etags` a list of 1 to 10,000 tags of 32
-    /// lower-case hex digits, and `kind` is `pending`. NoMemory can come at any time.
+    /// lower-case hex digits, and `kind` is `pending`. The version is 1 or 2; version 2 alone has `sizes`, a
+    /// list of as many whole numbers as `etags`, whose sum is `length`. NoMemory can come at any time.
     pub fn read(alloc: Global, bytes: &[u8]) -> Result<PendingUpload, RecordFault>
         // What is read is spelled so.
         ensures found { IfOk result (λ p. Spell bytes.now (pending_tree p)) }

@@ -2,7 +2,7 @@ ghost use Rattle.std.specs.Prelude.{◌≡◌};
 ghost use Rattle.serde_json.specs.View.{members_view};
 ghost use Rattle.pending_json.specs.Fault.{Gives};
 ghost use Rattle.pending_json.specs.Fields.{only_fields};
-ghost use Rattle.pending_json.specs.Reading.{is_field_of};
+ghost use Rattle.pending_json.specs.Reading.{is_field_of, pending_table};
 
 use crate::fault::RecordFault;
 use s3_types::Text;
@@ -13,6 +13,7 @@ use std::alloc::Global;
 #[derive(Clone, Copy)]
 pub enum Table {
     Pending,
+    SizedPending,
     Set,
     Success,
 }
@@ -33,6 +34,19 @@ fn is_field_of(table: Table, name: &str) -> bool
                 | "upload"
                 | "version"
         ),
+        Table::SizedPending => matches!(
+            name,
+            "attempt"
+                | "bucket"
+                | "destination"
+                | "etags"
+                | "kind"
+                | "length"
+                | "sizes"
+                | "task"
+                | "upload"
+                | "version"
+        ),
         Table::Set => matches!(
             name,
             "attempt" | "commits" | "job" | "kind" | "task" | "version"
@@ -41,6 +55,17 @@ fn is_field_of(table: Table, name: &str) -> bool
             name,
             "committer" | "files" | "job" | "kind" | "stamp" | "version"
         ),
+    }
+}
+
+/// The fields of a pending upload that tells the lengths of its parts or does not.
+pub fn pending_table(sized: bool) -> Table
+    ensures { result ≡ pending_table sized }
+{
+    if sized {
+        Table::SizedPending
+    } else {
+        Table::Pending
     }
 }
 

@@ -8,7 +8,7 @@ ghost use Rattle.pending_json.specs.Pending.{are_tags};
 
 use crate::fault::{RecordFault, wrong_kind};
 use crate::fields::list_field;
-use s3_types::{Sequence, Tag, TagList};
+use s3_types::{MOST_PARTS, Sequence, Tag, TagList};
 use serde_json::Value;
 use std::alloc::{AllocError, Global};
 
@@ -64,7 +64,7 @@ fn tags(alloc: Global, list: &[Value]) -> Result<Option<TagList>, AllocError>
 fn is_count(tags: &TagList) -> bool
     ensures { result ≡ is_count tags.now }
 {
-    1 <= tags.len() && tags.len() <= 10_000
+    1 <= tags.len() && tags.len() <= MOST_PARTS as usize
 }
 
 /// The tags of 1 to 10,000 parts.

@@ -22,7 +22,7 @@ fn upload(alloc: Global) -> Result<PendingUpload, Fail> {
     tags.push(Tag::new(DIGITS, 0))?;
     let bucket = Bucket::read(alloc, b"lake")?;
     let destination = Key::read(alloc, b"out/part-00000")?;
-    Ok(PendingUpload::new(0, 0, bucket, destination, 1, 5, tags))
+    Ok(PendingUpload::new(0, 0, bucket, destination, 1, 5, tags, None))
 }
 
 fn upload_text(alloc: Global) -> Result<Bytes, Fail> {

@@ -1,15 +1,28 @@
-ghost use Rattle.std.specs.Prelude.{◌≡◌, IfOk, map};
+ghost use Rattle.std.specs.Prelude.{◌≡◌, IfOk, map, Some, None};
 ghost use Rattle.serde_json.specs.View.{view, items_view, items_of};
-ghost use Rattle.pending_json.specs.Trees.{texts, tag_digits, pending_tree, set_tree, success_tree, committer_word};
+ghost use Rattle.pending_json.specs.Trees.{texts, wholes, tag_digits, upload_tree, pending_tree, set_tree, success_tree, committer_word};
 
 use crate::pending::PendingUpload;
 use crate::records::{PendingSet, SuccessMark};
-use s3_types::{Committer, Tag, Text};
+use s3_types::{Committer, SizeList, Tag, Text};
 use serde_json::{Value, json};
 use std::alloc::{AllocError, Global};
 
 /// The version of the records' form.
 const VERSION: u32 = 1;
+
+/// The version of a pending upload that tells the lengths of its parts.
+const SIZED_VERSION: u32 = 2;
+
+fn size_values(alloc: Global, all: &[u64]) -> Result<Vec<Value>, AllocError>
+    ensures { IfOk result (λ v. items_view v.items ≡ wholes all.now) }
+{
+    let mut list = Vec::new(alloc);
+    for size in all {
+        list.push(Value::from(*size))?;
+    }
+    Ok(list)
+}
 
 fn tag_values(alloc: Global, tags: &[Tag]) -> Result<Vec<Value>, AllocError>
     ensures { IfOk result (λ v. items_view v.items ≡ texts (map tag_digits tags.now)) }
@@ -33,8 +46,9 @@ fn text_values(alloc: Global, all: &[Text]) -> Result<Vec<Value>, AllocError>
     Ok(list)
 }
 
-pub fn pending_value(alloc: Global, pending: &PendingUpload) -> Result<Value, AllocError>
-    ensures { IfOk result (λ v. view v ≡ pending_tree pending.now) }
+/// An upload that does not tell the lengths of its parts.
+fn unsized_value(alloc: Global, pending: &PendingUpload) -> Result<Value, AllocError>
+    ensures { IfOk result (λ v. view v ≡ upload_tree pending.now None) }
 {
     let etags = Value::Array(tag_values(alloc, pending.tags().as_slice())?);
     json!(in alloc; {
@@ -48,6 +62,39 @@ pub fn pending_value(alloc: Global, pending: &PendingUpload) -> Result<Value, Al
         "upload": pending.upload(),
         "version": VERSION
     })
+}
+
+/// An upload whose parts have these lengths.
+fn sized_value(
+    alloc: Global,
+    pending: &PendingUpload,
+    sizes: &SizeList,
+) -> Result<Value, AllocError>
+    ensures { IfOk result (λ v. view v ≡ upload_tree pending.now (Some sizes.now)) }
+{
+    let etags = Value::Array(tag_values(alloc, pending.tags().as_slice())?);
+    let sizes = Value::Array(size_values(alloc, sizes.as_slice())?);
+    json!(in alloc; {
+        "attempt": pending.attempt(),
+        "bucket": pending.bucket().as_text().as_str(),
+        "destination": pending.destination().as_text().as_str(),
+        "etags": etags,
+        "kind": "pending",
+        "length": pending.length(),
+        "sizes": sizes,
+        "task": pending.task(),
+        "upload": pending.upload(),
+        "version": SIZED_VERSION
+    })
+}
+
+pub fn pending_value(alloc: Global, pending: &PendingUpload) -> Result<Value, AllocError>
+    ensures { IfOk result (λ v. view v ≡ pending_tree pending.now) }
+{
+    match pending.sizes() {
+        Some(sizes) => sized_value(alloc, pending, sizes),
+        None => unsized_value(alloc, pending),
+    }
 }
 
 fn pending_values(alloc: Global, all: &[PendingUpload]) -> Result<Vec<Value>, AllocError>

@@ -5,6 +5,7 @@ use Rattle.std.specs.declared.cmp.Ordering.{Ordering}
 use Rattle.std.specs.declared.cmp.Ordering.TheVariants.{Less, Equal, Greater}
 use Rattle.std.specs.Ordering.{is_lt, is_le, is_gt, ordering_reverse}
 use Rattle.std.specs.Cmp.{IsTotalOrder}
+use Rattle.proof_base.proofs.Bools.{contrary}
 
 turned : (r : Ordering) → is_lt (ordering_reverse r) ≡ is_gt r
 turned Less = refl
@@ -16,19 +17,15 @@ le_is Less = refl
 le_is Equal = refl
 le_is Greater = refl
 
-Less_is : (r : Ordering) → is_lt r ≡ true → r ≡ Less
-Less_is Less h = refl
-Less_is Equal h = absurd (false≢true h)
-Less_is Greater h = absurd (false≢true h)
+pub less_of : (r : Ordering) → is_lt r ≡ true → r ≡ Less
+less_of Less h = refl
+less_of Equal h = absurd (false≢true h)
+less_of Greater h = absurd (false≢true h)
 
 flipped : (r : Ordering) → r ≡ ordering_reverse r → is_lt r ≡ false
 flipped Less e = ap is_lt e
 flipped Equal e = refl
 flipped Greater e = refl
-
-not_true : (b : Bool) → (b ≡ true → false ≡ true) → b ≡ false
-not_true true f = absurd (false≢true (f refl))
-not_true false f = refl
 
 not_false : (b : Bool) → (b ≡ false → false ≡ true) → b ≡ true
 not_false true f = refl
@@ -50,10 +47,10 @@ module _ {K : Type 0} {R : K → K → Ordering} (o : IsTotalOrder R) where
   irrefl a = flipped (R a a) (o.antisymm a a)
 
   pub lt_trans : (a b c : K) → lt R a b ≡ true → lt R b c ≡ true → lt R a c ≡ true
-  lt_trans a b c h g = ap is_lt (o.trans a b c (Less_is _ h) (Less_is _ g))
+  lt_trans a b c h g = ap is_lt (o.trans a b c (less_of _ h) (less_of _ g))
 
   pub lt_not : (a b : K) → lt R a b ≡ true → lt R b a ≡ false
-  lt_not a b h = not_true (lt R b a) (λ e. sym (irrefl a) ∙ lt_trans a b a h e)
+  lt_not a b h = contrary (lt R b a) (λ e. sym (irrefl a) ∙ lt_trans a b a h e)
 
   -- a is at most b, which is less than c
   pub le_lt : (a b c : K) → lt R b a ≡ false → lt R b c ≡ true → lt R a c ≡ true
@@ -70,4 +67,4 @@ module _ {K : Type 0} {R : K → K → Ordering} (o : IsTotalOrder R) where
 
   -- a is at most b, which is at most c
   pub le_le : (a b c : K) → lt R b a ≡ false → lt R c b ≡ false → lt R c a ≡ false
-  le_le a b c h g = not_true (lt R c a) (λ e. sym g ∙ lt_le c a b e h)
+  le_le a b c h g = contrary (lt R c a) (λ e. sym g ∙ lt_le c a b e h)

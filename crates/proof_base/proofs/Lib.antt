@@ -1,4 +1,10 @@
+pub mod Bools
+pub mod Options
+pub mod Numbers
+pub mod Lists
+pub mod EntriesFrom
 pub mod Less
+pub mod Reading
 pub mod Rest
 pub mod Tree
 pub mod Viewed

@@ -14,6 +14,7 @@ use Rattle.std.specs.Map.Iter.{TakesFirst}
 use Rattle.std.specs.List.Sorted.{IsStrictlySortedBy}
 use Rattle.std.proofs.lemmas.Map.Keys.{sorted_head, sorted_tail}
 use Rattle.std.proofs.lemmas.Map.Lookups.{CmpEqualImpliesEq}
+use Rattle.proof_base.proofs.Bools.{both_T}
 
 no_length : {A : Type 0} (es : List A) → length es ≡ 0 → es ≡ []
 no_length [] e = refl
@@ -85,10 +86,6 @@ first_taken shows s t (Some x) h = sym (ap (λ (l : List _). slice_get l 0) h)
 pub filter_all : {A : Type 0} (es : List A) → filter (λ e. true) es ≡ es
 filter_all [] = refl
 filter_all (e ∷ es) = ap (λ l. e ∷ l) (filter_all es)
-
-both_T : (a b : Bool) → T (a && b) → T a × T b
-both_T true b h = (tt, h)
-both_T false b h = absurd h
 
 less_T : (r : Ordering) → T (is_lt r) → r ≡ Less
 less_T Less h = refl

@@ -1,6 +1,7 @@
 -- A request that names a bucket.
 use Rattle.std.proofs.Common.{◌≡◌, ℕ, List, Some, refl, sym, ap, ◌∙◌}
 use Rattle.std.specs.FinMap.{get}
+use Rattle.proof_base.proofs.Options.{some_is}
 use Rattle.s3_types.specs.Store.{Content}
 use Rattle.s3_types.specs.Answer.{answer_store, apply_store, answer_at, apply_at, bucket_of}
 use Rattle.s3_types.specs.declared.request.Request.{Request}
@@ -13,9 +14,6 @@ pub record GoesTo (c : Content) (r : Request) (n : List ℕ) : Type 0 where
   pub answers : answer_store c r ≡ answer_at (get c.buckets n) c.next c.minimum r
   pub leaves : apply_store c r ≡ apply_at (get c.buckets n) c r
 
-some_same : (x y : List ℕ) → Some x ≡ Some y → x ≡ y
-some_same x y e = cc
-
 same : (c : Content) (r : Request) (n : List ℕ) → bucket_of r ≡ n → answer_store c r ≡ answer_at (get c.buckets (bucket_of r)) c.next c.minimum r → apply_store c r ≡ apply_at (get c.buckets (bucket_of r)) c r → GoesTo c r n
 same c r n e a l = record {
   bucket = e;
@@ -25,19 +23,19 @@ same c r n e a l = record {
 
 pub goes_to : (c : Content) (r : Request) (n : List ℕ) → Some n ≡ named r → GoesTo c r n
 goes_to c (MakeBucket x) n e = absurd cc
-goes_to c (PutObject x k y z) n e = same c _ n (some_same _ _ (sym e)) refl refl
-goes_to c (GetObject x k) n e = same c _ n (some_same _ _ (sym e)) refl refl
-goes_to c (HeadObject x k) n e = same c _ n (some_same _ _ (sym e)) refl refl
-goes_to c (DeleteObject x k) n e = same c _ n (some_same _ _ (sym e)) refl refl
-goes_to c (DeleteObjects x ks) n e = same c _ n (some_same _ _ (sym e)) refl refl
-goes_to c (CopyObject x s t) n e = same c _ n (some_same _ _ (sym e)) refl refl
-goes_to c (ListPage x p d a l) n e = same c _ n (some_same _ _ (sym e)) refl refl
-goes_to c (CreateUpload x k) n e = same c _ n (some_same _ _ (sym e)) refl refl
-goes_to c (UploadPart x k id m y) n e = same c _ n (some_same _ _ (sym e)) refl refl
-goes_to c (CompleteUpload x k id ns) n e = same c _ n (some_same _ _ (sym e)) refl refl
-goes_to c (AbortUpload x k id) n e = same c _ n (some_same _ _ (sym e)) refl refl
-goes_to c (ListParts x k id) n e = same c _ n (some_same _ _ (sym e)) refl refl
-goes_to c (ListUploads x p a l) n e = same c _ n (some_same _ _ (sym e)) refl refl
+goes_to c (PutObject x k y z) n e = same c _ n (some_is _ _ (sym e)) refl refl
+goes_to c (GetObject x k) n e = same c _ n (some_is _ _ (sym e)) refl refl
+goes_to c (HeadObject x k) n e = same c _ n (some_is _ _ (sym e)) refl refl
+goes_to c (DeleteObject x k) n e = same c _ n (some_is _ _ (sym e)) refl refl
+goes_to c (DeleteObjects x ks) n e = same c _ n (some_is _ _ (sym e)) refl refl
+goes_to c (CopyObject x s t) n e = same c _ n (some_is _ _ (sym e)) refl refl
+goes_to c (ListPage x p d a l) n e = same c _ n (some_is _ _ (sym e)) refl refl
+goes_to c (CreateUpload x k) n e = same c _ n (some_is _ _ (sym e)) refl refl
+goes_to c (UploadPart x k id m y) n e = same c _ n (some_is _ _ (sym e)) refl refl
+goes_to c (CompleteUpload x k id ns) n e = same c _ n (some_is _ _ (sym e)) refl refl
+goes_to c (AbortUpload x k id) n e = same c _ n (some_is _ _ (sym e)) refl refl
+goes_to c (ListParts x k id) n e = same c _ n (some_is _ _ (sym e)) refl refl
+goes_to c (ListUploads x p a l) n e = same c _ n (some_is _ _ (sym e)) refl refl
 goes_to c (ClusterPut p y) n e = absurd cc
 goes_to c (ClusterRename s t) n e = absurd cc
 goes_to c (ClusterGet p) n e = absurd cc

@@ -1,7 +1,7 @@
--- Which bucket a request names, and whose request it is.
-use Rattle.std.specs.Prelude.{ℕ, Bool, true, false, List, Option, Some, None}
+-- Which bucket a request names.
+use Rattle.std.specs.Prelude.{ℕ, List, Option, Some, None}
 use Rattle.s3_types.specs.declared.request.Request.{Request}
-use Rattle.s3_types.specs.declared.request.Request.TheVariants.{PutObject, GetObject, HeadObject, DeleteObject, DeleteObjects, CopyObject, ListPage, CreateUpload, UploadPart, CompleteUpload, AbortUpload, ListParts, ListUploads, ClusterPut, ClusterRename, ClusterGet, ClusterDelete, ClusterList}
+use Rattle.s3_types.specs.declared.request.Request.TheVariants.{PutObject, GetObject, HeadObject, DeleteObject, DeleteObjects, CopyObject, ListPage, CreateUpload, UploadPart, CompleteUpload, AbortUpload, ListParts, ListUploads}
 
 -- the bucket that a request names, if it names one
 abbrev pub named : Request → Option (List ℕ)
@@ -19,12 +19,3 @@ named (AbortUpload n k id) = Some n
 named (ListParts n k id) = Some n
 named (ListUploads n p after limit) = Some n
 named _ = None
-
--- a request is the store's and not the cluster's
-abbrev pub is_store : Request → Bool
-is_store (ClusterPut path bytes) = false
-is_store (ClusterRename source target) = false
-is_store (ClusterGet path) = false
-is_store (ClusterDelete path) = false
-is_store (ClusterList p) = false
-is_store _ = true

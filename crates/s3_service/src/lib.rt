@@ -12,5 +12,4 @@ mod uploads;
 
 pub use bucket::BucketStore;
 pub use iter::{BucketEntries, BucketView};
-pub use named::is_store_request;
 pub use service::Service;

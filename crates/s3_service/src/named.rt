@@ -1,6 +1,6 @@
 ghost use Rattle.std.specs.Prelude.{◌≡◌, option_map};
 ghost use Rattle.s3_types.specs.Answer.{draws};
-ghost use Rattle.s3_service.specs.Named.{named, is_store};
+ghost use Rattle.s3_service.specs.Named.{named};
 
 use s3_types::{Bucket, Request};
 
@@ -33,19 +33,5 @@ pub fn draws(request: &Request) -> bool
     match request {
         Request::CreateUpload { .. } => true,
         _ => false,
-    }
-}
-
-/// Whether a request is the store's and not the cluster's.
-pub fn is_store_request(request: &Request) -> bool
-    ensures { result ≡ is_store request.now }
-{
-    match request {
-        Request::ClusterPut { .. } => false,
-        Request::ClusterRename { .. } => false,
-        Request::ClusterGet { .. } => false,
-        Request::ClusterDelete { .. } => false,
-        Request::ClusterList { .. } => false,
-        _ => true,
     }
 }

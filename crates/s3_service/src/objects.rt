@@ -3,6 +3,7 @@ ghost use Rattle.std.specs.FinMap as map;
 ghost use Rattle.s3_types.specs.Tags.{plain_tag};
 ghost use Rattle.s3_types.specs.Pages as pages;
 ghost use Rattle.s3_types.specs.Answer.{found, head, copy_answer, copied, without};
+ghost use Rattle.s3_types.specs.declared.limits.TheConstants.{MOST_ENTRIES};
 
 use etag::part_tag;
 use object_store::{CopyFault, Objects};
@@ -52,8 +53,8 @@ pub fn head(objects: &Objects, key: &Key) -> Reply
 }
 
 pub fn delete_many(objects: &mut Objects, keys: &KeyList) -> Reply
-    ensures reply { result ≡ cond (nat_lt 1000 (length keys.now)) (Reply.Refused Refusal.TooManyKeys) Reply.Deleted }
-    ensures left { objects.new ≡ cond (nat_lt 1000 (length keys.now)) objects.old (without objects.old keys.now) }
+    ensures reply { result ≡ cond (nat_lt MOST_ENTRIES (length keys.now)) (Reply.Refused Refusal.TooManyKeys) Reply.Deleted }
+    ensures left { objects.new ≡ cond (nat_lt MOST_ENTRIES (length keys.now)) objects.old (without objects.old keys.now) }
 {
     match objects.delete_many(keys.as_slice()) {
         Ok(()) => Reply::Deleted,

@@ -1,9 +1,10 @@
-ghost use Rattle.std.specs.Prelude.{◌≡◌, ◌+◌, ◌<◌, ◌≤◌, ◌^◌, ℕ, None, true, cond, IfOk, OnOk, OnErr};
+ghost use Rattle.std.specs.Prelude.{◌≡◌, ◌+◌, ◌<◌, ◌≤◌, ◌^◌, ℕ, None, false, cond, IfOk, OnOk, OnErr};
 ghost use Rattle.std.specs.FinMap as map;
 ghost use Rattle.s3_types.specs.Store.{new_content};
 ghost use Rattle.s3_types.specs.Answer.{answer_store, apply_store, draws};
-ghost use Rattle.s3_service.specs.Named.{is_store};
+ghost use Rattle.s3_types.specs.Requests.{is_cluster};
 ghost use Rattle.s3_service.specs.Ids.{IsFresh};
+ghost use Rattle.s3_types.specs.declared.limits.TheConstants.{MOST_MINIMUM};
 
 use crate::bucket::BucketStore;
 use crate::buckets::Buckets;
@@ -51,7 +52,7 @@ impl Service {
     /// no memory.
     pub fn new(alloc: Global, minimum: u64) -> Service
         requires some { 1 ≤ minimum }
-        requires most { minimum ≤ 5242880 }
+        requires most { minimum ≤ MOST_MINIMUM }
         ensures { result ≡ new_content minimum }
     {
         Service {
@@ -65,7 +66,7 @@ impl Service {
     /// A store with no bucket, whose next upload's id is the counter. Takes no memory.
     pub fn restore(alloc: Global, minimum: u64, counter: u64) -> Service
         requires some { 1 ≤ minimum }
-        requires most { minimum ≤ 5242880 }
+        requires most { minimum ≤ MOST_MINIMUM }
         requires counted { 1 ≤ counter }
         requires few { counter ≤ 2 ^ 62 }
         ensures { result ≡ record { buckets = map.empty; next = counter; minimum = minimum } }
@@ -148,7 +149,7 @@ impl Service {
 
     /// Does a request to the store. After want of memory all is as before.
     pub fn apply(&mut self, request: &Request) -> Result<Reply, AllocError>
-        requires store { is_store request.now ≡ true }
+        requires store { is_cluster request.now ≡ false }
         requires few { self.old.next < 2 ^ 63 }
         ensures reply { IfOk result (λ r. r ≡ answer_store self.old request.now) }
         ensures ok { OnOk result (self.new ≡ apply_store self.old request.now) }

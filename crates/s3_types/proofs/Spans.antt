@@ -13,6 +13,8 @@ use Rattle.std.specs.BTreeMap.Range.{entries_between}
 use Rattle.std.specs.declared.cmp.Ordering.{Ordering}
 use Rattle.std.specs.declared.cmp.Ordering.TheVariants.{Less, Equal, Greater}
 use Rattle.std.specs.declared.ops.Bound.TheVariants.{Included, Unbounded}
+use Rattle.proof_base.proofs.Numbers.{less_is, below_is, below_not, at_most_so, at_most_not, above_so, at_most_is}
+use Rattle.proof_base.proofs.Options.{some_is}
 use Rattle.s3_types.specs.Fates.{FateMap, with_fates, is_answer, IsFirstNamed, IsFirstFrom}
 use Rattle.s3_types.specs.Spans.{named, AreApart, from_on, first_in}
 use Rattle.s3_types.specs.declared.fates.Fate.{Fate}
@@ -78,9 +80,6 @@ begun_later a l k h = grind (arith, nat_tests)
 within : (a l k : ℕ) → k ≤ l → (nat_le a k && nat_le k l) ≡ nat_le a k
 within a l k h = grind (arith, nat_tests)
 
-some_is : {A : Type 0} (x y : A) → Some x ≡ Some y → x ≡ y
-some_is x y e = cc
-
 -- no row from f on
 pub none_on : (f : ℕ) (es : List (ℕ × Span)) → from_on f es ≡ None → (k : ℕ) → f ≤ k → span_at es k ≡ None
 none_on f [] h k l = refl
@@ -120,9 +119,6 @@ pub record IsRow (low f : ℕ) (e : ℕ × Span) : Type 0 where
   pub lost : is_answer e.1.fate ≡ false
   pub ends : f ≤ e.0
 
-not_less : (a b : ℕ) → nat_lt a b ≡ false → b ≤ a
-not_less a b h = grind (arith, nat_tests)
-
 pub is_row : (low f : ℕ) (es : List (ℕ × Span)) (e : ℕ × Span) → AreApart low es → from_on f es ≡ Some e → IsRow low f e
 is_row low f [] e a h = absurd (cc)
 is_row low f (x ∷ es) e a h = by (nat_lt x.0 f) refl (is_row (x.0 + 1) f es e a.3)
@@ -133,27 +129,15 @@ is_row low f (x ∷ es) e a h = by (nat_lt x.0 f) refl (is_row (x.0 + 1) f es e 
         record { begins = omega (arith, r.begins, a.0, a.1); some = r.some; lost = r.lost; ends = r.ends }
     by false t ih =
         subst (IsRow low f) (some_is x e (ap (λ b. cond b (from_on f es) (Some x)) (sym t) ∙ h))
-        (record { begins = a.0; some = a.1; lost = a.2; ends = not_less x.0 f t })
+        (record { begins = a.0; some = a.1; lost = a.2; ends = below_not x.0 f t })
 
 -- ---- a new row
-
-less_not : (a b : ℕ) → nat_lt a b ≡ true → a < b
-less_not a b h = grind (arith, nat_tests)
 
 equal_is : (a b : ℕ) → nat_cmp a b ≡ Equal → a ≡ b
 equal_is a b h = exact_unsigned a b h
 
 greater_is : (a b : ℕ) → nat_cmp a b ≡ Greater → b < a
 greater_is a b h = grind (arith, nat_tests, h)
-
-less_is : (a b : ℕ) → nat_cmp a b ≡ Less → a < b
-less_is a b h = grind (arith, nat_tests, h)
-
-le_true : (a b : ℕ) → a ≤ b → nat_le a b ≡ true
-le_true a b h = grind (arith, nat_tests)
-
-le_not : (a b : ℕ) → nat_le a b ≡ false → b < a
-le_not a b h = grind (arith, nat_tests)
 
 -- nothing is named between f and l
 abbrev pub IsFree : ℕ → ℕ → List (ℕ × Span) → Type 0
@@ -166,7 +150,7 @@ free_head low f l e es a h false t = by (nat_le e.1.first l) refl (ap (λ b. fir
   where
     by : (b : Bool) → nat_le e.1.first l ≡ b → cond (nat_le e.1.first l) (Some (max e.1.first f)) None ≡ None → l < e.1.first
     by true u g = let n : Some (max e.1.first f) ≡ None = ap (λ b. cond b (Some (max e.1.first f)) None) (sym u) ∙ g in absurd (cc)
-    by false u g = le_not e.1.first l u
+    by false u g = at_most_not e.1.first l u
 
 module _ (f l : ℕ) (fate : Fate) (le : f ≤ l) where
   -- the new row
@@ -185,11 +169,11 @@ module _ (f l : ℕ) (fate : Fate) (le : f ≤ l) where
       by : (b : Bool) → nat_lt e.0 f ≡ b → (o : Ordering) → nat_cmp l e.0 ≡ o
           → (IsFree f l es → (k : ℕ) → span_at (insert_entry nat_cmp es l (record { first = f; fate = fate })) k ≡ cond (covers k row) (Some fate) (span_at es k))
           → span_at (match_ordering o (row ∷ e ∷ es) ((e.0, record { first = f; fate = fate }) ∷ es) (e ∷ insert_entry nat_cmp es l (record { first = f; fate = fate }))) k ≡ cond (covers k row) (Some fate) (span_at (e ∷ es) k)
-      by true t Less o ih = absurd (omega (arith, less_not e.0 f t, less_is l e.0 o, le))
-      by true t Equal o ih = absurd (omega (arith, less_not e.0 f t, equal_is l e.0 o, le))
+      by true t Less o ih = absurd (omega (arith, below_is e.0 f t, less_is l e.0 o, le))
+      by true t Equal o ih = absurd (omega (arith, below_is e.0 f t, equal_is l e.0 o, le))
       by true t Greater o ih =
           ap (cond (covers k e) (Some e.1.fate)) (ih (free_head low f l e es a h true t) k)
-          ∙ swapped e k (Some e.1.fate) (Some fate) (span_at es k) (less_not e.0 f t)
+          ∙ swapped e k (Some e.1.fate) (Some fate) (span_at es k) (below_is e.0 f t)
       by false t Less o ih = refl
       by false t Equal o ih = absurd (omega (arith, free_head low f l e es a h false t, equal_is l e.0 o, a.1))
       by false t Greater o ih = absurd (omega (arith, free_head low f l e es a h false t, greater_is l e.0 o, a.1))
@@ -202,9 +186,9 @@ module _ (f l : ℕ) (fate : Fate) (le : f ≤ l) where
       by : (b : Bool) → nat_lt e.0 f ≡ b → (o : Ordering) → nat_cmp l e.0 ≡ o
           → (e.0 + 1 ≤ f → IsFree f l es → AreApart (e.0 + 1) (insert_entry nat_cmp es l (record { first = f; fate = fate })))
           → AreApart low (match_ordering o (row ∷ e ∷ es) ((e.0, record { first = f; fate = fate }) ∷ es) (e ∷ insert_entry nat_cmp es l (record { first = f; fate = fate })))
-      by true t Less o ih = absurd (omega (arith, less_not e.0 f t, less_is l e.0 o, le))
-      by true t Equal o ih = absurd (omega (arith, less_not e.0 f t, equal_is l e.0 o, le))
-      by true t Greater o ih = let s : e.0 + 1 ≤ f = omega (arith, less_not e.0 f t) in (a.0, a.1, a.2, ih s (free_head low f l e es a h true t))
+      by true t Less o ih = absurd (omega (arith, below_is e.0 f t, less_is l e.0 o, le))
+      by true t Equal o ih = absurd (omega (arith, below_is e.0 f t, equal_is l e.0 o, le))
+      by true t Greater o ih = let s : e.0 + 1 ≤ f = omega (arith, below_is e.0 f t) in (a.0, a.1, a.2, ih s (free_head low f l e es a h true t))
       by false t Less o ih = let s : l + 1 ≤ e.1.first = omega (arith, free_head low f l e es a h false t) in (g, le, n, (s, a.1, a.2, a.3))
       by false t Equal o ih = absurd (omega (arith, free_head low f l e es a h false t, equal_is l e.0 o, a.1))
       by false t Greater o ih = absurd (omega (arith, free_head low f l e es a h false t, greater_is l e.0 o, a.1))
@@ -228,10 +212,7 @@ none_said f l o e is h = by (nat_le e.1.first l) refl (ap (first_in f l) (sym is
   where
     by : (b : Bool) → nat_le e.1.first l ≡ b → cond (nat_le e.1.first l) (Some (max e.1.first f)) None ≡ None → l < e.1.first
     by true u g = let n : Some (max e.1.first f) ≡ None = ap (λ b. cond b (Some (max e.1.first f)) None) (sym u) ∙ g in absurd (cc)
-    by false u g = le_not e.1.first l u
-
-le_false : (a b : ℕ) → b < a → nat_le a b ≡ false
-le_false a b h = grind (arith, nat_tests)
+    by false u g = at_most_not e.1.first l u
 
 -- where nothing is found nothing is named
 pub none_named : (low f l : ℕ) (es : List (ℕ × Span)) → AreApart low es → IsFree f l es → (k : ℕ) → f ≤ k → k ≤ l → get (named es) k ≡ None
@@ -244,7 +225,7 @@ none_named low f l es a h k g le = get_named low es a k ∙ by (from_on f es) re
         let r = is_row low f es e a is in
         let c : k ≤ e.0 = omega (arith, b, r.some, le) in
         let d : k < e.1.first = omega (arith, b, le) in
-        at_on low f es e a is k g c ∙ ap (λ b. cond b (Some e.1.fate) None) (le_false e.1.first k d)
+        at_on low f es e a is k g c ∙ ap (λ b. cond b (Some e.1.fate) None) (above_so e.1.first k d)
 
 record Said (f l n : ℕ) (o : Option (ℕ × Span)) : Type 0 where
   pub row : ℕ × Span
@@ -252,15 +233,12 @@ record Said (f l n : ℕ) (o : Option (ℕ × Span)) : Type 0 where
   pub starts : row.1.first ≤ l
   pub at : n ≡ max row.1.first f
 
-le_is : (a b : ℕ) → nat_le a b ≡ true → a ≤ b
-le_is a b h = grind (arith, nat_tests)
-
 said : (f l n : ℕ) (o : Option (ℕ × Span)) → first_in f l o ≡ Some n → Said f l n o
 said f l n None h = absurd (cc)
 said f l n (Some e) h = by (nat_le e.1.first l) refl
   where
     by : (b : Bool) → nat_le e.1.first l ≡ b → Said f l n (Some e)
-    by true t = record { row = e; is = refl; starts = le_is e.1.first l t; at = sym (some_is _ _ (ap (λ b. cond b (Some (max e.1.first f)) None) (sym t) ∙ h)) }
+    by true t = record { row = e; is = refl; starts = at_most_is e.1.first l t; at = sym (some_is _ _ (ap (λ b. cond b (Some (max e.1.first f)) None) (sym t) ∙ h)) }
     by false t = let n : None ≡ Some n = ap (λ b. cond b (Some (max e.1.first f)) None) (sym t) ∙ h in absurd (cc)
 
 some_named : (o : Option Fate) (f : Fate) → o ≡ Some f → IsSome o
@@ -279,11 +257,11 @@ first_named low f l count n es le e a h =
     record {
       from = g;
       within = w;
-      named = some_named _ s.row.1.fate (get_named low es a n ∙ at_on low f es s.row a s.is n g c ∙ ap (λ b. cond b (Some s.row.1.fate) None) (le_true s.row.1.first n d));
+      named = some_named _ s.row.1.fate (get_named low es a n ∙ at_on low f es s.row a s.is n g c ∙ ap (λ b. cond b (Some s.row.1.fate) None) (at_most_so s.row.1.first n d));
       least = λ k i j.
           let x : k ≤ s.row.0 = omega (arith, c, j) in
           let y : k < s.row.1.first = omega (arith, n_is, i, j) in
-          get_named low es a k ∙ at_on low f es s.row a s.is k i x ∙ ap (λ b. cond b (Some s.row.1.fate) None) (le_false s.row.1.first k y);
+          get_named low es a k ∙ at_on low f es s.row a s.is k i x ∙ ap (λ b. cond b (Some s.row.1.fate) None) (above_so s.row.1.first k y);
     }
 
 none_some : (o : Option Fate) → IsSome o → o ≡ None → ⊥
@@ -295,9 +273,9 @@ pub one_first : (m : FateMap) (f count n k : ℕ) → IsFirstNamed m f count n �
 one_first m f count n k h g = by (nat_lt n k) refl (nat_lt k n) refl
   where
     by : (b : Bool) → nat_lt n k ≡ b → (c : Bool) → nat_lt k n ≡ c → n ≡ k
-    by true t c u = absurd (none_some _ h.named (g.least n h.from (less_not n k t)))
-    by false t true u = absurd (none_some _ g.named (h.least k g.from (less_not k n u)))
-    by false t false u = omega (arith, not_less n k t, not_less k n u)
+    by true t c u = absurd (none_some _ h.named (g.least n h.from (below_is n k t)))
+    by false t true u = absurd (none_some _ g.named (h.least k g.from (below_is k n u)))
+    by false t false u = omega (arith, below_not n k t, below_not k n u)
 
 pub no_first : (low f l count n : ℕ) (es : List (ℕ × Span)) → l + 1 ≡ f + count → AreApart low es → IsFree f l es → IsFirstNamed (named es) f count n → ⊥
 no_first low f l count n es e a h g =
@@ -317,10 +295,10 @@ no_fate_on low n es a h = let k : n ≤ n = omega arith in get_named low es a n 
 
 -- where the row begins not after it, and where it does
 pub fate_from : (low n : ℕ) (es : List (ℕ × Span)) (e : ℕ × Span) → AreApart low es → from_on n es ≡ Some e → e.1.first ≤ n → get (named es) n ≡ Some e.1.fate
-fate_from low n es e a h l = fate_on low n es e a h ∙ ap (λ b. cond b (Some e.1.fate) None) (le_true e.1.first n l)
+fate_from low n es e a h l = fate_on low n es e a h ∙ ap (λ b. cond b (Some e.1.fate) None) (at_most_so e.1.first n l)
 
 pub fate_past : (low n : ℕ) (es : List (ℕ × Span)) (e : ℕ × Span) → AreApart low es → from_on n es ≡ Some e → n < e.1.first → get (named es) n ≡ None
-fate_past low n es e a h l = fate_on low n es e a h ∙ ap (λ b. cond b (Some e.1.fate) None) (le_false e.1.first n l)
+fate_past low n es e a h l = fate_on low n es e a h ∙ ap (λ b. cond b (Some e.1.fate) None) (above_so e.1.first n l)
 
 -- what is named is not answered, and what is not named is
 pub lost_named : (low n : ℕ) (es : List (ℕ × Span)) (e : ℕ × Span) → AreApart low es → from_on n es ≡ Some e → {o : Option Fate} → o ≡ Some e.1.fate → (is_answer e.1.fate ≡ false) ↔ IsSome o
@@ -339,11 +317,11 @@ first_fate low n es e m is a h =
     let d : e.1.first ≤ max e.1.first n = omega arith in
     subst (λ (m : FateMap). IsFirstFrom m n (Some (max e.1.first n, e.1.fate))) is (
       s,
-      get_named low es a (max e.1.first n) ∙ at_on low n es e a h (max e.1.first n) s c ∙ ap (λ b. cond b (Some e.1.fate) None) (le_true e.1.first (max e.1.first n) d),
+      get_named low es a (max e.1.first n) ∙ at_on low n es e a h (max e.1.first n) s c ∙ ap (λ b. cond b (Some e.1.fate) None) (at_most_so e.1.first (max e.1.first n) d),
       λ k i j.
           let x : k ≤ e.0 = omega (arith, c, j) in
           let y : k < e.1.first = omega (arith, i, j) in
-          get_named low es a k ∙ at_on low n es e a h k i x ∙ ap (λ b. cond b (Some e.1.fate) None) (le_false e.1.first k y),
+          get_named low es a k ∙ at_on low n es e a h k i x ∙ ap (λ b. cond b (Some e.1.fate) None) (above_so e.1.first k y),
     )
 
 pub no_fate : (low n : ℕ) (es : List (ℕ × Span)) (m : FateMap) → named es ≡ m → AreApart low es → from_on n es ≡ None → IsFirstFrom m n None

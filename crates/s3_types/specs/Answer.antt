@@ -17,6 +17,7 @@ use Rattle.s3_types.specs.declared.reply.Reply.{Reply}
 use Rattle.s3_types.specs.declared.reply.Reply.TheVariants.{Made, Stored, Object as Found, Head, Deleted, Copied, Upload as Drawn, Part, Completed, Aborted, Parts, ClusterDone, ClusterBytes, ClusterNames, Refused}
 use Rattle.s3_types.specs.declared.reply.Refusal.{Refusal}
 use Rattle.s3_types.specs.declared.reply.Refusal.TheVariants.{NoSuchBucket, NoSuchKey, NoSuchUpload, BadPartNumber, TooManyKeys, BucketExists, BadName, NoSuchFile}
+use Rattle.s3_types.specs.declared.limits.TheConstants.{MOST_ENTRIES}
 
 -- ---- answers
 
@@ -60,7 +61,7 @@ answer_in b next minimum (PutObject n k bytes header) = Stored (plain_tag bytes)
 answer_in b next minimum (GetObject n k) = found (fin.get b.objects k)
 answer_in b next minimum (HeadObject n k) = head (fin.get b.objects k)
 answer_in b next minimum (DeleteObject n k) = Deleted
-answer_in b next minimum (DeleteObjects n ks) = cond (nat_lt 1000 (length ks)) (Refused TooManyKeys) Deleted
+answer_in b next minimum (DeleteObjects n ks) = cond (nat_lt MOST_ENTRIES (length ks)) (Refused TooManyKeys) Deleted
 answer_in b next minimum (CopyObject n source target) = copy_answer (fin.get b.objects source)
 answer_in b next minimum (ListPage n p delimited after limit) = pages.page limit (pages.listed p delimited after b.objects)
 answer_in b next minimum (CreateUpload n k) = Drawn next
@@ -160,7 +161,7 @@ aborted m id None = m
 abbrev pub apply_in : BucketContent → ℕ → ℕ → Request → BucketContent
 apply_in b next minimum (PutObject n k bytes header) = with_objects b (fin.insert b.objects k (record { bytes = bytes; header = header }))
 apply_in b next minimum (DeleteObject n k) = with_objects b (fin.remove b.objects k)
-apply_in b next minimum (DeleteObjects n ks) = with_objects b (cond (nat_lt 1000 (length ks)) b.objects (without b.objects ks))
+apply_in b next minimum (DeleteObjects n ks) = with_objects b (cond (nat_lt MOST_ENTRIES (length ks)) b.objects (without b.objects ks))
 apply_in b next minimum (CopyObject n source target) = with_objects b (copied b.objects target (fin.get b.objects source))
 apply_in b next minimum (CreateUpload n k) = with_uploads b (fin.insert b.uploads next (record { key = k; parts = fin.empty }))
 apply_in b next minimum (UploadPart n k id number bytes) = with_uploads b (part_put b.uploads id (live b.uploads k id) number bytes)

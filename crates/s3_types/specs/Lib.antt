@@ -11,3 +11,6 @@ pub mod Coded
 pub mod Fates
 pub mod Foretold
 pub mod Spans
+pub mod Requests
+pub mod Spelling
+pub mod Blocks

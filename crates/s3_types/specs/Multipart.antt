@@ -8,6 +8,7 @@ use Rattle.std.specs.declared.cmp.Ordering.{Ordering}
 use Rattle.proof_base.specs.Order.{text_cmp, text_eq}
 use Rattle.s3_types.specs.Store.{Upload, Uploads, Parts}
 use Rattle.s3_types.specs.Tags.{Spelled, plain_tag}
+use Rattle.s3_types.specs.declared.limits.TheConstants.{MOST_PARTS}
 use Rattle.s3_types.specs.Pages.{begins}
 use Rattle.s3_types.specs.declared.request.NamedPart.{NamedPart}
 use Rattle.s3_types.specs.declared.request.UploadRef.{UploadRef}
@@ -27,7 +28,7 @@ live m k id = with_key k (fin.get m id)
 
 -- a part number is 1 to 10,000
 abbrev pub is_part_number : ℕ → Bool
-is_part_number n = nat_le 1 n && nat_le n 10000
+is_part_number n = nat_le 1 n && nat_le n MOST_PARTS
 
 -- an upload with a part sent, in place of an earlier one of that number
 abbrev pub with_part : Upload → ℕ → List ℕ → Upload

@@ -1,8 +1,9 @@
--- The names of buckets and of objects.
-use Rattle.std.specs.Prelude.{ℕ, ◌-◌, ◌==◌, ◌&&◌, ◌||◌, nat_le, nat_lt, not, Bool, List, length, take, slice_index, codes, bytes_eq, if◌then◌else◌}
+-- The names of buckets, of objects and of jobs.
+use Rattle.std.specs.Prelude.{ℕ, ◌-◌, ◌==◌, ◌&&◌, ◌||◌, nat_le, nat_lt, nat_eq, not, Bool, List, length, take, slice_index, codes, bytes_eq, if◌then◌else◌}
 use Rattle.std.specs.List.{list_all}
 use Rattle.std.specs.Str.{is_utf8}
 use Rattle.words.specs.Parts.{parts_of}
+use Rattle.s3_types.specs.declared.limits.TheConstants.{MOST_KEY_BYTES}
 
 -- an element of a key is neither empty nor `.` nor `..`
 abbrev pub is_element : List ℕ → Bool
@@ -18,7 +19,7 @@ trimmed path = if nat_lt 0 (length path) && (slice_index path (length path - 1) 
 
 -- 1 to 1,024 bytes, elements joined by `/`, and at most one `/` behind them
 abbrev pub is_key_path : List ℕ → Bool
-is_key_path path = nat_le 1 (length path) && nat_le (length path) 1024 && are_elements (trimmed path)
+is_key_path path = nat_le 1 (length path) && nat_le (length path) MOST_KEY_BYTES && are_elements (trimmed path)
 
 -- an object's key (Amazon S3, object key names; the rule on elements is this store's own)
 abbrev pub is_key : List ℕ → Bool
@@ -37,3 +38,11 @@ abbrev pub is_bucket : List ℕ → Bool
 is_bucket name =
     nat_le 3 (length name) && nat_le (length name) 63 && list_all is_name_byte name
     && is_letter_or_digit (slice_index name 0) && is_letter_or_digit (slice_index name (length name - 1))
+
+-- a letter, a digit, `_` or `-`
+abbrev pub is_id_byte : ℕ → Bool
+is_id_byte b = (nat_le 97 b && nat_le b 122) || (nat_le 65 b && nat_le b 90) || (nat_le 48 b && nat_le b 57) || nat_eq b 95 || nat_eq b 45
+
+-- a job's id has 1 to 64 of them
+abbrev pub is_job_id : List ℕ → Bool
+is_job_id id = nat_le 1 (length id) && nat_le (length id) 64 && list_all is_id_byte id

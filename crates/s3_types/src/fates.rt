@@ -6,10 +6,9 @@ ghost use Rattle.s3_types.specs.declared.fates.FateFault.TheVariants.{NoMemory};
 
 use std::alloc::{AllocError, AllocFailed, Global};
 use std::collections::BTreeMap;
-use std::error::Error;
-use std::fmt;
 use std::marker::Model;
 use std::ops::Bound;
+use thiserror::Error;
 
 /// What becomes of a sending.
 #[derive(Clone, Copy, Debug, PartialEq, Eq)]
@@ -25,23 +24,14 @@ pub enum Fate {
 }
 
 /// Why sendings got no fate.
-#[derive(Clone, Copy, Debug, PartialEq, Eq)]
+#[derive(Clone, Copy, Debug, PartialEq, Eq, Error)]
 pub enum FateFault {
     /// This one has a fate already, and none of those before it has.
+    #[error("sending {0} has a fate already")]
     Taken(u64),
+    #[error("no memory")]
     NoMemory,
 }
-
-impl fmt::Display for FateFault {
-    fn fmt<W: fmt::Write>(&self, f: &mut fmt::Formatter<W>) -> fmt::Result {
-        match self {
-            FateFault::Taken(n) => write!(f, "sending {n} has a fate already"),
-            FateFault::NoMemory => write!(f, "no memory"),
-        }
-    }
-}
-
-impl Error for FateFault {}
 
 impl From<AllocError> for FateFault {
     ghost from_gives = { λ _ e. e ≡ NoMemory };

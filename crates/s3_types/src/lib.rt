@@ -3,8 +3,10 @@
 #![tactic(auto)]
 
 mod bytes;
+mod drops;
 mod fates;
 mod journal;
+mod kinds;
 mod limits;
 mod lists;
 mod names;
@@ -17,11 +19,15 @@ mod tag;
 mod text;
 
 pub use bytes::Bytes;
+pub use drops::{let_go, put};
 pub use fates::{Fate, FateFault, Fates};
 pub use journal::{Entry, Journal, Outcome};
-pub use limits::{LengthHeader, PageLimit};
+pub use limits::{
+    LengthHeader, MOST_ENTRIES, MOST_KEY_BYTES, MOST_MINIMUM, MOST_PARTS, MOST_SCRIPT_BYTES,
+    PageLimit,
+};
 pub use lists::{
-    EntryList, KeyList, PartList, PartSizes, TagList, TextList, UploadList, copied_keys,
+    EntryList, KeyList, PartList, PartSizes, SizeList, TagList, TextList, UploadList, copied_keys,
     copied_parts,
 };
 pub use names::{Bucket, Key, NameFault, are_elements, is_element, trimmed};
@@ -32,6 +38,3 @@ pub use sequence::Sequence;
 pub use store::ObjectStore;
 pub use tag::Tag;
 pub use text::Text;
-
-#[cfg(test)]
-mod tests;

@@ -1,6 +1,24 @@
 ghost use Rattle.std.specs.Prelude.{◌≡◌, ℕ, ◌<◌, ◌≤◌, ◌-◌, ◌^◌};
+ghost use Rattle.s3_types.specs.declared.limits.TheConstants.{MOST_ENTRIES};
 
 use std::marker::Model;
+
+/// The most parts that an upload may have, which are numbered from 1. (Amazon S3, multipart upload limits.)
+pub const MOST_PARTS: u32 = 10_000;
+
+/// The greatest least size in bytes of a part that is not the last: 5 MiB. (Amazon S3, multipart upload
+/// limits.)
+pub const MOST_MINIMUM: u64 = 5_242_880;
+
+/// The most bytes that a key may have. (Amazon S3, object key names.)
+pub const MOST_KEY_BYTES: usize = 1024;
+
+/// The most entries that a page, and keys that a deletion, may have. (Amazon S3, `max-keys`,
+/// `max-uploads` and DeleteObjects.)
+pub const MOST_ENTRIES: u16 = 1000;
+
+/// The most bytes that a job's script, all its files together, or a block of a file may have: 64 MiB.
+pub const MOST_SCRIPT_BYTES: u64 = 67_108_864;
 
 /// The value of the header `x-hadoop-s3a-magic-data-length`: how many bytes a file will have that is
 /// not there yet, at most 2^64 - 2. (Hadoop, S3A committer architecture.)
@@ -46,23 +64,24 @@ pub struct PageLimit {
 
 impl Model for PageLimit {
     ghost use Rattle.std.specs.Prelude.{ℕ, ◌≤◌};
+    ghost use Rattle.s3_types.specs.declared.limits.TheConstants.{MOST_ENTRIES};
 
     ghost Value = { ℕ };
 
     ghost view = { λ l. l.entries };
 
-    ghost invariant = { λ l. (1 ≤ l.entries) × (l.entries ≤ 1000) };
+    ghost invariant = { λ l. (1 ≤ l.entries) × (l.entries ≤ MOST_ENTRIES) };
 
     ghost inverse = { λ n. record { entries = n } };
 }
 
 impl PageLimit {
     /// The most that a page may have.
-    pub const MOST: u16 = 1000;
+    pub const MOST: u16 = MOST_ENTRIES;
 
     pub fn new(entries: u16) -> PageLimit
         requires some { 1 ≤ entries }
-        requires most { entries ≤ 1000 }
+        requires most { entries ≤ MOST_ENTRIES }
         ensures { result ≡ entries }
     {
         PageLimit { entries }
@@ -71,7 +90,7 @@ impl PageLimit {
     pub fn get(self) -> u16
         ensures value { result ≡ self }
         ensures some { 1 ≤ result }
-        ensures most { result ≤ 1000 }
+        ensures most { result ≤ MOST_ENTRIES }
     {
         self.entries
     }

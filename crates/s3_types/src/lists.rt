@@ -13,6 +13,8 @@ pub type KeyList = Sequence<Key>;
 pub type TextList = Sequence<Text>;
 
 pub type TagList = Sequence<Tag>;
+/// Lengths in bytes.
+pub type SizeList = Sequence<u64>;
 /// The parts that a completion names.
 pub type PartList = Sequence<NamedPart>;
 /// The entries of a page.

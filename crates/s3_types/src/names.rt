@@ -6,32 +6,23 @@ ghost use Rattle.proof_base.specs.Order.{text_cmp, text_eq, text_partial_cmp, te
 ghost use Rattle.s3_types.specs.Names.{is_key, is_key_path, is_element, are_elements, trimmed, is_bucket, is_name_byte, is_letter_or_digit};
 ghost use Rattle.s3_types.specs.declared.names.NameFault.TheVariants.{NoMemory};
 
+use crate::limits::MOST_KEY_BYTES;
 use crate::text::Text;
 use std::alloc::{AllocError, AllocFailed, Global};
 use std::cmp::Ordering;
-use std::error::Error;
-use std::fmt;
 use std::marker::Model;
+use thiserror::Error;
 use words::next_part;
 
 /// Why a text is not a name.
-#[derive(Clone, Copy, Debug, PartialEq, Eq)]
+#[derive(Clone, Copy, Debug, PartialEq, Eq, Error)]
 pub enum NameFault {
     /// It breaks the rule of such names.
+    #[error("the text breaks the rule of such names")]
     BadName,
+    #[error("no memory")]
     NoMemory,
 }
-
-impl fmt::Display for NameFault {
-    fn fmt<W: fmt::Write>(&self, f: &mut fmt::Formatter<W>) -> fmt::Result {
-        match self {
-            NameFault::BadName => write!(f, "the text breaks the rule of such names"),
-            NameFault::NoMemory => write!(f, "no memory"),
-        }
-    }
-}
-
-impl Error for NameFault {}
 
 impl From<AllocError> for NameFault {
     ghost from_gives = { λ _ e. e ≡ NoMemory };
@@ -99,7 +90,7 @@ fn as_utf8(bytes: &[u8]) -> Option<&str>
 fn is_key_path(path: &[u8]) -> bool
     ensures { result ≡ is_key_path path.now }
 {
-    1 <= path.len() && path.len() <= 1024 && are_elements(trimmed(path))
+    1 <= path.len() && path.len() <= MOST_KEY_BYTES && are_elements(trimmed(path))
 }
 
 fn key_text(bytes: &[u8]) -> Option<&str>

@@ -1,4 +1,5 @@
-ghost use Rattle.std.specs.Prelude.{◌≡◌, IfOk};
+ghost use Rattle.std.specs.Prelude.{◌≡◌, IfOk, Some};
+ghost use Rattle.s3_types.specs.Spelling.{actor_text};
 
 use crate::bytes::Bytes;
 use crate::limits::{LengthHeader, PageLimit};
@@ -21,6 +22,8 @@ pub enum Actor {
 }
 
 impl fmt::Display for Actor {
+    ghost output = { λ actor. Some (actor_text actor) };
+
     fn fmt<W: fmt::Write>(&self, f: &mut fmt::Formatter<W>) -> fmt::Result {
         match self {
             Actor::Driver => write!(f, "driver"),

@@ -1,4 +1,4 @@
-ghost use Rattle.std.specs.Prelude.{◌≡◌, ℕ, ◌+◌, ◌<◌, ◌≤◌, ◌^◌, IfOk, OnOk, OnErr, IsTrue, Option, None};
+ghost use Rattle.std.specs.Prelude.{◌≡◌, ℕ, ◌+◌, ◌<◌, ◌≤◌, ◌^◌, false, IfOk, OnOk, OnErr, IsTrue, Option, None};
 ghost use Rattle.s3_types.specs.Store.{Scene};
 ghost use Rattle.s3_types.specs.Answer.{answer};
 ghost use Rattle.s3_types.specs.Moment.{effect, is_unanswered, IsHonestOutcome};
@@ -33,6 +33,8 @@ pub trait ObjectStore {
         ensures fate { IfOk result (λ outcome. IsForetold (foretold self.old (requests self.old + 1)) outcome) }
         ensures foretold { (n : ℕ) → foretold self.new n ≡ foretold self.old n }
         ensures losses { losses self.old ≤ losses self.new }
+        ensures kept { IfOk result (λ outcome. is_unanswered outcome ≡ false → losses self.new ≡ losses self.old) }
         ensures same { OnErr result (scene self.new ≡ scene self.old) }
-        ensures same_count { OnErr result (requests self.new ≡ requests self.old) };
+        ensures same_count { OnErr result (requests self.new ≡ requests self.old) }
+        ensures same_losses { OnErr result (losses self.new ≡ losses self.old) };
 }

@@ -1,6 +1,7 @@
-ghost use Rattle.std.specs.Prelude.{◌≡◌, ℕ, List, IsTrue, true};
+ghost use Rattle.std.specs.Prelude.{◌≡◌, ℕ, List, IsTrue, true, Some};
 ghost use Rattle.std.specs.List.{list_all};
 ghost use Rattle.s3_types.specs.Tags.{Spelled, is_hex};
+ghost use Rattle.s3_types.specs.Spelling.{tag_text};
 
 use std::fmt;
 use std::marker::Model;
@@ -62,6 +63,8 @@ impl Tag {
 }
 
 impl fmt::Display for Tag {
+    ghost output = { λ tag. Some (tag_text tag) };
+
     fn fmt<W: fmt::Write>(&self, f: &mut fmt::Formatter<W>) -> fmt::Result {
         let digits = self.digits_text();
         if self.parts == 0 {

@@ -2,6 +2,7 @@ ghost use Rattle.std.specs.Prelude.{◌≡◌, ℕ, List, [], IfOk, Some, refl, 
 ghost use Rattle.std.proofs.Common.{rules};
 ghost use Rattle.std.specs.Cmp.Rules.{comparing, hashing};
 ghost use Rattle.proof_base.specs.Order.{text_cmp, text_eq, text_partial_cmp, text_hash, text_per, text_equiv, text_po, text_total, text_ties};
+ghost use Rattle.s3_types.specs.Pages.{begins};
 
 use std::alloc::{AllocError, Global};
 use std::cmp::Ordering;
@@ -61,6 +62,13 @@ impl Text {
         ensures { result.now ≡ self.now }
     {
         self.as_str().as_bytes()
+    }
+
+    /// Whether it begins with this prefix. Takes no memory.
+    pub fn starts_with(&self, prefix: &Text) -> bool
+        ensures { result ≡ begins prefix.now self.now }
+    {
+        self.as_bytes().starts_with(prefix.as_bytes())
     }
 }
 

@@ -2,14 +2,16 @@
 use Rattle.std.proofs.Common.{◌≡◌, ◌≢◌, ◌≤◌, ◌<◌, ◌⊎◌, ℕ, Bool, true, false, nat_le, List, length, take, Option, Some, None, Result, Ok, Err, refl, sym, ap, ◌∙◌, arith, inl, inr}
 use Rattle.std.proofs.lemmas.Bool.Decides.{nat_tests}
 use Rattle.std.proofs.lemmas.List.{take_all, length-take-le}
+use Rattle.proof_base.proofs.Options.{some_is}
 use Rattle.s3_types.specs.declared.journal.Entry.{Entry}
 use Rattle.job_model.specs.JobScript.{Script}
 use Rattle.job_model.specs.declared.ends.Pick.{Pick}
 use Rattle.job_model.specs.declared.ends.EventEnd.{EventEnd}
-use Rattle.job_script.specs.Fault.{Fails}
+use Rattle.proof_base.specs.Reading.{Fails}
+use Rattle.job_script.specs.Fault.{wanting}
 use Rattle.job_script.specs.Script.{script_of}
 use Rattle.job_script.specs.declared.fault.ScriptFault.{ScriptFault}
-use Rattle.job_script.specs.declared.fault.ScriptFault.TheVariants.{NotUtf8, BadLine, UnknownWord, MissingHead, RepeatedName, BadPath, HiddenPath, UnknownActor, DestIsRoot, TooLarge, BadNumber, NoMemory}
+use Rattle.job_script.specs.declared.fault.ScriptFault.TheVariants.{TooLarge, NoMemory}
 use Rattle.first_form.specs.declared.form.Form.{Form}
 use Rattle.first_form.specs.Form.{IsForm}
 use Rattle.first_form.specs.Scripted.{form_script}
@@ -53,22 +55,9 @@ input_owes (Some bytes) after all due es ps xs before now S r h = record {
 
 -- ---- bytes that are no script
 
-fails_is : (e : ScriptFault) (read : Result Script ScriptFault) → e ≢ NoMemory → Fails e read → read ≡ Err e
-fails_is NotUtf8 read n h = h
-fails_is (BadLine k) read n h = h
-fails_is (UnknownWord k) read n h = h
-fails_is MissingHead read n h = h
-fails_is (RepeatedName k) read n h = h
-fails_is (BadPath k) read n h = h
-fails_is (HiddenPath k) read n h = h
-fails_is (UnknownActor k) read n h = h
-fails_is DestIsRoot read n h = h
-fails_is TooLarge read n h = h
-fails_is (BadNumber k) read n h = h
+fails_is : (e : ScriptFault) (read : Result Script ScriptFault) → e ≢ NoMemory → Fails wanting e read → read ≡ Err e
 fails_is NoMemory read n h = absurd (n refl)
-
-some_all : (x y : List ℕ) → Some x ≡ Some y → x ≡ y
-some_all x y h = cc
+fails_is e read n h = h
 
 module _ (before now : Told) (bytes : List ℕ) (due : ℕ) (es : List Entry) (ps : List Pick) (xs : List EventEnd) where
   -- a fault that was told
@@ -80,7 +69,7 @@ module _ (before now : Told) (bytes : List ℕ) (due : ℕ) (es : List Entry) (p
   }
     where
       read_at : (b : List ℕ) → Some bytes ≡ Some b → script_of b ≡ Err e
-      read_at b s = ap script_of (sym (some_all bytes b s)) ∙ read
+      read_at b s = ap script_of (sym (some_is bytes b s)) ∙ read
 
       not_ok : {r : Result Script ScriptFault} (x : Script) → r ≡ Err e → r ≡ Ok x → ⊥
       not_ok x h k = cc
@@ -88,7 +77,7 @@ module _ (before now : Told) (bytes : List ℕ) (due : ℕ) (es : List Entry) (p
       same : {r : Result Script ScriptFault} (x : ScriptFault) → r ≡ Err e → r ≡ Err x → e ≡ x
       same x h k = cc
 
-  pub fault_owes : (text : List ℕ) (e : ScriptFault) → Fails e (script_of bytes) → (due ≡ 6) ⊎ (due ≡ 9) → (due ≡ 6 → e ≢ NoMemory) → (due ≡ 6 → text ≡ script_fault_text e) → IsIdle es ps xs → OfInput (Some bytes) due es ps xs before now (λ t. text ≡ t)
+  pub fault_owes : (text : List ℕ) (e : ScriptFault) → Fails wanting e (script_of bytes) → (due ≡ 6) ⊎ (due ≡ 9) → (due ≡ 6 → e ≢ NoMemory) → (due ≡ 6 → text ≡ script_fault_text e) → IsIdle es ps xs → OfInput (Some bytes) due es ps xs before now (λ t. text ≡ t)
   fault_owes text e f (inl z) known t i = told text e (fails_is e (script_of bytes) (known z) f) z (t z)
   fault_owes text e f (inr z) known t i = input_broken before now (λ t. text ≡ t) (Some bytes) due es ps xs (inr (inr z)) i
 
@@ -102,7 +91,7 @@ module _ (before now : Told) (bytes : List ℕ) (due : ℕ) (es : List Entry) (p
   }
     where
       read_at : (b : List ℕ) → Some bytes ≡ Some b → script_of b ≡ Ok s
-      read_at b e = ap script_of (sym (some_all bytes b e)) ∙ read
+      read_at b e = ap script_of (sym (some_is bytes b e)) ∙ read
 
       same : {r : Result Script ScriptFault} (x : Script) → r ≡ Ok s → r ≡ Ok x → s ≡ x
       same x h k = cc

@@ -6,8 +6,8 @@ use Rattle.shelf.specs.Devices.{Appends, HoldsNow}
 use Rattle.s3_types.specs.Moment.{moment}
 use Rattle.s3_types.specs.Store.{Content}
 use Rattle.s3_types.specs.declared.journal.Entry.{Entry}
-use Rattle.job_model.specs.Promise.{verdict, Promised, Finished}
-use Rattle.job_model.specs.ReportText.{report_text}
+use Rattle.straight_model.specs.Promise.{verdict, Promised, Finished}
+use Rattle.straight_model.specs.ReportText.{report_text}
 use Rattle.job_model.specs.declared.ends.Pick.{Pick}
 use Rattle.job_model.specs.declared.ends.EventEnd.{EventEnd}
 use Rattle.job_model.specs.JobScript.{Script}

@@ -2,11 +2,9 @@ ghost use Rattle.std.specs.Prelude.{◌≡◌, ◌<◌, ◌≤◌, ◌^◌, ◌-
 ghost use Rattle.shelf.specs.Devices.{Rose};
 ghost use Rattle.s3a_top.specs.Bytes.{IsRead};
 
+use s3_types::MOST_SCRIPT_BYTES;
 use shelf::{Failed, Source};
 use std::alloc::{AllocError, AllocFailed, Global};
-
-/// The most bytes of input that are looked at.
-pub const MOST_INPUT: usize = 67_108_864;
 
 /// Why the input was not read.
 #[derive(Clone, Copy, Debug, PartialEq, Eq)]
@@ -20,13 +18,13 @@ pub fn read_input<Q: Source>(alloc: Global, input: &mut Q) -> Result<Vec<u8>, In
     ensures calm { OnOk result (Q.faults input.new ≡ Q.faults input.old) }
     ensures failed { IsErrOf result InputFault.Failed → Q.faults input.old < 2 ^ 64 - 1 → Q.faults input.old < Q.faults input.new }
     ensures wanting { IsErrOf result InputFault.NoMemory → Q.faults input.new ≡ Q.faults input.old }
-    ensures few { IfOk result (λ bytes. vec_len bytes ≤ 67108865) }
+    ensures few { IfOk result (λ bytes. vec_len bytes ≤ MOST_SCRIPT_BYTES + 1) }
     ensures read { IfOk result (λ all. IsRead (Q.left input.old) (Q.left input.new) all.items) }
 {
     let mut all = Vec::new(alloc);
     let mut chunk = [0u8; 65536];
-    while all.len() <= MOST_INPUT {
-        let room = (MOST_INPUT + 1 - all.len()).min(65536);
+    while all.len() <= MOST_SCRIPT_BYTES as usize {
+        let room = (MOST_SCRIPT_BYTES as usize + 1 - all.len()).min(65536);
         match input.read(&mut chunk[..room]) {
             Ok(0) => return Ok(all),
             Ok(n) => {

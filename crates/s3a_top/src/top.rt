@@ -1,7 +1,7 @@
 ghost use Rattle.std.specs.Prelude.{◌≡◌, ◌≢◌, ℕ, List, ◌<◌, ◌≤◌, ◌-◌, ◌^◌, ◌⊎◌, Some, None, Option, length, IfOk, IfErr, OnOk, OnErr, option_map};
 ghost use Rattle.s3_types.specs.Moment.{moment};
-ghost use Rattle.job_model.specs.Promise.{verdict, Finished};
-ghost use Rattle.job_model.specs.ReportText.{report_text};
+ghost use Rattle.straight_model.specs.Promise.{verdict, Finished};
+ghost use Rattle.straight_model.specs.ReportText.{report_text};
 ghost use Rattle.job_script.specs.declared.fault.ScriptFault as faults;
 ghost use Rattle.store_commands.specs.Commands.{command_of};
 ghost use Rattle.store_commands.specs.Stores.{found, work_of};
@@ -19,7 +19,7 @@ ghost use Rattle.s3a_top.specs.Owed.{fixed_text, said_text, script_fault_text, W
 use crate::input::{InputFault, read_input};
 use crate::output::write_output;
 use first_form::{Form, form_of};
-use job_model::{EndList, PickList, Report, Script, report_text};
+use job_model::{EndList, PickList, Script};
 use job_script::{ScriptFault, read_script};
 use s3_types::{Bytes, Journal, Text};
 use shelf::{Shelf, Sink, Source};
@@ -27,6 +27,7 @@ use std::alloc::{AllocError, Global};
 use store_commands::{
     Command, Held, ShelfStop, StoreCommand, fault_text, load, obey, read_command, save,
 };
+use straight_model::{Report, report_text};
 use straight_run::{Job, Stage, begun, play};
 
 const DONE: u8 = 0;

@@ -1,24 +1,10 @@
 -- What is found on a shelf, by what was loaded.
-use Rattle.std.proofs.Common.{◌≡◌, ◌≢◌, ℕ, ◌<◌, ◌≤◌, nat_lt, Bool, true, false, List, length, Option, Some, None, Result, Ok, Err, refl, sym, ap, subst, ◌∙◌, arith}
+use Rattle.std.proofs.Common.{◌≡◌, ℕ, ◌<◌, ◌≤◌, nat_lt, true, false, List, length, Option, Some, None, refl, sym, subst, arith}
 use Rattle.std.proofs.lemmas.Bool.Decides.{nat_tests}
 use Rattle.shelf.specs.Devices.{most_held, IsLoaded, IsTooLarge}
-use Rattle.store_image.specs.Fault.{IfNotMemory}
 use Rattle.store_image.specs.Reading.{content_in}
-use Rattle.store_image.specs.declared.fault.ImageFault.{ImageFault}
-use Rattle.store_image.specs.declared.fault.ImageFault.TheVariants.{BadHead, Short, BadOrder, BadName, CounterTooHigh, Trailing, NoMemory}
-use Rattle.store_commands.specs.declared.held.Held.{Held}
 use Rattle.store_commands.specs.declared.held.Held.TheVariants.{Nothing, Faulty}
 use Rattle.store_commands.specs.Stores.{read_as, found}
-
--- a fault other than want of memory stands for P
-pub other_fault : (e : ImageFault) (P : Type 0) → e ≢ NoMemory → IfNotMemory e P → P
-other_fault BadHead P n p = p
-other_fault (Short place) P n p = p
-other_fault (BadOrder place) P n p = p
-other_fault (BadName place) P n p = p
-other_fault CounterTooHigh P n p = p
-other_fault (Trailing place) P n p = p
-other_fault NoMemory P n p = absurd (n refl)
 
 few_bytes : (bytes : List ℕ) → length bytes ≤ most_held → found (Some bytes) ≡ read_as (content_in bytes)
 unfolding found

@@ -4,6 +4,7 @@ use Rattle.std.specs.List.{list_all, starts_with}
 use Rattle.std.specs.Fmt.{decimal}
 use Rattle.std.specs.Str.{all_ascii_digits}
 use Rattle.std.specs.Str.Parse.{digits_value}
+use Rattle.s3_types.specs.declared.limits.TheConstants.{MOST_MINIMUM}
 use Rattle.store_image.specs.Content.{is_minimum}
 use Rattle.store_commands.specs.declared.command.Command.{Command}
 use Rattle.store_commands.specs.declared.command.Command.TheVariants.{Job, Store}
@@ -32,7 +33,7 @@ is_plain word = not (starts_with nat_eq word (codes "-"))
 
 -- what a name says alone
 unfoldable pub alone : List ℕ → Option Command
-alone name = if bytes_eq name (codes "job") then Some Job else if bytes_eq name (codes "init") then Some (Store (Init 5242880)) else None
+alone name = if bytes_eq name (codes "job") then Some Job else if bytes_eq name (codes "init") then Some (Store (Init MOST_MINIMUM)) else None
 
 -- what a name says with an operand
 unfoldable pub with_operand : List ℕ → List ℕ → Option Command

@@ -4,6 +4,7 @@ use Rattle.std.specs.Fmt.{decimal}
 use Rattle.shelf.specs.Devices.{most_held}
 use Rattle.s3_types.specs.Store.{Content, new_content}
 use Rattle.s3_types.specs.Answer.{answer_store, apply_store}
+use Rattle.s3_types.specs.declared.limits.TheConstants.{MOST_MINIMUM}
 use Rattle.s3_types.specs.declared.request.Request.TheVariants as requests
 use Rattle.s3_types.specs.declared.reply.Reply.{Reply}
 use Rattle.s3_types.specs.declared.reply.Reply.TheVariants.{Refused}
@@ -70,7 +71,7 @@ made_in name c = kept_unless (refusal_word (answer_store c (requests.MakeBucket 
 
 -- `mb NAME`: a bucket, in a new store where nothing is held
 unfoldable pub bucket_work : List ℕ → Held → Work
-bucket_work name Nothing = made_in name (new_content 5242880)
+bucket_work name Nothing = made_in name (new_content MOST_MINIMUM)
 bucket_work name (Store c) = made_in name c
 bucket_work name (Faulty number place) = Says 7 (fault_text number place)
 

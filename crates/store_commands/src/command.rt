@@ -3,7 +3,7 @@ ghost use Rattle.std.specs.List.{list_all};
 ghost use Rattle.store_commands.specs.Commands.{number_in, WritesDecimals, minimum_in, is_plain, alone, with_operand, said, command_of};
 
 use crate::minimum::PartMinimum;
-use s3_types::Text;
+use s3_types::{MOST_MINIMUM, Text};
 use std::alloc::{AllocError, Global};
 
 /// A command on the store that a shelf keeps.
@@ -52,9 +52,7 @@ fn minimum_in(alloc: Global, word: &str) -> Result<Option<PartMinimum>, AllocErr
     ensures { IfOk result (λ o. o ≡ minimum_in word.now) }
 {
     match number_in(alloc, word)? {
-        Some(bytes) if bytes >= 1 && bytes <= PartMinimum::MOST => {
-            Ok(Some(PartMinimum::new(bytes)))
-        }
+        Some(bytes) if bytes >= 1 && bytes <= MOST_MINIMUM => { Ok(Some(PartMinimum::new(bytes))) }
         _ => Ok(None),
     }
 }
@@ -67,7 +65,7 @@ fn alone(name: &str) -> Option<Command>
     match name {
         "job" => Some(Command::Job),
         "init" => Some(Command::Store(StoreCommand::Init {
-            minimum: PartMinimum::new(PartMinimum::MOST),
+            minimum: PartMinimum::new(MOST_MINIMUM),
         })),
         _ => None,
     }

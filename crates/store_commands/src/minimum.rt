@@ -1,4 +1,5 @@
 ghost use Rattle.std.specs.Prelude.{◌≡◌, ℕ, ◌≤◌};
+ghost use Rattle.s3_types.specs.declared.limits.TheConstants.{MOST_MINIMUM};
 
 use std::marker::Model;
 
@@ -10,24 +11,22 @@ pub struct PartMinimum {
 
 impl Model for PartMinimum {
     ghost use Rattle.std.specs.Prelude.{ℕ, ◌≤◌};
+    ghost use Rattle.s3_types.specs.declared.limits.TheConstants.{MOST_MINIMUM};
 
     ghost Value = { ℕ };
 
     ghost view = { λ m. m.bytes };
 
-    ghost invariant = { λ m. (1 ≤ m.bytes) × (m.bytes ≤ 5242880) };
+    ghost invariant = { λ m. (1 ≤ m.bytes) × (m.bytes ≤ MOST_MINIMUM) };
 
     ghost inverse = { λ n. record { bytes = n } };
 }
 
 impl PartMinimum {
-    /// The greatest minimum, which is that of Amazon S3, in bytes.
-    pub const MOST: u64 = 5_242_880;
-
     /// A minimum of so many bytes.
     pub fn new(bytes: u64) -> PartMinimum
         requires some { 1 ≤ bytes }
-        requires most { bytes ≤ 5242880 }
+        requires most { bytes ≤ MOST_MINIMUM }
         ensures { result ≡ bytes }
     {
         PartMinimum { bytes }
@@ -37,7 +36,7 @@ impl PartMinimum {
     pub fn get(self) -> u64
         ensures value { result ≡ self }
         ensures some { 1 ≤ result }
-        ensures most { result ≤ 5242880 }
+        ensures most { result ≤ MOST_MINIMUM }
     {
         self.bytes
     }

@@ -7,7 +7,7 @@ use crate::command::StoreCommand;
 use crate::held::Held;
 use crate::minimum::PartMinimum;
 use s3_service::Service;
-use s3_types::{Bytes, Refusal, Reply, Request, Text};
+use s3_types::{Bytes, MOST_MINIMUM, Refusal, Reply, Request, Text};
 use std::alloc::{AllocError, Global};
 
 const REFUSED: u8 = 1;
@@ -101,7 +101,7 @@ fn bucket_work(alloc: Global, name: &Text, held: Held) -> Result<Work, AllocErro
     ensures { IfOk result (λ work. work ≡ bucket_work name.now held) }
 {
     match held {
-        Held::Nothing => made_in(alloc, name, Service::new(alloc, PartMinimum::MOST)),
+        Held::Nothing => made_in(alloc, name, Service::new(alloc, MOST_MINIMUM)),
         Held::Store(service) => made_in(alloc, name, service),
         Held::Faulty { number, place } => faulty(alloc, number, place),
     }

@@ -12,22 +12,21 @@ use Rattle.std.specs.declared.cmp.Ordering.TheVariants.{Greater}
 use Rattle.std.specs.Cmp.{IsTotalOrder}
 use Rattle.std.proofs.lemmas.List.{append-nil}
 use Rattle.std.proofs.lemmas.List.Concat.{flat_map-cons}
+use Rattle.proof_base.proofs.Bools.{both_T}
+use Rattle.proof_base.proofs.Less.{less_of}
 use Rattle.proof_base.proofs.Tree.{entries_empty}
+use Rattle.proof_base.proofs.Reading.{parted, same_ok}
 use Rattle.store_image.specs.Image.{counted}
 use Rattle.store_image.specs.Content.{IsEntry, AreEntries}
 use Rattle.store_image.specs.Reading.{Read, number_at, is_after, rising_at, with_entries, map_at, counted_at}
-use Rattle.store_image.proofs.Steps.{IsBytes, bind_ok, ok_is, Takes, Takes-then, IsReader, IsWide, number_takes, number_again}
-use Rattle.store_image.proofs.Maps.{is_less, after_both}
+use Rattle.store_image.proofs.Steps.{IsBytes, Takes, Takes-then, IsReader, IsWide, number_takes, number_again}
+use Rattle.store_image.proofs.Maps.{after_both}
 
 -- ---- maps
 
 true_T : (b : Bool) → T b → b ≡ true
 true_T true h = refl
 true_T false h = absurd h
-
-both_T : (a b : Bool) → T (a && b) → T a × T b
-both_T true b h = (tt, h)
-both_T false b h = absurd h
 
 module _ {K X : Type 0} (R : K → K → Ordering) where
   -- the keys rise from the last one on
@@ -64,7 +63,7 @@ module _ {K X : Type 0} {R : K → K → Ordering} (o : IsTotalOrder R) where
 
   still_last : (last : Option K) (es : List (K × X)) (e : K × X) → IsLast R last es → is_after R last e.0 ≡ true → IsLast R (Some e.0) (es ++ e ∷ [])
   still_last last es e h after k g =
-      above_more k es e (h k (after_both o last e.0 k after g)) (o.antisymm k e.0 ∙ ap ordering_reverse (is_less _ g))
+      above_more k es e (h k (after_both o last e.0 k after g)) (o.antisymm k e.0 ∙ ap ordering_reverse (less_of _ g))
 
   put_last : (es : List (K × X)) (k : K) (v : X) → IsAbove R k es → put R k v es ≡ es ++ (k, v) ∷ []
   put_last [] k v h = refl
@@ -112,18 +111,18 @@ module _ {K X : Type 0} {R : K → K → Ordering}
   unfolding rising_at
   rising_takes zero last bytes x fits e =
       let none : List (K × X) × List ℕ = ([], bytes) in
-      subst (λ (y : List (K × X) × List ℕ). Taken 0 last bytes y) (ok_is none x e) (record { front = record { parts = refl; rest_fits = fits }; count = refl; each = tt; rises = tt })
+      subst (λ (y : List (K × X) × List ℕ). Taken 0 last bytes y) (same_ok none x e) (record { front = record { parts = refl; rest_fits = fits }; count = refl; each = tt; rises = tt })
   rising_takes (suc n) last bytes x fits e =
-      let a = bind_ok (key_at last bytes) _ x e in
-      let b = bind_ok (value_at a.0.1) _ x a.2 in
-      let c = bind_ok (rising_at key_at value_at n (Some a.0.0) b.0.1) _ x b.2 in
-      let first = keys.takes last bytes a.0.0 a.0.1 fits a.1 in
-      let second = values.takes a.0.1 b.0.0 b.0.1 first.0.rest_fits b.1 in
-      let third = rising_takes n (Some a.0.0) b.0.1 c.0 second.0.rest_fits c.1 in
-      let one : Takes bytes (entry (a.0.0, b.0.0)) b.0.1 = subst (λ (t : List ℕ). Takes bytes t b.0.1) (sym (spelled (a.0.0, b.0.0))) (Takes-then bytes (key_text a.0.0) a.0.1 (value_text b.0.0) b.0.1 first.0 second.0) in
-      let both = Takes-then bytes (entry (a.0.0, b.0.0)) b.0.1 (flat_map entry c.0.0) c.0.1 one third.front in
-      let all : List (K × X) × List ℕ = ((a.0.0, b.0.0) ∷ c.0.0, c.0.1) in
-      subst (λ (y : List (K × X) × List ℕ). Taken (suc n) last bytes y) (ok_is all x c.2)
+      let a = parted (key_at last bytes) _ x e in
+      let b = parted (value_at a.value.1) _ x a.next in
+      let c = parted (rising_at key_at value_at n (Some a.value.0) b.value.1) _ x b.next in
+      let first = keys.takes last bytes a.value.0 a.value.1 fits a.first in
+      let second = values.takes a.value.1 b.value.0 b.value.1 first.0.rest_fits b.first in
+      let third = rising_takes n (Some a.value.0) b.value.1 c.value second.0.rest_fits c.first in
+      let one : Takes bytes (entry (a.value.0, b.value.0)) b.value.1 = subst (λ (t : List ℕ). Takes bytes t b.value.1) (sym (spelled (a.value.0, b.value.0))) (Takes-then bytes (key_text a.value.0) a.value.1 (value_text b.value.0) b.value.1 first.0 second.0) in
+      let both = Takes-then bytes (entry (a.value.0, b.value.0)) b.value.1 (flat_map entry c.value.0) c.value.1 one third.front in
+      let all : List (K × X) × List ℕ = ((a.value.0, b.value.0) ∷ c.value.0, c.value.1) in
+      subst (λ (y : List (K × X) × List ℕ). Taken (suc n) last bytes y) (same_ok all x c.next)
       (record { front = rw flat_map-cons both; count = ap suc third.count; each = (record { key = first.1; value = second.1 }, third.each); rises = (first.2, third.rises) })
 
   rising_again : (last : Option K) (es : List (K × X)) (rest : List ℕ) → AllByRecursion (IsEntry is_key IsValue) es → Rises R last es → length (flat_map entry es ++ rest) < 2 ^ 64 → rising_at key_at value_at (length es) last (flat_map entry es ++ rest) ≡ Ok (es, rest)
@@ -153,17 +152,17 @@ module _ {K X : Type 0} {R : K → K → Ordering}
     counted_takes : (bytes : List ℕ) (m : fin.FinMap R X) (rest : List ℕ) → IsBytes bytes → counted_at w whole key_at value_at bytes ≡ Ok (m, rest) → Takes bytes (counted w entry m) rest × AreEntries is_key IsValue m
     unfolding counted_at map_at
     counted_takes bytes m rest fits e =
-        let n = bind_ok (number_at w whole bytes) _ (m, rest) e in
-        let es = bind_ok (rising_at key_at value_at n.0.0 None n.0.1) _ (m, rest) n.2 in
-        let same = ok_is (with_entries fin.empty es.0.0, es.0.1) (m, rest) es.2 in
-        let first = number_takes w limit wide whole bytes n.0.0 n.0.1 fits n.1 in
-        let second = rising_takes n.0.0 None n.0.1 es.0 first.0.rest_fits es.1 in
-        let held : fin.entries (with_entries (fin.empty {X = X} {R = R}) es.0.0) ≡ es.0.0 = entries_made o es.0.0 second.rises in
-        let count : fin.len (with_entries (fin.empty {X = X} {R = R}) es.0.0) ≡ n.0.0 = fin.len-entries _ ∙ ap length held ∙ second.count in
-        let both = Takes-then bytes (to_be_bytes w n.0.0) n.0.1 (flat_map entry es.0.0) es.0.1 first.0 second.front in
-        let text : to_be_bytes w n.0.0 ++ flat_map entry es.0.0 ≡ counted w entry (with_entries (fin.empty {X = X} {R = R}) es.0.0) = rw (count, held) refl in
+        let n = parted (number_at w whole bytes) _ (m, rest) e in
+        let es = parted (rising_at key_at value_at n.value.0 None n.value.1) _ (m, rest) n.next in
+        let same = same_ok (with_entries fin.empty es.value.0, es.value.1) (m, rest) es.next in
+        let first = number_takes w limit wide whole bytes n.value.0 n.value.1 fits n.first in
+        let second = rising_takes n.value.0 None n.value.1 es.value first.0.rest_fits es.first in
+        let held : fin.entries (with_entries (fin.empty {X = X} {R = R}) es.value.0) ≡ es.value.0 = entries_made o es.value.0 second.rises in
+        let count : fin.len (with_entries (fin.empty {X = X} {R = R}) es.value.0) ≡ n.value.0 = fin.len-entries _ ∙ ap length held ∙ second.count in
+        let both = Takes-then bytes (to_be_bytes w n.value.0) n.value.1 (flat_map entry es.value.0) es.value.1 first.0 second.front in
+        let text : to_be_bytes w n.value.0 ++ flat_map entry es.value.0 ≡ counted w entry (with_entries (fin.empty {X = X} {R = R}) es.value.0) = rw (count, held) refl in
         subst (λ (p : fin.FinMap R X × List ℕ). Takes bytes (counted w entry p.0) p.1 × AreEntries is_key IsValue p.0) same
-        (subst (λ (t : List ℕ). Takes bytes t es.0.1) text both, subst (AllByRecursion (IsEntry is_key IsValue)) (sym held) second.each)
+        (subst (λ (t : List ℕ). Takes bytes t es.value.1) text both, subst (AllByRecursion (IsEntry is_key IsValue)) (sym held) second.each)
 
     counted_again : (m : fin.FinMap R X) (rest : List ℕ) → AreEntries is_key IsValue m → length (counted w entry m ++ rest) < 2 ^ 64 → counted_at w whole key_at value_at (counted w entry m ++ rest) ≡ Ok (m, rest)
     unfolding counted_at map_at

@@ -1,17 +1,17 @@
 -- One more entry of a map that is read.
-use Rattle.std.proofs.Common.{◌≡◌, ℕ, suc, ◌+◌, ◌-◌, ◌<◌, ◌≤◌, List, ◌∷◌, Option, Some, None, Result, Ok, Err, refl, sym, ap, subst, ◌∙◌, arith}
+use Rattle.std.proofs.Common.{◌≡◌, ℕ, suc, ◌+◌, ◌-◌, ◌<◌, ◌≤◌, List, ◌∷◌, Option, Some, None, Ok, Err, refl, sym, ap, ◌∙◌, arith}
 use Rattle.std.specs.FinMap as fin
 use Rattle.std.specs.declared.cmp.Ordering.{Ordering}
+use Rattle.proof_base.specs.Reading.{◌>>=◌, made, Fails}
+use Rattle.proof_base.proofs.Reading.{unless_more}
 use Rattle.store_image.specs.declared.fault.ImageFault.{ImageFault}
-use Rattle.store_image.specs.declared.fault.ImageFault.TheVariants.{BadHead, Short, BadOrder, BadName, CounterTooHigh, Trailing, NoMemory}
-use Rattle.store_image.specs.Fault.{IfNotMemory, GivesBy}
-use Rattle.store_image.specs.Reading.{◌>>=◌, Read, made, number_at, block_at, name_at, part_number_at, rising_at, with_entries, map_at, counted_at, upload_at}
+use Rattle.store_image.specs.Fault.{wanting}
+use Rattle.store_image.specs.Reading.{Read, number_at, block_at, name_at, part_number_at, rising_at, with_entries, map_at, counted_at, upload_at}
 use Rattle.std.specs.Int.{w16, w64}
 use Rattle.std.proofs.lemmas.Cmp.{nat_cmp_total}
 use Rattle.s3_types.specs.Names.{is_key}
 use Rattle.s3_types.specs.Store.{Parts, Uploads, Content}
 use Rattle.store_image.proofs.Maps.{insert_again}
-use Rattle.store_image.proofs.Steps.{ok_is}
 
 -- a map with the entries that are read put into it
 abbrev pub built : {K X : Type 0} {R : K → K → Ordering} → fin.FinMap R X → Read (List (K × X)) → Read (fin.FinMap R X)
@@ -46,61 +46,26 @@ module _ {K X : Type 0} {R : K → K → Ordering} where
       let none : count - i ≡ 0 = omega arith in
       sym so_far ∙ ap (λ n. built m (rising_at key_at value_at n last bytes)) none
 
--- what follows from a fact that a fault stands for
-pub if_more : (e : ImageFault) {P Q : Type 0} → (P → Q) → IfNotMemory e P → IfNotMemory e Q
-if_more BadHead f h = f h
-if_more (Short place) f h = f h
-if_more (BadOrder place) f h = f h
-if_more (BadName place) f h = f h
-if_more CounterTooHigh f h = f h
-if_more (Trailing place) f h = f h
-if_more NoMemory f h = tt
-
--- what a call returned is a fault that reading gives
-pub gives_fault : {A B : Type 0} (view : A → B) (result : Result A ImageFault) (e : ImageFault) (read : Result B ImageFault) → result ≡ Err e → IfNotMemory e (read ≡ Err e) → GivesBy view result read
-gives_fault {A} view result e read is fault = subst (λ (r : Result A ImageFault). GivesBy view r read) (sym is) fault
-
-made_err : {A B : Type 0} (f : A → B) (r : Read A) (e : ImageFault) → r ≡ Err e → made f r ≡ Err e
-made_err f r e h = ap (made f) h
-
-pub made_fault : {A B : Type 0} (f : A → B) (r : Read A) (e : ImageFault) → IfNotMemory e (r ≡ Err e) → IfNotMemory e (made f r ≡ Err e)
-made_fault f r e h = if_more e (made_err f r e) h
-
-unmade_err : {A B : Type 0} (f : A → B) (r : Read A) (e : ImageFault) → made f r ≡ Err e → r ≡ Err e
-unmade_err f (Ok x) e h = absurd cc
-unmade_err f (Err d) e h = cc
-
--- a fault of what a function makes of a value is the value's
-pub unmade_fault : {A B : Type 0} (f : A → B) (r : Read A) (e : ImageFault) → IfNotMemory e (made f r ≡ Err e) → IfNotMemory e (r ≡ Err e)
-unmade_fault f r e h = if_more e (unmade_err f r e) h
-
--- the value of which a function made what was read
-pub unmade : {A B : Type 0} (f : A → B) (r : Read A) (y : B) (rest : List ℕ) → made f r ≡ Ok (y, rest) → (x : A) × (r ≡ Ok (x, rest)) × (y ≡ f x)
-unmade {A} {B} f (Ok x) y rest h =
-    let same : ◌≡◌ {A = B × List ℕ} (f x.0, x.1) (y, rest) = ok_is _ _ h in
-    (x.0, ap (λ (t : List ℕ). Ok (x.0, t)) (ap (λ (p : B × List ℕ). p.1) same), sym (ap (λ (p : B × List ℕ). p.0) same))
-unmade f (Err e) y rest h = absurd cc
-
 module _ {K X : Type 0} {R : K → K → Ordering} where
   -- a fault in an entry's key is the fault of the whole
   pub key_fails : (key_at : Option K → List ℕ → Read K) (value_at : List ℕ → Read X) (count i : ℕ) (last : Option K) (bytes : List ℕ) (m : fin.FinMap R X) (total : Read (fin.FinMap R X)) (e : ImageFault)
-      → i < count → IfNotMemory e (key_at last bytes ≡ Err e)
-      → built m (rising_at key_at value_at (count - i) last bytes) ≡ total → IfNotMemory e (total ≡ Err e)
+      → i < count → Fails wanting e (key_at last bytes)
+      → built m (rising_at key_at value_at (count - i) last bytes) ≡ total → Fails wanting e total
   unfolding rising_at
   key_fails key_at value_at count i last bytes m total e lt fault so_far =
       let n : count - i ≡ suc (count - (i + 1)) = omega arith in
       let failing : key_at last bytes ≡ Err e → total ≡ Err e = λ h. sym so_far ∙ rw (n, h) refl in
-      if_more e failing fault
+      unless_more (wanting e) failing fault
 
   -- a fault in an entry's value is the fault of the whole
   pub value_fails : (key_at : Option K → List ℕ → Read K) (value_at : List ℕ → Read X) (count i : ℕ) (last : Option K) (bytes after : List ℕ) (k : K) (m : fin.FinMap R X) (total : Read (fin.FinMap R X)) (e : ImageFault)
-      → i < count → key_at last bytes ≡ Ok (k, after) → IfNotMemory e (value_at after ≡ Err e)
-      → built m (rising_at key_at value_at (count - i) last bytes) ≡ total → IfNotMemory e (total ≡ Err e)
+      → i < count → key_at last bytes ≡ Ok (k, after) → Fails wanting e (value_at after)
+      → built m (rising_at key_at value_at (count - i) last bytes) ≡ total → Fails wanting e total
   unfolding rising_at
   value_fails key_at value_at count i last bytes after k m total e lt e1 fault so_far =
       let n : count - i ≡ suc (count - (i + 1)) = omega arith in
       let failing : value_at after ≡ Err e → total ≡ Err e = λ h. sym so_far ∙ rw (n, e1, h) refl in
-      if_more e failing fault
+      unless_more (wanting e) failing fault
 
 -- ---- an upload
 

@@ -8,26 +8,22 @@ use Rattle.std.specs.Cmp.{IsTotalOrder}
 use Rattle.std.specs.Cmp.{eq_by_cmp_equiv}
 use Rattle.std.proofs.lemmas.Cmp.{nat_cmp_total}
 use Rattle.std.proofs.lemmas.Bool.Decides.{nat_tests}
+use Rattle.proof_base.proofs.Less.{less_of}
 use Rattle.proof_base.specs.Order.{text_equiv}
 use Rattle.s3_types.specs.Store.{Parts, Upload, Uploads}
 use Rattle.s3_types.specs.Multipart.{with_key, live, is_part_number, with_part}
 use Rattle.s3_types.specs.Answer.{part_put}
 use Rattle.store_image.specs.Reading.{is_after}
 
-pub is_less : (o : Ordering) → is_lt o ≡ true → o ≡ Less
-is_less Less e = refl
-is_less Equal e = absurd cc
-is_less Greater e = absurd cc
-
 module _ {K : Type 0} {R : K → K → Ordering} (o : IsTotalOrder R) where
   -- what comes after a key that comes after the last one comes after the last one
   pub after_both : (last : Option K) (k q : K) → is_after R last k ≡ true → is_after R (Some k) q ≡ true → is_after R last q ≡ true
   after_both None k q h g = refl
-  after_both (Some p) k q h g = ap is_lt (o.trans p k q (is_less _ h) (is_less _ g))
+  after_both (Some p) k q h g = ap is_lt (o.trans p k q (less_of _ h) (less_of _ g))
 
   -- a key that is less is another key
   pub other : (k q : K) → is_after R (Some k) q ≡ true → eq_by_cmp R q k ≡ false
-  other k q h = ap is_eq (o.antisymm q k ∙ ap ordering_reverse (is_less _ h))
+  other k q h = ap is_eq (o.antisymm q k ∙ ap ordering_reverse (less_of _ h))
 
 module _ {K X : Type 0} (R : K → K → Ordering) where
   -- the map has no key after the last one

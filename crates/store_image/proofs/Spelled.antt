@@ -10,14 +10,16 @@ use Rattle.std.proofs.lemmas.Bool.{leb-true, ltb-true, and_parts}
 use Rattle.std.proofs.lemmas.Cmp.{nat_cmp_total}
 use Rattle.proof_base.specs.Order.{text_cmp, text_total}
 use Rattle.std.specs.Str.{is_utf8}
+use Rattle.proof_base.specs.Reading.{◌>>=◌}
+use Rattle.proof_base.proofs.Reading.{parted, same_ok, tested, tested_again}
 use Rattle.s3_types.specs.Names.{is_bucket, is_key, is_key_path, are_elements, trimmed, is_name_byte, is_letter_or_digit}
 use Rattle.s3_types.specs.Multipart.{is_part_number}
 use Rattle.s3_types.specs.Store.{Upload, BucketContent}
 use Rattle.s3_types.specs.declared.object.Object.{Object}
 use Rattle.store_image.specs.Image.{name, block, counted, header, object, part, upload, bucket}
 use Rattle.store_image.specs.Content.{is_id, IsEntry, AreEntries, IsObject, IsPart, IsUpload, IsBucket}
-use Rattle.store_image.specs.Reading.{◌>>=◌, Read, is_after, number_at, block_at, name_at, id_at, part_number_at, counted_at, header_in, object_at, parts_at, upload_at, bucket_at}
-use Rattle.store_image.proofs.Steps.{IsBytes, bind_ok, ok_is, tested, tested_again, Takes, Takes-then, IsReader, IsBelow, wide16, wide64, number_takes, number_again, number_reader, block_reader, block_again, any_block}
+use Rattle.store_image.specs.Reading.{Read, is_after, number_at, block_at, name_at, id_at, part_number_at, counted_at, header_in, object_at, parts_at, upload_at, bucket_at}
+use Rattle.store_image.proofs.Steps.{IsBytes, Takes, Takes-then, IsReader, IsBelow, wide16, wide64, number_takes, number_again, number_reader, block_reader, block_again, any_block}
 use Rattle.store_image.proofs.Maps.{lt_from}
 use Rattle.store_image.proofs.Entries.{Rises, map_rises, IsKeyReader, counted_reader, count_fits}
 
@@ -74,15 +76,15 @@ module _ {A B C : Type 0}
 
   both_takes : (bytes : List ℕ) (c : C) (rest : List ℕ) → IsBytes bytes → both_at bytes ≡ Ok (c, rest) → Takes bytes (both_text c) rest × IsValue c
   both_takes bytes c rest fits e =
-      let a = bind_ok (first_at bytes) _ (c, rest) e in
-      let b = bind_ok (second_at a.0.1) _ (c, rest) a.2 in
-      let t = first.takes bytes a.0.0 a.0.1 fits a.1 in
-      let u = second.takes a.0.1 b.0.0 b.0.1 t.0.rest_fits b.1 in
-      let text : first_text a.0.0 ++ second_text b.0.0 ≡ both_text (join a.0.0 b.0.0) =
-      ap (λ (x : A). first_text x ++ second_text b.0.0) (sym (one_is a.0.0 b.0.0)) ∙ ap (λ (y : B). first_text (one (join a.0.0 b.0.0)) ++ second_text y) (sym (two_is a.0.0 b.0.0)) in
-      let front = Takes-then bytes (first_text a.0.0) a.0.1 (second_text b.0.0) b.0.1 t.0 u.0 in
-      subst (λ (p : C × List ℕ). Takes bytes (both_text p.0) p.1 × IsValue p.0) (ok_is (join a.0.0 b.0.0, b.0.1) (c, rest) b.2)
-      (subst (λ (x : List ℕ). Takes bytes x b.0.1) text front, from _ (subst IsFirst (sym (one_is a.0.0 b.0.0)) t.1) (subst IsSecond (sym (two_is a.0.0 b.0.0)) u.1))
+      let a = parted (first_at bytes) _ (c, rest) e in
+      let b = parted (second_at a.value.1) _ (c, rest) a.next in
+      let t = first.takes bytes a.value.0 a.value.1 fits a.first in
+      let u = second.takes a.value.1 b.value.0 b.value.1 t.0.rest_fits b.first in
+      let text : first_text a.value.0 ++ second_text b.value.0 ≡ both_text (join a.value.0 b.value.0) =
+      ap (λ (x : A). first_text x ++ second_text b.value.0) (sym (one_is a.value.0 b.value.0)) ∙ ap (λ (y : B). first_text (one (join a.value.0 b.value.0)) ++ second_text y) (sym (two_is a.value.0 b.value.0)) in
+      let front = Takes-then bytes (first_text a.value.0) a.value.1 (second_text b.value.0) b.value.1 t.0 u.0 in
+      subst (λ (p : C × List ℕ). Takes bytes (both_text p.0) p.1 × IsValue p.0) (same_ok (join a.value.0 b.value.0, b.value.1) (c, rest) b.next)
+      (subst (λ (x : List ℕ). Takes bytes x b.value.1) text front, from _ (subst IsFirst (sym (one_is a.value.0 b.value.0)) t.1) (subst IsSecond (sym (two_is a.value.0 b.value.0)) u.1))
 
   both_again : (c : C) (rest : List ℕ) → IsValue c → length (both_text c ++ rest) < 2 ^ 64 → both_at (both_text c ++ rest) ≡ Ok (c, rest)
   both_again c rest is fits =

@@ -1,14 +1,15 @@
 -- Steps of reading: what a step took from the front, and that it reads again what was written.
-use Rattle.std.proofs.Common.{◌≡◌, ℕ, ◌+◌, ◌^◌, ◌<◌, ◌≤◌, Bool, true, false, cond, ltb, List, ◌++◌, length, get_or, take, drop, Result, Ok, Err, refl, sym, ap, subst, ◌∙◌, append_assoc, arith, inl, inr}
+use Rattle.std.proofs.Common.{◌≡◌, ℕ, ◌+◌, ◌^◌, ◌<◌, ◌≤◌, false, ltb, List, ◌++◌, length, get_or, take, drop, Ok, refl, sym, ap, subst, ◌∙◌, append_assoc, arith, inl, inr}
 use Rattle.std.specs.Int.{Width, w16, w64, byte_len, from_be_bytes, to_be_bytes}
 use Rattle.std.proofs.lemmas.Bool.{cases_lt, ltb-false, le-ltb}
 use Rattle.std.proofs.lemmas.List.{take_at, drop_at, take-append-drop, length-append, length-take, get_or-drop, get_or-take, get_or_past}
 use Rattle.std.proofs.lemmas.Nat.{be_bytes_2, be_bytes_8, from_be_bytes-to_be_bytes_2, from_be_bytes-to_be_bytes_8}
-use Rattle.store_image.specs.declared.fault.ImageFault.{ImageFault}
+use Rattle.proof_base.specs.Reading.{◌>>=◌}
+use Rattle.proof_base.proofs.Reading.{parted, same_ok, not_stopped}
 use Rattle.store_image.specs.declared.fault.ImageFault.TheVariants.{Short}
 use Rattle.store_image.specs.Image.{block}
 use Rattle.store_image.specs.Content.{IsPart}
-use Rattle.store_image.specs.Reading.{◌>>=◌, Read, place, passing, bytes_at, number_at, block_at}
+use Rattle.store_image.specs.Reading.{Read, place, bytes_at, number_at, block_at}
 
 abbrev pub IsBytes : List ℕ → Type 0
 IsBytes bytes = (i : ℕ) → get_or bytes i 0 < 256
@@ -22,35 +23,6 @@ IsBytes-take n bytes h i =
       | inl lt ↦ rw (get_or-take n bytes i 0 lt) (h i)
       | inr le ↦ rw (get_or_past (take n bytes) i 0 (omega (arith, length-take n bytes))) (omega arith)
     ]
-
--- the value of a step that did not fail
-pub bind_ok : {A B : Type 0} (r : Result A ImageFault) (f : A → Result B ImageFault) (y : B) → (r >>= f) ≡ Ok y → (x : A) × (r ≡ Ok x) × (f x ≡ Ok y)
-bind_ok (Ok x) f y e = (x, refl, e)
-bind_ok (Err d) f y e = absurd cc
-
-abbrev pub done : {A : Type 0} → A → Result A ImageFault
-done x = Ok x
-
-pub ok_is : {A : Type 0} (x y : A) → done x ≡ done y → x ≡ y
-ok_is x y e = cc
-
--- what passes a test
-pub passed : {A : Type 0} (b : Bool) (d : ImageFault) (x y : A) → cond b (Ok x) (Err d) ≡ Ok y → (b ≡ true) × (x ≡ y)
-passed true d x y e = (refl, cc)
-passed false d x y e = absurd cc
-
--- what passes two tests
-pub tested : {A : Type 0} (r : Read A) (p q : A → Bool) (d e : ImageFault) (x : A × List ℕ) → (r >>= λ n. passing p d n >>= λ m. passing q e m) ≡ Ok x → (r ≡ Ok x) × (p x.0 ≡ true) × (q x.0 ≡ true)
-tested {A} r p q d e x h =
-    let a = bind_ok r (λ n. passing p d n >>= λ m. passing q e m) x h in
-    let b = bind_ok (passing p d a.0) (λ m. passing q e m) x a.2 in
-    let first = passed (p a.0.0) d a.0 b.0 b.1 in
-    let second = passed (q b.0.0) e b.0 x b.2 in
-    let same : a.0 ≡ x = first.1 ∙ second.1 in
-    (a.1 ∙ ap (λ (y : A × List ℕ). Ok y) same, subst (λ (y : A × List ℕ). p y.0 ≡ true) same first.0, subst (λ (y : A × List ℕ). q y.0 ≡ true) second.1 second.0)
-
-pub tested_again : {A : Type 0} (r : Read A) (p q : A → Bool) (d e : ImageFault) (x : A × List ℕ) → r ≡ Ok x → p x.0 ≡ true → q x.0 ≡ true → (r >>= λ n. passing p d n >>= λ m. passing q e m) ≡ Ok x
-tested_again r p q d e x h f g = rw (h, f, g) refl
 
 -- what a reader took from the front
 pub record Takes (bytes text rest : List ℕ) : Type 0 where
@@ -70,15 +42,11 @@ pub record IsReader {A : Type 0} (read : List ℕ → Read A) (text : A → List
 pub bytes_take : (whole n : ℕ) (bytes text rest : List ℕ) → IsBytes bytes → bytes_at whole n bytes ≡ Ok (text, rest) → Takes bytes text rest × (length text ≡ n) × IsBytes text
 unfolding bytes_at
 bytes_take whole n bytes text rest fits e =
-    let g = failed (ltb (length bytes) n) (Short (place whole bytes)) (take n bytes, drop n bytes) (text, rest) e in
+    let g = not_stopped (ltb (length bytes) n) (Short (place whole bytes)) (take n bytes, drop n bytes) (text, rest) e in
     let long : n ≤ length bytes = ltb-false _ _ g.0 in
     let len : length (take n bytes) ≡ n = omega (arith, length-take n bytes) in
     let first : Takes bytes (take n bytes) (drop n bytes) = record { parts = sym (take-append-drop n bytes); rest_fits = IsBytes-drop n bytes fits } in
     subst (λ (p : List ℕ × List ℕ). Takes bytes p.0 p.1 × (length p.0 ≡ n) × IsBytes p.0) g.1 (first, len, IsBytes-take n bytes fits)
-  where
-    failed : {A : Type 0} (b : Bool) (d : ImageFault) (x y : A) → cond b (Err d) (Ok x) ≡ Ok y → (b ≡ false) × (x ≡ y)
-    failed true d x y e = absurd cc
-    failed false d x y e = (refl, cc)
 
 pub bytes_again : (whole : ℕ) (text rest : List ℕ) → bytes_at whole (length text) (text ++ rest) ≡ Ok (text, rest)
 unfolding bytes_at
@@ -117,10 +85,10 @@ module _ (w : Width) (limit : ℕ) (wide : IsWide w limit) (whole : ℕ) where
   pub number_takes : (bytes : List ℕ) (n : ℕ) (rest : List ℕ) → IsBytes bytes → number_at w whole bytes ≡ Ok (n, rest) → Takes bytes (to_be_bytes w n) rest × IsBelow limit n
   unfolding number_at
   number_takes bytes n rest fits e =
-      let b = bind_ok (bytes_at whole (byte_len w) bytes) _ (n, rest) e in
-      let t = bytes_take whole (byte_len w) bytes b.0.0 b.0.1 fits b.1 in
-      let same : to_be_bytes w (from_be_bytes w b.0.0) ≡ b.0.0 = wide.back b.0.0 t.1 t.2 in
-      subst (λ (p : ℕ × List ℕ). Takes bytes (to_be_bytes w p.0) p.1 × IsBelow limit p.0) (ok_is (from_be_bytes w b.0.0, b.0.1) (n, rest) b.2) (rw same t.0, wide.below b.0.0 t.2)
+      let b = parted (bytes_at whole (byte_len w) bytes) _ (n, rest) e in
+      let t = bytes_take whole (byte_len w) bytes b.value.0 b.value.1 fits b.first in
+      let same : to_be_bytes w (from_be_bytes w b.value.0) ≡ b.value.0 = wide.back b.value.0 t.1 t.2 in
+      subst (λ (p : ℕ × List ℕ). Takes bytes (to_be_bytes w p.0) p.1 × IsBelow limit p.0) (same_ok (from_be_bytes w b.value.0, b.value.1) (n, rest) b.next) (rw same t.0, wide.below b.value.0 t.2)
 
   pub number_again : (n : ℕ) (rest : List ℕ) → n < limit → number_at w whole (to_be_bytes w n ++ rest) ≡ Ok (n, rest)
   unfolding number_at
@@ -143,10 +111,10 @@ module _ (w : Width) (limit : ℕ) (wide : IsWide w limit) (whole : ℕ) where
   block_takes : (bytes text rest : List ℕ) → IsBytes bytes → block_at w whole bytes ≡ Ok (text, rest) → Takes bytes (spelled text) rest × IsShort text
   unfolding block_at
   block_takes bytes text rest fits e =
-      let n = bind_ok (number_at w whole bytes) _ (text, rest) e in
-      let first = number_takes bytes n.0.0 n.0.1 fits n.1 in
-      let second = bytes_take whole n.0.0 n.0.1 text rest first.0.rest_fits n.2 in
-      let both = Takes-then bytes (to_be_bytes w n.0.0) n.0.1 text rest first.0 second.0 in
+      let n = parted (number_at w whole bytes) _ (text, rest) e in
+      let first = number_takes bytes n.value.0 n.value.1 fits n.first in
+      let second = bytes_take whole n.value.0 n.value.1 text rest first.0.rest_fits n.next in
+      let both = Takes-then bytes (to_be_bytes w n.value.0) n.value.1 text rest first.0 second.0 in
       subst (λ (k : ℕ). Takes bytes (to_be_bytes w k ++ text) rest × (k < limit)) (sym second.1) (both, first.1)
 
   pub block_again : (text rest : List ℕ) → length text < limit → block_at w whole (spelled text ++ rest) ≡ Ok (text, rest)

@@ -1,20 +1,20 @@
 -- The two laws of the whole: what is read is spelled so, and what is spelled so is read.
-use Rattle.std.proofs.Common.{◌≡◌, ℕ, ◌^◌, ◌<◌, ◌≤◌, true, cond, eqb, leb, List, [], ◌++◌, length, Result, Ok, Err, refl, sym, ap, subst, ◌∙◌, append_assoc, arith}
-use Rattle.std.specs.Prelude.{IfOk, bytes_eq}
+use Rattle.std.proofs.Common.{◌≡◌, ℕ, ◌^◌, ◌<◌, ◌≤◌, true, cond, eqb, leb, List, [], ◌++◌, length, Ok, Err, refl, sym, ap, subst, ◌∙◌, append_assoc, arith}
+use Rattle.std.specs.Prelude.{bytes_eq}
 use Rattle.std.specs.Int.{w64, to_be_bytes}
 use Rattle.std.proofs.lemmas.Bool.{eqb-true, leb-true, and_parts}
 use Rattle.std.proofs.lemmas.List.{append-nil, nil_from_length, length-append}
 use Rattle.std.proofs.lemmas.Slice.Eq.{bytes_eq-Decides}
 use Rattle.proof_base.specs.Order.{text_cmp}
+use Rattle.proof_base.specs.Reading.{◌>>=◌, passing}
+use Rattle.proof_base.proofs.Reading.{parted, same_ok, passed}
 use Rattle.s3_types.specs.Names.{is_bucket}
 use Rattle.s3_types.specs.Store.{Content}
-use Rattle.store_image.specs.declared.fault.ImageFault.{ImageFault}
 use Rattle.store_image.specs.declared.fault.ImageFault.TheVariants.{BadHead, CounterTooHigh, Trailing}
 use Rattle.store_image.specs.Image.{magic, counted, bucket, image}
-use Rattle.store_image.specs.Fault.{Gives}
 use Rattle.store_image.specs.Content.{is_minimum, is_counter, IsContent}
-use Rattle.store_image.specs.Reading.{◌>>=◌, Read, place, passing, bytes_at, number_at, name_at, bucket_at, counted_at, head_at, store_at, content_in}
-use Rattle.store_image.proofs.Steps.{IsBytes, bind_ok, ok_is, passed, bytes_take, bytes_again, Takes, Takes-then, wide64, number_takes, number_again}
+use Rattle.store_image.specs.Reading.{Read, place, bytes_at, number_at, name_at, bucket_at, counted_at, head_at, store_at, content_in}
+use Rattle.store_image.proofs.Steps.{IsBytes, bytes_take, bytes_again, Takes, Takes-then, wide64, number_takes, number_again}
 use Rattle.store_image.proofs.Spelled.{buckets_reader}
 
 -- ---- the head
@@ -29,26 +29,26 @@ record IsHead (h : ℕ × ℕ) : Type 0 where
 head_takes : (whole : ℕ) (bytes : List ℕ) (h : ℕ × ℕ) (rest : List ℕ) → IsBytes bytes → head_at whole bytes ≡ Ok (h, rest) → Takes bytes (head_text h) rest × IsHead h
 unfolding head_at
 head_takes whole bytes h rest fits e =
-    let b = bind_ok (bytes_at whole 8 bytes) _ (h, rest) e in
-    let f = bind_ok (passing (λ x. bytes_eq x magic) BadHead b.0) _ (h, rest) b.2 in
-    let n = bind_ok (number_at w64 whole f.0.1) _ (h, rest) f.2 in
-    let min = bind_ok (passing is_minimum BadHead n.0) _ (h, rest) n.2 in
-    let m = bind_ok (number_at w64 whole min.0.1) _ (h, rest) min.2 in
-    let count = bind_ok (passing is_counter CounterTooHigh m.0) _ (h, rest) m.2 in
-    let first = passed (bytes_eq b.0.0 magic) BadHead b.0 f.0 f.1 in
-    let second = passed (is_minimum n.0.0) BadHead n.0 min.0 min.1 in
-    let third = passed (is_counter m.0.0) CounterTooHigh m.0 count.0 count.1 in
-    let t = bytes_take whole 8 bytes b.0.0 b.0.1 fits b.1 in
-    let is_magic : b.0.0 ≡ magic = (bytes_eq-Decides b.0.0 magic).0 first.0 in
-    let one : Takes bytes magic f.0.1 = subst (λ (x : List ℕ × List ℕ). Takes bytes magic x.1) first.1 (subst (λ (x : List ℕ). Takes bytes x b.0.1) is_magic t.0) in
-    let u = (number_takes w64 (2 ^ 64) wide64 whole f.0.1 n.0.0 n.0.1 one.rest_fits n.1).0 in
-    let two : Takes f.0.1 (to_be_bytes w64 min.0.0) min.0.1 = subst (λ (x : ℕ × List ℕ). Takes f.0.1 (to_be_bytes w64 x.0) x.1) second.1 u in
-    let v = (number_takes w64 (2 ^ 64) wide64 whole min.0.1 m.0.0 m.0.1 two.rest_fits m.1).0 in
-    let three : Takes min.0.1 (to_be_bytes w64 count.0.0) count.0.1 = subst (λ (x : ℕ × List ℕ). Takes min.0.1 (to_be_bytes w64 x.0) x.1) third.1 v in
-    let all = Takes-then bytes (magic ++ to_be_bytes w64 min.0.0) min.0.1 (to_be_bytes w64 count.0.0) count.0.1 (Takes-then bytes magic f.0.1 (to_be_bytes w64 min.0.0) min.0.1 one two) three in
-    let minimum : is_minimum min.0.0 ≡ true = subst (λ (x : ℕ × List ℕ). is_minimum x.0 ≡ true) second.1 second.0 in
-    let counter : is_counter count.0.0 ≡ true = subst (λ (x : ℕ × List ℕ). is_counter x.0 ≡ true) third.1 third.0 in
-    subst (λ (p : (ℕ × ℕ) × List ℕ). Takes bytes (head_text p.0) p.1 × IsHead p.0) (ok_is ((min.0.0, count.0.0), count.0.1) (h, rest) count.2)
+    let b = parted (bytes_at whole 8 bytes) _ (h, rest) e in
+    let f = parted (passing (λ x. bytes_eq x magic) BadHead b.value) _ (h, rest) b.next in
+    let n = parted (number_at w64 whole f.value.1) _ (h, rest) f.next in
+    let min = parted (passing is_minimum BadHead n.value) _ (h, rest) n.next in
+    let m = parted (number_at w64 whole min.value.1) _ (h, rest) min.next in
+    let count = parted (passing is_counter CounterTooHigh m.value) _ (h, rest) m.next in
+    let first = passed (bytes_eq b.value.0 magic) BadHead b.value f.value f.first in
+    let second = passed (is_minimum n.value.0) BadHead n.value min.value min.first in
+    let third = passed (is_counter m.value.0) CounterTooHigh m.value count.value count.first in
+    let t = bytes_take whole 8 bytes b.value.0 b.value.1 fits b.first in
+    let is_magic : b.value.0 ≡ magic = (bytes_eq-Decides b.value.0 magic).0 first.0 in
+    let one : Takes bytes magic f.value.1 = subst (λ (x : List ℕ × List ℕ). Takes bytes magic x.1) first.1 (subst (λ (x : List ℕ). Takes bytes x b.value.1) is_magic t.0) in
+    let u = (number_takes w64 (2 ^ 64) wide64 whole f.value.1 n.value.0 n.value.1 one.rest_fits n.first).0 in
+    let two : Takes f.value.1 (to_be_bytes w64 min.value.0) min.value.1 = subst (λ (x : ℕ × List ℕ). Takes f.value.1 (to_be_bytes w64 x.0) x.1) second.1 u in
+    let v = (number_takes w64 (2 ^ 64) wide64 whole min.value.1 m.value.0 m.value.1 two.rest_fits m.first).0 in
+    let three : Takes min.value.1 (to_be_bytes w64 count.value.0) count.value.1 = subst (λ (x : ℕ × List ℕ). Takes min.value.1 (to_be_bytes w64 x.0) x.1) third.1 v in
+    let all = Takes-then bytes (magic ++ to_be_bytes w64 min.value.0) min.value.1 (to_be_bytes w64 count.value.0) count.value.1 (Takes-then bytes magic f.value.1 (to_be_bytes w64 min.value.0) min.value.1 one two) three in
+    let minimum : is_minimum min.value.0 ≡ true = subst (λ (x : ℕ × List ℕ). is_minimum x.0 ≡ true) second.1 second.0 in
+    let counter : is_counter count.value.0 ≡ true = subst (λ (x : ℕ × List ℕ). is_counter x.0 ≡ true) third.1 third.0 in
+    subst (λ (p : (ℕ × ℕ) × List ℕ). Takes bytes (head_text p.0) p.1 × IsHead p.0) (same_ok ((min.value.0, count.value.0), count.value.1) (h, rest) count.next)
     (all, record { minimum = minimum; counter = counter })
 
 minimum_fits : (n : ℕ) → is_minimum n ≡ true → n < 2 ^ 64
@@ -71,13 +71,13 @@ head_again whole minimum counter rest f g =
 store_takes : (whole : ℕ) (bytes : List ℕ) (c : Content) (rest : List ℕ) → IsBytes bytes → store_at whole bytes ≡ Ok (c, rest) → Takes bytes (image c) rest × IsContent c
 unfolding store_at
 store_takes whole bytes c rest fits e =
-    let h = bind_ok (head_at whole bytes) _ (c, rest) e in
-    let b = bind_ok (counted_at {R = text_cmp} w64 whole (name_at is_bucket whole) (bucket_at h.0.0.1 whole) h.0.1) _ (c, rest) h.2 in
-    let t = head_takes whole bytes h.0.0 h.0.1 fits h.1 in
-    let u = (buckets_reader h.0.0.1 (omega (arith, counter_most h.0.0.1 t.1.counter)) whole).takes h.0.1 b.0.0 b.0.1 t.0.rest_fits b.1 in
-    let all = Takes-then bytes (head_text h.0.0) h.0.1 (counted {R = text_cmp} w64 bucket b.0.0) b.0.1 t.0 u.0 in
-    let made : Content = record { buckets = b.0.0; next = h.0.0.1; minimum = h.0.0.0 } in
-    subst (λ (p : Content × List ℕ). Takes bytes (image p.0) p.1 × IsContent p.0) (ok_is (made, b.0.1) (c, rest) b.2)
+    let h = parted (head_at whole bytes) _ (c, rest) e in
+    let b = parted (counted_at {R = text_cmp} w64 whole (name_at is_bucket whole) (bucket_at h.value.0.1 whole) h.value.1) _ (c, rest) h.next in
+    let t = head_takes whole bytes h.value.0 h.value.1 fits h.first in
+    let u = (buckets_reader h.value.0.1 (omega (arith, counter_most h.value.0.1 t.1.counter)) whole).takes h.value.1 b.value.0 b.value.1 t.0.rest_fits b.first in
+    let all = Takes-then bytes (head_text h.value.0) h.value.1 (counted {R = text_cmp} w64 bucket b.value.0) b.value.1 t.0 u.0 in
+    let made : Content = record { buckets = b.value.0; next = h.value.0.1; minimum = h.value.0.0 } in
+    subst (λ (p : Content × List ℕ). Takes bytes (image p.0) p.1 × IsContent p.0) (same_ok (made, b.value.1) (c, rest) b.next)
     (all, record { minimum = t.1.minimum; counter = t.1.counter; buckets = u.1 })
 
 store_again : (whole : ℕ) (c : Content) (rest : List ℕ) → IsContent c → length (image c ++ rest) < 2 ^ 64 → store_at whole (image c ++ rest) ≡ Ok (c, rest)
@@ -92,14 +92,15 @@ store_again whole c rest is fits =
 
 -- ---- the whole
 
-content_takes : (bytes : List ℕ) (c : Content) → IsBytes bytes → content_in bytes ≡ Ok c → IsContent c × (bytes ≡ image c)
+-- what is read is a content, and the bytes are its image
+pub content_takes : (bytes : List ℕ) (c : Content) → IsBytes bytes → content_in bytes ≡ Ok c → IsContent c × (bytes ≡ image c)
 unfolding content_in
 content_takes bytes c fits e =
-    let s = bind_ok (store_at (length bytes) bytes) _ c e in
-    let g = passed (eqb (length s.0.1) 0) (Trailing (place (length bytes) s.0.1)) s.0.0 c s.2 in
-    let t = store_takes (length bytes) bytes s.0.0 s.0.1 fits s.1 in
-    let nothing : s.0.1 ≡ [] = nil_from_length s.0.1 (eqb-true _ _ g.0) in
-    let all : bytes ≡ image s.0.0 = t.0.parts ∙ ap (λ (r : List ℕ). image s.0.0 ++ r) nothing ∙ append-nil (image s.0.0) in
+    let s = parted (store_at (length bytes) bytes) _ c e in
+    let g = passed (eqb (length s.value.1) 0) (Trailing (place (length bytes) s.value.1)) s.value.0 c s.next in
+    let t = store_takes (length bytes) bytes s.value.0 s.value.1 fits s.first in
+    let nothing : s.value.1 ≡ [] = nil_from_length s.value.1 (eqb-true _ _ g.0) in
+    let all : bytes ≡ image s.value.0 = t.0.parts ∙ ap (λ (r : List ℕ). image s.value.0 ++ r) nothing ∙ append-nil (image s.value.0) in
     subst (λ (d : Content). IsContent d × (bytes ≡ image d)) g.1 (t.1, all)
 
 content_again : (c : Content) → IsContent c → length (image c) < 2 ^ 64 → content_in (image c) ≡ Ok c
@@ -110,18 +111,10 @@ content_again c is fits =
     let again : store_at whole (image c) ≡ Ok (c, []) = ap (store_at whole) same ∙ store_again whole c [] is (subst (λ (x : List ℕ). length x < 2 ^ 64) same fits) in
     ap (λ (r : Read Content). r >>= λ s. cond (eqb (length s.1) 0) (Ok s.0) (Err (Trailing (place whole s.1)))) again
 
--- what is read is a content, and the bytes are its image
-pub found : (bytes : List ℕ) (r : Result Content ImageFault) → IsBytes bytes → Gives r (content_in bytes) → IfOk r (λ c. IsContent c × (bytes ≡ image c))
-found bytes (Ok c) fits h = content_takes bytes c fits h
-found bytes (Err e) fits h = tt
-
-read_again : (bytes : List ℕ) (c : Content) → length bytes < 2 ^ 64 → IsContent c → bytes ≡ image c → content_in bytes ≡ Ok c
-read_again bytes c fits is e = ap content_in e ∙ content_again c is (subst (λ (x : List ℕ). length x < 2 ^ 64) e fits)
-
 -- the content whose image the bytes are is read
-pub only : (bytes : List ℕ) (c : Content) (r : Result Content ImageFault) → length bytes < 2 ^ 64 → IsContent c → bytes ≡ image c → Gives r (content_in bytes) → Gives r (Ok c)
-only bytes c r fits is e h = subst (Gives r) (read_again bytes c fits is e) h
+pub read_again : (bytes : List ℕ) (c : Content) → length bytes < 2 ^ 64 → IsContent c → bytes ≡ image c → content_in bytes ≡ Ok c
+read_again bytes c fits is e = ap content_in e ∙ content_again c is (subst (λ (x : List ℕ). length x < 2 ^ 64) e fits)
 
 -- bytes are the image of at most one content
 pub one : (bytes : List ℕ) (c d : Content) → length bytes < 2 ^ 64 → IsContent c → IsContent d → bytes ≡ image c → bytes ≡ image d → c ≡ d
-one bytes c d fits is are e f = ok_is c d (sym (read_again bytes c fits is e) ∙ read_again bytes d fits are f)
+one bytes c d fits is are e f = same_ok c d (sym (read_again bytes c fits is e) ∙ read_again bytes d fits are f)

@@ -6,12 +6,13 @@ use Rattle.std.specs.declared.cmp.Ordering.{Ordering}
 use Rattle.s3_types.specs.Names.{is_bucket, is_key}
 use Rattle.s3_types.specs.Multipart.{is_part_number}
 use Rattle.s3_types.specs.Store.{Upload, BucketContent, Content}
+use Rattle.s3_types.specs.declared.limits.TheConstants.{MOST_MINIMUM}
 use Rattle.s3_types.specs.declared.object.Object.{Object}
 use Rattle.store_image.specs.Image.{header}
 
 -- the minimum part is 1 to 5,242,880
 abbrev pub is_minimum : ℕ → Bool
-is_minimum n = nat_le 1 n && nat_le n 5242880
+is_minimum n = nat_le 1 n && nat_le n MOST_MINIMUM
 
 -- the counter is 1 to 2^62
 abbrev pub is_counter : ℕ → Bool

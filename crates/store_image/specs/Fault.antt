@@ -1,5 +1,6 @@
 -- Faults of an image by their numbers and places, and what a call returned of what reading gives.
-use Rattle.std.specs.Prelude.{◌≡◌, ℕ, Result, Ok, Err}
+use Rattle.std.specs.Prelude.{ℕ, Bool, true, false, Result}
+use Rattle.proof_base.specs.Reading as reading
 use Rattle.store_image.specs.declared.fault.ImageFault.{ImageFault}
 use Rattle.store_image.specs.declared.fault.ImageFault.TheVariants.{BadHead, Short, BadOrder, BadName, CounterTooHigh, Trailing, NoMemory}
 
@@ -23,21 +24,15 @@ place_in CounterTooHigh = 0
 place_in (Trailing place) = place
 place_in NoMemory = 0
 
--- a fault stands for P, unless memory ran out
-abbrev pub IfNotMemory : ImageFault → Type 0 → Type 0
-IfNotMemory BadHead P = P
-IfNotMemory (Short place) P = P
-IfNotMemory (BadOrder place) P = P
-IfNotMemory (BadName place) P = P
-IfNotMemory CounterTooHigh P = P
-IfNotMemory (Trailing place) P = P
-IfNotMemory NoMemory P = Unit {0}
+-- want of memory
+abbrev pub wanting : ImageFault → Bool
+wanting NoMemory = true
+wanting fault = false
 
 -- what a call returned, seen by a view, is what reading gives, unless memory ran out
 abbrev pub GivesBy : {A B : Type 0} → (A → B) → Result A ImageFault → Result B ImageFault → Type 0
-GivesBy view (Ok x) read = read ≡ Ok (view x)
-GivesBy view (Err e) read = IfNotMemory e (read ≡ Err e)
+GivesBy view result read = reading.GivesBy wanting view result read
 
 -- what a call returned is what reading gives, unless memory ran out
 abbrev pub Gives : {A : Type 0} → Result A ImageFault → Result A ImageFault → Type 0
-Gives result read = GivesBy (λ x. x) result read
+Gives result read = reading.Gives wanting result read

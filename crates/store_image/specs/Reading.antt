@@ -5,6 +5,8 @@ use Rattle.std.specs.Int.{Width, w16, w64, byte_len, from_be_bytes}
 use Rattle.std.specs.Ordering.{is_lt, nat_cmp}
 use Rattle.std.specs.declared.cmp.Ordering.{Ordering}
 use Rattle.proof_base.specs.Order.{text_cmp}
+use Rattle.proof_base.specs.Reading as reading
+use Rattle.proof_base.specs.Reading.{◌>>=◌, made, passing}
 use Rattle.s3_types.specs.Names.{is_bucket, is_key}
 use Rattle.s3_types.specs.Multipart.{is_part_number}
 use Rattle.s3_types.specs.Store.{Parts, Upload, BucketContent, Content}
@@ -14,27 +16,13 @@ use Rattle.store_image.specs.Content.{is_minimum, is_counter, is_id}
 use Rattle.store_image.specs.declared.fault.ImageFault.{ImageFault}
 use Rattle.store_image.specs.declared.fault.ImageFault.TheVariants.{BadHead, Short, BadOrder, BadName, CounterTooHigh, Trailing}
 
--- one step after another, until the first fault
-infixl 10 ◌>>=◌
-abbrev pub ◌>>=◌ : {A B : Type 0} → Result A ImageFault → (A → Result B ImageFault) → Result B ImageFault
-(Ok x) >>= f = f x
-(Err e) >>= f = Err e
-
 -- a value with what is left after it, or a fault
 abbrev pub Read : Type 0 → Type 0
-Read A = Result (A × List ℕ) ImageFault
-
--- what a function makes of the value
-abbrev pub made : {A B : Type 0} → (A → B) → Read A → Read B
-made f read = read >>= λ x. Ok (f x.0, x.1)
+Read A = reading.Read ImageFault A
 
 -- the place of what is left
 abbrev pub place : ℕ → List ℕ → ℕ
 place whole rest = whole - length rest
-
--- a value that passes a test, or this fault
-abbrev pub passing : {A : Type 0} → (A → Bool) → ImageFault → A × List ℕ → Read A
-passing test fault x = if test x.0 then Ok x else Err fault
 
 -- so many bytes, which are one field
 unfoldable pub bytes_at : ℕ → ℕ → List ℕ → Read (List ℕ)

@@ -2,10 +2,12 @@ ghost use Rattle.std.specs.Prelude.{◌≡◌};
 ghost use Rattle.store_image.specs.Fault.{number_of, place_in};
 ghost use Rattle.store_image.specs.declared.fault.ImageFault.TheVariants.{NoMemory};
 
-use std::alloc::{AllocError, AllocFailed};
+use std::alloc::AllocError;
+use thiserror::Error;
 
 /// Why bytes are no image: the first fault from left to right, with its place in bytes from the start.
-#[derive(Clone, Copy, Debug, PartialEq, Eq)]
+#[derive(Clone, Copy, Debug, PartialEq, Eq, Error)]
+#[error("image fault {number} at {place}", number = self.number(), place = self.place())]
 pub enum ImageFault {
     /// The first 8 bytes are not `S3AIMG01`, or the minimum is not 1 to 5,242,880.
     BadHead,
@@ -59,14 +61,6 @@ impl From<AllocError> for ImageFault {
     ghost from_gives = { λ _ e. e ≡ NoMemory };
 
     fn from(_e: AllocError) -> ImageFault {
-        ImageFault::NoMemory
-    }
-}
-
-impl<T: Drop> From<AllocFailed<T>> for ImageFault {
-    ghost from_gives = { λ _ e. e ≡ NoMemory };
-
-    fn from(_e: AllocFailed<T>) -> ImageFault {
         ImageFault::NoMemory
     }
 }

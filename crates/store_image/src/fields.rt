@@ -10,7 +10,7 @@ ghost use Rattle.store_image.specs.Content.{is_minimum, is_counter, is_id};
 ghost use Rattle.store_image.specs.Reading.{place, bytes_at, number_at, block_at, is_after, name_at, id_at, part_number_at, object_at, head_at, header_in};
 
 use crate::fault::ImageFault;
-use s3_types::{Bucket, Bytes, Key, LengthHeader, NameFault};
+use s3_types::{Bucket, Bytes, Key, LengthHeader, MOST_MINIMUM, MOST_PARTS, NameFault};
 use std::alloc::Global;
 use std::cmp::Ordering;
 
@@ -182,7 +182,7 @@ pub fn part_number_of(
     if !number_follows(last, u64::from(number)) {
         return Err(ImageFault::BadOrder(place_of(whole, bytes)));
     }
-    if !(1 <= number && number <= 10_000) {
+    if !(1 <= number && u32::from(number) <= MOST_PARTS) {
         return Err(ImageFault::BadOrder(place_of(whole, bytes)));
     }
     Ok((number, rest))
@@ -210,7 +210,7 @@ pub fn head_of(whole: u64, bytes: &[u8]) -> Result<((u64, u64), &[u8]), ImageFau
         return Err(ImageFault::BadHead);
     }
     let (minimum, rest) = u64_of(whole, rest)?;
-    if !(1 <= minimum && minimum <= 5_242_880) {
+    if !(1 <= minimum && minimum <= MOST_MINIMUM) {
         return Err(ImageFault::BadHead);
     }
     let (counter, rest) = u64_of(whole, rest)?;

@@ -5,8 +5,6 @@
 mod fault;
 mod fields;
 mod reading;
-#[cfg(test)]
-mod tests;
 mod writing;
 
 pub use fault::ImageFault;

@@ -2,6 +2,7 @@ ghost use Rattle.std.specs.Prelude.{◌≡◌, ◌<◌, ◌≤◌, ◌^◌, ℕ,
 ghost use Rattle.std.specs.FinMap as fin;
 ghost use Rattle.std.specs.Int.{w64};
 ghost use Rattle.std.specs.Ordering.{nat_cmp};
+ghost use Rattle.proof_base.specs.Reading.{made};
 ghost use Rattle.s3_types.specs.Store.{Content};
 ghost use Rattle.s3_types.specs.Names.{is_bucket, is_key};
 ghost use Rattle.s3_types.specs.Multipart.{live, is_part_number};
@@ -10,7 +11,7 @@ ghost use Rattle.s3_service.specs.Ids.{IsFresh};
 ghost use Rattle.store_image.specs.Image.{image};
 ghost use Rattle.store_image.specs.Content.{IsContent};
 ghost use Rattle.store_image.specs.Fault.{Gives, GivesBy};
-ghost use Rattle.store_image.specs.Reading.{made, block_at, name_at, id_at, part_number_at, map_at, object_at, upload_at, bucket_at, store_at, content_in};
+ghost use Rattle.store_image.specs.Reading.{block_at, name_at, id_at, part_number_at, map_at, object_at, upload_at, bucket_at, store_at, content_in};
 
 use crate::fault::ImageFault;
 use crate::fields::{

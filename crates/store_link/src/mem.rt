@@ -4,7 +4,7 @@ ghost use Rattle.s3_types.specs.Answer.{answer, apply};
 ghost use Rattle.s3_types.specs.declared.fates.Fate.TheVariants.{Answer};
 ghost use Rattle.cluster_fs.specs.Cluster.{beside};
 
-use cluster_fs::{Cluster, is_cluster_request};
+use cluster_fs::Cluster;
 use s3_service::Service;
 use s3_types::{ObjectStore, Outcome, Reply, Request};
 use std::alloc::{AllocError, Global};
@@ -44,7 +44,7 @@ fn answered(
     ensures service { OnErr result (service.new ≡ service.old) }
     ensures cluster { OnErr result (cluster.new ≡ cluster.old) }
 {
-    if is_cluster_request(request) {
+    if request.is_cluster() {
         cluster.apply(request)
     } else {
         service.apply(request)

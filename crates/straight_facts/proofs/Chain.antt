@@ -17,10 +17,10 @@ use Rattle.s3_types.specs.declared.reply.Refusal.TheVariants.{NoSuchKey}
 use Rattle.s3_types.specs.declared.journal.Entry.{Entry}
 use Rattle.path_keys.specs.Paths.{below}
 use Rattle.magic_paths.specs.Layout as layout
-use Rattle.job_model.specs.View.{Shown, is_folder, is_file_path, view, object_at}
-use Rattle.job_model.specs.Outputs.{Picks}
-use Rattle.job_model.specs.Replay.{Seen, see, nothing_seen, is_driver, is_marking, begins_commit}
-use Rattle.job_model.specs.Headline.{mark_text}
+use Rattle.straight_model.specs.View.{Shown, is_folder, is_file_path, view, object_at}
+use Rattle.straight_model.specs.Outputs.{Picks}
+use Rattle.straight_model.specs.Replay.{Seen, see, nothing_seen, is_driver, is_marking, begins_commit}
+use Rattle.straight_model.specs.Headline.{mark_text}
 use Rattle.first_form.specs.declared.form.Form.{Form}
 use Rattle.first_form.specs.Form.{is_file_name, is_file_byte}
 use Rattle.first_form.specs.Scripted.{form_script, the_attempt}
@@ -67,18 +67,18 @@ module _ (f : Form) (some : 1 ≤ length f.dest.key) where
   numbers = decimal 0 ++ (codes "_" ++ (decimal 0 ++ codes "/__base"))
 
   abbrev attempt_path : List ℕ → List ℕ
-  attempt_path p = (codes "__magic/tasks/" ++ numbers) ++ 47 ∷ p
+  attempt_path p = (codes "__magic/job-" ++ (f.job ++ (codes "/tasks/" ++ numbers))) ++ 47 ∷ p
 
-  some_dir : 1 ≤ length (layout.attempt_key f.dest.key 0 0)
+  some_dir : 1 ≤ length (layout.attempt_key f.dest.key f.job 0 0)
   some_dir = simp length-append (omega (arith, some))
 
-  in_attempt : (p : List ℕ) → below (layout.attempt_key f.dest.key 0 0) p ≡ below f.dest.key (attempt_path p)
-  in_attempt p = below_is (layout.attempt_key f.dest.key 0 0) p some_dir ∙ append_assoc f.dest.key (codes "/__magic/tasks/" ++ numbers) (47 ∷ p) ∙ sym (below_is f.dest.key (attempt_path p) some)
+  in_attempt : (p : List ℕ) → below (layout.attempt_key f.dest.key f.job 0 0) p ≡ below f.dest.key (attempt_path p)
+  in_attempt p = below_is (layout.attempt_key f.dest.key f.job 0 0) p some_dir ∙ append_assoc f.dest.key (codes "/__magic/job-" ++ (f.job ++ (codes "/tasks/" ++ numbers))) (47 ∷ p) ∙ sym (below_is f.dest.key (attempt_path p) some)
 
   abbrev set_path : List ℕ
-  set_path = codes "__magic/sets/task_" ++ (decimal 0 ++ codes ".pendingset")
+  set_path = codes "__magic/job-" ++ (f.job ++ (codes "/sets/task_" ++ (decimal 0 ++ codes ".pendingset")))
 
-  in_sets : layout.set_key f.dest.key 0 ≡ below f.dest.key set_path
+  in_sets : layout.set_key f.dest.key f.job 0 ≡ below f.dest.key set_path
   in_sets = sym (below_is f.dest.key set_path some)
 
   at_success : layout.success_key f.dest.key ≡ below f.dest.key (codes "_SUCCESS")
@@ -96,7 +96,7 @@ module _ (f : Form) (some : 1 ≤ length f.dest.key) where
 
   with_set_shows : (p : List ℕ) → shows f.dest.key (with_set f) p ≡ None
   unfolding with_set
-  with_set_shows p = hidden f.dest.key set_path (layout.set_key f.dest.key 0) (with_record f) _ some in_sets (magic_hidden set_path refl) p ∙ with_record_shows p
+  with_set_shows p = hidden f.dest.key set_path (layout.set_key f.dest.key f.job 0) (with_record f) _ some in_sets (magic_hidden set_path refl) p ∙ with_record_shows p
 
   module _ (file : is_file_path f.path ≡ true) where
     with_file_shows : (p : List ℕ) → shows f.dest.key (with_file f) p ≡ file_alone f p
@@ -233,14 +233,14 @@ module _ (f : Form) (some : 1 ≤ length f.dest.key) (file : is_file_path f.path
   unfolding fetch_request
   stage10 s h l = (
     early f (opening_of f) (opening_shows f) s (shown_of f s (c10 f) nothing h.content v10) h.begun h.put_mark,
-    stage11 (see (form_script f) (Some 4) s (by 4 Driver (fetch_request f) (Found (set_text f) None))) (commit_step f (c10 f) (c10 f) s (fetch_request f) (Found (set_text f) None) Driver h (step11 f) refl refl (rw (text_same f.dest.bucket, text_same (layout.set_key f.dest.key 0)) l)),
+    stage11 (see (form_script f) (Some 4) s (by 4 Driver (fetch_request f) (Found (set_text f) None))) (commit_step f (c10 f) (c10 f) s (fetch_request f) (Found (set_text f) None) Driver h (step11 f) refl refl (rw (text_same f.dest.bucket, text_same (layout.set_key f.dest.key f.job 0)) l)),
   )
 
   stage9 : (s : Seen) → Before f (c7 f) s → Chain f s from10
   unfolding set_request
   stage9 s h = (
     early f (opening_of f) (opening_shows f) s (shown_of f s (c7 f) nothing h.content v7) h.begun h.put_mark,
-    stage10 (see (form_script f) (Some 4) s (by 3 the_attempt (set_request f) (Stored (plain_tag (set_text f))))) (before_step f (c7 f) (c10 f) s 3 the_attempt (set_request f) (Stored (plain_tag (set_text f))) h (step10 f) refl refl) (rw (text_same f.dest.bucket, text_same (layout.set_key f.dest.key 0)) refl),
+    stage10 (see (form_script f) (Some 4) s (by 3 the_attempt (set_request f) (Stored (plain_tag (set_text f))))) (before_step f (c7 f) (c10 f) s 3 the_attempt (set_request f) (Stored (plain_tag (set_text f))) h (step10 f) refl refl) (rw (text_same f.dest.bucket, text_same (layout.set_key f.dest.key f.job 0)) refl),
   )
 
   stage8 : (s : Seen) → Before f (c7 f) s → Chain f s from9

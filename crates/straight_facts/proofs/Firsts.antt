@@ -12,9 +12,9 @@ use Rattle.s3_types.specs.declared.journal.Outcome.{Outcome}
 use Rattle.s3_types.specs.declared.journal.Outcome.TheVariants.{Answered, Slow, RequestLost, ReplyLost}
 use Rattle.s3_types.specs.declared.request.Actor.{Actor}
 use Rattle.s3_types.specs.declared.journal.Entry.{Entry}
-use Rattle.job_model.specs.Commits.{Sets}
-use Rattle.job_model.specs.Follows.{Setting, Running, Follows, step, AllRead, AllUpTo}
-use Rattle.job_model.specs.Turns.{AllFrom, IsRising}
+use Rattle.straight_model.specs.Commits.{Sets}
+use Rattle.straight_model.specs.Follows.{Setting, Running, Follows, step, AllRead, AllUpTo}
+use Rattle.straight_model.specs.Turns.{AllFrom, IsRising}
 use Rattle.job_model.specs.JobScript.{Script}
 
 pub first_follow : (g : Setting) (a : Actor) (m : Running) (es : List Entry) (n : ℕ) → Follows g a m es → Follows g a m (take n es)

@@ -8,11 +8,11 @@ use Rattle.s3_types.specs.declared.journal.Entry.{Entry}
 use Rattle.magic_paths.specs.Layout as layout
 use Rattle.pending_json.specs.Trees.{set_tree}
 use Rattle.job_model.specs.Files.{File}
-use Rattle.job_model.specs.Knowledge.{Known, knows}
-use Rattle.job_model.specs.Operations.{Setup, Heading, SetupOver, Task, Creating, Sending, Looking, Reading, TaskOver, Who, sending, looked, looked_at, least_missing, has_key, in_order, reading, set_of, drawn_for, keys_on, pending_of}
-use Rattle.job_model.specs.Operations as operations
-use Rattle.job_model.specs.Commits.{Fetching}
-use Rattle.job_model.specs.Follows.{Setting, Running, Operation, TheSetup, TheTask, TheCommit, Follows, feed, over_of, asks}
+use Rattle.straight_model.specs.Knowledge.{Known, knows}
+use Rattle.straight_model.specs.Operations.{Setup, Heading, SetupOver, Task, Creating, Sending, Looking, Reading, TaskOver, sending, looked, looked_at, least_missing, has_key, in_order, reading, set_of, drawn_for, keys_on, pending_of}
+use Rattle.straight_model.specs.Operations as operations
+use Rattle.straight_model.specs.Commits.{Fetching}
+use Rattle.straight_model.specs.Follows.{Setting, Running, Operation, TheSetup, TheTask, TheCommit, Follows, feed, over_of, asks}
 use Rattle.job_model.specs.declared.ends.OpEnd.TheVariants as ends
 use Rattle.job_model.specs.declared.ends.SetupEnd.TheVariants as setups
 use Rattle.job_model.specs.declared.ends.TaskEnd.TheVariants as tasks
@@ -83,7 +83,7 @@ module _ (f : Form) (some : 1 ≤ length f.dest.key) where
   same_key = text_same (record_key f)
 
   -- the record is listed, so that it is read
-  looks : looked_at (least_missing the_keys (record_key f ∷ [])) (in_order f.dest the_who the_files the_keys) ≡ Reading the_files (file_of f) []
+  looks : looked_at (least_missing the_keys (record_key f ∷ [])) (in_order f.dest f.job the_who the_files the_keys) ≡ Reading the_files (file_of f) []
   looks = rw (other_key, same_key) refl
 
   drawn_here : drawn_for (drawn_of f ∷ []) (file_key f) ≡ drawn_of f
@@ -91,7 +91,7 @@ module _ (f : Form) (some : 1 ≤ length f.dest.key) where
 
   asks_set : asks (setting f) the_attempt (drawn_of f ∷ []) (TheTask (operations.Publishing the_files)) ≡ Some (set_request f)
   unfolding set_request set_text
-  asks_set = ap (λ d. Some (PutObject f.dest.bucket (layout.set_key f.dest.key 0) (compact_text (set_tree (record { job = f.job; task = 0; attempt = 0; commits = pending_of f.dest the_who (file_of f) d ∷ [] }))) None)) drawn_here
+  asks_set = ap (λ d. Some (PutObject f.dest.bucket (layout.set_key f.dest.key f.job 0) (compact_text (set_tree (record { job = f.job; task = 0; attempt = 0; commits = pending_of f.dest the_who (file_of f) d ∷ [] }))) None)) drawn_here
 
   abbrev looked_now : Task → Running
   looked_now t = at (TheTask t) (drawn_of f ∷ [])

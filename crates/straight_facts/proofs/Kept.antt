@@ -10,10 +10,10 @@ use Rattle.s3_types.specs.declared.request.Request.{Request}
 use Rattle.s3_types.specs.declared.reply.Reply.{Reply}
 use Rattle.s3_types.specs.declared.journal.Entry.{Entry}
 use Rattle.magic_paths.specs.Layout as layout
-use Rattle.job_model.specs.View.{Shown, view, object_at}
-use Rattle.job_model.specs.Outputs.{Picks, wanted_at, files_picked, is_decided, is_picked, is_clash, has_twice, done, keeps, or_else}
-use Rattle.job_model.specs.Replay.{Seen, see, see_all, is_driver, is_marking, begins_commit}
-use Rattle.job_model.specs.Headline.{Between, Kept, mark_text}
+use Rattle.straight_model.specs.View.{Shown, view, object_at}
+use Rattle.straight_model.specs.Outputs.{Picks, wanted_at, files_picked, is_decided, is_picked, is_clash, has_twice, done, keeps, or_else}
+use Rattle.straight_model.specs.Replay.{Seen, see, see_all, is_driver, is_marking, begins_commit}
+use Rattle.straight_model.specs.Headline.{Between, Kept, mark_text}
 use Rattle.job_model.specs.JobScript.{Script}
 use Rattle.first_form.specs.declared.form.Form.{Form}
 use Rattle.first_form.specs.Scripted.{form_script}

@@ -8,7 +8,7 @@ use Rattle.s3_types.specs.declared.request.Request.{Request}
 use Rattle.s3_types.specs.declared.request.Request.TheVariants.{MakeBucket, PutObject, GetObject, HeadObject, DeleteObject, DeleteObjects, CopyObject, ListPage, CreateUpload, UploadPart, CompleteUpload, AbortUpload, ListParts, ListUploads, ClusterPut, ClusterRename, ClusterGet, ClusterDelete, ClusterList}
 use Rattle.s3_types.specs.declared.request.NamedPart.{NamedPart}
 use Rattle.s3_types.specs.declared.reply.Reply.{Reply}
-use Rattle.s3_service.specs.Named.{is_store}
+use Rattle.straight_facts.specs.Sendings.{is_store}
 use Rattle.straight_facts.specs.Sendings.{reply_to, store_after}
 use Rattle.straight_facts.proofs.Maps.{get_put, put_twice, text_exact}
 

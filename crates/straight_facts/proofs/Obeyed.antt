@@ -5,9 +5,9 @@ use Rattle.std.proofs.lemmas.Bool.Decides.{nat_tests}
 use Rattle.s3_types.specs.declared.request.Actor.{Actor}
 use Rattle.s3_types.specs.declared.request.Actor.TheVariants.{Driver, Attempt, Shell}
 use Rattle.s3_types.specs.declared.journal.Entry.{Entry}
-use Rattle.job_model.specs.States.{Doing, Past, past, after_event}
-use Rattle.job_model.specs.Turns.{by_actor, is_busy}
-use Rattle.job_model.specs.Follows.{OpFollows, Obeyed}
+use Rattle.straight_model.specs.States.{Doing, Past, past, after_event}
+use Rattle.straight_model.specs.Turns.{by_actor, is_busy}
+use Rattle.straight_model.specs.Follows.{OpFollows, Obeyed}
 use Rattle.job_model.specs.declared.events.Op.TheVariants as ops
 use Rattle.job_model.specs.declared.events.Event.TheVariants.{Do}
 use Rattle.job_model.specs.declared.ends.OpEnd.{OpEnd}

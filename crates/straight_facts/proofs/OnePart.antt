@@ -2,7 +2,7 @@
 use Rattle.std.proofs.Common.{◌≡◌, ◌≤◌, ℕ, ◌+◌, ◌/◌, List, [], ◌∷◌, length, ap, ◌∙◌, arith}
 use Rattle.std.proofs.lemmas.Bool.Decides.{nat_tests}
 use Rattle.std.proofs.lemmas.List.{take_all}
-use Rattle.job_model.specs.Blocks.{quotient_up, greater, block_of, blocks, parts_of}
+use Rattle.s3_types.specs.Blocks.{quotient_up, greater, block_of, blocks, parts_of}
 
 is_greater : (a b : ℕ) → b ≤ a → greater a b ≡ a
 is_greater a b h = grind (arith, nat_tests)

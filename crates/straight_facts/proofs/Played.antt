@@ -4,11 +4,11 @@ use Rattle.std.proofs.lemmas.Bool.{false≢true}
 use Rattle.s3_types.specs.declared.request.Actor.{Actor}
 use Rattle.s3_types.specs.declared.request.Actor.TheVariants.{Driver, Attempt, Shell}
 use Rattle.s3_types.specs.declared.journal.Entry.{Entry}
-use Rattle.job_model.specs.States.{Doing, past, open_event}
-use Rattle.job_model.specs.Turns.{until, by_actor, IsRising}
-use Rattle.job_model.specs.Commits.{Sets, Shares, picks_of, Fetching}
-use Rattle.job_model.specs.Operations.{Heading, Creating, Looking}
-use Rattle.job_model.specs.Follows.{TheSetup, TheTask, TheCommit, Follows, OpFollows, Obeyed, AllObeyed, Unended, AllRead, AllUpTo, Plays}
+use Rattle.straight_model.specs.States.{Doing, past, open_event}
+use Rattle.straight_model.specs.Turns.{until, by_actor, IsRising}
+use Rattle.straight_model.specs.Commits.{Sets, Shares, picks_of, Fetching}
+use Rattle.straight_model.specs.Operations.{Heading, Creating, Looking}
+use Rattle.straight_model.specs.Follows.{TheSetup, TheTask, TheCommit, Follows, OpFollows, Obeyed, AllObeyed, Unended, AllRead, AllUpTo, Plays}
 use Rattle.job_model.specs.declared.events.Op.TheVariants as ops
 use Rattle.job_model.specs.declared.events.Event.{Event}
 use Rattle.job_model.specs.declared.events.Event.TheVariants.{Do}

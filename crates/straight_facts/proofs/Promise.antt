@@ -7,17 +7,17 @@ use Rattle.s3_types.specs.Moment.{effect, after_all, moment, IsHonest}
 use Rattle.s3_types.specs.declared.journal.Outcome.TheVariants.{Answered}
 use Rattle.s3_types.specs.declared.journal.Entry.{Entry}
 use Rattle.magic_paths.specs.Layout as layout
-use Rattle.job_model.specs.View.{object_at}
-use Rattle.job_model.specs.Outputs.{is_clash}
-use Rattle.job_model.specs.Replay.{Seen, see, see_all, nothing_seen, is_marked}
-use Rattle.job_model.specs.Headline.{Kept}
-use Rattle.job_model.specs.States.{commit_event}
-use Rattle.job_model.specs.Follows.{Plays}
-use Rattle.job_model.specs.Fate.{fate, AreFated}
+use Rattle.straight_model.specs.View.{object_at}
+use Rattle.straight_model.specs.Outputs.{is_clash}
+use Rattle.straight_model.specs.Replay.{Seen, see, see_all, nothing_seen, is_marked}
+use Rattle.straight_model.specs.Headline.{Kept}
+use Rattle.straight_model.specs.States.{commit_event}
+use Rattle.straight_model.specs.Follows.{Plays}
+use Rattle.straight_model.specs.Fate.{fate, AreFated}
 use Rattle.s3_types.specs.Fates.{fate_or}
 use Rattle.std.specs.FinMap.{get-empty}
 use Rattle.std.specs.Ordering.{nat_cmp}
-use Rattle.job_model.specs.Promise.{verdict, picks_below, picked, all_picks, commit_end, is_mark_answered, ArePicked, CommitEnded, Promised, Finished}
+use Rattle.straight_model.specs.Promise.{verdict, picks_below, picked, all_picks, commit_end, is_mark_answered, ArePicked, CommitEnded, Promised, Finished}
 use Rattle.job_model.specs.JobScript.{Script}
 use Rattle.job_model.specs.declared.ends.Pick.{Pick}
 use Rattle.job_model.specs.declared.ends.EventEnd.{EventEnd}
@@ -134,7 +134,7 @@ module _ (f : Form) (h : IsForm f) where
 
   last_pick : (see_all w (Some 4) start all).picks 0 ≡ Some 0
   unfolding head_request clear_request list_request create_request part_request marker_request record_request look_request read_request set_request fetch_request complete_request success_request
-  last_pick = rw (text_same f.dest.bucket, text_same (layout.set_key f.dest.key 0)) refl
+  last_pick = rw (text_same f.dest.bucket, text_same (layout.set_key f.dest.key f.job 0)) refl
 
   last_marked : (see_all w (Some 4) start all).put_mark ≡ true
   unfolding head_request clear_request list_request create_request part_request marker_request record_request look_request read_request set_request fetch_request complete_request success_request

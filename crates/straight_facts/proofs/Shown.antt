@@ -12,7 +12,7 @@ use Rattle.s3_types.specs.Store.{Objects, Uploads}
 use Rattle.s3_types.specs.Pages.{begins}
 use Rattle.s3_types.specs.declared.object.Object.{Object}
 use Rattle.path_keys.specs.Paths.{Path, below}
-use Rattle.job_model.specs.View.{Shown, is_folder, is_file_path, object_in, object_at, view}
+use Rattle.straight_model.specs.View.{Shown, is_folder, is_file_path, object_in, object_at, view}
 use Rattle.straight_facts.proofs.Maps.{get_put, get_other, text_exact, text_same}
 use Rattle.straight_facts.proofs.Texts.{below_is}
 use Rattle.straight_facts.proofs.Lone.{lone, at_lone}

@@ -54,7 +54,7 @@ module _ (f : Form) where
   with_record = insert with_marker (record_key f) (plain (record_text f))
 
   unfoldable pub with_set : Objects
-  with_set = insert with_record (layout.set_key f.dest.key 0) (plain (set_text f))
+  with_set = insert with_record (layout.set_key f.dest.key f.job 0) (plain (set_text f))
 
   unfoldable pub with_file : Objects
   with_file = insert with_set (file_key f) (plain f.bytes)
@@ -108,7 +108,7 @@ module _ (f : Form) where
 
   pub step3 : Step c0 (list_request f) (Page [] false) c0
   unfolding list_request
-  step3 = said c0 c0 c0 _ _ _ (list_step f.dest.bucket new_bucket 1 (layout.magic_prefix f.dest.key) [] false 1000) (nothing_listed (layout.magic_prefix f.dest.key)) refl
+  step3 = said c0 c0 c0 _ _ _ (list_step f.dest.bucket new_bucket 1 (layout.magic_prefix f.dest.key f.job) [] false 1000) (nothing_listed (layout.magic_prefix f.dest.key f.job)) refl
 
   -- ---- the attempt's write
 
@@ -149,14 +149,14 @@ module _ (f : Form) where
 
   pub step10 : Step c7 (set_request f) (Stored (plain_tag (set_text f))) c10
   unfolding set_request with_set
-  step10 = put_step f.dest.bucket (record { objects = with_record; uploads = live_sent }) 2 (layout.set_key f.dest.key 0) (set_text f) None
+  step10 = put_step f.dest.bucket (record { objects = with_record; uploads = live_sent }) 2 (layout.set_key f.dest.key f.job 0) (set_text f) None
 
   -- ---- the job's commit
 
   pub step11 : Step c10 (fetch_request f) (Found (set_text f) None) c10
   unfolding fetch_request with_set
-  step11 = said c10 c10 c10 _ _ _ (get_step f.dest.bucket (record { objects = with_set; uploads = live_sent }) 2 (layout.set_key f.dest.key 0))
-      (ap found (get_put text_total with_record (layout.set_key f.dest.key 0) (plain (set_text f)))) refl
+  step11 = said c10 c10 c10 _ _ _ (get_step f.dest.bucket (record { objects = with_set; uploads = live_sent }) 2 (layout.set_key f.dest.key f.job 0))
+      (ap found (get_put text_total with_record (layout.set_key f.dest.key f.job 0) (plain (set_text f)))) refl
 
   pub step13 : Step c12 (success_request f) (Stored (plain_tag (marker_text f))) c13
   unfolding success_request with_success
@@ -194,7 +194,7 @@ two_listed p m r x y o e a b c d g =
 
 module _ (f : Form) (some : 1 ≤ length f.dest.key) where
   abbrev the_dir : List ℕ
-  the_dir = layout.attempt_key f.dest.key 0 0
+  the_dir = layout.attempt_key f.dest.key f.job 0 0
 
   some_dir : 1 ≤ length the_dir
   some_dir = simp length-append (omega (arith, some))

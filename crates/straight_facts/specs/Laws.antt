@@ -2,7 +2,7 @@
 use Rattle.std.specs.Prelude.{◌≡◌, List, length}
 use Rattle.s3_types.specs.Moment.{moment}
 use Rattle.s3_types.specs.declared.journal.Entry.{Entry}
-use Rattle.job_model.specs.Promise.{verdict, Promised, Finished}
+use Rattle.straight_model.specs.Promise.{verdict, Promised, Finished}
 use Rattle.job_model.specs.declared.ends.Pick.{Pick}
 use Rattle.job_model.specs.declared.ends.EventEnd.{EventEnd}
 use Rattle.first_form.specs.declared.form.Form.{Form}

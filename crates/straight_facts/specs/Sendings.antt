@@ -1,12 +1,17 @@
 -- Sendings that are answered, one after the other.
-use Rattle.std.specs.Prelude.{◌≡◌, ℕ, List, [], ◌∷◌, ◌++◌, take}
+use Rattle.std.specs.Prelude.{◌≡◌, ℕ, Bool, not, List, [], ◌∷◌, ◌++◌, take}
 use Rattle.s3_types.specs.Store.{Content}
+use Rattle.s3_types.specs.Requests.{is_cluster}
 use Rattle.s3_types.specs.Answer.{answer_store, apply_store}
 use Rattle.s3_types.specs.declared.request.Actor.{Actor}
 use Rattle.s3_types.specs.declared.request.Request.{Request}
 use Rattle.s3_types.specs.declared.reply.Reply.{Reply}
 use Rattle.s3_types.specs.declared.journal.Outcome.TheVariants.{Answered}
 use Rattle.s3_types.specs.declared.journal.Entry.{Entry}
+
+-- a request is the store's and not the cluster's
+abbrev pub is_store : Request → Bool
+is_store r = not (is_cluster r)
 
 -- what the store answers, and what it leaves
 unfoldable pub reply_to : Content → Request → Reply

@@ -12,11 +12,12 @@ use Rattle.magic_paths.specs.Layout as layout
 use Rattle.pending_json.specs.Pending.{Pending}
 use Rattle.pending_json.specs.Trees.{pending_tree, set_tree}
 use Rattle.pending_json.specs.declared.records.PendingSet.{PendingSet}
+use Rattle.job_model.specs.Attempts.{Who}
 use Rattle.job_model.specs.Files.{File}
-use Rattle.job_model.specs.Knowledge.{Drawn}
-use Rattle.job_model.specs.Operations as ops
-use Rattle.job_model.specs.Headline.{mark_text}
-use Rattle.job_model.specs.Outputs.{Picks}
+use Rattle.straight_model.specs.Knowledge.{Drawn}
+use Rattle.straight_model.specs.Operations as ops
+use Rattle.straight_model.specs.Headline.{mark_text}
+use Rattle.straight_model.specs.Outputs.{Picks}
 use Rattle.first_form.specs.declared.form.Form.{Form}
 use Rattle.first_form.specs.Scripted.{form_script, the_attempt}
 use Rattle.straight_facts.specs.Sendings.{told, left}
@@ -31,7 +32,7 @@ opening_of f = opening_at f.dest.bucket
 abbrev pub file_of : Form → File
 file_of f = (f.path, f.bytes)
 
-abbrev pub the_who : ops.Who
+abbrev pub the_who : Who
 the_who = record { task = 0; attempt = 0 }
 
 -- the keys of the file, its marker and its record, and what the attempt's keys begin with
@@ -39,13 +40,13 @@ abbrev pub file_key : Form → List ℕ
 file_key f = ops.file_key f.dest (file_of f)
 
 abbrev pub marker_key : Form → List ℕ
-marker_key f = ops.marker_key f.dest the_who (file_of f)
+marker_key f = ops.marker_key f.dest f.job the_who (file_of f)
 
 abbrev pub record_key : Form → List ℕ
-record_key f = ops.record_key f.dest the_who (file_of f)
+record_key f = ops.record_key f.dest f.job the_who (file_of f)
 
 abbrev pub attempt_prefix : Form → List ℕ
-attempt_prefix f = ops.attempt_prefix f.dest the_who
+attempt_prefix f = ops.attempt_prefix f.dest f.job the_who
 
 -- its upload, which has the first id and one part
 abbrev pub drawn_of : Form → Drawn
@@ -81,7 +82,7 @@ unfoldable pub clear_request : Form → Request
 clear_request f = DeleteObject f.dest.bucket (layout.success_key f.dest.key)
 
 unfoldable pub list_request : Form → Request
-list_request f = ListPage f.dest.bucket (layout.magic_prefix f.dest.key) false [] 1000
+list_request f = ListPage f.dest.bucket (layout.magic_prefix f.dest.key f.job) false [] 1000
 
 abbrev pub setup_requests : Form → List Request
 setup_requests f = head_request f ∷ clear_request f ∷ list_request f ∷ []
@@ -108,13 +109,13 @@ unfoldable pub read_request : Form → Request
 read_request f = GetObject f.dest.bucket (record_key f)
 
 unfoldable pub set_request : Form → Request
-set_request f = PutObject f.dest.bucket (layout.set_key f.dest.key 0) (set_text f) None
+set_request f = PutObject f.dest.bucket (layout.set_key f.dest.key f.job 0) (set_text f) None
 
 abbrev pub publish_requests : Form → List Request
 publish_requests f = look_request f ∷ read_request f ∷ set_request f ∷ []
 
 unfoldable pub fetch_request : Form → Request
-fetch_request f = GetObject f.dest.bucket (layout.set_key f.dest.key 0)
+fetch_request f = GetObject f.dest.bucket (layout.set_key f.dest.key f.job 0)
 
 unfoldable pub complete_request : Form → Request
 complete_request f = CompleteUpload f.dest.bucket (file_key f) 1 (record { number = 1; tag = plain_tag f.bytes } ∷ [])

@@ -34,4 +34,4 @@ unfolding fetch_request complete_request success_request
 commit_is j h = ap commit_at h ∙ ap (λ t. commit_with j.form t) (marker_is j.form)
   where
     commit_with : Form → List ℕ → List Request
-    commit_with f t = GetObject f.dest.bucket (layout.set_key f.dest.key 0) ∷ complete_at (job_of f) ∷ PutObject f.dest.bucket (layout.success_key f.dest.key) t None ∷ []
+    commit_with f t = GetObject f.dest.bucket (layout.set_key f.dest.key f.job 0) ∷ complete_at (job_of f) ∷ PutObject f.dest.bucket (layout.success_key f.dest.key) t None ∷ []

@@ -10,7 +10,7 @@ use Rattle.s3_types.specs.declared.request.Request.{Request}
 use Rattle.s3_types.specs.declared.reply.Reply.{Reply}
 use Rattle.s3_types.specs.declared.journal.Outcome.TheVariants.{Answered}
 use Rattle.s3_types.specs.declared.journal.Entry.{Entry}
-use Rattle.s3_service.specs.Named.{is_store}
+use Rattle.straight_facts.specs.Sendings.{is_store}
 use Rattle.straight_facts.specs.Sendings.{reply_to, store_after, entry_of, told, left, AreFirst}
 use Rattle.straight_facts.proofs.Firsts.{behind}
 use Rattle.straight_run.specs.SoFar.{SoFar}

@@ -12,7 +12,7 @@ use Rattle.straight_run.specs.declared.job.Job.{Job}
 
 -- the record of the one upload, which has one part
 abbrev pub pending_at : Job → Pending
-pending_at j = record { task = 0; attempt = 0; bucket = j.places.bucket; destination = j.places.file; upload = 1; length = length j.form.bytes; tags = plain_tag j.form.bytes ∷ [] }
+pending_at j = record { task = 0; attempt = 0; bucket = j.places.bucket; destination = j.places.file; upload = 1; length = length j.form.bytes; tags = plain_tag j.form.bytes ∷ []; sizes = Some (length j.form.bytes ∷ []) }
 
 -- the texts of the record, of the set and of the marker
 abbrev pub record_text_at : Job → List ℕ

@@ -5,7 +5,7 @@ use Rattle.s3_types.specs.Store.{Content}
 use Rattle.s3_types.specs.declared.request.Actor.{Actor}
 use Rattle.s3_types.specs.declared.request.Request.{Request}
 use Rattle.s3_types.specs.declared.journal.Entry.{Entry}
-use Rattle.s3_service.specs.Named.{is_store}
+use Rattle.straight_facts.specs.Sendings.{is_store}
 use Rattle.straight_facts.specs.Sendings.{told, left}
 
 -- of requests to a store c, behind the entries es, these are left; the others led to the store d and the entries fs

@@ -19,7 +19,7 @@ impl Job {
         requires { IsForm form }
         ensures { IfOk result (λ job. job ≡ job_of form) }
     {
-        let places = Places::new(alloc, &form.dest, &form.path)?;
+        let places = Places::new(alloc, &form.dest, &form.job, &form.path)?;
         Ok(Job { form, places })
     }
 }

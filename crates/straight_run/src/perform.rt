@@ -1,6 +1,6 @@
 ghost use Rattle.std.specs.Prelude.{◌≡◌, ◌≤◌, [], length, IfOk, OnOk, OnErr};
 ghost use Rattle.s3_types.specs.Moment.{moment};
-ghost use Rattle.job_model.specs.Promise.{verdict, Promised, Finished};
+ghost use Rattle.straight_model.specs.Promise.{verdict, Promised, Finished};
 ghost use Rattle.first_form.specs.Form.{IsForm};
 ghost use Rattle.first_form.specs.Scripted.{form_script};
 ghost use Rattle.straight_run.specs.Places.{job_of};

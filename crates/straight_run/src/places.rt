@@ -1,5 +1,5 @@
 ghost use Rattle.std.specs.Prelude.{◌≡◌, ◌≤◌, true, length, IfOk, ◌++◌, codes};
-ghost use Rattle.s3_types.specs.Names.{are_elements};
+ghost use Rattle.s3_types.specs.Names.{are_elements, is_job_id};
 ghost use Rattle.path_keys.specs.Paths.{below};
 ghost use Rattle.magic_paths.specs.Layout.{attempt_key};
 ghost use Rattle.magic_paths.specs.Layout as layout;
@@ -27,7 +27,7 @@ pub struct DriverPlaces {
     /// The destination's own key.
     pub dest: Key,
     pub success: Key,
-    /// What the keys below the magic directory begin with.
+    /// What the keys below the job's magic directory begin with.
     pub magic: Text,
 }
 
@@ -67,17 +67,18 @@ fn prefix_of(alloc: Global, dir: &str) -> Result<Text, AllocError>
 }
 
 /// The attempt's directory.
-fn attempt_place(alloc: Global, dest: &S3Path) -> Result<S3Path, AllocError>
-    requires { is_name dest.now.key ≡ true }
-    ensures place { IfOk result (λ p. p ≡ record { bucket = dest.now.bucket; key = attempt_key dest.now.key 0 0 }) }
-    ensures short { IfOk result (λ p. length p.key ≤ 460) }
+fn attempt_place(alloc: Global, dest: &S3Path, job: &Text) -> Result<S3Path, AllocError>
+    requires dest { is_name dest.now.key ≡ true }
+    requires id { is_job_id job.now ≡ true }
+    ensures place { IfOk result (λ p. p ≡ record { bucket = dest.now.bucket; key = attempt_key dest.now.key job.now 0 0 }) }
+    ensures short { IfOk result (λ p. length p.key ≤ 540) }
 {
-    attempt_dir(alloc, dest, 0, 0)
+    attempt_dir(alloc, dest, job, 0, 0)
 }
 
 /// A file's key below a directory.
 fn file_place(alloc: Global, dir: &S3Path, path: &Text) -> Result<Key, AllocError>
-    requires short { length dir.now.key ≤ 460 }
+    requires short { length dir.now.key ≤ 540 }
     requires elements { are_elements path.now ≡ true }
     requires name { length path.now ≤ 408 }
     ensures { IfOk result (λ k. k ≡ below dir.now.key path.now) }
@@ -87,7 +88,7 @@ fn file_place(alloc: Global, dir: &S3Path, path: &Text) -> Result<Key, AllocErro
 
 /// A file's key below a directory.
 fn named_place(alloc: Global, dir: &S3Path, path: &Text) -> Result<Key, AllocError>
-    requires short { length dir.now.key ≤ 460 }
+    requires short { length dir.now.key ≤ 540 }
     requires name { is_file_name path.now ≡ true }
     ensures { IfOk result (λ k. k ≡ below dir.now.key path.now) }
 {
@@ -112,11 +113,12 @@ fn own_key(path: &S3Path) -> Result<Key, AllocError>
 }
 
 /// The key of the task's set.
-fn set_place(alloc: Global, dest: &S3Path) -> Result<Key, AllocError>
-    requires { is_name dest.now.key ≡ true }
-    ensures { IfOk result (λ k. k ≡ layout.set_key dest.now.key 0) }
+fn set_place(alloc: Global, dest: &S3Path, job: &Text) -> Result<Key, AllocError>
+    requires dest { is_name dest.now.key ≡ true }
+    requires id { is_job_id job.now ≡ true }
+    ensures { IfOk result (λ k. k ≡ layout.set_key dest.now.key job.now 0) }
 {
-    set_key(alloc, dest, 0)
+    set_key(alloc, dest, job, 0)
 }
 
 /// The key of the marker of a committed job.
@@ -128,12 +130,18 @@ fn success_place(alloc: Global, dest: &S3Path) -> Result<Key, AllocError>
 }
 
 impl AttemptPlaces {
-    fn new(alloc: Global, dest: &S3Path, path: &Text) -> Result<AttemptPlaces, AllocError>
+    fn new(
+        alloc: Global,
+        dest: &S3Path,
+        job: &Text,
+        path: &Text,
+    ) -> Result<AttemptPlaces, AllocError>
         requires dest { is_name dest.now.key ≡ true }
+        requires id { is_job_id job.now ≡ true }
         requires name { is_file_name path.now ≡ true }
-        ensures { IfOk result (λ p. p ≡ record { prefix = attempt_key dest.now.key 0 0 ++ codes "/"; marker = below (attempt_key dest.now.key 0 0) path.now; pending = below (attempt_key dest.now.key 0 0) (path.now ++ codes ".pending") }) }
+        ensures { IfOk result (λ p. p ≡ record { prefix = attempt_key dest.now.key job.now 0 0 ++ codes "/"; marker = below (attempt_key dest.now.key job.now 0 0) path.now; pending = below (attempt_key dest.now.key job.now 0 0) (path.now ++ codes ".pending") }) }
     {
-        let dir = attempt_place(alloc, dest)?;
+        let dir = attempt_place(alloc, dest, job)?;
         let name = record_name(alloc, path)?;
         let marker = named_place(alloc, &dir, path)?;
         let pending = file_place(alloc, &dir, &name)?;
@@ -147,13 +155,13 @@ impl AttemptPlaces {
 }
 
 impl DriverPlaces {
-    fn new(alloc: Global, path: &S3Path) -> Result<DriverPlaces, AllocError>
+    fn new(alloc: Global, path: &S3Path, job: &Text) -> Result<DriverPlaces, AllocError>
         requires { is_name path.now.key ≡ true }
-        ensures { IfOk result (λ p. p ≡ record { dest = path.now.key; success = layout.success_key path.now.key; magic = layout.magic_prefix path.now.key }) }
+        ensures { IfOk result (λ p. p ≡ record { dest = path.now.key; success = layout.success_key path.now.key; magic = layout.magic_prefix path.now.key job.now }) }
     {
         let dest = own_key(path)?;
         let success = success_place(alloc, path)?;
-        let magic = magic_prefix(alloc, path)?;
+        let magic = magic_prefix(alloc, path, job)?;
         Ok(DriverPlaces {
             dest,
             success,
@@ -164,16 +172,17 @@ impl DriverPlaces {
 
 impl Places {
     /// The places of a job.
-    pub fn new(alloc: Global, dest: &S3Path, path: &Text) -> Result<Places, AllocError>
+    pub fn new(alloc: Global, dest: &S3Path, job: &Text, path: &Text) -> Result<Places, AllocError>
         requires dest { is_name dest.now.key ≡ true }
+        requires id { is_job_id job.now ≡ true }
         requires name { is_file_name path.now ≡ true }
-        ensures { IfOk result (λ p. p ≡ places_at dest.now path.now) }
+        ensures { IfOk result (λ p. p ≡ places_at dest.now job.now path.now) }
     {
         let bucket = dest.bucket().clone()?;
         let file = dest_place(alloc, dest, path)?;
-        let set = set_place(alloc, dest)?;
-        let driver = DriverPlaces::new(alloc, dest)?;
-        let attempt = AttemptPlaces::new(alloc, dest, path)?;
+        let set = set_place(alloc, dest, job)?;
+        let driver = DriverPlaces::new(alloc, dest, job)?;
+        let attempt = AttemptPlaces::new(alloc, dest, job, path)?;
         Ok(Places {
             bucket,
             file,

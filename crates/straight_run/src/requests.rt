@@ -1,7 +1,7 @@
 ghost use Rattle.std.specs.Prelude.{◌≡◌, ◌≤◌, true, false, [], ◌∷◌, length, Some, None, IfOk};
 ghost use Rattle.s3_types.specs.Tags.{is_plain_tag, plain_tag};
 ghost use Rattle.s3_types.specs.declared.request.Request.TheVariants.{ListPage};
-ghost use Rattle.pending_json.specs.Pending.{are_tags};
+ghost use Rattle.pending_json.specs.Pending.{are_tags, fit};
 ghost use Rattle.straight_run.specs.Requests as requests;
 
 use crate::job::Job;
@@ -10,8 +10,8 @@ use etag::part_tag;
 use first_form::Form;
 use pending_json::{PendingList, PendingSet, PendingUpload, SuccessMark};
 use s3_types::{
-    Bytes, Committer, Key, LengthHeader, NamedPart, PageLimit, PartList, Request, Sequence, Tag,
-    TagList, Text, TextList,
+    Bytes, Committer, Key, LengthHeader, NamedPart, PageLimit, PartList, Request, Sequence,
+    SizeList, Tag, TagList, Text, TextList,
 };
 use std::alloc::{AllocError, Global};
 
@@ -67,6 +67,16 @@ fn one_tag(alloc: Global, bytes: &[u8]) -> Result<TagList, AllocError>
     Ok(tags)
 }
 
+/// The lengths of an upload of one part.
+fn one_size(alloc: Global, length: u64) -> Result<SizeList, AllocError>
+    ensures sizes { IfOk result (λ sizes. sizes ≡ length ∷ []) }
+    ensures fit { IfOk result (λ sizes. fit sizes 1 length ≡ true) }
+{
+    let mut sizes = SizeList::new(alloc);
+    sizes.push(length)?;
+    Ok(sizes)
+}
+
 /// The record of the file's upload, which has one part.
 fn pending_of(alloc: Global, job: &Job) -> Result<PendingUpload, AllocError>
     ensures { IfOk result (λ p. p ≡ requests.pending_at job.now) }
@@ -76,7 +86,8 @@ fn pending_of(alloc: Global, job: &Job) -> Result<PendingUpload, AllocError>
     let bucket = job.places.bucket.clone()?;
     let file = job.places.file.clone()?;
     let length = bytes.len() as u64;
-    Ok(PendingUpload::new(0, 0, bucket, file, UPLOAD, length, tags))
+    let sizes = one_size(alloc, length)?;
+    Ok(PendingUpload::new(0, 0, bucket, file, UPLOAD, length, tags, Some(sizes)))
 }
 
 fn record_text(alloc: Global, job: &Job) -> Result<Bytes, AllocError>

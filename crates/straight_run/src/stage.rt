@@ -1,6 +1,6 @@
 ghost use Rattle.std.specs.Prelude.{◌≡◌, ◌+◌, ◌<◌, ◌≤◌, ◌^◌, ◌∷◌, [], ◌++◌, true, length, IfOk, OnOk, OnErr};
 ghost use Rattle.std.specs.List.{list_all};
-ghost use Rattle.s3_service.specs.Named.{is_store};
+ghost use Rattle.straight_facts.specs.Sendings.{is_store};
 ghost use Rattle.straight_facts.specs.Sendings.{store_after, entry_of, told, left, AreFirst};
 
 use job_model::{EndList, EventEnd, OpEnd, Pick, PickList};

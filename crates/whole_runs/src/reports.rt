@@ -1,11 +1,12 @@
 use job_model::{
     ActorEnd, ActorEndList, CommitEnd, EndList, EventEnd, EventFault, OpEnd, Pick, PickList,
-    Report, SetupEnd, Stage, TaskEnd, report_text,
+    SetupEnd, Stage, TaskEnd,
 };
 use job_script::read_script;
 use s3_types::{Actor, Journal, Text};
 use std::alloc::{AllocError, Global};
 use std::test::Fail;
+use straight_model::{Report, report_text};
 
 const FIRST: Actor = Actor::Attempt {
     task: 0,
@@ -32,6 +33,8 @@ do 1.0 write
 kill 1.0
 mix 7
 mix 8
+restart driver
+recover 0.0
 ";
 
 static REPORT: &str = "1 do driver setup: done
@@ -42,6 +45,8 @@ static REPORT: &str = "1 do driver setup: done
 6 kill 1.0: ok
 7 mix 7: 0.0 done, 7.7 done, driver store-fault delete
 8 mix 8: ok
+9 restart driver: refused not-dead
+10 recover 0.0: refused no-recovery
 pick 3 4
 driver idle failed
 0.0 idle written
@@ -78,6 +83,8 @@ fn ends(alloc: Global) -> Result<EndList, AllocError> {
     ends.push(EventEnd::Done)?;
     ends.push(EventEnd::Mixed(mixed(alloc)?))?;
     ends.push(EventEnd::Mixed(ActorEndList::new(alloc)))?;
+    ends.push(EventEnd::Refused(EventFault::NotDead))?;
+    ends.push(EventEnd::Refused(EventFault::NoRecovery))?;
     Ok(ends)
 }
 

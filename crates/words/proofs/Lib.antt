@@ -1,2 +1,6 @@
 pub mod Split
 pub mod Pieces
+pub mod Counts
+pub mod Digits
+pub mod Cuts
+pub mod Round

@@ -5,19 +5,16 @@ use Rattle.std.proofs.lemmas.Bool.{and_parts, eqb-true, cases_lt}
 use Rattle.std.proofs.Math.ListN.{drop_of_length-le}
 use Rattle.std.proofs.lemmas.List.{append-nil, take-append-drop, nil_from_length}
 use Rattle.std.proofs.Math.Seq.{drop-cons}
+use Rattle.proof_base.proofs.Bools.{not_so}
 use Rattle.words.specs.Lines.{unless_empty, lines_of, lines_from, is_inside, without_return}
 use Rattle.words.specs.Parts.{parts_of, parts_from, is_other}
-
-pub not_true : (b : Bool) → not b ≡ true → b ≡ false
-not_true true h = absurd cc
-not_true false h = refl
 
 pub first_from : (line front rest : List ℕ) → list_all is_inside front ≡ true → lines_from line (front ++ 10 ∷ rest) ≡ without_return (line ++ front) ∷ lines_of rest
 unfolding lines_from
 first_from line [] rest h = ap (λ (l : List ℕ). without_return l ∷ lines_of rest) (sym (append-nil line))
 first_from line (x ∷ front) rest h =
     let p = and_parts (is_inside x) _ h in
-    rw (not_true (x == 10) p.0) (first_from (line ++ x ∷ []) front rest p.1 ∙ ap (λ (l : List ℕ). without_return l ∷ lines_of rest) (append_assoc line (x ∷ []) front))
+    rw (not_so (x == 10) p.0) (first_from (line ++ x ∷ []) front rest p.1 ∙ ap (λ (l : List ℕ). without_return l ∷ lines_of rest) (append_assoc line (x ∷ []) front))
 
 ended : (line : List ℕ) → 0 < length line → unless_empty line ≡ line ∷ []
 ended [] h = absurd (omega arith)
@@ -29,7 +26,7 @@ last_from line [] h some = let e = append-nil line in ended line (subst (λ (l :
 last_from line (x ∷ front) h some =
     let p = and_parts (is_inside x) _ h in
     let e = append_assoc line (x ∷ []) front in
-    rw (not_true (x == 10) p.0) (last_from (line ++ x ∷ []) front p.1 (subst (λ (l : List ℕ). 0 < length l) (sym e) some) ∙ ap (λ (l : List ℕ). l ∷ []) e)
+    rw (not_so (x == 10) p.0) (last_from (line ++ x ∷ []) front p.1 (subst (λ (l : List ℕ). 0 < length l) (sym e) some) ∙ ap (λ (l : List ℕ). l ∷ []) e)
 
 pub first_line : (bytes : List ℕ) (i : ℕ) → i < length bytes → get_or bytes i 0 ≡ 10 → list_all is_inside (take i bytes) ≡ true → lines_of bytes ≡ without_return (take i bytes) ∷ lines_of (drop 1 (drop i bytes))
 first_line bytes i lt at h =
@@ -48,14 +45,14 @@ unfolding parts_from
 part_from s word [] rest h = rw (eq-eqb s s refl) (ap (λ (l : List ℕ). l ∷ parts_of s rest) (sym (append-nil word)))
 part_from s word (x ∷ front) rest h =
     let p = and_parts (is_other s x) _ h in
-    rw (not_true (x == s) p.0) (part_from s (word ++ x ∷ []) front rest p.1 ∙ ap (λ (l : List ℕ). l ∷ parts_of s rest) (append_assoc word (x ∷ []) front))
+    rw (not_so (x == s) p.0) (part_from s (word ++ x ∷ []) front rest p.1 ∙ ap (λ (l : List ℕ). l ∷ parts_of s rest) (append_assoc word (x ∷ []) front))
 
 pub lone_from : (s : ℕ) (word front : List ℕ) → list_all (is_other s) front ≡ true → parts_from s word front ≡ (word ++ front) ∷ []
 unfolding parts_from
 lone_from s word [] h = ap (λ (l : List ℕ). l ∷ []) (sym (append-nil word))
 lone_from s word (x ∷ front) h =
     let p = and_parts (is_other s x) _ h in
-    rw (not_true (x == s) p.0) (lone_from s (word ++ x ∷ []) front p.1 ∙ ap (λ (l : List ℕ). l ∷ []) (append_assoc word (x ∷ []) front))
+    rw (not_so (x == s) p.0) (lone_from s (word ++ x ∷ []) front p.1 ∙ ap (λ (l : List ℕ). l ∷ []) (append_assoc word (x ∷ []) front))
 
 pub first_part : (s : ℕ) (text : List ℕ) (i : ℕ) → i < length text → get_or text i 0 ≡ s → list_all (is_other s) (take i text) ≡ true → parts_of s text ≡ take i text ∷ parts_of s (drop 1 (drop i text))
 first_part s text i lt at h =

@@ -1,2 +1,5 @@
 pub mod Parts
 pub mod Lines
+pub mod Numbers
+pub mod Words
+pub mod Shapes

@@ -1,8 +1,15 @@
-//! The lines of a text, and the parts of a line or a path between separators.
+//! The lines of a text, the parts of a line or a path between separators, the words of a line by how many
+//! there are, and the numbers that words write.
 #![tactic(auto)]
 
 mod lines;
+mod numbers;
 mod parts;
+mod shapes;
+#[cfg(test)]
+mod tests;
 
-pub use lines::next_line;
+pub use lines::{next_field, next_line};
+pub use numbers::{number, number_within};
 pub use parts::next_part;
+pub use shapes::{at_most_one, one, text, two, two_and_more, two_parts};

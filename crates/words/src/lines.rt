@@ -1,43 +1,39 @@
-ghost use Rattle.std.specs.Prelude.{◌≡◌, ◌<◌, ◌≤◌, ◌∷◌, length, true, take, slice_index};
-ghost use Rattle.std.specs.List.{list_all};
-ghost use Rattle.words.specs.Lines.{lines_of, is_inside, without_return};
+ghost use Rattle.std.specs.Prelude.{◌≡◌, ◌<◌, ◌∷◌, length, option_map, IfSome};
+ghost use Rattle.words.specs.Lines.{lines_of, without_return};
+ghost use Rattle.words.specs.Parts.{parts_of, parts_after};
 
-/// Where the first line ends.
-fn line_end(bytes: &[u8]) -> usize
-    ensures within { result ≤ length bytes.now }
-    ensures before { list_all is_inside (take result bytes.now) ≡ true }
-    ensures at { result < length bytes.now → slice_index bytes.now result ≡ 10 }
-{
-    for (i, b) in bytes.iter().enumerate() {
-        if *b == b'\n' {
-            return i;
-        }
-    }
-    bytes.len()
-}
-
-fn trimmed(line: &[u8]) -> &[u8]
+/// A line without one CR at its end.
+fn trimmed(line: &str) -> &str
     ensures { result.now ≡ without_return line.now }
 {
-    let len = line.len();
-    if len > 0 && line[len - 1] == b'\r' {
-        &line[..len - 1]
-    } else {
-        line
+    match line.strip_suffix('\r') {
+        Some(front) => front,
+        None => line,
     }
 }
 
-/// The first line without its LF and without one CR before that, and what follows its LF.
-pub fn next_line(bytes: &[u8]) -> (&[u8], &[u8])
-    requires { 0 < length bytes.now }
-    ensures lines { lines_of bytes.now ≡ result.0.now ∷ lines_of result.1.now }
-    ensures shorter { length result.1.now < length bytes.now }
+/// The first line without its LF and without one CR before that, and what follows its LF. The last line
+/// may lack the LF; a CR at its end is then its own.
+pub fn next_line(text: &str) -> (&str, &str)
+    requires { 0 < length text.now }
+    ensures lines { lines_of text.now ≡ result.0.now ∷ lines_of result.1.now }
+    ensures shorter { length result.1.now < length text.now }
 {
-    let end = line_end(bytes);
-    let (line, rest) = bytes.split_at(end);
-    if rest.is_empty() {
-        return (line, rest);
+    match text.split_once('\n') {
+        Some((line, rest)) => (trimmed(line), rest),
+        None => (text, ""),
     }
-    let (_, after) = rest.split_at(1);
-    (trimmed(line), after)
+}
+
+/// The first part of a text between ASCII separators, which may be empty, and what follows the separator
+/// behind it, where one stands there.
+pub fn next_field(separator: char, text: &str) -> (&str, Option<&str>)
+    requires { separator < 128 }
+    ensures parts { parts_of separator text.now ≡ result.0.now ∷ parts_after separator (option_map (λ r. r.now) result.1) }
+    ensures shorter { IfSome result.1 (λ r. length r.now < length text.now) }
+{
+    match text.split_once(separator) {
+        Some((front, behind)) => (front, Some(behind)),
+        None => (text, None),
+    }
 }

@@ -4,9 +4,9 @@ use Rattle.s3_types.specs.declared.request.Actor.{Actor}
 use Rattle.s3_types.specs.declared.request.Actor.TheVariants.{Driver, Attempt}
 use Rattle.s3_types.specs.declared.reply.Reply.TheVariants.{Stored}
 use Rattle.s3_types.specs.declared.journal.Entry.{Entry}
-use Rattle.job_model.specs.Outputs.{wanted_at, is_decided, is_clash, is_picked}
-use Rattle.job_model.specs.Replay.{Seen, seen}
-use Rattle.job_model.specs.States.{past, commit_event, dead, refusal}
+use Rattle.straight_model.specs.Outputs.{wanted_at, is_decided, is_clash, is_picked}
+use Rattle.straight_model.specs.Replay.{Seen, seen}
+use Rattle.straight_model.specs.States.{past, commit_event, dead, refusal}
 use Rattle.job_model.specs.JobScript.{Script}
 use Rattle.job_model.specs.declared.events.Op.TheVariants.{Setup, Write, Commit, Clean}
 use Rattle.job_model.specs.declared.events.Event.TheVariants.{Do, Start, Step, Kill}
@@ -16,7 +16,7 @@ use Rattle.job_model.specs.declared.ends.OpEnd.TheVariants as ends
 use Rattle.job_model.specs.declared.ends.EventFault.TheVariants as faults
 use Rattle.job_model.specs.declared.ends.EventEnd.{EventEnd}
 use Rattle.job_model.specs.declared.ends.EventEnd.TheVariants.{Ended, Done}
-use Rattle.job_model.specs.declared.standing.ActorStage.TheVariants as stage
+use Rattle.job_model.specs.declared.states.ActorStage.TheVariants as stage
 use Rattle.worked_jobs.specs.Entries.{job, attempt, said, setup, writes, lists, reads, publishes, completes, put_mark, a_tag}
 use Rattle.worked_jobs.specs.OneFile.{opening}
 
@@ -36,15 +36,15 @@ again_script = job 1 3
 abbrev pub again_journal : List Entry
 again_journal =
     setup
-    ++ writes 2 first (codes "out/part-00000") (codes "out/__magic/tasks/0_0/__base/part-00000") 1 (codes "a")
-    ++ lists 3 first (codes "out/__magic/tasks/0_0/__base/")
-    ++ reads 3 first (codes "out/__magic/tasks/0_0/__base/part-00000.pending")
-    ++ publishes 3 first (codes "out/__magic/sets/task_0.pendingset")
-    ++ writes 4 second (codes "out/part-00000") (codes "out/__magic/tasks/0_1/__base/part-00000") 2 (codes "b")
-    ++ lists 5 second (codes "out/__magic/tasks/0_1/__base/")
-    ++ reads 5 second (codes "out/__magic/tasks/0_1/__base/part-00000.pending")
-    ++ publishes 5 second (codes "out/__magic/sets/task_0.pendingset")
-    ++ reads 6 Driver (codes "out/__magic/sets/task_0.pendingset")
+    ++ writes 2 first (codes "out/part-00000") (codes "out/__magic/job-j1/tasks/0_0/__base/part-00000") 1 (codes "a")
+    ++ lists 3 first (codes "out/__magic/job-j1/tasks/0_0/__base/")
+    ++ reads 3 first (codes "out/__magic/job-j1/tasks/0_0/__base/part-00000.pending")
+    ++ publishes 3 first (codes "out/__magic/job-j1/sets/task_0.pendingset")
+    ++ writes 4 second (codes "out/part-00000") (codes "out/__magic/job-j1/tasks/0_1/__base/part-00000") 2 (codes "b")
+    ++ lists 5 second (codes "out/__magic/job-j1/tasks/0_1/__base/")
+    ++ reads 5 second (codes "out/__magic/job-j1/tasks/0_1/__base/part-00000.pending")
+    ++ publishes 5 second (codes "out/__magic/job-j1/sets/task_0.pendingset")
+    ++ reads 6 Driver (codes "out/__magic/job-j1/sets/task_0.pendingset")
     ++ completes 6 (codes "out/part-00000") 2
     ++ said 6 Driver put_mark (Stored a_tag) ∷ []
 
@@ -68,7 +68,7 @@ dying_script = job 1 3 (attempt 0 0 ((codes "a", codes "1") ∷ (codes "b", code
     (Do Driver Setup ∷ Do first Write ∷ Do first Commit ∷ Start Driver Commit ∷ Step Driver 3 ∷ Kill Driver ∷ [])
 
 abbrev pub base : List ℕ
-base = codes "out/__magic/tasks/0_0/__base/"
+base = codes "out/__magic/job-j1/tasks/0_0/__base/"
 
 abbrev pub dying_journal : List Entry
 dying_journal =
@@ -82,8 +82,8 @@ dying_journal =
     ++ reads 3 first (base ++ codes "b.pending")
     ++ reads 3 first (base ++ codes "c.pending")
     ++ reads 3 first (base ++ codes "d.pending")
-    ++ publishes 3 first (codes "out/__magic/sets/task_0.pendingset")
-    ++ reads 5 Driver (codes "out/__magic/sets/task_0.pendingset")
+    ++ publishes 3 first (codes "out/__magic/job-j1/sets/task_0.pendingset")
+    ++ reads 5 Driver (codes "out/__magic/job-j1/sets/task_0.pendingset")
     ++ completes 5 (codes "out/a") 1
     ++ completes 5 (codes "out/b") 2
 
@@ -117,16 +117,16 @@ shared_script = job 2 3 (attempt 0 0 ((codes "p", codes "x") ∷ []) ∷ attempt
 abbrev pub shared_journal : List Entry
 shared_journal =
     setup
-    ++ writes 2 first (codes "out/p") (codes "out/__magic/tasks/0_0/__base/p") 1 (codes "x")
-    ++ writes 3 other (codes "out/p") (codes "out/__magic/tasks/1_0/__base/p") 2 (codes "y")
-    ++ lists 4 first (codes "out/__magic/tasks/0_0/__base/")
-    ++ reads 4 first (codes "out/__magic/tasks/0_0/__base/p.pending")
-    ++ publishes 4 first (codes "out/__magic/sets/task_0.pendingset")
-    ++ lists 5 other (codes "out/__magic/tasks/1_0/__base/")
-    ++ reads 5 other (codes "out/__magic/tasks/1_0/__base/p.pending")
-    ++ publishes 5 other (codes "out/__magic/sets/task_1.pendingset")
-    ++ reads 6 Driver (codes "out/__magic/sets/task_0.pendingset")
-    ++ reads 6 Driver (codes "out/__magic/sets/task_1.pendingset")
+    ++ writes 2 first (codes "out/p") (codes "out/__magic/job-j1/tasks/0_0/__base/p") 1 (codes "x")
+    ++ writes 3 other (codes "out/p") (codes "out/__magic/job-j1/tasks/1_0/__base/p") 2 (codes "y")
+    ++ lists 4 first (codes "out/__magic/job-j1/tasks/0_0/__base/")
+    ++ reads 4 first (codes "out/__magic/job-j1/tasks/0_0/__base/p.pending")
+    ++ publishes 4 first (codes "out/__magic/job-j1/sets/task_0.pendingset")
+    ++ lists 5 other (codes "out/__magic/job-j1/tasks/1_0/__base/")
+    ++ reads 5 other (codes "out/__magic/job-j1/tasks/1_0/__base/p.pending")
+    ++ publishes 5 other (codes "out/__magic/job-j1/sets/task_1.pendingset")
+    ++ reads 6 Driver (codes "out/__magic/job-j1/sets/task_0.pendingset")
+    ++ reads 6 Driver (codes "out/__magic/job-j1/sets/task_1.pendingset")
 
 abbrev pub shared_at : ℕ → Seen
 shared_at m = seen shared_script (Some 6) opening shared_journal m

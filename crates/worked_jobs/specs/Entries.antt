@@ -2,6 +2,7 @@
 use Rattle.std.specs.Prelude.{ℕ, List, [], ◌∷◌, ◌++◌, Some, None, codes, false, length}
 use Rattle.std.specs.FinMap as fin
 use Rattle.s3_types.specs.Tags.{Spelled}
+use Rattle.s3_types.specs.declared.limits.TheConstants.{MOST_ENTRIES}
 use Rattle.s3_types.specs.declared.request.Actor.{Actor}
 use Rattle.s3_types.specs.declared.request.Actor.TheVariants.{Driver}
 use Rattle.s3_types.specs.declared.request.Request.{Request}
@@ -37,6 +38,7 @@ job tasks retries attempts events = record {
   tasks = tasks;
   retries = retries;
   block = 0;
+  lanes = 1;
   stamp = None;
   fates = fin.empty;
   attempts = attempts;
@@ -58,7 +60,7 @@ abbrev pub setup : List Entry
 setup =
     said 1 Driver (HeadObject lake (codes "out")) (Refused NoSuchKey)
     ∷ said 1 Driver (DeleteObject lake (codes "out/_SUCCESS")) Deleted
-    ∷ said 1 Driver (ListPage lake (codes "out/__magic/") false [] 1000) (Page [] false)
+    ∷ said 1 Driver (ListPage lake (codes "out/__magic/job-j1/") false [] MOST_ENTRIES) (Page [] false)
     ∷ []
 
 -- in event k an attempt writes a file of one part, with its marker and its record at these keys
@@ -72,7 +74,7 @@ writes k a key marker id bytes =
 
 -- in event k an attempt lists its directory, and then reads these records
 abbrev pub lists : ℕ → Actor → List ℕ → List Entry
-lists k a prefix = said k a (ListPage lake prefix false [] 1000) (Page [] false) ∷ []
+lists k a prefix = said k a (ListPage lake prefix false [] MOST_ENTRIES) (Page [] false) ∷ []
 
 abbrev pub reads : ℕ → Actor → List ℕ → List Entry
 reads k a key = said k a (GetObject lake key) (Object (codes "{}") None) ∷ []

@@ -2,17 +2,18 @@
 use Rattle.std.specs.Prelude.{◌≡◌, ℕ, true, false, List, [], ◌∷◌, ◌++◌, Some, None, codes}
 use Rattle.std.specs.FinMap as fin
 use Rattle.s3_types.specs.Store.{Content, new_bucket}
+use Rattle.s3_types.specs.declared.limits.TheConstants.{MOST_MINIMUM}
 use Rattle.s3_types.specs.declared.request.Actor.{Actor}
 use Rattle.s3_types.specs.declared.request.Actor.TheVariants.{Driver, Attempt}
 use Rattle.s3_types.specs.declared.reply.Reply.TheVariants.{Stored}
 use Rattle.s3_types.specs.declared.journal.Outcome.TheVariants.{ReplyLost}
 use Rattle.s3_types.specs.declared.journal.Entry.{Entry}
-use Rattle.job_model.specs.Outputs.{wanted_at, keeps, is_decided}
-use Rattle.job_model.specs.Replay.{Seen, seen}
-use Rattle.job_model.specs.Fate.{AreFated}
-use Rattle.job_model.specs.States.{past, commit_event, idle, missing}
-use Rattle.job_model.specs.Turns.{of_event}
-use Rattle.job_model.specs.Follows.{first_worn, CommitIs}
+use Rattle.straight_model.specs.Outputs.{wanted_at, keeps, is_decided}
+use Rattle.straight_model.specs.Replay.{Seen, seen}
+use Rattle.straight_model.specs.Fate.{AreFated}
+use Rattle.straight_model.specs.States.{past, commit_event, idle, missing}
+use Rattle.straight_model.specs.Turns.{of_event}
+use Rattle.straight_model.specs.Follows.{first_worn, CommitIs}
 use Rattle.job_model.specs.JobScript.{Script}
 use Rattle.job_model.specs.declared.events.Op.TheVariants.{Setup, Write, Commit}
 use Rattle.job_model.specs.declared.events.Event.{Event}
@@ -24,7 +25,7 @@ use Rattle.job_model.specs.declared.ends.Stage.TheVariants as stages
 use Rattle.job_model.specs.declared.ends.OpEnd.TheVariants as ends
 use Rattle.job_model.specs.declared.ends.EventEnd.{EventEnd}
 use Rattle.job_model.specs.declared.ends.EventEnd.TheVariants.{Ended}
-use Rattle.job_model.specs.declared.standing.ActorStage.TheVariants as stage
+use Rattle.job_model.specs.declared.states.ActorStage.TheVariants as stage
 use Rattle.worked_jobs.specs.Entries.{lake, job, attempt, entry, said, setup, writes, lists, reads, publishes, completes, put_mark, a_tag}
 
 abbrev pub worker : Actor
@@ -38,16 +39,16 @@ script retries = job 1 retries (attempt 0 0 ((codes "part-00000", codes "hello")
 
 -- the store at the start: the bucket alone
 abbrev pub opening : Content
-opening = record { buckets = fin.insert fin.empty lake new_bucket; next = 1; minimum = 5242880 }
+opening = record { buckets = fin.insert fin.empty lake new_bucket; next = 1; minimum = MOST_MINIMUM }
 
 abbrev pub before_mark : List Entry
 before_mark =
     setup
-    ++ writes 2 worker (codes "out/part-00000") (codes "out/__magic/tasks/0_0/__base/part-00000") 1 (codes "hello")
-    ++ lists 3 worker (codes "out/__magic/tasks/0_0/__base/")
-    ++ reads 3 worker (codes "out/__magic/tasks/0_0/__base/part-00000.pending")
-    ++ publishes 3 worker (codes "out/__magic/sets/task_0.pendingset")
-    ++ reads 4 Driver (codes "out/__magic/sets/task_0.pendingset")
+    ++ writes 2 worker (codes "out/part-00000") (codes "out/__magic/job-j1/tasks/0_0/__base/part-00000") 1 (codes "hello")
+    ++ lists 3 worker (codes "out/__magic/job-j1/tasks/0_0/__base/")
+    ++ reads 3 worker (codes "out/__magic/job-j1/tasks/0_0/__base/part-00000.pending")
+    ++ publishes 3 worker (codes "out/__magic/job-j1/sets/task_0.pendingset")
+    ++ reads 4 Driver (codes "out/__magic/job-j1/sets/task_0.pendingset")
     ++ completes 4 (codes "out/part-00000") 1
 
 abbrev pub journal : List Entry

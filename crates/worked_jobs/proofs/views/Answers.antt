@@ -1,7 +1,7 @@
 use Rattle.std.proofs.Common.{refl, ◌≡◌, ◌⊎◌, List, Some, None, ℕ, codes, sym, ◌∙◌, inl, inr}
 use Rattle.std.specs.FinMap.{gets}
-use Rattle.job_model.specs.View.{view}
-use Rattle.job_model.specs.Headline.{Between}
+use Rattle.straight_model.specs.View.{view}
+use Rattle.straight_model.specs.Headline.{Between}
 use Rattle.worked_jobs.specs.OneFile.{script}
 use Rattle.worked_jobs.specs.Views.{dest, with_file, nothing, no_picks, the_pick}
 use Rattle.worked_jobs.proofs.views.Goals as goal

@@ -1,5 +1,5 @@
 use Rattle.std.proofs.Common.{◌≡◌, ◌++◌, ◌+◌, drop}
-use Rattle.job_model.specs.Knowledge.{named_from}
+use Rattle.s3_types.specs.Blocks.{named_from}
 use Rattle.block_stream.proofs.asking.named.Given as goal
 
 abbrev pub invariant-loop-tag : goal.invariant-loop-tag

@@ -6,8 +6,8 @@ use Rattle.cluster_fs.specs.Cluster.{Follows}
 use Rattle.cluster_fs.proofs.Listed.{none_left, follows_rest}
 use Rattle.cluster_fs.proofs.cluster.paths_of.Goals as goal
 
-pub returns-then-not-begins : goal.returns-then-not-begins
-returns-then-not-begins c =
+pub returns-then-not-starts_with : goal.returns-then-not-starts_with
+returns-then-not-starts_with c =
     let n : begins c.args.prefix.now c.in-Some.path.now ≡ false = cc in
     let e : c.loop-path.rest ≡ (c.in-Some.path.now, c.in-Some.field-0-1.now) ∷ c.next.new.self = c.in-Some.ensures.steps in
     let f : Follows c.args.prefix.now (c.in-Some.path.now ∷ keys_of c.next.new.self) = subst (λ (l : List (List ℕ × List ℕ)). Follows c.args.prefix.now (keys_of l)) e c.loop-path.invariant.follows in

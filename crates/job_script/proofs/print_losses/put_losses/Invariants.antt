@@ -1,5 +1,5 @@
 use Rattle.std.proofs.Common.{◌≡◌, ◌++◌, ◌-◌, ◌≤◌, string_bytes}
-use Rattle.line_words.specs.Words.{text_of}
+use Rattle.words.specs.Words.{text_of}
 use Rattle.job_script.specs.Print.{loss_lines}
 use Rattle.job_script.proofs.PrintLosses.{losses_from}
 use Rattle.job_script.proofs.print_losses.put_losses.Given as goal

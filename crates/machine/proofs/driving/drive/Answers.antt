@@ -1,16 +1,33 @@
-use Rattle.std.proofs.Common.{◌≡◌, ◌+◌, ◌∙◌, ap, sym, subst, ◌||◌, inl, inr, [], ◌<◌, ◌++◌, append_assoc, ◌∷◌, length, arith}
+use Rattle.std.proofs.Common.{refl, ◌≡◌, ◌+◌, ◌∙◌, ap, sym, subst, ◌||◌, inl, inr, [], ◌<◌, ◌++◌, append_assoc, append-nil, ◌∷◌, length}
+use Rattle.std.proofs.lemmas.Bool.{false≢true}
 use Rattle.machine.specs.Turns.{step, tells_worn}
 use Rattle.s3_types.specs.Foretold.{IsForetold}
-use Rattle.machine.proofs.Runs.{told_more, driving_more, falls_step, told, is_run_more, work}
+use Rattle.machine.proofs.Counts.{counted_none, counted_then}
+use Rattle.machine.proofs.Runs.{told_more, driving_more, next_number, falls_step, told, is_run_more, work}
 use Rattle.machine.proofs.Tries.{tried_short}
 use Rattle.machine.proofs.Ends.{drove_worn, drove_whole}
 use Rattle.machine.proofs.driving.drive.Goals as goal
 
+pub sending-init : goal.sending-init
+sending-init g c = record {
+  part = [];
+  appended = sym (append-nil _);
+  is_run = record { by = tt; honest = tt; follows = tt; scene = refl };
+  there = refl;
+  wore = refl;
+  ready_still = c.requires.ready;
+  foretold = tt;
+  counted = c.requires.counted;
+  counts = counted_none _ _ _ _ _ _ _ _ refl refl refl (λ n. refl);
+  stands = refl;
+  lost = λ h. absurd (false≢true h);
+}
+
 pub sending-preserved : goal.sending-preserved
 sending-preserved g c =
     let h = rw c.in-Ok-Some.field-0-is at c.in-Ok-Some.ensures.sent in
-    driving_more g.met.M.Machine.laws _ _ _ _ _ _ _ _ _ _ _ _ _ _ _ _ _ _ _ _ _ _ h.0 c.sending.invariant h.1 h.2 h.3 c.in-Ok-Some.ensures.counted c.in-Ok-Some.ensures.losses h.5
-    (ap (λ b. c.sending.worn || b) (c.is_worn-worn.ensures ∙ ap tells_worn h.4 ∙ told c.sending.machine h.0.outcome)) h.6 c.in-Ok-Some.ensures.foretold h.7
+    driving_more g.met.M.Machine.laws _ _ _ _ _ _ _ _ _ _ _ _ _ _ _ _ _ _ _ _ _ _ h.0 c.sending.invariant h.1 h.2 h.3 c.in-Ok-Some.ensures.counts h.5
+    (ap (λ b. c.sending.worn || b) (c.is_worn-worn.ensures ∙ ap tells_worn h.4 ∙ told c.sending.machine h.0.outcome)) h.6
 
 pub sending-smaller : goal.sending-smaller
 sending-smaller g c =
@@ -19,8 +36,8 @@ sending-smaller g c =
     subst (λ t. work g.M.Machine.left t (g.S.ObjectStore.scene c.send.new.store) < work g.M.Machine.left c.sending.machine (g.S.ObjectStore.scene c.sending.store)) (sym h.3)
     (subst (λ s. work g.M.Machine.left (step g.M.Machine.after c.sending.machine h.0.outcome) s < work g.M.Machine.left c.sending.machine (g.S.ObjectStore.scene c.sending.store)) (sym h.1.scene) f)
 
-pub returns-in-Err : goal.returns-in-Err
-returns-in-Err g c =
+pub returns-in-Err-clause-drove : goal.returns-in-Err-clause-drove
+returns-in-Err-clause-drove g c =
     let k = c.sending.invariant in
     elim c.in-Err.ensures.err [
       | inl h ↦ record {
@@ -32,24 +49,44 @@ returns-in-Err g c =
         ended = tt;
       }
       | inr h ↦
-          let n : g.S.ObjectStore.requests c.sending.store + 1 ≡ g.S.ObjectStore.requests c.args.store.now + 1 + length k.part = omega (arith, k.number) in
+          let n : g.S.ObjectStore.requests c.sending.store + 1 ≡ g.S.ObjectStore.requests c.args.store.now + 1 + length k.part = next_number _ _ k.part _ _ k.appended k.counts.made in
           let r = is_run_more _ _ _ _ _ _ k.part _ _ h.0 _ k.there k.is_run h.1 in
           record {
             part = k.part ++ h.0 ∷ [];
             appended = h.2 ∙ ap (λ v. v ++ h.0 ∷ []) k.appended ∙ append_assoc _ k.part (h.0 ∷ []);
             is_run = r;
-            foretold = told_more _ _ k.part h.0 k.foretold (subst (λ v. IsForetold v h.0.outcome) (k.same _ ∙ ap (g.S.ObjectStore.foretold c.args.store.now) n) h.3);
+            foretold = told_more _ _ k.part h.0 k.foretold (subst (λ v. IsForetold v h.0.outcome) (k.counts.foretold _ ∙ ap (g.S.ObjectStore.foretold c.args.store.now) n) h.3);
             tried = tried_short g.M.Machine.wants g.M.Machine.after c.args.machine.now (k.part ++ h.0 ∷ []) r.follows;
             ended = tt;
           }
     ]
 
-pub returns-then-worn : goal.returns-then-worn
-returns-then-worn g c =
+pub returns-in-Err-clause-counts : goal.returns-in-Err-clause-counts
+returns-in-Err-clause-counts g c =
+    let k = c.sending.invariant in
+    elim c.in-Err.ensures.err [
+      | inl h ↦ counted_then _ _ _ k.part [] _ _ _ _ _ _ _ _ _ k.appended (h.0 ∙ sym (append-nil _)) k.counts c.in-Err.ensures.counts
+      | inr h ↦ counted_then _ _ _ k.part (h.0 ∷ []) _ _ _ _ _ _ _ _ _ k.appended h.2 k.counts c.in-Err.ensures.counts
+    ]
+
+pub returns-then-worn-clause-drove : goal.returns-then-worn-clause-drove
+returns-then-worn-clause-drove g c =
     let h = rw c.in-Ok-None.field-0-is at c.in-Ok-None.ensures.sent in
     drove_worn g.M.Machine.wants g.M.Machine.after g.M.Machine.ready g.M.Machine.standing c.args.actor c.args.event c.args.machine.now c.sending.machine _ _ _ _ _ _ _ _ _ _ _ _ _ _ _ c.sending.invariant h.0 h.1 h.2 h.3 h.4 c.if-worn.true
 
-pub returns-else-worn : goal.returns-else-worn
-returns-else-worn g c =
+pub returns-then-worn-clause-counts : goal.returns-then-worn-clause-counts
+returns-then-worn-clause-counts g c =
+    let h = rw c.in-Ok-None.field-0-is at c.in-Ok-None.ensures.sent in
+    let k = c.sending.invariant in
+    counted_then _ _ _ k.part [] _ _ _ _ _ _ _ _ _ k.appended (h.4 ∙ sym (append-nil _)) k.counts c.in-Ok-None.ensures.counts
+
+pub returns-else-worn-clause-drove : goal.returns-else-worn-clause-drove
+returns-else-worn-clause-drove g c =
     let h = rw c.in-Ok-None.field-0-is at c.in-Ok-None.ensures.sent in
     drove_whole g.M.Machine.wants g.M.Machine.after g.M.Machine.ready g.M.Machine.standing c.args.actor c.args.event tt c.args.machine.now c.sending.machine _ _ _ _ _ _ _ _ _ _ _ _ _ _ _ c.sending.invariant h.0 h.1 h.2 h.3 h.4 c.if-worn.false
+
+pub returns-else-worn-clause-counts : goal.returns-else-worn-clause-counts
+returns-else-worn-clause-counts g c =
+    let h = rw c.in-Ok-None.field-0-is at c.in-Ok-None.ensures.sent in
+    let k = c.sending.invariant in
+    counted_then _ _ _ k.part [] _ _ _ _ _ _ _ _ _ k.appended (h.4 ∙ sym (append-nil _)) k.counts c.in-Ok-None.ensures.counts

@@ -6,16 +6,16 @@ use Rattle.multipart.specs.Listing.{below, Follows, AreOwn}
 use Rattle.multipart.proofs.Follow.{none_left, taken, no_more, follows_rest}
 use Rattle.multipart.proofs.list.page_of.Goals as goal
 
-pub returns-then-not-begins-clause-entries : goal.returns-then-not-begins-clause-entries
-returns-then-not-begins-clause-entries c =
+pub returns-then-not-starts_with-clause-entries : goal.returns-then-not-starts_with-clause-entries
+returns-then-not-starts_with-clause-entries c =
     let k : c.place.inside.text ≡ c.in-Some.place.now.key = ap (λ (r : UploadRef). r.key) c.place.view_is in
     let n : begins c.args.prefix.now c.in-Some.place.now.key ≡ false = cc in
     let none = none_left c.args.prefix.now c.loop-place.rest c.next.new.self (c.in-Some.place.now, c.in-Some.key.now) c.in-Some.ensures.steps c.loop-place.invariant.follows n in
     c.from_vec.ensures
     ∙ taken c.args.limit c.loop-place.entries.items _ (below c.args.prefix.now (keys_of c.args.rest)) c.loop-place.invariant.told none c.loop-place.invariant.fits
 
-pub returns-then-not-begins-clause-more : goal.returns-then-not-begins-clause-more
-returns-then-not-begins-clause-more c =
+pub returns-then-not-starts_with-clause-more : goal.returns-then-not-starts_with-clause-more
+returns-then-not-starts_with-clause-more c =
     let k : c.place.inside.text ≡ c.in-Some.place.now.key = ap (λ (r : UploadRef). r.key) c.place.view_is in
     let n : begins c.args.prefix.now c.in-Some.place.now.key ≡ false = cc in
     let none = none_left c.args.prefix.now c.loop-place.rest c.next.new.self (c.in-Some.place.now, c.in-Some.key.now) c.in-Some.ensures.steps c.loop-place.invariant.follows n in

@@ -5,4 +5,4 @@ use Rattle.object_store.proofs.page.stem_of.Given as goal
 
 -- the stem is the one found from here on
 abbrev pub invariant-loop-i : goal.invariant-loop-i
-invariant-loop-i l = stem l.prefix l.text ≡ from l.text l.i
+invariant-loop-i l = stem l.prefix l.text ≡ from l.whole l.i

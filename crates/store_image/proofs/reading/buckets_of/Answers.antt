@@ -1,12 +1,14 @@
 use Rattle.std.proofs.Common.{◌≡◌, rules, ℕ, List, Option, None, Some, Ok, Err, refl, sym, ap, subst, ◌∙◌}
 use Rattle.std.specs.FinMap as fin
 use Rattle.proof_base.specs.Order.{text_cmp, text_total}
+use Rattle.proof_base.specs.Reading.{made, Fails}
+use Rattle.proof_base.proofs.Reading.{gives_fault, made_fault}
 use Rattle.s3_types.specs.Names.{is_bucket}
 use Rattle.s3_types.specs.Store.{BucketContent, Buckets, Content}
 use Rattle.s3_service.specs.Ids.{IsFresh}
-use Rattle.store_image.specs.Fault.{IfNotMemory}
-use Rattle.store_image.specs.Reading.{made, name_at, bucket_at}
-use Rattle.store_image.proofs.Loop.{first_step, one_more, last_step, restored, gives_fault, made_fault, key_fails, value_fails}
+use Rattle.store_image.specs.Fault.{wanting}
+use Rattle.store_image.specs.Reading.{name_at, bucket_at}
+use Rattle.store_image.proofs.Loop.{first_step, one_more, last_step, restored, key_fails, value_fails}
 use Rattle.store_image.proofs.Maps.{IsFree, free_empty, still_free}
 use Rattle.store_image.proofs.reading.buckets_of.Goals as goal
 
@@ -47,10 +49,10 @@ returns c =
 pub returns-in_err-name : goal.returns-in_err-name
 returns-in_err-name c =
     let is : c.from_residual.result ≡ Err c.in_err-name.field-0.0 = search rules in
-    gives_fault _ _ _ _ is (made_fault _ _ _ (key_fails (name_at is_bucket c.args.whole) (bucket_at c.args.service.now.next c.args.whole) c.args.count c.loop.counter _ _ _ _ _ c.loop-test.true c.in_err-name.ensures.exact c.loop.invariant.so_far))
+    gives_fault wanting _ _ _ _ is (made_fault wanting _ _ _ (key_fails (name_at is_bucket c.args.whole) (bucket_at c.args.service.now.next c.args.whole) c.args.count c.loop.counter _ _ _ _ _ c.loop-test.true c.in_err-name.ensures.exact c.loop.invariant.so_far))
 
 pub returns-in_err-objects : goal.returns-in_err-objects
 returns-in_err-objects c =
     let is : c.from_residual-in_err-objects.result ≡ Err c.in_err-objects.field-0.0 = search rules in
-    let fault = subst (λ (n : ℕ). IfNotMemory c.in_err-objects.field-0.0 (bucket_at n c.args.whole c.in_ok-name.after.now ≡ Err c.in_err-objects.field-0.0)) (c.next_upload.ensures ∙ c.loop.invariant.same_next) c.in_err-objects.ensures.exact in
-    gives_fault _ _ _ _ is (made_fault _ _ _ (value_fails (name_at is_bucket c.args.whole) (bucket_at c.args.service.now.next c.args.whole) c.args.count c.loop.counter _ _ _ _ _ _ _ c.loop-test.true c.in_ok-name.ensures.exact fault c.loop.invariant.so_far))
+    let fault = subst (λ (n : ℕ). Fails wanting c.in_err-objects.field-0.0 (bucket_at n c.args.whole c.in_ok-name.after.now)) (c.next_upload.ensures ∙ c.loop.invariant.same_next) c.in_err-objects.ensures.exact in
+    gives_fault wanting _ _ _ _ is (made_fault wanting _ _ _ (value_fails (name_at is_bucket c.args.whole) (bucket_at c.args.service.now.next c.args.whole) c.args.count c.loop.counter _ _ _ _ _ _ _ c.loop-test.true c.in_ok-name.ensures.exact fault c.loop.invariant.so_far))

@@ -1,7 +1,9 @@
 use Rattle.std.proofs.Common.{◌≡◌, rules, Some, Err}
+use Rattle.proof_base.proofs.Reading.{gives_fault}
 use Rattle.s3_types.specs.Names.{is_key}
+use Rattle.store_image.specs.Fault.{wanting}
 use Rattle.store_image.specs.Reading.{name_at, object_at}
-use Rattle.store_image.proofs.Loop.{first_step, one_more, last_step, gives_fault, value_fails}
+use Rattle.store_image.proofs.Loop.{first_step, one_more, last_step, value_fails}
 use Rattle.store_image.proofs.reading.objects_of.Goals as goal
 
 pub loop-init : goal.loop-init
@@ -18,4 +20,4 @@ returns c = last_step (name_at is_key c.args.whole) (object_at c.args.whole) c.a
 pub returns-in_err-object : goal.returns-in_err-object
 returns-in_err-object c =
     let is : c.from_residual-in_err-object.result ≡ Err c.in_err-object.field-0.0 = search rules in
-    gives_fault _ _ _ _ is (value_fails (name_at is_key c.args.whole) (object_at c.args.whole) c.args.count c.loop.counter _ _ _ _ _ _ _ c.loop-test.true c.in_ok-key.ensures.exact c.in_err-object.ensures c.loop.invariant)
+    gives_fault wanting _ _ _ _ is (value_fails (name_at is_key c.args.whole) (object_at c.args.whole) c.args.count c.loop.counter _ _ _ _ _ _ _ c.loop-test.true c.in_ok-key.ensures.exact c.in_err-object.ensures c.loop.invariant)

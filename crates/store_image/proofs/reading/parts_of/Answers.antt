@@ -3,9 +3,10 @@ use Rattle.std.specs.Option.{IsSome}
 use Rattle.std.specs.FinMap as fin
 use Rattle.std.specs.Int.{w64}
 use Rattle.std.proofs.lemmas.Cmp.{nat_cmp_total}
+use Rattle.proof_base.specs.Reading.{made}
 use Rattle.proof_base.proofs.Tree.{insert_same}
 use Rattle.s3_types.specs.Store.{Parts, Upload}
-use Rattle.store_image.specs.Reading.{made, part_number_at, block_at}
+use Rattle.store_image.specs.Reading.{part_number_at, block_at}
 use Rattle.store_image.proofs.Loop.{first_step, one_more, last_step}
 use Rattle.store_image.proofs.Maps.{held_live, part_held}
 use Rattle.store_image.proofs.reading.parts_of.Goals as goal

@@ -1,10 +1,12 @@
 use Rattle.std.proofs.Common.{◌≡◌, rules, None, Some, Err, refl, sym, subst, nat_cmp}
 use Rattle.std.specs.FinMap as fin
 use Rattle.std.proofs.lemmas.Cmp.{nat_cmp_total}
+use Rattle.proof_base.proofs.Reading.{gives_fault, unmade, unmade_fault}
 use Rattle.s3_types.specs.Store.{Upload}
 use Rattle.s3_service.specs.Ids.{IsFresh}
+use Rattle.store_image.specs.Fault.{wanting}
 use Rattle.store_image.specs.Reading.{id_at, upload_at}
-use Rattle.store_image.proofs.Loop.{first_step, one_more, last_step, gives_fault, unmade, unmade_fault, key_fails, value_fails}
+use Rattle.store_image.proofs.Loop.{first_step, one_more, last_step, key_fails, value_fails}
 use Rattle.store_image.proofs.Maps.{IsFree, free_empty, still_free, from_id, still_fresh}
 use Rattle.store_image.proofs.reading.uploads_of.Goals as goal
 
@@ -30,13 +32,13 @@ loop-preserved c =
 pub returns-in_err-id-clause-exact : goal.returns-in_err-id-clause-exact
 returns-in_err-id-clause-exact c =
     let is : c.from_residual.result ≡ Err c.in_err-id.field-0.0 = search rules in
-    gives_fault _ _ _ _ is (key_fails (id_at c.args.next c.args.whole) (upload_at c.args.whole) c.args.count c.loop.counter _ _ _ _ _ c.loop-test.true c.in_err-id.ensures.exact c.loop.invariant.so_far)
+    gives_fault wanting _ _ _ _ is (key_fails (id_at c.args.next c.args.whole) (upload_at c.args.whole) c.args.count c.loop.counter _ _ _ _ _ c.loop-test.true c.in_err-id.ensures.exact c.loop.invariant.so_far)
 
 pub returns-in_err-rest-clause-exact : goal.returns-in_err-rest-clause-exact
 returns-in_err-rest-clause-exact c =
     let is : c.from_residual-in_err-rest.result ≡ Err c.in_err-rest.field-0.0 = search rules in
-    let fault = unmade_fault (fin.insert c.loop.uploads c.in_ok-id.id) (upload_at c.args.whole c.in_ok-id.after.now) _ c.in_err-rest.ensures in
-    gives_fault _ _ _ _ is (value_fails (id_at c.args.next c.args.whole) (upload_at c.args.whole) c.args.count c.loop.counter _ _ _ _ _ _ _ c.loop-test.true c.in_ok-id.ensures.exact fault c.loop.invariant.so_far)
+    let fault = unmade_fault wanting (fin.insert c.loop.uploads c.in_ok-id.id) (upload_at c.args.whole c.in_ok-id.after.now) _ c.in_err-rest.ensures in
+    gives_fault wanting _ _ _ _ is (value_fails (id_at c.args.next c.args.whole) (upload_at c.args.whole) c.args.count c.loop.counter _ _ _ _ _ _ _ c.loop-test.true c.in_ok-id.ensures.exact fault c.loop.invariant.so_far)
 
 pub returns-clause-exact : goal.returns-clause-exact
 returns-clause-exact c = last_step (id_at c.args.next c.args.whole) (upload_at c.args.whole) c.args.count c.loop.counter _ _ _ _ c.loop-test.false c.loop.invariant.so_far

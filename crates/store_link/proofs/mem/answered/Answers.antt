@@ -10,6 +10,6 @@ one_more : {T E : Type 0} (o : Result T E) (c d : Content) (r : Request) → OnO
 one_more (Ok x) c d r h = subst (λ (d : Content). d.next ≤ c.next + 1) (sym h) (next_store c r)
 one_more (Err e) c d r h = tt
 
-pub returns-else-is_cluster_request-clause-next : goal.returns-else-is_cluster_request-clause-next
-returns-else-is_cluster_request-clause-next c =
-    one_more c.apply-else-is_cluster_request.result c.args.service.now c.apply-else-is_cluster_request.new.self c.args.request.now c.apply-else-is_cluster_request.ensures.ok
+pub returns-else-is_cluster-clause-next : goal.returns-else-is_cluster-clause-next
+returns-else-is_cluster-clause-next c =
+    one_more c.apply-else-is_cluster.result c.args.service.now c.apply-else-is_cluster.new.self c.args.request.now c.apply-else-is_cluster.ensures.ok

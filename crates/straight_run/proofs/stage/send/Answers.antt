@@ -1,5 +1,9 @@
+use Rattle.std.proofs.lemmas.Bool.{not-true}
 use Rattle.straight_run.proofs.Sent.{left_is, entry_is}
 use Rattle.straight_run.proofs.stage.send.Goals as goal
+
+pub apply-requires-clause-store : goal.apply-requires-clause-store
+apply-requires-clause-store c = not-true _ c.requires.store
 
 pub returns-clause-left : goal.returns-clause-left
 returns-clause-left c = left_is c.args.service.now c.apply.new.self c.args.request c.in_ok-reply.ensures.ok

@@ -2,7 +2,7 @@ use Rattle.std.proofs.Common.{◌≡◌, ◌+◌, ◌∷◌, ◌∙◌, sym, ap,
 use Rattle.s3_types.specs.declared.request.Request.{Request}
 use Rattle.s3_types.specs.declared.journal.Entry.{Entry}
 use Rattle.straight_facts.specs.Sendings.{told, AreFirst}
-use Rattle.job_model.proofs.ReportLines.{drop_item}
+use Rattle.straight_model.proofs.ReportLines.{drop_item}
 use Rattle.straight_run.specs.SoFar.{SoFar}
 use Rattle.straight_run.proofs.Sent.{so_more, so_first, on_err}
 use Rattle.straight_run.proofs.stage.send_all.Goals as goal

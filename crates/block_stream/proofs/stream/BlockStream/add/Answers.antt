@@ -1,6 +1,8 @@
-use Rattle.std.proofs.Common.{◌+◌, ◌*◌, ◌-◌, ◌<◌, ◌≤◌, ◌++◌, length, sym, ap, subst, ◌∙◌}
+use Rattle.std.proofs.Common.{◌+◌, ◌*◌, ◌-◌, ◌<◌, ◌≤◌, ◌++◌, length, refl, sym, ap, subst, ◌∙◌}
+use Rattle.proof_base.proofs.Options.{none_is}
 use Rattle.block_stream.specs.Stream.{Stream, wrote}
-use Rattle.block_stream.proofs.Invariant.{short_in, long_in, IsWroteAs}
+use Rattle.block_stream.specs.Kept.{front_of}
+use Rattle.block_stream.proofs.Invariant.{short_in, long_in}
 use Rattle.block_stream.proofs.stream.BlockStream.add.Goals as goal
 
 pub invariant_of-self-then-piece-room : goal.invariant_of-self-then-piece-room
@@ -9,23 +11,26 @@ invariant_of-self-then-piece-room c =
     let few : s.count + length c.args.piece.now ≤ s.output.block * 10000 = subst (λ (m : Stream). m.count + length c.args.piece.now ≤ m.block * 10000) (sym c.self.view_is) c.requires.few in
     let short : length c.args.piece.now < s.output.block - length s.rest.items = subst (λ k. length c.args.piece.now < s.output.block - k) (c.len.ensures ∙ s.rest.ok.0) c.if-piece-room.true in
     (short_in s.output.mode s.output.bucket s.output.key s.output.block s.queue s.rest.items s.upload s.tags s.count s.closed s.end s.asked c.args.piece.now _ c.args.count
-    (ap (λ (m : Stream). m.closed) c.self.view_is ∙ c.requires.unclosed) (ap (λ (m : Stream). m.end) c.self.view_is ∙ c.requires.alive) few c.self.invariant short
+    (ap (λ (m : Stream). m.closed) c.self.view_is ∙ c.requires.unclosed) (none_is s.end (sym c.is_some.ensures ∙ c.if-is_some.false)) few c.self.invariant short
     c.in_ok-extend_from_slice.ensures.items (c.requires.count ∙ sym (ap (λ (m : Stream). m.count + length c.args.piece.now) c.self.view_is))).1
 
 -- the fields after a piece that fills blocks
-filled : (c : goal.After-drop-blocks-inside-2) → IsWroteAs c.self.inside.output.mode c.self.inside.output.bucket c.self.inside.output.key c.self.inside.output.block c.self.inside.queue c.self.inside.rest.items c.self.inside.upload c.self.inside.tags c.self.inside.count
-    c.self.inside.closed c.self.inside.end c.args.piece.now c.append.new.self c.in_ok-blocks.rest.items c.args.count c.put.new.asked
-filled c =
+pub invariant_of-self-2 : goal.invariant_of-self-2
+invariant_of-self-2 c =
     let s = c.self.inside in
     let few : s.count + length c.args.piece.now ≤ s.output.block * 10000 = subst (λ (m : Stream). m.count + length c.args.piece.now ≤ m.block * 10000) (sym c.self.view_is) c.requires.few in
-    long_in s.output.mode s.output.bucket s.output.key s.output.block s.queue s.rest.items s.upload s.tags s.count s.closed s.end s.asked c.put.new.asked c.args.piece.now c.in_ok-blocks.rest.items c.in_ok-blocks.blocks c.append.new.self c.front-first.result.now c.args.count c.next_stage-stage.result
-    (ap (λ (m : Stream). m.closed) c.self.view_is ∙ c.requires.unclosed) (ap (λ (m : Stream). m.end) c.self.view_is ∙ c.requires.alive) few c.self.invariant
+    (long_in s.output.mode s.output.bucket s.output.key s.output.block s.queue s.rest.items s.upload s.tags s.count s.closed s.end s.asked c.put.new.place c.args.piece.now c.in_ok-blocks.rest.items c.in_ok-blocks.blocks c.follow.new.queue (front_of s.queue c.in_ok-blocks.blocks) c.args.count (c.in_ok-asked.asked, c.in_ok-asked._end)
+    (ap (λ (m : Stream). m.closed) c.self.view_is ∙ c.requires.unclosed) (none_is s.end (sym c.is_some.ensures ∙ c.if-is_some.false)) few c.self.invariant
     (c.in_ok-blocks.ensures.joined ∙ ap (λ z. z ++ c.args.piece.now) c.as_slice.ensures.value) c.in_ok-blocks.ensures.long c.in_ok-blocks.ensures.rest
     (c.requires.count ∙ sym (ap (λ (m : Stream). m.count + length c.args.piece.now) c.self.view_is))
-    c.front-first.ensures c.next_stage-stage.ensures (c.put.ensures ∙ c.in_ok-asked.ensures) c.in_ok-append.ensures.ok
-
-pub invariant_of-self-2 : goal.invariant_of-self-2
-invariant_of-self-2 c = (filled c).1
+    refl c.put.ensures c.in_ok-asked.ensures.next c.in_ok-asked.ensures.added).1
 
 pub returns-clause-ok : goal.returns-clause-ok
-returns-clause-ok c = (filled c).0 ∙ ap (λ m. wrote m c.args.piece.now) c.self.view_is
+returns-clause-ok c =
+    let s = c.self.inside in
+    let few : s.count + length c.args.piece.now ≤ s.output.block * 10000 = subst (λ (m : Stream). m.count + length c.args.piece.now ≤ m.block * 10000) (sym c.self.view_is) c.requires.few in
+    (long_in s.output.mode s.output.bucket s.output.key s.output.block s.queue s.rest.items s.upload s.tags s.count s.closed s.end s.asked c.put.new.place c.args.piece.now c.in_ok-blocks.rest.items c.in_ok-blocks.blocks c.follow.new.queue (front_of s.queue c.in_ok-blocks.blocks) c.args.count (c.in_ok-asked.asked, c.in_ok-asked._end)
+    (ap (λ (m : Stream). m.closed) c.self.view_is ∙ c.requires.unclosed) (none_is s.end (sym c.is_some.ensures ∙ c.if-is_some.false)) few c.self.invariant
+    (c.in_ok-blocks.ensures.joined ∙ ap (λ z. z ++ c.args.piece.now) c.as_slice.ensures.value) c.in_ok-blocks.ensures.long c.in_ok-blocks.ensures.rest
+    (c.requires.count ∙ sym (ap (λ (m : Stream). m.count + length c.args.piece.now) c.self.view_is))
+    refl c.put.ensures c.in_ok-asked.ensures.next c.in_ok-asked.ensures.added).0 ∙ ap (λ m. wrote m c.args.piece.now) c.self.view_is

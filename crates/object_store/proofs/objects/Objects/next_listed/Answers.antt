@@ -9,15 +9,15 @@ use Rattle.object_store.specs.Walk.{ComesNext}
 use Rattle.object_store.proofs.Walked.{found_next}
 use Rattle.object_store.proofs.objects.Objects.next_listed.Goals as goal
 
-pub returns-then-begins : goal.returns-then-begins
-returns-then-begins c =
+pub returns-then-starts_with : goal.returns-then-starts_with
+returns-then-starts_with c =
     let below : begins c.args.prefix.now c.in-Some.key.now ≡ true = cc in
     let e : List ℕ × Object = (c.in-Some.key.now, c.in-Some.object.now) in
     subst (λ b. ComesNext c.args.prefix.now c.args.delimited c.args.last.now (map.entries c.args.self.now) (cond b (Some e) None)) below
     (found_next c.args.prefix.now c.args.delimited (map.entries c.args.self.now) (map_sorted text_cmp c.args.self.now) c.args.last.now (Some e) (ap (option_map (λ p. (p.0.now, p.1.now))) (sym c.in-Some.is) ∙ c.in_ok-key.ensures))
 
-pub returns-else-begins : goal.returns-else-begins
-returns-else-begins c =
+pub returns-else-starts_with : goal.returns-else-starts_with
+returns-else-starts_with c =
     let below : begins c.args.prefix.now c.in-Some.key.now ≡ false = cc in
     let e : List ℕ × Object = (c.in-Some.key.now, c.in-Some.object.now) in
     subst (λ b. ComesNext c.args.prefix.now c.args.delimited c.args.last.now (map.entries c.args.self.now) (cond b (Some e) None)) below

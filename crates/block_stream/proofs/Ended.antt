@@ -1,0 +1,40 @@
+-- What a stream that has ended well has stored.
+use Rattle.std.specs.Prelude.{◌≡◌, ℕ, Bool, true, false, cond, List, Option, Some, None}
+use Rattle.std.proofs.Common.{refl, sym, ap, subst, ◌∙◌, true≢false}
+use Rattle.std.proofs.lemmas.Option.{none-some}
+use Rattle.s3_types.specs.Store.{Scene, BucketContent}
+use Rattle.machine.specs.Item.{Fine}
+use Rattle.block_stream.specs.declared.mode.StreamEnd.{StreamEnd}
+use Rattle.block_stream.specs.declared.mode.StreamEnd.TheVariants.{Done, Gone, StoreFault, NoMemory}
+use Rattle.block_stream.specs.declared.stage.Stage.TheVariants.{Putting, Sending}
+use Rattle.block_stream.specs.Stream.{Stream, has_some, has_part, is_small, begin_or_wait, complete_or_wait, stage_of, asks, wanted, standing, standing_of}
+use Rattle.block_stream.specs.Holds.{IsWritten, HoldsIn, Holds}
+use Rattle.block_stream.specs.FillingLaws.{all_sent}
+
+-- a closed stream that has not ended asks something
+asks_on : (m : Stream) (s : Scene) (repeated : Bool) (bytes : List ℕ) (c : BucketContent) (u : Option ℕ) → m.closed ≡ true → HoldsIn None u m c repeated bytes → asks (stage_of None u m) m ≡ None → ⊥
+asks_on m s repeated bytes c None o i =
+    elim (is_small m) as (λ z. asks (cond z Putting (begin_or_wait (has_part m))) m ≡ None → ⊥) [
+      | true ↦ λ w. none-some _ (sym w)
+      | false ↦
+          elim (has_part m) as (λ y. has_part m ≡ y → asks (begin_or_wait y) m ≡ None → ⊥) [
+            | true ↦ λ y w. none-some _ (sym w)
+            | false ↦ λ y w. true≢false (sym (all_sent m y o).1 ∙ ap has_some i.1)
+          ] refl
+    ]
+asks_on m s repeated bytes c (Some id) o i =
+    elim (has_part m) as (λ z. asks (cond z Sending (complete_or_wait m.closed)) m ≡ None → ⊥) [
+      | true ↦ λ w. none-some _ (sym w)
+      | false ↦ λ w. none-some _ (sym w ∙ ap (λ b. asks (complete_or_wait b) m) o)
+    ]
+
+-- a closed stream that asks nothing more, and has no fault, has stored all that was written
+pub stored : (m : Stream) (s : Scene) (repeated : Bool) (bytes : List ℕ) → (h : Holds m s repeated bytes) → m.closed ≡ true → wanted m ≡ None → standing m ≡ Fine → (m.end ≡ Some Done) × IsWritten m.mode m h.content bytes
+stored m s repeated bytes h o w f = by m.end refl h.held f
+  where
+    by : (e : Option StreamEnd) → m.end ≡ e → HoldsIn e m.upload m h.content repeated bytes → standing_of e ≡ Fine → (m.end ≡ Some Done) × IsWritten m.mode m h.content bytes
+    by (Some Done) p i g = (p, i.1)
+    by (Some Gone) p i g = absurd i
+    by (Some StoreFault) p i g = absurd (cc)
+    by (Some NoMemory) p i g = absurd (cc)
+    by None p i g = absurd (asks_on m s repeated bytes h.content m.upload o i (subst (λ v. asks (stage_of v m.upload m) m ≡ None) p w))

@@ -1,0 +1,37 @@
+-- The files of an attempt at their paths below the destination.
+use Rattle.std.specs.Prelude.{ℕ, ◌==◌, Bool, true, false, List, [], ◌∷◌, ◌++◌, map, Option, if◌then◌else◌}
+use Rattle.std.specs.List.{join_with_byte}
+use Rattle.std.specs.Map.{lookup}
+use Rattle.std.specs.Option.{option_map}
+use Rattle.words.specs.Parts.{parts_of}
+use Rattle.job_model.specs.Files.{File}
+use Rattle.job_model.specs.Attempts.{Who, same_name}
+use Rattle.job_model.specs.JobScript.{Script}
+
+-- a name with `-` and the job's id before its first dot, or at its end
+abbrev pub with_id : List ℕ → List ℕ → List ℕ
+with_id id [] = 45 ∷ id
+with_id id (x ∷ name) = if x == 46 then 45 ∷ (id ++ x ∷ name) else x ∷ with_id id name
+
+-- the same of the last element of a path
+abbrev pub with_id_last : List ℕ → List (List ℕ) → List (List ℕ)
+with_id_last id [] = []
+with_id_last id (e ∷ []) = with_id id e ∷ []
+with_id_last id (e ∷ f ∷ es) = e ∷ with_id_last id (f ∷ es)
+
+-- a path made unique to a job (Hadoop, S3A committers: fs.s3a.committer.staging.unique-filenames)
+abbrev pub unique_name : List ℕ → List ℕ → List ℕ
+unique_name path id = join_with_byte 47 (with_id_last id (parts_of 47 path))
+
+-- a file's path below the destination: unique to the job, or as the script writes it
+abbrev pub path_of : Bool → List ℕ → List ℕ → List ℕ
+path_of true id path = unique_name path id
+path_of false id path = path
+
+-- files at their paths below the destination
+abbrev pub placed : Bool → List ℕ → List File → List File
+placed unique id files = map (λ f. (path_of unique id f.0, f.1)) files
+
+-- the files of an attempt at their paths below the destination; none where it is not declared
+abbrev pub files_of : Script → Who → Option (List File)
+files_of w a = option_map (placed w.unique w.job) (lookup (same_name a) w.attempts)

@@ -1,0 +1,94 @@
+-- What an attempt knows by its own sendings: a fold over its own entries.
+use Rattle.std.specs.Prelude.{ℕ, nat_eq, Bool, true, false, cond, ◌&&◌, ◌||◌, List, [], ◌∷◌, ◌++◌, map, length}
+use Rattle.proof_base.specs.Order.{text_eq}
+use Rattle.s3_types.specs.Tags.{Spelled}
+use Rattle.s3_types.specs.declared.request.Request.{Request}
+use Rattle.s3_types.specs.declared.request.Request.TheVariants.{CreateUpload, UploadPart, PutObject, ClusterPut, ClusterRename}
+use Rattle.s3_types.specs.declared.reply.Reply.TheVariants.{Upload, Part}
+use Rattle.s3_types.specs.declared.journal.Outcome.{Outcome}
+use Rattle.s3_types.specs.declared.journal.Outcome.TheVariants.{Answered}
+use Rattle.s3_types.specs.declared.journal.Entry.{Entry}
+use Rattle.magic_paths.specs.Layout as layout
+use Rattle.job_model.specs.Attempts.{Who}
+use Rattle.job_model.specs.JobScript.{Script}
+
+-- an upload whose id came back: its key, its id, and of its parts that came back the tags and the sizes
+pub record Drawn : Type 0 where
+  pub key : List ℕ
+  pub upload : ℕ
+  pub tags : List Spelled
+  pub sizes : List ℕ
+
+-- what an attempt knows
+pub record Known : Type 0 where
+  -- the drawn uploads, the last one first
+  pub drawn : List Drawn
+  -- the put of its temporary file was sent
+  pub put_sent : Bool
+  -- its publishing request was sent, whatever became of it
+  pub publish_sent : Bool
+
+abbrev pub nothing_known : Known
+nothing_known = record { drawn = []; put_sent = false; publish_sent = false }
+
+abbrev pub with_part : ℕ → Spelled → ℕ → Drawn → Drawn
+with_part id tag size d = cond (nat_eq d.upload id) (record { key = d.key; upload = d.upload; tags = d.tags ++ tag ∷ []; sizes = d.sizes ++ size ∷ [] }) d
+
+abbrev pub learn_upload : List Drawn → List ℕ → Outcome → List Drawn
+learn_upload ds key (Answered (Upload id)) = record { key = key; upload = id; tags = []; sizes = [] } ∷ ds
+learn_upload ds key _ = ds
+
+abbrev pub learn_part : List Drawn → ℕ → ℕ → Outcome → List Drawn
+learn_part ds id size (Answered (Part tag)) = map (with_part id tag size) ds
+learn_part ds id size _ = ds
+
+-- the key is that of the task's set
+abbrev pub is_set_key : Script → ℕ → List ℕ → List ℕ → Bool
+is_set_key w task bucket key = text_eq bucket w.dest.bucket && text_eq key (layout.set_key w.dest.key w.job task)
+
+-- the path is that of the task's set in the cluster
+abbrev pub is_set_path : Script → ℕ → List ℕ → Bool
+is_set_path w task path = text_eq path (layout.staged_set_path w.job task)
+
+-- what is known after one more sending of its own
+abbrev pub learn : Script → Who → Known → Request → Outcome → Known
+learn w a k (CreateUpload bucket key) o = record { drawn = learn_upload k.drawn key o; put_sent = k.put_sent; publish_sent = k.publish_sent }
+learn w a k (UploadPart bucket key id number bytes) o = record { drawn = learn_part k.drawn id (length bytes) o; put_sent = k.put_sent; publish_sent = k.publish_sent }
+learn w a k (PutObject bucket key bytes header) o = record { drawn = k.drawn; put_sent = k.put_sent; publish_sent = k.publish_sent || is_set_key w a.task bucket key }
+learn w a k (ClusterPut path bytes) o = record { drawn = k.drawn; put_sent = true; publish_sent = k.publish_sent }
+learn w a k (ClusterRename source target) o = record { drawn = k.drawn; put_sent = k.put_sent; publish_sent = true }
+learn w a k _ o = k
+
+abbrev pub knows_from : Script → Who → Known → List Entry → Known
+knows_from w a k [] = k
+knows_from w a k (e ∷ es) = knows_from w a (learn w a k e.request e.outcome) es
+
+-- what an attempt knows by these entries of its own
+abbrev pub knows : Script → Who → List Entry → Known
+knows w a es = knows_from w a nothing_known es
+
+-- ---- what it knows of an upload
+
+abbrev pub nothing_drawn : Drawn
+nothing_drawn = record { key = []; upload = 0; tags = []; sizes = [] }
+
+abbrev pub first_drawn : List Drawn → Drawn
+first_drawn [] = nothing_drawn
+first_drawn (d ∷ ds) = d
+
+-- the upload that was drawn last
+abbrev pub drawn_last : Known → Drawn
+drawn_last k = first_drawn k.drawn
+
+abbrev pub drawn_in : List Drawn → List ℕ → Drawn
+drawn_in [] key = nothing_drawn
+drawn_in (d ∷ ds) key = cond (text_eq d.key key) d (drawn_in ds key)
+
+-- the upload of a key that was drawn last
+abbrev pub drawn_for : Known → List ℕ → Drawn
+drawn_for k key = drawn_in k.drawn key
+
+-- the uploads in the order of their making
+abbrev pub as_made : List Drawn → List Drawn
+as_made [] = []
+as_made (d ∷ ds) = as_made ds ++ d ∷ []

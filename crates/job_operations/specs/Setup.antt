@@ -1,0 +1,101 @@
+-- The driver's set-up of a job (Hadoop, S3A committers: job setup; fs.s3a.committer.staging.conflict-mode).
+use Rattle.std.specs.Prelude.{ℕ, cond, List, [], ◌∷◌, ◌++◌, codes, Option, Some, None}
+use Rattle.s3_types.specs.declared.request.Request.{Request}
+use Rattle.s3_types.specs.declared.request.Request.TheVariants.{HeadObject, DeleteObject}
+use Rattle.s3_types.specs.declared.request.Committer.{Committer}
+use Rattle.s3_types.specs.declared.request.Committer.TheVariants.{Magic, Directory, Partitioned}
+use Rattle.s3_types.specs.declared.reply.Reply.{Reply}
+use Rattle.s3_types.specs.declared.reply.Reply.TheVariants.{Head, Page, Refused}
+use Rattle.s3_types.specs.declared.reply.Refusal.TheVariants.{NoSuchBucket}
+use Rattle.path_keys.specs.Paths.{relative_in}
+use Rattle.magic_paths.specs.Layout as layout
+use Rattle.sendings.specs.Retries.{Item, Got, WornOut, OutOfMemory}
+use Rattle.job_model.specs.JobScript.{Script}
+use Rattle.job_model.specs.declared.ends.SetupEnd.{SetupEnd}
+use Rattle.job_model.specs.declared.ends.SetupEnd.TheVariants as ends
+use Rattle.job_operations.specs.View.{is_file_path}
+use Rattle.job_operations.specs.Conflicts.{checks_all}
+use Rattle.job_operations.specs.Walks.{Walked, More, Whole, keys_on, page_after, walked, Sweep, sweep_start, sweep_asks, sweep_hears, all_go}
+
+pub data Setup : Type 0 where
+  -- looks at the destination's own key
+  Heading : Setup
+  -- lists what is below the destination until a file of its view is found, with the keys so far
+  Checking : (keys : List (List ℕ)) → Setup
+  -- deletes the marker of an earlier job
+  Clearing : Setup
+  -- empties the job's magic directory
+  Sweeping : (sweep : Sweep) → Setup
+  SetupOver : (end : SetupEnd) → Setup
+
+-- what the keys below the destination begin with
+abbrev pub dest_prefix : Script → List ℕ
+dest_prefix w = w.dest.key ++ codes "/"
+
+abbrev pub setup_start : Setup
+setup_start = Heading
+
+abbrev pub setup_asks : Script → Setup → Option Request
+setup_asks w Heading = Some (HeadObject w.dest.bucket w.dest.key)
+setup_asks w (Checking keys) = Some (page_after w.dest.bucket (dest_prefix w) keys)
+setup_asks w Clearing = Some (DeleteObject w.dest.bucket (layout.success_key w.dest.key))
+setup_asks w (Sweeping s) = Some (sweep_asks w.dest.bucket (layout.magic_prefix w.dest.key w.job) s)
+setup_asks w (SetupOver end) = None
+
+-- an object at the destination's key, or no bucket, ends it
+abbrev pub headed : Script → Reply → Setup
+headed w (Refused NoSuchBucket) = SetupOver ends.NoSuchBucket
+headed w (Head len header) = SetupOver ends.DestIsFile
+headed w _ = cond (checks_all w.committer w.mode) (Checking []) Clearing
+
+-- the path of a key, where a reader is shown a file there
+abbrev pub shown_path : Option (List ℕ) → Option (List ℕ)
+shown_path None = None
+shown_path (Some p) = cond (is_file_path p) (Some p) None
+
+abbrev pub or_next : Option (List ℕ) → Option (List ℕ) → Option (List ℕ)
+or_next (Some p) next = Some p
+or_next None next = next
+
+-- the first path among these keys at which a reader is shown a file
+abbrev pub first_shown : Script → List (List ℕ) → Option (List ℕ)
+first_shown w [] = None
+first_shown w (k ∷ ks) = or_next (shown_path (relative_in w.dest.key k)) (first_shown w ks)
+
+abbrev pub checked_on : Walked (List ℕ) → Setup
+checked_on (More keys) = Checking keys
+checked_on (Whole keys) = Clearing
+
+abbrev pub checked_by : Option (List ℕ) → Walked (List ℕ) → Setup
+checked_by (Some p) next = SetupOver (ends.Conflict p)
+checked_by None next = checked_on next
+
+abbrev pub checked : Script → List (List ℕ) → Reply → Setup
+checked w keys (Page entries more) = checked_by (first_shown w (keys_on entries)) (walked keys (Page entries more))
+checked w keys _ = Checking keys
+
+abbrev pub cleared : Committer → Setup
+cleared Magic = Sweeping sweep_start
+cleared Directory = SetupOver ends.Done
+cleared Partitioned = SetupOver ends.Done
+
+abbrev pub sweeping : Option Sweep → Setup
+sweeping (Some s) = Sweeping s
+sweeping None = SetupOver ends.Done
+
+abbrev pub setup_hears : Script → Setup → Reply → Setup
+setup_hears w Heading r = headed w r
+setup_hears w (Checking keys) r = checked w keys r
+setup_hears w Clearing r = cleared w.committer
+setup_hears w (Sweeping s) r = sweeping (sweep_hears all_go s r)
+setup_hears w (SetupOver end) r = SetupOver end
+
+abbrev pub setup_over : Setup → Option SetupEnd
+setup_over (SetupOver end) = Some end
+setup_over _ = None
+
+-- it ends where a request wears out, and where memory is wanting
+abbrev pub setup_after : Script → Setup → Item → Setup
+setup_after w s (Got r repeated) = setup_hears w s r
+setup_after w s WornOut = SetupOver ends.StoreFault
+setup_after w s OutOfMemory = SetupOver ends.NoMemory

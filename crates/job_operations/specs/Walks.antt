@@ -1,0 +1,87 @@
+-- Walks over listings page by page, and the deletion of keys in batches (Amazon S3 API: ListObjectsV2, ListMultipartUploads, DeleteObjects).
+use Rattle.std.specs.Prelude.{ℕ, Bool, true, false, List, [], ◌∷◌, ◌++◌, map, take, drop, Option, Some, None}
+use Rattle.std.specs.List.{filter}
+use Rattle.s3_types.specs.Pages.{text_in}
+use Rattle.s3_types.specs.declared.request.Request.{Request}
+use Rattle.s3_types.specs.declared.request.Request.TheVariants.{DeleteObjects, ListPage, ListUploads}
+use Rattle.s3_types.specs.declared.request.UploadRef.{UploadRef}
+use Rattle.s3_types.specs.declared.reply.Reply.{Reply}
+use Rattle.s3_types.specs.declared.reply.Reply.TheVariants.{Page, Uploads}
+use Rattle.s3_types.specs.declared.reply.PageEntry.{PageEntry}
+
+-- a walk after a page: what was listed so far, or all of it
+pub data Walked (X : Type 0) : Type 0 where
+  More : (found : List X) → Walked X
+  Whole : (found : List X) → Walked X
+
+abbrev pub walked_by : {X : Type 0} → Bool → List X → Walked X
+walked_by true found = More found
+walked_by false found = Whole found
+
+-- ---- keys
+
+-- the keys on a page
+abbrev pub keys_on : List PageEntry → List (List ℕ)
+keys_on entries = map text_in entries
+
+-- the last of the keys, or none
+abbrev pub last_of : List (List ℕ) → List ℕ
+last_of [] = []
+last_of (k ∷ []) = k
+last_of (k ∷ l ∷ keys) = last_of (l ∷ keys)
+
+-- the page behind the keys so far
+abbrev pub page_after : List ℕ → List ℕ → List (List ℕ) → Request
+page_after bucket prefix keys = ListPage bucket prefix false (last_of keys) 1000
+
+-- a page adds its keys, and says whether more remain
+abbrev pub walked : List (List ℕ) → Reply → Walked (List ℕ)
+walked keys (Page entries more) = walked_by more (keys ++ keys_on entries)
+walked keys _ = More keys
+
+-- ---- uploads
+
+abbrev pub last_ref : Option UploadRef → List UploadRef → Option UploadRef
+last_ref l [] = l
+last_ref l (r ∷ rs) = last_ref (Some r) rs
+
+-- the page of live uploads behind those so far
+abbrev pub uploads_after : List ℕ → List ℕ → List UploadRef → Request
+uploads_after bucket prefix found = ListUploads bucket prefix (last_ref None found) 1000
+
+abbrev pub walked_uploads : List UploadRef → Reply → Walked UploadRef
+walked_uploads found (Uploads refs more) = walked_by more (found ++ refs)
+walked_uploads found _ = More found
+
+-- ---- a sweep: all keys below a prefix are listed, and then those that are to go are deleted
+
+pub data Sweep : Type 0 where
+  -- lists, with the keys so far
+  Listing : (keys : List (List ℕ)) → Sweep
+  -- deletes these keys, at most 1,000 at a time
+  Deleting : (key : List ℕ) (keys : List (List ℕ)) → Sweep
+
+abbrev pub sweep_start : Sweep
+sweep_start = Listing []
+
+abbrev pub sweep_asks : List ℕ → List ℕ → Sweep → Request
+sweep_asks bucket prefix (Listing keys) = page_after bucket prefix keys
+sweep_asks bucket prefix (Deleting k ks) = DeleteObjects bucket (take 1000 (k ∷ ks))
+
+-- none is sent for no keys
+abbrev pub deleting : List (List ℕ) → Option Sweep
+deleting [] = None
+deleting (k ∷ ks) = Some (Deleting k ks)
+
+abbrev pub swept : (List ℕ → Bool) → Walked (List ℕ) → Option Sweep
+swept goes (More keys) = Some (Listing keys)
+swept goes (Whole keys) = deleting (filter goes keys)
+
+-- the sweep after a reply, or none where it is done; `goes` says which keys are to go
+abbrev pub sweep_hears : (List ℕ → Bool) → Sweep → Reply → Option Sweep
+sweep_hears goes (Listing keys) r = swept goes (walked keys r)
+sweep_hears goes (Deleting k ks) r = deleting (drop 1000 (k ∷ ks))
+
+-- every key goes
+abbrev pub all_go : List ℕ → Bool
+all_go key = true

@@ -1,0 +1,20 @@
+//! What a run promises of its job: what a reader of the destination is shown, lives and turns of the
+//! actors, and how operations end, in `specs/`.
+#![tactic(auto)]
+
+ghost use Rattle.job_promise.specs.Laws.{SeenIsMoment, EyesAreTrue, CommitsComplete};
+
+/// What a journal says of a job.
+pub fn folds()
+    ensures seen { SeenIsMoment }
+{}
+
+/// A journal in which others send too.
+pub fn eyes()
+    ensures faithful { EyesAreTrue }
+{}
+
+/// The end of a job's commit that nothing hinders.
+pub fn commits()
+    ensures complete { CommitsComplete }
+{}

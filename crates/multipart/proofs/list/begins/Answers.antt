@@ -1,7 +1,0 @@
-use Rattle.std.proofs.Common.{◌∙◌}
-use Rattle.s3_types.specs.Pages.{begins}
-use Rattle.multipart.proofs.Begins.{begins_is}
-use Rattle.multipart.proofs.list.begins.Goals as goal
-
-pub returns : goal.returns
-returns c = c.starts_with.ensures.value ∙ begins_is c.as_bytes-2.result.now c.as_bytes.result.now ∙ (λ i. begins (c.as_bytes-2.ensures i) (c.as_bytes.ensures i))

@@ -1,0 +1,39 @@
+use Rattle.std.proofs.Common.{◌≡◌, ◌∙◌, ap, sym, refl, ℕ, Ok, Err, subst, List, Result}
+use Rattle.machine.specs.declared.retrying.Retrying.{Retrying}
+use Rattle.machine.specs.Turns.{fresh}
+use Rattle.machine.specs.Tries.{Tried}
+use Rattle.machine.specs.declared.driving.DriveStop.{DriveStop}
+use Rattle.s3_types.specs.declared.journal.Entry.{Entry}
+use Rattle.operations.specs.declared.operation.Stage.{Stage}
+use Rattle.operations.proofs.Runs.{ready_start, performed, given, nothing_done, tried_ok, tried_err}
+use Rattle.operations.proofs.performing.perform.Goals as goal
+
+pub returns-in-Err-clause-performed : goal.returns-in-Err-clause-performed
+returns-in-Err-clause-performed g c = nothing_done g.met.P.Plan.laws c.args.plan _ c.args.actor c.args.event c.args.retries _ _ _ _ c.requires.starts
+
+pub drive-driven-requires-clause-ready : goal.drive-driven-requires-clause-ready
+drive-driven-requires-clause-ready g c =
+    ready_start g.met.P.Plan.laws c.args.plan _ c.requires.starts _ (ap (λ (t : Retrying _). t.machine) c.new-retrying.ensures ∙ c.in-Ok.ensures) _ refl _ (ap (λ (t : Retrying _). t.repeated) c.new-retrying.ensures)
+
+pub returns-in-Ok-answer_of-clause-given : goal.returns-in-Ok-answer_of-clause-given
+returns-in-Ok-answer_of-clause-given g c =
+    let d = c.drive-driven.ensures.drove in
+    let h = rw c.in-Ok-answer_of.ensures.driven at d.ended in
+    given g.met.P.Plan.laws c.args.plan _ _ _ _ d.part _ (ap (λ (t : Retrying _). t.machine) c.new-retrying.ensures ∙ c.in-Ok.ensures) (ap (λ (t : Retrying _). t.repeated) c.new-retrying.ensures) c.requires.starts d.is_run.follows d.is_run.honest h.there d.is_run.scene
+    (sym c.into_inner.ensures ∙ sym c.into_stage-stage.ensures ∙ c.in-Ok-answer_of.ensures.answer)
+
+-- the machine that was driven is the new one
+tried_new : {P A : Type 0} (t : Retrying (Stage P A)) (m : Stage P A) (retries : ℕ) (part : List Entry) (r : Result (Unit {0}) DriveStop) → t ≡ fresh m retries → Tried t.retries t.spare part r → Tried retries retries part r
+tried_new t m retries part r e h = subst (λ (t : Retrying _). Tried t.retries t.spare part r) e h
+
+pub returns-in-Ok-answer_of-clause-performed : goal.returns-in-Ok-answer_of-clause-performed
+returns-in-Ok-answer_of-clause-performed g c =
+    let d = c.drive-driven.ensures.drove in
+    performed g.met.P.Plan.laws c.args.plan _ (Ok c.in-Ok-answer_of.answer) _ _ c.args.retries _ _ _ _ d.part _ _ _ _ _ _ (ap (λ (t : Retrying _). t.machine) c.new-retrying.ensures ∙ c.in-Ok.ensures) (ap (λ (t : Retrying _). t.repeated) c.new-retrying.ensures) c.requires.starts d.is_run d.appended d.foretold
+    (tried_ok c.args.retries c.args.retries d.part _ _ _ c.in-Ok-answer_of.ensures.driven (tried_new _ _ c.args.retries d.part _ c.new-retrying.ensures d.tried)) c.drive-driven.ensures.counts
+
+pub returns-in-Err-answer_of-clause-performed : goal.returns-in-Err-answer_of-clause-performed
+returns-in-Err-answer_of-clause-performed g c =
+    let d = c.drive-driven.ensures.drove in
+    performed g.met.P.Plan.laws c.args.plan _ (Err c.in-Err-answer_of.stop) _ _ c.args.retries _ _ _ _ d.part _ _ _ _ _ _ (ap (λ (t : Retrying _). t.machine) c.new-retrying.ensures ∙ c.in-Ok.ensures) (ap (λ (t : Retrying _). t.repeated) c.new-retrying.ensures) c.requires.starts d.is_run d.appended d.foretold
+    (tried_err c.args.retries c.args.retries d.part _ _ (λ e. c.in-Err-answer_of.ensures.fault (ap Err e)) (tried_new _ _ c.args.retries d.part _ c.new-retrying.ensures d.tried)) c.drive-driven.ensures.counts

@@ -1,0 +1,37 @@
+-- What an operation owes, told by its phases, where a request may not be made twice alike: a phase says what holds where a sending was lost.
+use Rattle.std.specs.Prelude.{◌≡◌, ℕ, ◌≤◌, ◌⊎◌, Bool, true, false}
+use Rattle.s3_types.specs.Store.{Scene}
+use Rattle.s3_types.specs.Answer.{answer, apply}
+use Rattle.s3_types.specs.declared.request.Request.{Request}
+use Rattle.s3_types.specs.declared.reply.Reply.{Reply}
+use Rattle.operations.specs.declared.plan.Step.{Step}
+use Rattle.operations.specs.Plans.{Goes, Falls}
+
+pub record IsCourse {P A : Type 0} (starts : P → Type 0) (asks : P → Request) (goes : P → Reply → Bool → Step P A) (holds : P → Scene → P → Scene → Bool → Type 0) (gives : P → Scene → A → Scene → Type 0) (always : P → Scene → Scene → Type 0) (more : P → Scene → ℕ) : Type 0 where
+  pub begin : (p : P) (s : Scene) → starts p → holds p s p s false
+  -- its phase still holds where a sending is lost before its effect, and after it
+  pub lost : (o : P) (z : Scene) (p : P) (s : Scene) (b : Bool) → holds o z p s b → holds o z p s true
+  pub hidden : (o : P) (z : Scene) (p : P) (s : Scene) (b : Bool) → holds o z p s b → holds o z p (apply s (asks p)) true
+  -- the answer that is due leads on
+  pub goes_on : (o : P) (z : Scene) (p : P) (s : Scene) (b : Bool) → holds o z p s b → Goes (λ p s. holds o z p s false) (gives o z) (goes p (answer s (asks p)) b) (apply s (asks p))
+  -- what is left falls by it, and does not rise by its effect alone
+  pub falls : (o : P) (z : Scene) (p : P) (s : Scene) (b : Bool) → holds o z p s b → Falls more (goes p (answer s (asks p)) b) (apply s (asks p)) (more p s)
+  pub no_rise : (o : P) (z : Scene) (p : P) (s : Scene) (b : Bool) → holds o z p s b → more p (apply s (asks p)) ≤ more p s
+  -- what is so in each phase and at the end is so always
+  pub during : (o : P) (z : Scene) (p : P) (s : Scene) (b : Bool) → holds o z p s b → always o z s
+  pub at_end : (o : P) (z : Scene) (a : A) (s : Scene) → gives o z a s → always o z s
+
+-- ---- an operation whose requests may all be made again, as one
+
+-- it goes on alike where a sending was lost
+abbrev pub once : {P A : Type 0} → (P → Reply → Step P A) → P → Reply → Bool → Step P A
+once goes p r b = goes p r
+
+-- the phase holds in the scene before its present request, which may have had its effect since
+pub record Reached {P : Type 0} (asks : P → Request) (holds : P → Scene → Type 0) (p : P) (s : Scene) : Type 0 where
+  pub settled : Scene
+  pub phase : holds p settled
+  pub seen : (s ≡ settled) ⊎ (s ≡ apply settled (asks p))
+
+abbrev pub reached : {P : Type 0} → (P → Request) → (P → Scene → P → Scene → Type 0) → P → Scene → P → Scene → Bool → Type 0
+reached asks holds o z p s b = Reached asks (holds o z) p s

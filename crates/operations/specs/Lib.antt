@@ -1,0 +1,6 @@
+pub mod Plans
+pub mod Courses
+pub mod Operations
+pub mod Performed
+pub mod PlanLaws
+pub mod CourseLaws

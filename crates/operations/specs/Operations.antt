@@ -1,0 +1,66 @@
+-- An operation as a machine.
+use Rattle.std.specs.Prelude.{ℕ, ◌+◌, Bool, Option, Some, None}
+use Rattle.s3_types.specs.Store.{Scene}
+use Rattle.s3_types.specs.declared.request.Request.{Request}
+use Rattle.s3_types.specs.declared.reply.Reply.{Reply}
+use Rattle.machine.specs.Item.{Item, Got, WornOut, OutOfMemory, Standing, Fine, Faulted, Broken}
+use Rattle.operations.specs.declared.plan.Step.{Step}
+use Rattle.operations.specs.declared.plan.Step.TheVariants.{Next, End}
+use Rattle.operations.specs.declared.operation.Stage.{Stage}
+use Rattle.operations.specs.declared.operation.Stage.TheVariants.{On, Over, StoreFault, NoMemory}
+
+-- a phase asks its request, and an end asks nothing
+abbrev pub wanted : {P A : Type 0} → (P → Request) → Stage P A → Option Request
+wanted asks (On p) = Some (asks p)
+wanted asks (Over a) = None
+wanted asks StoreFault = None
+wanted asks NoMemory = None
+
+-- where a step leads
+abbrev pub led : {P A : Type 0} → Step P A → Stage P A
+led (Next p) = On p
+led (End a) = Over a
+
+-- where a reply leads
+abbrev pub got : {P A : Type 0} → (P → Reply → Bool → Step P A) → Stage P A → Reply → Bool → Stage P A
+got goes (On p) r b = led (goes p r b)
+got goes (Over a) r b = Over a
+got goes StoreFault r b = StoreFault
+got goes NoMemory r b = NoMemory
+
+-- where an item leads
+abbrev pub after : {P A : Type 0} → (P → Reply → Bool → Step P A) → Stage P A → Item → Stage P A
+after goes m (Got r b) = got goes m r b
+after goes m WornOut = StoreFault
+after goes m OutOfMemory = NoMemory
+
+-- any reply may come
+abbrev pub any_reply : {P A : Type 0} → Stage P A → Reply → Bool → Type 0
+any_reply m r b = Unit {0}
+
+-- at most so many answers are to come
+abbrev pub left : {P A : Type 0} → (P → Scene → ℕ) → Stage P A → Scene → ℕ
+left more (On p) s = 1 + more p s
+left more (Over a) s = 0
+left more StoreFault s = 0
+left more NoMemory s = 0
+
+-- StoreFault and NoMemory by their causes
+abbrev pub standing : {P A : Type 0} → Stage P A → Standing
+standing (On p) = Fine
+standing (Over a) = Fine
+standing StoreFault = Faulted
+standing NoMemory = Broken
+
+-- what holds of an operation between two sendings
+abbrev pub Kept : {P A : Type 0} → (P → Scene → Bool → Type 0) → (A → Scene → Type 0) → (Scene → Type 0) → Stage P A → Scene → Bool → Type 0
+Kept holds gives always (On p) s b = holds p s b
+Kept holds gives always (Over a) s b = gives a s
+Kept holds gives always StoreFault s b = always s
+Kept holds gives always NoMemory s b = always s
+
+-- it was begun somewhere, and went on well since
+pub record IsReady {P A : Type 0} (holds : P → Scene → P → Scene → Bool → Type 0) (gives : P → Scene → A → Scene → Type 0) (always : P → Scene → Scene → Type 0) (m : Stage P A) (s : Scene) (b : Bool) : Type 0 where
+  pub first : P
+  pub opening : Scene
+  pub kept : Kept (holds first opening) (gives first opening) (always first opening) m s b

@@ -1,0 +1,27 @@
+-- What performing an operation has done.
+use Rattle.std.specs.Prelude.{◌≡◌, ℕ, ◌+◌, List, ◌++◌, take, Option, Result}
+use Rattle.s3_types.specs.Store.{Scene}
+use Rattle.s3_types.specs.Moment.{AreHonest, after_all}
+use Rattle.s3_types.specs.Foretold.{AreForetold}
+use Rattle.s3_types.specs.declared.fates.Fate.{Fate}
+use Rattle.s3_types.specs.declared.request.Actor.{Actor}
+use Rattle.s3_types.specs.declared.journal.Entry.{Entry}
+use Rattle.machine.specs.Counted.{Counted}
+use Rattle.machine.specs.Turns.{AreBy}
+use Rattle.machine.specs.Tries.{Tried}
+use Rattle.machine.specs.declared.driving.DriveStop.{DriveStop}
+
+-- a journal gained entries of this actor and event, which lead from the scene z to s
+pub record Performed {A : Type 0} (actor : Actor) (event retries : ℕ) (always : Scene → Type 0) (z s : Scene) (old new : List Entry) (first requests before now : ℕ) (told tells : ℕ → Option Fate) (result : Result A DriveStop) : Type 0 where
+  pub part : List Entry
+  pub appended : new ≡ old ++ part
+  pub by : AreBy actor event part
+  -- each answer is the one that was due
+  pub honest : AreHonest z part
+  pub scene : s ≡ after_all z part
+  -- this was so before the first of them and after each
+  pub moments : (m : ℕ) → always (after_all z (take m part))
+  -- each request is sent at most `retries + 1` times, and StoreFault comes exactly where one wore out
+  pub tried : Tried retries retries part result
+  pub foretold : AreForetold told (first + 1) part
+  pub counts : Counted old new first requests before now told tells

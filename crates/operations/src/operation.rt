@@ -1,0 +1,146 @@
+ghost use Rattle.std.specs.Prelude.{◌≡◌, IfOk, OnOk, OnErr, Option, Some, None};
+ghost use Rattle.operations.specs.Operations.{wanted, led, after, any_reply, left, standing, IsReady};
+ghost use Rattle.operations.specs.CourseLaws.{course_laws};
+
+use crate::plan::{Plan, Step};
+use machine::Machine;
+use s3_types::{Reply, Request, let_go, put};
+use std::alloc::AllocError;
+use std::marker::Model;
+use std::mem;
+
+/// Where an operation stands.
+#[derive(Drop)]
+pub enum Stage<P, A> {
+    On(P),
+    Over(A),
+    /// A request wore out.
+    StoreFault,
+    NoMemory,
+}
+
+/// An operation as a machine.
+#[derive(Drop)]
+pub struct Operation<P: Plan> {
+    stage: Stage<P, P::Answer>,
+    asked: Option<Request>,
+}
+
+impl<P: Plan> Model for Operation<P> {
+    ghost use Rattle.std.specs.Prelude.{◌≡◌};
+    ghost use Rattle.operations.specs.declared.operation.Stage.{Stage};
+    ghost use Rattle.operations.specs.Operations.{wanted};
+
+    ghost Value = { Stage P P.Answer };
+
+    ghost view = { λ o. o.stage };
+
+    ghost invariant = { λ o. o.asked ≡ wanted P.asks o.stage };
+}
+
+impl<P: Plan> Operation<P> {
+    /// An operation of which nothing was sent yet.
+    pub fn new(plan: P) -> Result<Operation<P>, AllocError>
+        ensures { IfOk result (λ operation. operation ≡ Stage.On plan) }
+    {
+        let asked = plan.ask()?;
+        Ok(Operation {
+            stage: Stage::On(plan),
+            asked: Some(asked),
+        })
+    }
+
+    /// Where it stands. Takes no memory.
+    pub fn stage(&self) -> &Stage<P, P::Answer>
+        ensures { result.now ≡ self.now }
+    {
+        &self.stage
+    }
+
+    /// Gives up where it stands. Takes no memory.
+    pub fn into_stage(self) -> Stage<P, P::Answer>
+        ensures { result ≡ self }
+    {
+        let Operation { stage, asked } = self;
+        let_go(asked);
+        stage
+    }
+
+    fn stop(&mut self, stage: Stage<P, P::Answer>)
+        requires { wanted P.asks stage ≡ None }
+        ensures { self.new ≡ stage }
+    {
+        put(&mut self.asked, None);
+        put(&mut self.stage, stage);
+    }
+
+    fn go_on(&mut self, plan: P, asked: Request)
+        requires { asked ≡ P.asks plan }
+        ensures { self.new ≡ Stage.On plan }
+    {
+        put(&mut self.asked, Some(asked));
+        put(&mut self.stage, Stage::On(plan));
+    }
+
+    fn step(&mut self, step: Step<P, P::Answer>) -> Result<(), AllocError>
+        requires { wanted P.asks self.old ≡ None }
+        ensures ok { OnOk result (self.new ≡ led step) }
+        ensures err { OnErr result (self.new ≡ self.old) }
+    {
+        match step {
+            Step::Next(plan) => {
+                let asked = plan.ask()?;
+                self.go_on(plan, asked);
+            }
+            Step::End(answer) => self.stop(Stage::Over(answer)),
+        }
+        Ok(())
+    }
+
+    /// Takes the stage out, and leaves the want of memory in its place.
+    fn taken(&mut self) -> Stage<P, P::Answer>
+        ensures result { result ≡ self.old }
+        ensures rest { self.new ≡ Stage.NoMemory }
+    {
+        put(&mut self.asked, None);
+        mem::replace(&mut self.stage, Stage::NoMemory)
+    }
+}
+
+impl<P: Plan> Machine for Operation<P> {
+    ghost wants = { wanted P.asks };
+
+    ghost after = { after P.goes };
+
+    ghost fits = { any_reply };
+
+    ghost ready = { IsReady P.holds P.gives P.always };
+
+    ghost left = { left P.left };
+
+    ghost standing = { standing };
+
+    ghost laws = { course_laws P.laws };
+
+    fn request(&self) -> Option<&Request> {
+        self.asked.as_ref()
+    }
+
+    fn take(&mut self, reply: &Reply, repeated: bool) -> Result<(), AllocError> {
+        match self.taken() {
+            Stage::On(plan) => {
+                let step = plan.next(reply, repeated)?;
+                self.step(step)
+            }
+            stage => {
+                self.stop(stage);
+                Ok(())
+            }
+        }
+    }
+
+    fn worn(&mut self) -> Result<(), AllocError> {
+        self.stop(Stage::StoreFault);
+        Ok(())
+    }
+}

@@ -1,0 +1,57 @@
+ghost use Rattle.std.specs.Prelude.{◌≡◌, ◌<◌, ◌≤◌, length, IfOk, OnOk, IsErrOf, Ok, Err};
+ghost use Rattle.operations.specs.Performed.{Performed};
+
+use crate::operation::{Operation, Stage};
+use crate::plan::Plan;
+use machine::{DriveStop, Retrying, drive};
+use s3_types::{Actor, Journal, ObjectStore};
+use std::alloc::Global;
+
+/// The answer of an operation that was driven to its end.
+fn answer_of<P: Drop, A: Drop>(
+    driven: Result<(), DriveStop>,
+    stage: Stage<P, A>,
+) -> Result<A, DriveStop>
+    ensures driven { OnOk result (driven ≡ Ok tt) }
+    ensures answer { IfOk result (λ answer. stage ≡ Stage.Over answer) }
+    ensures fault { IsErrOf result DriveStop.StoreFault → driven ≡ Err DriveStop.StoreFault }
+{
+    if let Err(stop) = driven {
+        return Err(stop);
+    }
+    match stage {
+        Stage::Over(answer) => Ok(answer),
+        _ => Err(DriveStop::NoMemory),
+    }
+}
+
+/// Performs an operation that is alone, whatever the store loses: each request is sent at most
+/// `retries + 1` times. StoreFault comes exactly where a request wore out. The journal gains an entry for
+/// each sending.
+pub fn perform<P: Plan, S: ObjectStore>(
+    alloc: Global,
+    plan: P,
+    retries: u32,
+    store: &mut S,
+    actor: Actor,
+    event: u32,
+    journal: &mut Journal,
+) -> Result<P::Answer, DriveStop>
+    requires starts { P.starts plan }
+    requires counted { S.requests store.old ≤ length journal.old.entries }
+    ensures given { IfOk result (λ answer. P.gives plan (S.scene store.old) answer (S.scene store.new)) }
+    ensures performed { Performed actor event retries (P.always plan (S.scene store.old)) (S.scene store.old) (S.scene store.new) journal.old.entries journal.new.entries (S.requests store.old) (S.requests store.new) (S.losses store.old) (S.losses store.new) (S.foretold store.old) (S.foretold store.new) result }
+    ensures fault { IsErrOf result DriveStop.StoreFault → S.losses store.old < S.losses store.new }
+{
+    let operation = match Operation::new(plan) {
+        Ok(operation) => operation,
+        Err(_) => return Err(DriveStop::NoMemory),
+    };
+    let mut retrying = Retrying::new(operation, retries);
+    let driven = drive(alloc, &mut retrying, store, actor, event, journal);
+    let stage = retrying.into_inner().into_stage();
+    match answer_of(driven, stage) {
+        Ok(answer) => Ok(answer),
+        Err(stop) => Err(stop),
+    }
+}

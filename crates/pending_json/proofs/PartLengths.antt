@@ -1,0 +1,21 @@
+-- Each part of a file is at most as long as the file.
+use Rattle.std.proofs.Common.{◌≡◌, ℕ, ◌+◌, ◌==◌, ◌<◌, ◌≤◌, ◌^◌, true, List, [], ◌∷◌, length, arith}
+use Rattle.std.specs.List.{AllByRecursion, sum}
+use Rattle.std.proofs.lemmas.Bool.{and_parts, eqb-true}
+use Rattle.std.proofs.lemmas.List.Sums.{sum_by-cons}
+use Rattle.pending_json.specs.Pending.{fit}
+
+-- the first and the others
+summed : (n : ℕ) (ns : List ℕ) → sum (n ∷ ns) ≡ n + sum ns
+summed n ns = sum_by-cons (λ x. x) n ns
+
+-- none is more than what all are at most
+below_all : (ns : List ℕ) (most : ℕ) → sum ns ≤ most → most < 2 ^ 64 → AllByRecursion (λ n. n < 2 ^ 64) ns
+below_all [] most h k = tt
+below_all (n ∷ ns) most h k = let s = summed n ns in (omega (arith, s, h, k), below_all ns most (omega (arith, s, h)) k)
+
+-- each length of a file is below 2^64
+pub each_below : (ns : List ℕ) (count total : ℕ) → fit ns count total ≡ true → total < 2 ^ 64 → AllByRecursion (λ n. n < 2 ^ 64) ns
+each_below ns count total h k =
+    let e = eqb-true (sum ns) total (and_parts (length ns == count) _ h).1 in
+    below_all ns total (omega (arith, e)) k

@@ -1,0 +1,17 @@
+-- How actors and tags are written.
+use Rattle.std.specs.Prelude.{ℕ, List, [], ◌∷◌, ◌++◌, ◌==◌, codes, if◌then◌else◌}
+use Rattle.std.specs.List.{join_with_byte}
+use Rattle.std.specs.Fmt.{decimal}
+use Rattle.s3_types.specs.Tags.{Spelled}
+use Rattle.s3_types.specs.declared.request.Actor.{Actor}
+use Rattle.s3_types.specs.declared.request.Actor.TheVariants.{Driver, Attempt, Shell}
+
+-- `driver`, or an attempt's two numbers with a dot between them
+abbrev pub actor_text : Actor → List ℕ
+actor_text Driver = codes "driver"
+actor_text (Attempt task attempt) = join_with_byte 46 (decimal task ∷ decimal attempt ∷ [])
+actor_text Shell = codes "shell"
+
+-- the digits, and for a completed upload `-` and the count of its parts behind them
+abbrev pub tag_text : Spelled → List ℕ
+tag_text t = if t.parts == 0 then t.digits else t.digits ++ codes "-" ++ decimal t.parts

@@ -1,0 +1,36 @@
+ghost use Rattle.std.specs.Prelude.{◌≡◌};
+ghost use Rattle.s3_types.specs.Requests.{is_cluster, only_reads};
+
+use crate::request::Request;
+
+impl Request {
+    /// Whether it is the cluster's and not the store's. Takes no memory.
+    pub fn is_cluster(&self) -> bool
+        ensures { result ≡ is_cluster self.now }
+    {
+        match self {
+            Request::ClusterPut { .. } => true,
+            Request::ClusterRename { .. } => true,
+            Request::ClusterGet { .. } => true,
+            Request::ClusterDelete { .. } => true,
+            Request::ClusterList { .. } => true,
+            _ => false,
+        }
+    }
+
+    /// Whether it reads and changes nothing, whatever is there. Takes no memory.
+    pub fn only_reads(&self) -> bool
+        ensures { result ≡ only_reads self.now }
+    {
+        match self {
+            Request::GetObject { .. } => true,
+            Request::HeadObject { .. } => true,
+            Request::ListPage { .. } => true,
+            Request::ListParts { .. } => true,
+            Request::ListUploads { .. } => true,
+            Request::ClusterGet { .. } => true,
+            Request::ClusterList { .. } => true,
+            _ => false,
+        }
+    }
+}

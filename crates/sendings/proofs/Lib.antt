@@ -1,0 +1,4 @@
+mod Lists
+pub mod SameRequest
+pub mod Misses
+pub mod First

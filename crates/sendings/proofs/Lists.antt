@@ -1,0 +1,36 @@
+-- places in appended lists, and ways to part one
+use Rattle.std.proofs.Common.{◌≡◌, ℕ, ◌<◌, zero, suc, Some, refl, ap, sym, ◌∙◌, ◌⊎◌, inl, inr, Bool, true, false, arith, List, [], ◌∷◌, ◌++◌, length, slice_get}
+
+pub get_left : {X : Type 0} (xs ys : List X) (n : ℕ) (x : X) → slice_get xs n ≡ Some x → slice_get (xs ++ ys) n ≡ Some x
+get_left [] ys n x e = absurd (cc)
+get_left (z ∷ xs) ys zero x e = e
+get_left (z ∷ xs) ys (suc n) x e = get_left xs ys n x e
+
+pub get_before : {X : Type 0} (xs ys : List X) (n : ℕ) (x : X) → n < length xs → slice_get (xs ++ ys) n ≡ Some x → slice_get xs n ≡ Some x
+get_before [] ys n x h e = absurd (omega arith)
+get_before (z ∷ xs) ys zero x h e = e
+get_before (z ∷ xs) ys (suc n) x h e = get_before xs ys n x (omega arith) e
+
+-- two ways to part a list
+pub parted : {X : Type 0} (fs : List X) (a : X) (bs : List X) (cs : List X) (c : X) (ds : List X) → fs ++ a ∷ bs ≡ cs ++ c ∷ ds
+    → ((fs ≡ cs) × (a ≡ c)) ⊎ (((zs : List X) × (cs ≡ fs ++ a ∷ zs)) ⊎ ((zs : List X) × (fs ≡ cs ++ c ∷ zs)))
+parted [] a bs [] c ds e = let h : a ≡ c = cc in inl (refl, h)
+parted [] a bs (x ∷ cs) c ds e = let h : a ≡ x = cc in inr (inl (cs, ap (λ v. v ∷ cs) (sym h)))
+parted (x ∷ fs) a bs [] c ds e = let h : x ≡ c = cc in inr (inr (fs, ap (λ v. v ∷ fs) h))
+parted (x ∷ fs) a bs (y ∷ cs) c ds e =
+    let h : x ≡ y = cc in
+    let t : fs ++ a ∷ bs ≡ cs ++ c ∷ ds = cc in
+    elim (parted fs a bs cs c ds t) [
+      | inl r ↦ let i : x ∷ fs ≡ y ∷ cs = cc in inl (i, r.1)
+      | inr r ↦ elim r [
+        | inl z ↦ let i : y ∷ cs ≡ x ∷ (fs ++ a ∷ z.0) = ap (λ v. v ∷ cs) (sym h) ∙ ap (λ v. x ∷ v) z.1 in inr (inl (z.0, i))
+        | inr z ↦ let i : x ∷ fs ≡ y ∷ (cs ++ c ∷ z.0) = ap (λ v. v ∷ fs) h ∙ ap (λ v. y ∷ v) z.1 in inr (inr (z.0, i))
+      ]
+    ]
+
+pub true_or_false : (b : Bool) → (b ≡ true) ⊎ (b ≡ false)
+true_or_false true = inl refl
+true_or_false false = inr refl
+
+pub false_true : {b : Bool} → b ≡ false → b ≡ true → ⊥
+false_true e f = cc

@@ -1,0 +1,5 @@
+pub mod Same
+pub mod Operation
+pub mod Worn
+pub mod Retries
+pub mod Laws

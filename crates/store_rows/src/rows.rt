@@ -1,0 +1,113 @@
+use crate::images::{show_decoded, show_image};
+use crate::replies::{show_bytes, show_listed, show_reply};
+use crate::requests::answer;
+use crate::spelling::cut;
+use anyhow::{Context, Result, bail};
+use object_store::Objects;
+use s3_service::Service;
+use s3_types::{Reply, let_go, put};
+use std::alloc::Global;
+
+/// The store that the rows are about, and what it was when it was kept.
+#[derive(Drop)]
+pub struct Stores {
+    now: Service,
+    kept: Service,
+}
+
+impl Stores {
+    pub fn new(alloc: Global) -> Stores {
+        Stores {
+            now: Service::new(alloc, 4),
+            kept: Service::new(alloc, 4),
+        }
+    }
+
+    /// A store with no bucket.
+    fn begin(&mut self, alloc: Global, word: &str) -> Result<()> {
+        let minimum = word.parse::<u64>().context("the least part")?;
+        if minimum < 1 || minimum > 5_242_880 {
+            bail!("no store has such a least part");
+        }
+        put(&mut self.now, Service::new(alloc, minimum));
+        Ok(())
+    }
+
+    fn keep(&mut self) -> Result<()> {
+        let copy = self.now.copy()?;
+        put(&mut self.kept, copy);
+        Ok(())
+    }
+
+    fn go_back(&mut self) -> Result<()> {
+        let copy = self.kept.copy()?;
+        put(&mut self.now, copy);
+        Ok(())
+    }
+}
+
+fn show_answer(rt: &impl Print, reply: &Reply) -> Result<()> {
+    print!(rt; ": ")?;
+    show_reply(rt, reply)?;
+    show_listed(rt, reply)
+}
+
+/// What the store answers to the request that words spell.
+fn ask(rt: &impl Print, alloc: Global, service: &mut Service, words: &str) -> Result<()> {
+    let reply = answer(alloc, service, words)?;
+    let shown = show_answer(rt, &reply);
+    let_go(reply);
+    shown
+}
+
+/// The objects one after another, each found by the key before it.
+fn show_steps(rt: &impl Print, objects: &Objects) -> Result<()> {
+    let mut last = None;
+    for _ in 0..=objects.count() {
+        let Some((key, object)) = objects.next(last) else {
+            break;
+        };
+        print!(rt; " {} ", key.as_text().as_str())?;
+        show_bytes(rt, &object.bytes)?;
+        last = Some(key);
+    }
+    Ok(())
+}
+
+fn show_walk(rt: &impl Print, service: &Service) -> Result<()> {
+    for bucket in service.iter() {
+        print!(rt; ": {}", bucket.objects.count())?;
+        show_steps(rt, bucket.objects)?;
+    }
+    Ok(())
+}
+
+fn answer_row(rt: &impl Print, alloc: Global, stores: &mut Stores, words: &str) -> Result<()> {
+    let (verb, rest) = cut(words);
+    match verb {
+        "store" => stores.begin(alloc, rest),
+        "keep" => stores.keep(),
+        "back" => stores.go_back(),
+        "walk" => show_walk(rt, &stores.now),
+        "image" => show_image(rt, alloc, &stores.now, rest),
+        "read" => show_decoded(rt, alloc, rest),
+        _ => ask(rt, alloc, &mut stores.now, words),
+    }
+}
+
+/// A line `LABEL: WORDS`.
+fn row(rt: &impl Print, alloc: Global, stores: &mut Stores, line: &str) -> Result<()> {
+    let (label, words) = line.split_once(": ").context("a label and words")?;
+    print!(rt; "{label}")?;
+    answer_row(rt, alloc, stores, words)?;
+    println!(rt)?;
+    Ok(())
+}
+
+/// The rows of standard input.
+pub fn show_rows<R: Input + Print>(rt: &R, alloc: Global, stores: &mut Stores) -> Result<()> {
+    for line in rt.lines(alloc) {
+        row(rt, alloc, stores, line?.as_str())?;
+    }
+    Ok(())
+}

@@ -1,0 +1,2 @@
+pub mod KeptStates
+pub mod ReportLines

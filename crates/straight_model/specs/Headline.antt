@@ -1,0 +1,51 @@
+-- What a reader of a job's destination may rely on, at each moment of a run.
+use Rattle.std.specs.Prelude.{◌≡◌, ℕ, ◌≤◌, ◌⊎◌, true, false, List, length, Option, Some, None}
+use Rattle.serde_json.specs.Written.{compact_text}
+use Rattle.s3_types.specs.Store.{Content}
+use Rattle.s3_types.specs.declared.journal.Entry.{Entry}
+use Rattle.s3_types.specs.declared.object.Object.{Object}
+use Rattle.magic_paths.specs.Layout.{success_key}
+use Rattle.pending_json.specs.Trees.{success_tree}
+use Rattle.pending_json.specs.declared.records.SuccessMark.{SuccessMark}
+use Rattle.straight_model.specs.View.{Shown, view, object_at}
+use Rattle.straight_model.specs.Outputs.{Picks, wanted_at, wanted_paths, keeps, is_picked, is_clash, is_decided, done}
+use Rattle.straight_model.specs.Replay.{Seen, seen, is_marked}
+use Rattle.job_model.specs.JobScript.{Script}
+
+-- two views show the same files
+abbrev pub Same : Shown → Shown → Type 0
+Same v u = (p : List ℕ) → v p ≡ u p
+
+-- Between the opening files and those of the picks: until each task has a pick and no two write one path, the opening ones;
+-- then only opening files and whole wanted ones, with each kept opening file where none is wanted.
+pub record Between (w : Script) (opening : Shown) (picks : Picks) (v : Shown) : Type 0 where
+  pub untouched : is_decided w picks ≡ false → Same v opening
+  pub only : is_decided w picks ≡ true → (p b : List ℕ) → v p ≡ Some b → (opening p ≡ Some b) ⊎ (wanted_at w picks p ≡ Some b)
+  pub kept : is_decided w picks ≡ true → (p b : List ℕ) → opening p ≡ Some b → keeps w picks p ≡ true → wanted_at w picks p ≡ None → v p ≡ Some b
+
+-- the marker of a committed job says what was wanted
+abbrev pub mark_of : Script → Picks → SuccessMark
+mark_of w picks = record { job = w.job; committer = w.committer; files = wanted_paths w picks; stamp = w.stamp }
+
+abbrev pub mark_text : Script → Picks → List ℕ
+mark_text w picks = compact_text (success_tree (mark_of w picks))
+
+-- the whole job stands: exactly the kept files and all files of the picks, and the marker says so
+pub record Whole (w : Script) (opening : Shown) (picks : Picks) (c : Content) : Type 0 where
+  pub picked : is_picked w picks ≡ true
+  pub apart : is_clash w picks ≡ false
+  pub files : Same (view w.dest c) (done w picks opening)
+  pub mark : (o : Object) → object_at c w.dest.bucket (success_key w.dest.key) ≡ Some o → o.bytes ≡ mark_text w picks
+
+-- what holds of what is seen at a moment
+pub record Kept (w : Script) (opening : Content) (s : Seen) : Type 0 where
+  -- until the job's commit begins the destination shows its opening files
+  pub before : s.begun ≡ false → Same (view w.dest s.scene.content) (view w.dest opening)
+  -- then it stays between these and the files of one committed attempt per task
+  pub between : s.begun ≡ true → Between w (view w.dest opening) s.picks (view w.dest s.scene.content)
+  -- and wherever this run's marker stands, the whole job does
+  pub whole : is_marked w s ≡ true → Whole w (view w.dest opening) s.picks s.scene.content
+
+-- The promise: at each moment of the journal of a run over this content, in which the job's commit is event k if it is any
+abbrev pub Always : Script → Option ℕ → Content → List Entry → Type 0
+Always w k opening journal = (m : ℕ) → m ≤ length journal → Kept w opening (seen w k opening journal m)

@@ -1,0 +1,14 @@
+pub mod View
+pub mod Outputs
+pub mod Replay
+pub mod Headline
+pub mod States
+pub mod Knowledge
+pub mod Operations
+pub mod Commits
+pub mod Turns
+pub mod Follows
+pub mod Fate
+pub mod Promise
+pub mod ReportText
+pub mod Standing

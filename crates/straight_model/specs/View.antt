@@ -1,0 +1,34 @@
+-- What a reader of a destination is shown (Hadoop, S3A committers: the magic directory and `_SUCCESS` are no data).
+use Rattle.std.specs.Prelude.{ℕ, ◌==◌, ◌&&◌, not, Bool, true, cond, List, [], ◌∷◌, Option, Some, None, codes, bytes_eq}
+use Rattle.std.specs.FinMap as fin
+use Rattle.std.specs.Option.{option_map}
+use Rattle.s3_types.specs.Store.{BucketContent, Content}
+use Rattle.s3_types.specs.Pages.{begins}
+use Rattle.s3_types.specs.declared.object.Object.{Object}
+use Rattle.path_keys.specs.Paths.{Path, below}
+
+-- paths below a destination, each with a file's bytes or with none
+abbrev pub Shown : Type 0
+Shown = List ℕ → Option (List ℕ)
+
+-- a path is empty or ends in `/`
+abbrev pub is_folder : List ℕ → Bool
+is_folder [] = true
+is_folder (x ∷ []) = x == 47
+is_folder (x ∷ y ∷ p) = is_folder (y ∷ p)
+
+-- a path of a file: not of a folder, not below `__magic`, and not the marker of a committed job
+abbrev pub is_file_path : List ℕ → Bool
+is_file_path p = not (is_folder p) && not (begins (codes "__magic/") p) && not (bytes_eq p (codes "_SUCCESS"))
+
+abbrev pub object_in : Option BucketContent → List ℕ → Option Object
+object_in None k = None
+object_in (Some b) k = fin.get b.objects k
+
+-- the object at a bucket's key
+abbrev pub object_at : Content → List ℕ → List ℕ → Option Object
+object_at c bucket k = object_in (fin.get c.buckets bucket) k
+
+-- the file that a destination shows at a path
+abbrev pub view : Path → Content → Shown
+view dest c p = cond (is_file_path p) (option_map (λ o. o.bytes) (object_at c dest.bucket (below dest.key p))) None

@@ -1,0 +1,64 @@
+-- Lines and parts of a text that is cut at its first separator.
+use Rattle.std.proofs.Common.{◌≡◌, ◌≢◌, ℕ, suc, ◌<◌, ◌-◌, ◌==◌, Bool, true, false, List, [], ◌∷◌, ◌++◌, length, take, drop, get_or, refl, sym, ap, ◌∙◌, arith}
+use Rattle.std.specs.Prelude.{◌&&◌, nat_lt, slice_index}
+use Rattle.std.specs.List.{list_all}
+use Rattle.std.proofs.lemmas.Bool.{and_parts, eqb-true, ltb-true, lt-ltb}
+use Rattle.std.proofs.lemmas.List.{take-append-drop, append-nil}
+use Rattle.std.proofs.Math.ListN.{drop_of_length-le}
+use Rattle.std.proofs.Math.Seq.{drop-cons}
+use Rattle.proof_base.proofs.Lists.{last_is}
+use Rattle.words.specs.Lines.{lines_of, is_inside, without_return}
+use Rattle.words.proofs.Split.{first_from, last_line}
+use Rattle.words.proofs.Pieces.{others_from_bytes}
+
+-- a line without a CR at its end
+pub no_return : (bs : List ℕ) → ((front : List ℕ) → bs ≢ front ++ 13 ∷ []) → bs ≡ without_return bs
+no_return bs h = by (nat_lt 0 (length bs) && (slice_index bs (length bs - 1) == 13)) refl
+  where
+    by : (b : Bool) → (nat_lt 0 (length bs) && (slice_index bs (length bs - 1) == 13)) ≡ b → bs ≡ without_return bs
+    by true e =
+        let parts = and_parts (nat_lt 0 (length bs)) (slice_index bs (length bs - 1) == 13) e in
+        let some : 0 < length bs = ltb-true 0 (length bs) parts.0 in
+        absurd (h (take (length bs - 1) bs) (last_is 13 bs (length bs - 1) (omega arith) (eqb-true _ _ parts.1)))
+    by false e = rw e refl
+
+-- the first line of a text that is cut at an LF
+pub line_before : (text front behind : List ℕ) → text ≡ front ++ 10 ∷ behind → ((i : ℕ) → i < length front → get_or front i 0 ≢ 10) → lines_of text ≡ without_return front ∷ lines_of behind
+line_before text front behind e h = ap lines_of e ∙ first_from [] front behind (others_from_bytes 10 front h)
+
+pub shorter_behind : (c : ℕ) (text front behind : List ℕ) → text ≡ front ++ c ∷ behind → length behind < length text
+shorter_behind c text front behind e = rw e (by front)
+  where
+    by : (xs : List ℕ) → length behind < length (xs ++ c ∷ behind)
+    by [] = omega arith
+    by (x ∷ xs) = let old = by xs in omega (arith, old)
+
+-- the last line of a text without an LF
+pub line_alone : (text : List ℕ) → 0 < length text → ((i : ℕ) → i < length text → get_or text i 0 ≢ 10) → lines_of text ≡ text ∷ lines_of []
+line_alone text some h =
+    let all : take (length text) text ≡ text = sym (append-nil _) ∙ ap (λ (l : List ℕ). take (length text) text ++ l) (sym (drop_of_length-le text (omega arith))) ∙ take-append-drop (length text) text in
+    let none : drop (length text) text ≡ [] = drop_of_length-le text (omega arith) in
+    last_line text (length text) some none (ap (list_all is_inside) all ∙ others_from_bytes 10 text h) ∙ ap (λ (l : List ℕ). l ∷ lines_of (drop (length text) text)) all ∙ ap (λ (l : List ℕ). text ∷ lines_of l) none
+
+last_at : (b : ℕ) (front : List ℕ) → get_or (front ++ b ∷ []) (length front) 0 ≡ b
+last_at b [] = refl
+last_at b (x ∷ xs) = last_at b xs
+
+length_more : (b : ℕ) (front : List ℕ) → length (front ++ b ∷ []) ≡ suc (length front)
+length_more b [] = refl
+length_more b (x ∷ xs) = ap suc (length_more b xs)
+
+front_of : (b : ℕ) (front : List ℕ) → take (length front) (front ++ b ∷ []) ≡ front
+front_of b [] = refl
+front_of b (x ∷ xs) = ap (λ (l : List ℕ). x ∷ l) (front_of b xs)
+
+trimmed_at : (bs : List ℕ) (k : ℕ) → 0 < length bs → length bs - 1 ≡ k → get_or bs k 0 ≡ 13 → without_return bs ≡ take k bs
+trimmed_at bs k some e at = rw (lt-ltb 0 (length bs) some, e, at) refl
+
+-- a line with a CR at its end
+pub one_return : (bs front : List ℕ) → bs ≡ front ++ 13 ∷ [] → front ≡ without_return bs
+one_return bs front e =
+    let more = length_more 13 front in
+    let some : 0 < length (front ++ 13 ∷ []) = omega (arith, more) in
+    let last : length (front ++ 13 ∷ []) - 1 ≡ length front = omega (arith, more) in
+    sym (ap without_return e ∙ trimmed_at (front ++ 13 ∷ []) (length front) some last (last_at 13 front) ∙ front_of 13 front)

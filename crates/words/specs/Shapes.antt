@@ -1,0 +1,31 @@
+-- Lists of so many words.
+use Rattle.std.specs.Prelude.{ℕ, List, [], ◌∷◌, Option, Some, None}
+use Rattle.words.specs.Words.{joined}
+
+abbrev pub one : List (List ℕ) → Option (List ℕ)
+one [] = None
+one (w ∷ []) = Some w
+one (w ∷ v ∷ vs) = None
+
+abbrev pub two : List (List ℕ) → Option (List ℕ × List ℕ)
+two [] = None
+two (w ∷ []) = None
+two (w ∷ v ∷ []) = Some (w, v)
+two (w ∷ v ∷ u ∷ us) = None
+
+-- the first two, and those behind them
+abbrev pub two_and_more : List (List ℕ) → Option (List ℕ × List ℕ × List (List ℕ))
+two_and_more [] = None
+two_and_more (w ∷ []) = None
+two_and_more (w ∷ v ∷ vs) = Some (w, v, vs)
+
+-- the only one, or that there is none
+abbrev pub at_most_one : List (List ℕ) → Option (Option (List ℕ))
+at_most_one [] = Some None
+at_most_one (w ∷ []) = Some (Some w)
+at_most_one (w ∷ v ∷ vs) = None
+
+-- the words again, with one blank between two
+abbrev pub text : List (List ℕ) → Option (List ℕ)
+text [] = None
+text (w ∷ ws) = Some (joined (w ∷ ws))

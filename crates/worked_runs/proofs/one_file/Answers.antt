@@ -1,0 +1,34 @@
+use Rattle.std.proofs.Common.{refl}
+use Rattle.worked_runs.proofs.Digits.{zero_digit}
+use Rattle.worked_runs.proofs.OneSet.{set_is_read}
+use Rattle.worked_runs.proofs.one_file.Goals as goal
+
+pub returns-clause-runs : goal.returns-clause-runs
+returns-clause-runs c = record {
+  setup = ((refl, (refl, (refl, tt))), refl);
+  write = (rw zero_digit (refl, (refl, (refl, (refl, tt)))), refl);
+  task = (rw zero_digit (refl, rw zero_digit (refl, (refl, tt))), rw zero_digit refl);
+  commit = (rw set_is_read (rw zero_digit (refl, (refl, (refl, tt)))), rw set_is_read refl);
+}
+
+pub returns-clause-seen : goal.returns-clause-seen
+returns-clause-seen c = record {
+  not_begun = refl;
+  begun = refl;
+  unpublished = refl;
+  published = rw zero_digit refl;
+  unpicked = refl;
+  picked = rw zero_digit refl;
+  undecided = refl;
+  decided = rw zero_digit (rw zero_digit refl);
+  wanted = rw zero_digit refl;
+  unwanted = rw zero_digit refl;
+  kept = refl;
+  unmarked = refl;
+  marked = refl;
+  due = rw zero_digit (rw zero_digit refl);
+  due_missing = refl;
+  no_commit = refl;
+  no_publisher = refl;
+  no_mark = refl;
+}

@@ -1,0 +1,55 @@
+-- The job that the runs are of, and entries of its journals.
+use Rattle.std.specs.Prelude.{ℕ, List, None, codes, false}
+use Rattle.std.specs.FinMap as fin
+use Rattle.s3_types.specs.Tags.{Spelled}
+use Rattle.s3_types.specs.declared.request.Actor.{Actor}
+use Rattle.s3_types.specs.declared.request.Actor.TheVariants.{Attempt}
+use Rattle.s3_types.specs.declared.request.Request.{Request}
+use Rattle.s3_types.specs.declared.reply.Reply.{Reply}
+use Rattle.s3_types.specs.declared.journal.Outcome.{Outcome}
+use Rattle.s3_types.specs.declared.journal.Outcome.TheVariants.{Answered}
+use Rattle.s3_types.specs.declared.journal.Entry.{Entry}
+use Rattle.s3_types.specs.declared.request.Committer.{Committer}
+use Rattle.s3_types.specs.declared.request.Mode.{Mode}
+use Rattle.job_model.specs.Files.{File}
+use Rattle.job_model.specs.Attempts.{Declared}
+use Rattle.job_model.specs.JobScript.{Script}
+use Rattle.job_model.specs.declared.events.Event.{Event}
+
+abbrev pub lake : List ℕ
+lake = codes "lake"
+
+-- a job at s3a://lake/out that names no fate
+abbrev pub job : Committer → Mode → ℕ → ℕ → ℕ → List Declared → List Event → Script
+job committer mode tasks retries lanes attempts events = record {
+  job = codes "j1";
+  dest = record { bucket = lake; key = codes "out" };
+  committer = committer;
+  mode = mode;
+  unique = false;
+  tasks = tasks;
+  retries = retries;
+  block = 0;
+  lanes = lanes;
+  stamp = None;
+  fates = fin.empty;
+  attempts = attempts;
+  events = events;
+}
+
+-- an attempt that writes files
+abbrev pub attempt : ℕ → ℕ → List File → Declared
+attempt task number files = (record { task = task; attempt = number }, files)
+
+abbrev pub worker : Actor
+worker = Attempt 0 0
+
+-- the tag of `hello`
+abbrev pub hello_tag : Spelled
+hello_tag = record { digits = codes "5d41402abc4b2a76b9719d911017c592"; parts = 0 }
+
+abbrev pub entry : ℕ → Actor → Request → Outcome → Entry
+entry k a r o = record { event = k; actor = a; request = r; outcome = o }
+
+abbrev pub said : ℕ → Actor → Request → Reply → Entry
+said k a r reply = entry k a r (Answered reply)

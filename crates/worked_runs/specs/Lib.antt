@@ -1,0 +1,6 @@
+pub mod Jobs
+pub mod Decisions
+pub mod OneFile
+pub mod Steps
+pub mod Lanes
+pub mod Modes

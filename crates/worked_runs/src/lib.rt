@@ -1,0 +1,32 @@
+//! Whole runs written out as data, and what the definitions of a job's operations and of its promise
+//! say of them.
+#![tactic(auto)]
+
+ghost use Rattle.worked_runs.specs.Decisions.{DecidesSo, RestartsSo};
+ghost use Rattle.worked_runs.specs.OneFile.{OneFileRuns, OneFileSeen};
+ghost use Rattle.worked_runs.specs.Lanes.{LanesRun};
+ghost use Rattle.worked_runs.specs.Modes.{SetupsRun, StagingRuns, DriversRun};
+
+/// Verdicts on runs, and drivers that are restarted.
+pub fn verdicts()
+    ensures verdicts { DecidesSo }
+    ensures restarts { RestartsSo }
+{}
+
+/// One attempt with one file, of the magic committer.
+pub fn one_file()
+    ensures runs { OneFileRuns }
+    ensures seen { OneFileSeen }
+{}
+
+/// A job's commit in lanes.
+pub fn completions()
+    ensures lanes { LanesRun }
+{}
+
+/// Conflict modes, staging attempts and cleans.
+pub fn committers()
+    ensures setups { SetupsRun }
+    ensures staging { StagingRuns }
+    ensures drivers { DriversRun }
+{}
