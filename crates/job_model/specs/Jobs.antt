@@ -1,9 +1,8 @@
 -- What a job is, and what an attempt of it knows.
-use Rattle.std.specs.Prelude.{ℕ, Bool, List, Option}
+use Rattle.std.specs.Prelude.{ℕ, List, Option}
 use Rattle.path_keys.specs.Paths.{Path}
-use Rattle.pending_json.specs.Pending.{Pending}
 use Rattle.job_model.specs.Files.{File}
-use Rattle.s3_types.specs.declared.request.UploadRef.{UploadRef}
+use Rattle.job_model.specs.Known.{Known}
 use Rattle.s3_types.specs.declared.request.Committer.{Committer}
 use Rattle.s3_types.specs.declared.request.Mode.{Mode}
 
@@ -26,7 +25,4 @@ pub record Task : Type 0 where
   pub files : List File
   pub block : ℕ
   pub minimum : ℕ
-  pub known : List UploadRef
-  pub records : List Pending
-  pub put_sent : Bool
-  pub publish_sent : Bool
+  pub known : Known

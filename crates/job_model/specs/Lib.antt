@@ -1,5 +1,6 @@
 pub mod Files
 pub mod Attempts
+pub mod Known
 pub mod Jobs
 pub mod Paths
 pub mod JobScript

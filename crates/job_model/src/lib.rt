@@ -6,6 +6,7 @@ mod attempts;
 mod ends;
 mod events;
 mod files;
+mod known;
 mod laws;
 mod plan;
 mod script;
@@ -18,6 +19,7 @@ pub use ends::{
 };
 pub use events::{Event, EventList, Op};
 pub use files::FileList;
+pub use known::{DrawnPart, DrawnUpload, Knowledge};
 pub use laws::paths_are_places;
 pub use plan::{JobPlan, TaskPlan, TaskSet};
 pub use script::Script;

@@ -3,9 +3,9 @@ ghost use Rattle.std.specs.Ordering.{nat_cmp};
 ghost use Rattle.std.specs.BTreeSet.{insert_key};
 
 use crate::files::FileList;
+use crate::known::Knowledge;
 use path_keys::S3Path;
-use pending_json::PendingList;
-use s3_types::{Committer, Mode, Text, UploadList};
+use s3_types::{Committer, Mode, Text};
 use std::alloc::{AllocError, Global};
 use std::collections::BTreeSet;
 use std::marker::Model;
@@ -40,9 +40,7 @@ impl Model for JobPlan {
 
 /// What an attempt knows and has done: of which job, task and attempt it is, its files, the sizes in
 /// bytes that its parts are cut by (the script's block, at most 67,108,864 and 0 for none, and the
-/// store's minimum, 1 to 5,242,880), the uploads whose ids it got in the order of their making, the
-/// records of its finished uploads, and whether it has sent the put of its temporary file and its
-/// publishing request. Its task is below the job's number of tasks, and its own number is at most 99.
+/// store's minimum, 1 to 5,242,880), and what it knows by its own sendings. Its task is below the job's number of tasks, and its own number is at most 99.
 /// Its files are at most 20,000 with 67,108,864 bytes together; each path is one that a script may give or
 /// that path made unique to the job, and stands once.
 #[derive(Drop)]
@@ -53,10 +51,7 @@ pub struct TaskPlan {
     pub files: FileList,
     pub block: u64,
     pub minimum: u64,
-    pub known: UploadList,
-    pub records: PendingList,
-    pub put_sent: bool,
-    pub publish_sent: bool,
+    pub known: Knowledge,
 }
 
 impl Model for TaskPlan {
@@ -65,9 +60,9 @@ impl Model for TaskPlan {
 
     ghost Value = { Task };
 
-    ghost view = { λ p. record { job = p.job; task = p.task; attempt = p.attempt; files = p.files; block = p.block; minimum = p.minimum; known = p.known; records = p.records; put_sent = p.put_sent; publish_sent = p.publish_sent } };
+    ghost view = { λ p. record { job = p.job; task = p.task; attempt = p.attempt; files = p.files; block = p.block; minimum = p.minimum; known = p.known } };
 
-    ghost invariant = { λ p. IsTask (record { job = p.job; task = p.task; attempt = p.attempt; files = p.files; block = p.block; minimum = p.minimum; known = p.known; records = p.records; put_sent = p.put_sent; publish_sent = p.publish_sent }) };
+    ghost invariant = { λ p. IsTask (record { job = p.job; task = p.task; attempt = p.attempt; files = p.files; block = p.block; minimum = p.minimum; known = p.known }) };
 }
 
 /// Numbers of tasks, rising and each once.

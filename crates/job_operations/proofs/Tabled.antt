@@ -8,7 +8,7 @@ use Rattle.job_model.specs.Attempts.{Who}
 use Rattle.job_model.specs.JobScript.{Script}
 use Rattle.job_model.specs.declared.events.Op.{Op}
 use Rattle.job_model.specs.declared.events.Op.TheVariants as ops
-use Rattle.job_operations.specs.Knowledge.{Known}
+use Rattle.job_model.specs.Known.{Known}
 use Rattle.job_operations.specs.Setup as setup
 use Rattle.job_operations.specs.Writes as writes
 use Rattle.job_operations.specs.TaskCommits as tasks

@@ -17,7 +17,8 @@ use Rattle.job_model.specs.Files.{File}
 use Rattle.job_model.specs.Attempts.{Who}
 use Rattle.job_model.specs.JobScript.{Script}
 use Rattle.job_operations.specs.Outputs.{files}
-use Rattle.job_operations.specs.Knowledge.{Drawn, Known, learn, learn_upload, learn_part, drawn_in, first_drawn}
+use Rattle.job_model.specs.Known.{Drawn, Known}
+use Rattle.job_operations.specs.Knowledge.{learn, learn_upload, learn_part, drawn_in, first_drawn}
 use Rattle.job_operations.specs.Records.{file_key, record_key, file_record, record_text}
 use Rattle.job_operations.specs.Uploading.{Uploading, Creating, Sending, upload_asks}
 use Rattle.job_operations.specs.Setup as setup

@@ -10,26 +10,8 @@ use Rattle.s3_types.specs.declared.journal.Outcome.TheVariants.{Answered}
 use Rattle.s3_types.specs.declared.journal.Entry.{Entry}
 use Rattle.magic_paths.specs.Layout as layout
 use Rattle.job_model.specs.Attempts.{Who}
+use Rattle.job_model.specs.Known.{Drawn, Known, nothing_known}
 use Rattle.job_model.specs.JobScript.{Script}
-
--- an upload whose id came back: its key, its id, and of its parts that came back the tags and the sizes
-pub record Drawn : Type 0 where
-  pub key : List ℕ
-  pub upload : ℕ
-  pub tags : List Spelled
-  pub sizes : List ℕ
-
--- what an attempt knows
-pub record Known : Type 0 where
-  -- the drawn uploads, the last one first
-  pub drawn : List Drawn
-  -- the put of its temporary file was sent
-  pub put_sent : Bool
-  -- its publishing request was sent, whatever became of it
-  pub publish_sent : Bool
-
-abbrev pub nothing_known : Known
-nothing_known = record { drawn = []; put_sent = false; publish_sent = false }
 
 abbrev pub with_part : ℕ → Spelled → ℕ → Drawn → Drawn
 with_part id tag size d = cond (nat_eq d.upload id) (record { key = d.key; upload = d.upload; tags = d.tags ++ tag ∷ []; sizes = d.sizes ++ size ∷ [] }) d

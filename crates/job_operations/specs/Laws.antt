@@ -6,7 +6,7 @@ use Rattle.s3_types.specs.declared.request.Request.{Request}
 use Rattle.job_model.specs.Attempts.{Who}
 use Rattle.job_model.specs.declared.events.Op.{Op}
 use Rattle.job_model.specs.declared.events.Op.TheVariants as ops
-use Rattle.job_operations.specs.Knowledge.{Known}
+use Rattle.job_model.specs.Known.{Known}
 use Rattle.job_operations.specs.Operations.{Setting, Operation, TheSetup, TheWrite, TheTaskCommit, TheTaskAbort, TheCommit, TheClean, Running, asks, over, wants, advance, start_of}
 use Rattle.job_model.specs.declared.ends.OpEnd.{OpEnd}
 use Rattle.job_model.specs.declared.ends.OpEnd.TheVariants as ends

@@ -15,4 +15,6 @@ pub mod JobCommits
 pub mod LaneTable
 pub mod LaneOrder
 pub mod Operations
+pub mod AtWork
+pub mod Measures
 pub mod Laws

@@ -12,7 +12,8 @@ use Rattle.job_model.specs.declared.events.Op.{Op}
 use Rattle.job_model.specs.declared.events.Op.TheVariants as ops
 use Rattle.job_model.specs.declared.ends.OpEnd.{OpEnd}
 use Rattle.job_model.specs.declared.ends.OpEnd.TheVariants as ends
-use Rattle.job_operations.specs.Knowledge.{Known, learn}
+use Rattle.job_model.specs.Known.{Known}
+use Rattle.job_operations.specs.Knowledge.{learn}
 use Rattle.job_operations.specs.Setup.{Setup, setup_start, setup_asks, setup_after, setup_over}
 use Rattle.job_operations.specs.Writes.{Write, write_start, write_asks, write_after, write_over}
 use Rattle.job_operations.specs.TaskCommits.{TaskCommit, task_commit_start, task_commit_asks, task_commit_after, task_commit_over}

@@ -11,7 +11,8 @@ use Rattle.job_model.specs.Files.{File}
 use Rattle.job_model.specs.Attempts.{Who}
 use Rattle.job_model.specs.JobScript.{Script}
 use Rattle.job_operations.specs.Outputs.{Picks, wanted_paths}
-use Rattle.job_operations.specs.Knowledge.{Drawn, Known, drawn_for}
+use Rattle.job_model.specs.Known.{Drawn, Known}
+use Rattle.job_operations.specs.Knowledge.{drawn_for}
 
 -- ---- the keys of a file: its own, that of its marker and that of its record
 

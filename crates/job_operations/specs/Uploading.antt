@@ -8,7 +8,8 @@ use Rattle.s3_types.specs.declared.reply.Reply.TheVariants.{Upload, Refused}
 use Rattle.s3_types.specs.declared.reply.Refusal.TheVariants.{NoSuchUpload}
 use Rattle.job_model.specs.Files.{File}
 use Rattle.job_model.specs.JobScript.{Script}
-use Rattle.job_operations.specs.Knowledge.{Known, drawn_last}
+use Rattle.job_model.specs.Known.{Known}
+use Rattle.job_operations.specs.Knowledge.{drawn_last}
 use Rattle.job_operations.specs.Records.{file_key}
 
 pub data Uploading : Type 0 where

@@ -12,7 +12,8 @@ use Rattle.job_model.specs.JobScript.{Script}
 use Rattle.job_model.specs.declared.ends.TaskEnd.{TaskEnd}
 use Rattle.job_model.specs.declared.ends.TaskEnd.TheVariants as ends
 use Rattle.job_operations.specs.Outputs.{files}
-use Rattle.job_operations.specs.Knowledge.{Known, drawn_last}
+use Rattle.job_model.specs.Known.{Known}
+use Rattle.job_operations.specs.Knowledge.{drawn_last}
 use Rattle.job_operations.specs.Records.{file_key, marker_key, record_key, record_text}
 use Rattle.job_operations.specs.Uploading.{Uploading, Creating, Uploaded, GoesOn, AllSent, IsGone, upload_asks, upload_hears}
 

@@ -9,7 +9,8 @@ use Rattle.job_model.specs.declared.ends.ActorEnd.{ActorEnd}
 use Rattle.job_model.specs.declared.ends.EventEnd.{EventEnd}
 use Rattle.job_model.specs.declared.ends.EventEnd.TheVariants.{Refused}
 use Rattle.job_model.specs.declared.ends.EventFault.{EventFault}
-use Rattle.job_operations.specs.Knowledge.{Known, knows}
+use Rattle.job_model.specs.Known.{Known}
+use Rattle.job_operations.specs.Knowledge.{knows}
 use Rattle.job_operations.specs.Operations.{Setting, Operation, Running, who, wants, advance, start_of, over}
 use Rattle.job_promise.specs.States.{Doing, past, refusal, after_event, open_event, told}
 use Rattle.job_promise.specs.Turns.{of_event, until, before, since, by_actor, is_busy, is_memory, Turns, IsRising, AllUpTo}

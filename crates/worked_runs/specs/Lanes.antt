@@ -14,7 +14,7 @@ use Rattle.job_model.specs.JobScript.{Script}
 use Rattle.job_model.specs.declared.ends.CommitEnd.TheVariants as commits
 use Rattle.job_model.specs.declared.ends.Stage.TheVariants as stages
 use Rattle.job_model.specs.declared.ends.OpEnd.TheVariants as ends
-use Rattle.job_operations.specs.Knowledge.{nothing_known}
+use Rattle.job_model.specs.Known.{nothing_known}
 use Rattle.job_operations.specs.JobCommits.{Sets, replacing, picks_of}
 use Rattle.job_operations.specs.Records.{mark_text}
 use Rattle.job_operations.specs.Operations.{TheCommit}

@@ -27,7 +27,7 @@ use Rattle.job_model.specs.declared.ends.CleanEnd.TheVariants as cleans
 use Rattle.job_model.specs.declared.ends.CommitEnd.TheVariants as commits
 use Rattle.job_model.specs.declared.ends.OpEnd.TheVariants as ends
 use Rattle.job_operations.specs.Outputs.{same_path}
-use Rattle.job_operations.specs.Knowledge.{Known, nothing_known}
+use Rattle.job_model.specs.Known.{Known, nothing_known}
 use Rattle.job_operations.specs.JobCommits.{Sets, decided}
 use Rattle.job_operations.specs.Operations.{Setting, TheCommit, start_of}
 use Rattle.worked_runs.specs.Jobs.{lake, job, attempt, worker, hello_tag}

@@ -4,7 +4,7 @@ use Rattle.s3_types.specs.declared.request.Actor.{Actor}
 use Rattle.s3_types.specs.declared.request.Request.{Request}
 use Rattle.s3_types.specs.declared.journal.Outcome.{Outcome}
 use Rattle.job_model.specs.declared.ends.OpEnd.{OpEnd}
-use Rattle.job_operations.specs.Knowledge.{Known}
+use Rattle.job_model.specs.Known.{Known}
 use Rattle.job_operations.specs.Operations.{Setting, Operation, Running, wants, advance, over}
 
 -- the requests that were asked, one for each outcome
