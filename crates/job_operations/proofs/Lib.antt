@@ -8,3 +8,4 @@ pub mod LaneTables
 pub mod Hands
 pub mod LaneEnds
 pub mod Orders
+pub mod Told

@@ -1,10 +1,10 @@
 -- Operations beside the plans that they are made from: what an actor knows of the job, in place of the job's whole script.
-use Rattle.std.specs.Prelude.{◌≡◌, ℕ, false, List, [], ◌∷◌, ◌++◌, map, length, Option, Some, None}
+use Rattle.std.specs.Prelude.{ℕ, false, List, [], ◌∷◌, ◌++◌, map, Option, Some, None}
 use Rattle.std.specs.FinMap as fin
 use Rattle.std.specs.Option.{unwrap_or}
 use Rattle.s3_types.specs.declared.request.Request.{Request}
 use Rattle.s3_types.specs.declared.journal.Outcome.{Outcome}
-use Rattle.s3_types.specs.declared.journal.Outcome.TheVariants.{Answered, Slow, RequestLost, ReplyLost}
+use Rattle.s3_types.specs.declared.journal.Outcome.TheVariants.{Answered, RequestLost}
 use Rattle.path_keys.specs.Paths.{Path, relative_in}
 use Rattle.pending_json.specs.declared.records.PendingSet.{PendingSet}
 use Rattle.sendings.specs.Retries.{Item, Got, WornOut, OutOfMemory}
@@ -158,21 +158,12 @@ commit_wants m = commit_asks (read_script m.plan (sets_in m.operation)) m.operat
 abbrev pub commit_told : Committing → Outcome → Committing
 commit_told m o = record { plan = m.plan; picked = picked_after m.picked m.operation o; operation = commit_tells (read_script m.plan (sets_after m.operation o)) m.operation o }
 
--- ---- whose plan it is
+-- ---- the plans that a script gives
 
--- the plan of a script's driver
-pub record IsJobOf (w : Script) (j : Job) : Type 0 where
-  pub job : j.job ≡ w.job
-  pub dest : j.dest ≡ w.dest
-  pub committer : j.committer ≡ w.committer
-  pub mode : j.mode ≡ w.mode
-  pub tasks : j.tasks ≡ w.tasks
-  pub retries : j.retries ≡ w.retries
-  pub lanes : j.lanes ≡ w.lanes
-  pub stamp : j.stamp ≡ w.stamp
+-- of its driver
+abbrev pub job_of : Script → Job
+job_of w = record { job = w.job; dest = w.dest; committer = w.committer; mode = w.mode; tasks = w.tasks; retries = w.retries; lanes = w.lanes; stamp = w.stamp }
 
--- the plan of an attempt of a script
-pub record IsTaskOf (w : Script) (t : Task) : Type 0 where
-  pub job : IsJobOf w t.job
-  pub files : t.files ≡ files w (who_of t)
-  pub block : t.block ≡ w.block
+-- of an attempt that knows this, over a store of this least size of a part
+abbrev pub task_of : Script → ℕ → Who → Known → Task
+task_of w minimum a k = record { job = job_of w; task = a.task; attempt = a.attempt; files = files w a; block = w.block; minimum = minimum; known = k }

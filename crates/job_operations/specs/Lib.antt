@@ -17,4 +17,5 @@ pub mod LaneOrder
 pub mod Operations
 pub mod AtWork
 pub mod Measures
+pub mod PlanLaws
 pub mod Laws

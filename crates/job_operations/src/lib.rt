@@ -3,6 +3,7 @@
 #![tactic(auto)]
 
 ghost use Rattle.job_operations.specs.Laws.{OperationTable, FaultsAreWorn, SharedPaths, LanesKeep, CommitsInLanes};
+ghost use Rattle.job_operations.specs.PlanLaws.{TasksTell, JobsTell};
 
 /// The operations of a job's actors.
 pub fn operations()
@@ -23,4 +24,10 @@ pub fn shared_paths()
 pub fn lanes()
     ensures table { LanesKeep }
     ensures end { CommitsInLanes }
+{}
+
+/// Operations by the plans of those who perform them.
+pub fn plans()
+    ensures tasks { TasksTell }
+    ensures jobs { JobsTell }
 {}
