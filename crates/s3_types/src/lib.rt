@@ -3,6 +3,7 @@
 #![tactic(auto)]
 
 mod bytes;
+mod copies;
 mod drops;
 mod fates;
 mod journal;

@@ -2,6 +2,7 @@ ghost use Rattle.std.specs.Prelude.{◌≡◌, IfOk, Some};
 ghost use Rattle.s3_types.specs.Spelling.{actor_text};
 
 use crate::bytes::Bytes;
+use crate::copies::{both, three};
 use crate::limits::{LengthHeader, PageLimit};
 use crate::lists::{KeyList, PartList, copied_keys, copied_parts};
 use crate::names::{Bucket, Key};
@@ -199,10 +200,11 @@ impl Request {
     ) -> Result<Request, AllocError>
         ensures { IfOk result (λ request. request ≡ Request.PutObject bucket.now key.now bytes.now header) }
     {
+        let (bucket, key, bytes) = three(bucket, key, bytes)?;
         Ok(Request::PutObject {
-            bucket: bucket.clone()?,
-            key: key.clone()?,
-            bytes: bytes.clone()?,
+            bucket,
+            key,
+            bytes,
             header,
         })
     }
@@ -210,37 +212,32 @@ impl Request {
     pub fn get_object(bucket: &Bucket, key: &Key) -> Result<Request, AllocError>
         ensures { IfOk result (λ request. request ≡ Request.GetObject bucket.now key.now) }
     {
-        Ok(Request::GetObject {
-            bucket: bucket.clone()?,
-            key: key.clone()?,
-        })
+        let (bucket, key) = both(bucket, key)?;
+        Ok(Request::GetObject { bucket, key })
     }
 
     pub fn head_object(bucket: &Bucket, key: &Key) -> Result<Request, AllocError>
         ensures { IfOk result (λ request. request ≡ Request.HeadObject bucket.now key.now) }
     {
-        Ok(Request::HeadObject {
-            bucket: bucket.clone()?,
-            key: key.clone()?,
-        })
+        let (bucket, key) = both(bucket, key)?;
+        Ok(Request::HeadObject { bucket, key })
     }
 
     pub fn delete_object(bucket: &Bucket, key: &Key) -> Result<Request, AllocError>
         ensures { IfOk result (λ request. request ≡ Request.DeleteObject bucket.now key.now) }
     {
-        Ok(Request::DeleteObject {
-            bucket: bucket.clone()?,
-            key: key.clone()?,
-        })
+        let (bucket, key) = both(bucket, key)?;
+        Ok(Request::DeleteObject { bucket, key })
     }
 
     pub fn copy_object(bucket: &Bucket, source: &Key, target: &Key) -> Result<Request, AllocError>
         ensures { IfOk result (λ request. request ≡ Request.CopyObject bucket.now source.now target.now) }
     {
+        let (bucket, source, target) = three(bucket, source, target)?;
         Ok(Request::CopyObject {
-            bucket: bucket.clone()?,
-            source: source.clone()?,
-            target: target.clone()?,
+            bucket,
+            source,
+            target,
         })
     }
 
@@ -253,11 +250,12 @@ impl Request {
     ) -> Result<Request, AllocError>
         ensures { IfOk result (λ request. request ≡ Request.ListPage bucket.now prefix.now delimited after.now limit) }
     {
+        let (bucket, prefix, after) = three(bucket, prefix, after)?;
         Ok(Request::ListPage {
-            bucket: bucket.clone()?,
-            prefix: prefix.clone()?,
+            bucket,
+            prefix,
             delimited,
-            after: after.clone()?,
+            after,
             limit,
         })
     }
@@ -265,10 +263,8 @@ impl Request {
     pub fn create_upload(bucket: &Bucket, key: &Key) -> Result<Request, AllocError>
         ensures { IfOk result (λ request. request ≡ Request.CreateUpload bucket.now key.now) }
     {
-        Ok(Request::CreateUpload {
-            bucket: bucket.clone()?,
-            key: key.clone()?,
-        })
+        let (bucket, key) = both(bucket, key)?;
+        Ok(Request::CreateUpload { bucket, key })
     }
 
     pub fn upload_part(
@@ -280,21 +276,23 @@ impl Request {
     ) -> Result<Request, AllocError>
         ensures { IfOk result (λ request. request ≡ Request.UploadPart bucket.now key.now upload number bytes.now) }
     {
+        let (bucket, key, bytes) = three(bucket, key, bytes)?;
         Ok(Request::UploadPart {
-            bucket: bucket.clone()?,
-            key: key.clone()?,
+            bucket,
+            key,
             upload,
             number,
-            bytes: bytes.clone()?,
+            bytes,
         })
     }
 
     pub fn abort_upload(bucket: &Bucket, key: &Key, upload: u64) -> Result<Request, AllocError>
         ensures { IfOk result (λ request. request ≡ Request.AbortUpload bucket.now key.now upload) }
     {
+        let (bucket, key) = both(bucket, key)?;
         Ok(Request::AbortUpload {
-            bucket: bucket.clone()?,
-            key: key.clone()?,
+            bucket,
+            key,
             upload,
         })
     }
@@ -302,9 +300,10 @@ impl Request {
     pub fn list_parts(bucket: &Bucket, key: &Key, upload: u64) -> Result<Request, AllocError>
         ensures { IfOk result (λ request. request ≡ Request.ListParts bucket.now key.now upload) }
     {
+        let (bucket, key) = both(bucket, key)?;
         Ok(Request::ListParts {
-            bucket: bucket.clone()?,
-            key: key.clone()?,
+            bucket,
+            key,
             upload,
         })
     }
@@ -312,19 +311,15 @@ impl Request {
     pub fn cluster_put(path: &Text, bytes: &Bytes) -> Result<Request, AllocError>
         ensures { IfOk result (λ request. request ≡ Request.ClusterPut path.now bytes.now) }
     {
-        Ok(Request::ClusterPut {
-            path: path.clone()?,
-            bytes: bytes.clone()?,
-        })
+        let (path, bytes) = both(path, bytes)?;
+        Ok(Request::ClusterPut { path, bytes })
     }
 
     pub fn cluster_rename(source: &Text, target: &Text) -> Result<Request, AllocError>
         ensures { IfOk result (λ request. request ≡ Request.ClusterRename source.now target.now) }
     {
-        Ok(Request::ClusterRename {
-            source: source.clone()?,
-            target: target.clone()?,
-        })
+        let (source, target) = both(source, target)?;
+        Ok(Request::ClusterRename { source, target })
     }
 
     pub fn cluster_get(path: &Text) -> Result<Request, AllocError>
@@ -358,10 +353,9 @@ impl Request {
     ) -> Result<Request, AllocError>
         ensures { IfOk result (λ request. request ≡ Request.DeleteObjects bucket.now keys.now) }
     {
-        Ok(Request::DeleteObjects {
-            bucket: bucket.clone()?,
-            keys: copied_keys(alloc, keys)?,
-        })
+        let bucket = bucket.clone()?;
+        let keys = copied_keys(alloc, keys)?;
+        Ok(Request::DeleteObjects { bucket, keys })
     }
 
     pub fn complete_upload(
@@ -373,11 +367,13 @@ impl Request {
     ) -> Result<Request, AllocError>
         ensures { IfOk result (λ request. request ≡ Request.CompleteUpload bucket.now key.now upload parts.now) }
     {
+        let (bucket, key) = both(bucket, key)?;
+        let parts = copied_parts(alloc, parts)?;
         Ok(Request::CompleteUpload {
-            bucket: bucket.clone()?,
-            key: key.clone()?,
+            bucket,
+            key,
             upload,
-            parts: copied_parts(alloc, parts)?,
+            parts,
         })
     }
 
@@ -389,10 +385,12 @@ impl Request {
     ) -> Result<Request, AllocError>
         ensures { IfOk result (λ request. request ≡ Request.ListUploads bucket.now prefix.now after.now limit) }
     {
+        let (bucket, prefix) = both(bucket, prefix)?;
+        let after = copied_ref(after)?;
         Ok(Request::ListUploads {
-            bucket: bucket.clone()?,
-            prefix: prefix.clone()?,
-            after: copied_ref(after)?,
+            bucket,
+            prefix,
+            after,
             limit,
         })
     }
