@@ -9,3 +9,4 @@ pub mod Relations
 pub mod PartLengths
 pub mod RoundTrip
 pub mod Values
+pub mod Whole

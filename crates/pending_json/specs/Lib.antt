@@ -1,5 +1,6 @@
 pub mod Fault
 pub mod Fields
+pub mod Groups
 pub mod Pending
 pub mod Reading
 pub mod Records

@@ -71,12 +71,16 @@ abbrev pub with_stamp : Option ℕ → Members → Members
 with_stamp None others = others
 with_stamp (Some stamp) others = member (codes "stamp") (whole stamp) others
 
--- the marker of a committed job
-abbrev pub success_tree : SuccessMark → Data
-success_tree m = object
+-- a marker that has this stamp, where it has one
+abbrev pub mark_tree : SuccessMark → Option ℕ → Data
+mark_tree m stamp = object
     (member (codes "committer") (string (committer_word m.committer))
     (member (codes "files") (array (texts m.files))
     (member (codes "job") (string m.job)
     (member (codes "kind") (string (codes "success"))
-    (with_stamp m.stamp
+    (with_stamp stamp
     (member (codes "version") (whole 1) no_members))))))
+
+-- the marker of a committed job
+abbrev pub success_tree : SuccessMark → Data
+success_tree m = mark_tree m m.stamp

@@ -19,6 +19,7 @@ ghost use Rattle.pending_json.specs.Trees.{pending_tree, set_tree, success_tree}
 
 mod fault;
 mod fields;
+mod groups;
 mod parsing;
 mod pending;
 mod pending_reading;

@@ -1,49 +1,45 @@
 ghost use Rattle.std.specs.Prelude.{◌≡◌, IfOk, Ok};
 ghost use Rattle.serde_json.specs.View.{view};
 ghost use Rattle.pending_json.specs.Fault.{Gives};
+ghost use Rattle.pending_json.specs.Groups.{pending_by};
 ghost use Rattle.pending_json.specs.Pending.{Pending};
 ghost use Rattle.pending_json.specs.Reading.{pending_in, pending_of};
 ghost use Rattle.pending_json.specs.Records.{IsPending, Spell};
 ghost use Rattle.pending_json.specs.Trees.{pending_tree};
 
 use crate::fault::RecordFault;
-use crate::fields::{
-    bucket_field, is_sized, key_field, members_of, u32_field, whole_field, word_field,
-};
+use crate::fields::{is_sized, members_of};
+use crate::groups::{numbers_of, parts_of, target_of};
 use crate::parsing::tree;
 use crate::pending::PendingUpload;
-use crate::sizes::sizes_field;
-use crate::table::{no_others, pending_table};
-use crate::tags::tags_field;
 use serde_json::Value;
 use std::alloc::Global;
 
-#[tactic(auto, unfolding(crate::specs::Reading::pending_in))]
-pub fn pending_in(alloc: Global, value: &Value) -> Result<PendingUpload, RecordFault>
-    ensures { Gives result (pending_in (view value.now)) }
+#[tactic(auto, unfolding(crate::specs::Groups::pending_by))]
+fn pending_by(alloc: Global, value: &Value) -> Result<PendingUpload, RecordFault>
+    ensures { Gives result (pending_by (view value.now)) }
 {
     let members = members_of(alloc, value)?;
     let sized = is_sized(alloc, value)?;
-    let attempt = u32_field(alloc, value, "attempt")?;
-    let bucket = bucket_field(alloc, value, "bucket")?;
-    let destination = key_field(alloc, value, "destination")?;
-    let tags = tags_field(alloc, value, "etags")?;
-    word_field(alloc, value, "kind", "pending")?;
-    let length = whole_field(alloc, value, "length")?;
-    let sizes = sizes_field(alloc, value, sized, &tags, length)?;
-    let task = u32_field(alloc, value, "task")?;
-    let upload = whole_field(alloc, value, "upload")?;
-    no_others(alloc, members, pending_table(sized))?;
+    let target = target_of(alloc, value)?;
+    let parts = parts_of(alloc, value, sized)?;
+    let numbers = numbers_of(alloc, value, sized, members)?;
     Ok(PendingUpload::new(
-        task,
-        attempt,
-        bucket,
-        destination,
-        upload,
-        length,
-        tags,
-        sizes,
+        numbers.task,
+        target.attempt,
+        target.bucket,
+        target.destination,
+        numbers.upload,
+        parts.length,
+        parts.tags,
+        parts.sizes,
     ))
+}
+
+pub fn pending_in(alloc: Global, value: &Value) -> Result<PendingUpload, RecordFault>
+    ensures { Gives result (pending_in (view value.now)) }
+{
+    pending_by(alloc, value)
 }
 
 #[tactic(auto, unfolding(crate::specs::Reading::pending_of))]

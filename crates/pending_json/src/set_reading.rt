@@ -2,16 +2,17 @@ ghost use Rattle.std.specs.Prelude.{◌≡◌, IfOk, Ok};
 ghost use Rattle.serde_json.specs.View.{view, items_view};
 ghost use Rattle.pending_json.specs.declared.records.PendingSet.{PendingSet};
 ghost use Rattle.pending_json.specs.Fault.{Gives};
+ghost use Rattle.pending_json.specs.Groups.{commits_in, set_by};
 ghost use Rattle.pending_json.specs.Reading.{pendings_in, set_in, set_of};
 ghost use Rattle.pending_json.specs.Records.{IsSet, Spell};
 ghost use Rattle.pending_json.specs.Trees.{set_tree};
 
 use crate::fault::RecordFault;
-use crate::fields::{list_field, members_of, text_field, u32_field, version_field, word_field};
+use crate::fields::{list_field, members_of, text_field};
+use crate::groups::{attempt_of, task_of};
 use crate::parsing::tree;
 use crate::pending_reading::pending_in;
 use crate::records::{PendingList, PendingSet};
-use crate::table::{Table, no_others};
 use s3_types::Sequence;
 use serde_json::Value;
 use std::alloc::Global;
@@ -29,25 +30,35 @@ fn pendings_in(alloc: Global, list: &[Value]) -> Result<PendingList, RecordFault
     Ok(commits)
 }
 
-#[tactic(auto, unfolding(crate::specs::Reading::set_in))]
-fn set_in(alloc: Global, value: &Value) -> Result<PendingSet, RecordFault>
-    ensures { Gives result (set_in (view value.now)) }
+#[tactic(auto, unfolding(crate::specs::Groups::commits_in))]
+fn commits_of(alloc: Global, value: &Value) -> Result<PendingList, RecordFault>
+    ensures { Gives result (commits_in (view value.now)) }
+{
+    let list = list_field(alloc, value, "commits")?;
+    pendings_in(alloc, list)
+}
+
+#[tactic(auto, unfolding(crate::specs::Groups::set_by))]
+fn set_by(alloc: Global, value: &Value) -> Result<PendingSet, RecordFault>
+    ensures { Gives result (set_by (view value.now)) }
 {
     let members = members_of(alloc, value)?;
-    version_field(alloc, value)?;
-    let attempt = u32_field(alloc, value, "attempt")?;
-    let list = list_field(alloc, value, "commits")?;
-    let commits = pendings_in(alloc, list)?;
+    let attempt = attempt_of(alloc, value)?;
+    let commits = commits_of(alloc, value)?;
     let job = text_field(alloc, value, "job")?;
-    word_field(alloc, value, "kind", "pendingset")?;
-    let task = u32_field(alloc, value, "task")?;
-    no_others(alloc, members, Table::Set)?;
+    let task = task_of(alloc, value, members)?;
     Ok(PendingSet {
         job,
         task,
         attempt,
         commits,
     })
+}
+
+fn set_in(alloc: Global, value: &Value) -> Result<PendingSet, RecordFault>
+    ensures { Gives result (set_in (view value.now)) }
+{
+    set_by(alloc, value)
 }
 
 #[tactic(auto, unfolding(crate::specs::Reading::set_of))]

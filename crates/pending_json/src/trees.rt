@@ -1,6 +1,6 @@
 ghost use Rattle.std.specs.Prelude.{◌≡◌, IfOk, map, Some, None};
 ghost use Rattle.serde_json.specs.View.{view, items_view, items_of};
-ghost use Rattle.pending_json.specs.Trees.{texts, wholes, tag_digits, upload_tree, pending_tree, set_tree, success_tree, committer_word};
+ghost use Rattle.pending_json.specs.Trees.{texts, wholes, tag_digits, upload_tree, pending_tree, set_tree, mark_tree, success_tree, committer_word};
 
 use crate::pending::PendingUpload;
 use crate::records::{PendingSet, SuccessMark};
@@ -50,12 +50,11 @@ fn text_values(alloc: Global, all: &[Text]) -> Result<Vec<Value>, AllocError>
 fn unsized_value(alloc: Global, pending: &PendingUpload) -> Result<Value, AllocError>
     ensures { IfOk result (λ v. view v ≡ upload_tree pending.now None) }
 {
-    let etags = Value::Array(tag_values(alloc, pending.tags().as_slice())?);
     json!(in alloc; {
         "attempt": pending.attempt(),
         "bucket": pending.bucket().as_text().as_str(),
         "destination": pending.destination().as_text().as_str(),
-        "etags": etags,
+        "etags": Value::Array(tag_values(alloc, pending.tags().as_slice())?),
         "kind": "pending",
         "length": pending.length(),
         "task": pending.task(),
@@ -72,16 +71,14 @@ fn sized_value(
 ) -> Result<Value, AllocError>
     ensures { IfOk result (λ v. view v ≡ upload_tree pending.now (Some sizes.now)) }
 {
-    let etags = Value::Array(tag_values(alloc, pending.tags().as_slice())?);
-    let sizes = Value::Array(size_values(alloc, sizes.as_slice())?);
     json!(in alloc; {
         "attempt": pending.attempt(),
         "bucket": pending.bucket().as_text().as_str(),
         "destination": pending.destination().as_text().as_str(),
-        "etags": etags,
+        "etags": Value::Array(tag_values(alloc, pending.tags().as_slice())?),
         "kind": "pending",
         "length": pending.length(),
-        "sizes": sizes,
+        "sizes": Value::Array(size_values(alloc, sizes.as_slice())?),
         "task": pending.task(),
         "upload": pending.upload(),
         "version": SIZED_VERSION
@@ -110,10 +107,9 @@ fn pending_values(alloc: Global, all: &[PendingUpload]) -> Result<Vec<Value>, Al
 pub fn set_value(alloc: Global, set: &PendingSet) -> Result<Value, AllocError>
     ensures { IfOk result (λ v. view v ≡ set_tree set.now) }
 {
-    let commits = Value::Array(pending_values(alloc, set.commits.as_slice())?);
     json!(in alloc; {
         "attempt": set.attempt,
-        "commits": commits,
+        "commits": Value::Array(pending_values(alloc, set.commits.as_slice())?),
         "job": set.job.as_str(),
         "kind": "pendingset",
         "task": set.task,
@@ -131,26 +127,38 @@ fn committer_word(committer: Committer) -> &'static str
     }
 }
 
+/// A marker that has this stamp.
+fn stamped_value(alloc: Global, mark: &SuccessMark, stamp: u64) -> Result<Value, AllocError>
+    ensures { IfOk result (λ v. view v ≡ mark_tree mark.now (Some stamp)) }
+{
+    json!(in alloc; {
+        "committer": committer_word(mark.committer),
+        "files": Value::Array(text_values(alloc, mark.files.as_slice())?),
+        "job": mark.job.as_str(),
+        "kind": "success",
+        "stamp": stamp,
+        "version": VERSION
+    })
+}
+
+/// A marker that has no stamp.
+fn unstamped_value(alloc: Global, mark: &SuccessMark) -> Result<Value, AllocError>
+    ensures { IfOk result (λ v. view v ≡ mark_tree mark.now None) }
+{
+    json!(in alloc; {
+        "committer": committer_word(mark.committer),
+        "files": Value::Array(text_values(alloc, mark.files.as_slice())?),
+        "job": mark.job.as_str(),
+        "kind": "success",
+        "version": VERSION
+    })
+}
+
 pub fn success_value(alloc: Global, mark: &SuccessMark) -> Result<Value, AllocError>
     ensures { IfOk result (λ v. view v ≡ success_tree mark.now) }
 {
-    let files = Value::Array(text_values(alloc, mark.files.as_slice())?);
-    let committer = committer_word(mark.committer);
     match mark.stamp {
-        Some(stamp) => json!(in alloc; {
-            "committer": committer,
-            "files": files,
-            "job": mark.job.as_str(),
-            "kind": "success",
-            "stamp": stamp,
-            "version": VERSION
-        }),
-        None => json!(in alloc; {
-            "committer": committer,
-            "files": files,
-            "job": mark.job.as_str(),
-            "kind": "success",
-            "version": VERSION
-        }),
+        Some(stamp) => stamped_value(alloc, mark, stamp),
+        None => unstamped_value(alloc, mark),
     }
 }

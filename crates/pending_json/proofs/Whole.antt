@@ -1,0 +1,52 @@
+-- A record that is read in groups of fields is what reading it whole gives.
+use Rattle.std.proofs.Common.{◌≡◌, List, length, Result, Ok, Err, codes, refl, ◌∙◌}
+use Rattle.proof_base.specs.Reading.{◌>>=◌}
+use Rattle.serde_json.specs.Data.{Data, Members}
+use Rattle.serde_json.specs.Find.{as_str, as_array}
+use Rattle.pending_json.specs.declared.fault.RecordFault.{RecordFault}
+use Rattle.pending_json.specs.declared.groups.Target.{Target}
+use Rattle.pending_json.specs.declared.groups.Parts.{Parts}
+use Rattle.pending_json.specs.declared.groups.Numbers.{Numbers}
+use Rattle.pending_json.specs.Fields.{field, as_whole, as_u32, as_word, as_bucket, as_key, as_tags, sizes_in, members_in, version_in, is_sized, only_fields}
+use Rattle.pending_json.specs.Groups.{target_in, parts_in, numbers_in, pending_by, attempt_in, commits_in, task_in, set_by}
+use Rattle.pending_json.specs.Reading.{pending_in, pendings_in, set_in}
+
+-- what follows a group follows its last step
+regrouped : {F A B C : Type 0} (r : Result A F) (f : A → Result B F) (g : B → Result C F) → ((r >>= f) >>= g) ≡ (r >>= λ x. f x >>= g)
+regrouped (Ok x) f g = refl
+regrouped (Err fault) f g = refl
+
+-- the same steps behind one
+behind : {F A B : Type 0} (r : Result A F) (f g : A → Result B F) → ((x : A) → f x ≡ g x) → (r >>= f) ≡ (r >>= g)
+behind (Ok x) f g h = h x
+behind (Err fault) f g h = refl
+
+three : {F A B C T U : Type 0} (a : Result A F) (b : Result B F) (c : Result C F) (make : A → B → C → T) (k : T → Result U F)
+    → ((a >>= λ x. b >>= λ y. c >>= λ z. Ok (make x y z)) >>= k) ≡ (a >>= λ x. b >>= λ y. c >>= λ z. k (make x y z))
+three (Ok x) (Ok y) (Ok z) make k = refl
+three (Ok x) (Ok y) (Err fault) make k = refl
+three (Ok x) (Err fault) c make k = refl
+three (Err fault) b c make k = refl
+
+four : {F A B C D T U : Type 0} (a : Result A F) (b : Result B F) (c : Result C F) (last : A → C → Result D F) (make : A → C → D → T) (k : T → Result U F)
+    → ((a >>= λ x. b >>= λ y. c >>= λ z. last x z >>= λ w. Ok (make x z w)) >>= k) ≡ (a >>= λ x. b >>= λ y. c >>= λ z. last x z >>= λ w. k (make x z w))
+four (Ok x) (Ok y) (Ok z) last make k = regrouped (last x z) (λ w. Ok (make x z w)) k
+four (Ok x) (Ok y) (Err fault) last make k = refl
+four (Ok x) (Err fault) c last make k = refl
+four (Err fault) b c last make k = refl
+
+pub pending_whole : (d : Data) → pending_by d ≡ pending_in d
+unfolding pending_by pending_in target_in parts_in numbers_in
+pending_whole d = behind (members_in d) _ _ (λ members. behind (is_sized d) _ _ (λ sized.
+    three (field as_u32 (codes "attempt") d) (field as_bucket (codes "bucket") d) (field as_key (codes "destination") d) _ _
+    ∙ behind (field as_u32 (codes "attempt") d) _ _ (λ attempt. behind (field as_bucket (codes "bucket") d) _ _ (λ bucket. behind (field as_key (codes "destination") d) _ _ (λ destination.
+    four (field as_tags (codes "etags") d) (field (as_word (codes "pending")) (codes "kind") d) (field as_whole (codes "length") d) (λ tags total. sizes_in sized (length tags) total d) _ _
+    ∙ behind (field as_tags (codes "etags") d) _ _ (λ tags. behind (field (as_word (codes "pending")) (codes "kind") d) _ _ (λ kind. behind (field as_whole (codes "length") d) _ _ (λ total. behind (sizes_in sized (length tags) total d) _ _ (λ sizes.
+    three (field as_u32 (codes "task") d) (field as_whole (codes "upload") d) _ _ _)))))))))
+
+pub set_whole : (d : Data) → set_by d ≡ set_in d
+unfolding set_by set_in attempt_in commits_in task_in
+set_whole d = behind (members_in d) _ _ (λ members.
+    regrouped (version_in d) _ _ ∙ behind (version_in d) _ _ (λ version. behind (field as_u32 (codes "attempt") d) _ _ (λ attempt.
+    regrouped (field as_array (codes "commits") d) _ _ ∙ behind (field as_array (codes "commits") d) _ _ (λ items. behind (pendings_in items) _ _ (λ commits. behind (field as_str (codes "job") d) _ _ (λ job.
+    three (field (as_word (codes "pendingset")) (codes "kind") d) (field as_u32 (codes "task") d) _ _ _))))))

@@ -1,0 +1,79 @@
+-- Reading a record in groups of fields, as the code does: each group ends at its first fault. What `Reading` says of the whole record is the same.
+use Rattle.std.specs.Prelude.{ℕ, Bool, List, length, Option, Result, Ok, codes, ⊤}
+use Rattle.proof_base.specs.Reading.{◌>>=◌}
+use Rattle.serde_json.specs.Data.{Data, Members}
+use Rattle.serde_json.specs.Find.{get, as_str, as_array}
+use Rattle.pending_json.specs.declared.fault.RecordFault.{RecordFault}
+use Rattle.pending_json.specs.declared.groups.Target.{Target}
+use Rattle.pending_json.specs.declared.groups.Parts.{Parts}
+use Rattle.pending_json.specs.declared.groups.Numbers.{Numbers}
+use Rattle.pending_json.specs.declared.table.Table.TheVariants as tables
+use Rattle.pending_json.specs.declared.records.PendingSet.{PendingSet}
+use Rattle.pending_json.specs.Pending.{Pending}
+use Rattle.pending_json.specs.Fields.{field, as_whole, as_u32, as_word, as_bucket, as_key, as_tags, sizes_in, members_in, version_in, is_sized, only_fields}
+use Rattle.pending_json.specs.Reading.{is_field_of, pending_table, pendings_in}
+
+-- of which attempt a pending upload is, and where its file will be
+unfoldable pub target_in : Data → Result Target RecordFault
+target_in d = do
+  attempt ← field as_u32 (codes "attempt") d
+  bucket ← field as_bucket (codes "bucket") d
+  destination ← field as_key (codes "destination") d
+  Ok (record { attempt = attempt; bucket = bucket; destination = destination })
+
+-- what completes a pending upload
+unfoldable pub parts_in : Bool → Data → Result Parts RecordFault
+parts_in sized d = do
+  tags ← field as_tags (codes "etags") d
+  kind ← field (as_word (codes "pending")) (codes "kind") d
+  total ← field as_whole (codes "length") d
+  sizes ← sizes_in sized (length tags) total d
+  Ok (record { length = total; tags = tags; sizes = sizes })
+
+-- a pending upload's task and id, where it has no other fields
+unfoldable pub numbers_in : Bool → Members → Data → Result Numbers RecordFault
+numbers_in sized members d = do
+  task ← field as_u32 (codes "task") d
+  upload ← field as_whole (codes "upload") d
+  others ← only_fields (is_field_of (pending_table sized)) members
+  Ok (record { task = task; upload = upload })
+
+-- a pending upload
+unfoldable pub pending_by : Data → Result Pending RecordFault
+pending_by d = do
+  members ← members_in d
+  sized ← is_sized d
+  target ← target_in d
+  parts ← parts_in sized d
+  numbers ← numbers_in sized members d
+  Ok (record { task = numbers.task; attempt = target.attempt; bucket = target.bucket; destination = target.destination; upload = numbers.upload; length = parts.length; tags = parts.tags; sizes = parts.sizes })
+
+-- a set's version, and its attempt
+unfoldable pub attempt_in : Data → Result ℕ RecordFault
+attempt_in d = do
+  version ← version_in d
+  field as_u32 (codes "attempt") d
+
+-- the pending uploads of a set
+unfoldable pub commits_in : Data → Result (List Pending) RecordFault
+commits_in d = do
+  items ← field as_array (codes "commits") d
+  pendings_in items
+
+-- a set's task, where it is a set and has no other fields
+unfoldable pub task_in : Members → Data → Result ℕ RecordFault
+task_in members d = do
+  kind ← field (as_word (codes "pendingset")) (codes "kind") d
+  task ← field as_u32 (codes "task") d
+  others ← only_fields (is_field_of tables.Set) members
+  Ok task
+
+-- a task's set of pending uploads
+unfoldable pub set_by : Data → Result PendingSet RecordFault
+set_by d = do
+  members ← members_in d
+  attempt ← attempt_in d
+  commits ← commits_in d
+  job ← field as_str (codes "job") d
+  task ← task_in members d
+  Ok (record { job = job; task = task; attempt = attempt; commits = commits })

@@ -1,0 +1,110 @@
+//! The fields of the records in groups, each read by a call of its own: what is read so is let go of in
+//! few places, and each group is a fact of its own.
+ghost use Rattle.std.specs.Prelude.{◌≡◌, IfOk, true};
+ghost use Rattle.serde_json.specs.View.{view, members_view};
+ghost use Rattle.pending_json.specs.Fault.{Gives};
+ghost use Rattle.pending_json.specs.Groups.{target_in, parts_in, numbers_in, attempt_in, task_in};
+ghost use Rattle.pending_json.specs.Pending.{are_tags, are_sizes};
+
+use crate::fault::RecordFault;
+use crate::fields::{bucket_field, key_field, u32_field, version_field, whole_field, word_field};
+use crate::sizes::sizes_field;
+use crate::table::{Table, no_others, pending_table};
+use crate::tags::tags_field;
+use s3_types::{Bucket, Key, SizeList, TagList};
+use serde_json::{Map, Value};
+use std::alloc::Global;
+
+/// Of which attempt a pending upload is, and where its file will be.
+#[derive(Drop)]
+pub struct Target {
+    pub attempt: u32,
+    pub bucket: Bucket,
+    pub destination: Key,
+}
+
+/// What completes a pending upload: the file's length, the tags of its parts and their lengths.
+#[derive(Drop)]
+pub struct Parts {
+    pub length: u64,
+    pub tags: TagList,
+    pub sizes: Option<SizeList>,
+}
+
+/// A pending upload's task and id.
+#[derive(Clone, Copy)]
+pub struct Numbers {
+    pub task: u32,
+    pub upload: u64,
+}
+
+#[tactic(auto, unfolding(crate::specs::Groups::target_in))]
+pub fn target_of(alloc: Global, value: &Value) -> Result<Target, RecordFault>
+    ensures { Gives result (target_in (view value.now)) }
+{
+    let attempt = u32_field(alloc, value, "attempt")?;
+    let bucket = bucket_field(alloc, value, "bucket")?;
+    let destination = key_field(alloc, value, "destination")?;
+    Ok(Target {
+        attempt,
+        bucket,
+        destination,
+    })
+}
+
+#[tactic(auto, unfolding(crate::specs::Groups::parts_in))]
+pub fn parts_of(alloc: Global, value: &Value, sized: bool) -> Result<Parts, RecordFault>
+    ensures read { Gives result (parts_in sized (view value.now)) }
+    ensures tags { IfOk result (λ parts. are_tags parts.tags ≡ true) }
+    ensures fit { IfOk result (λ parts. are_sizes parts.sizes parts.tags parts.length ≡ true) }
+{
+    let tags = tags_field(alloc, value, "etags")?;
+    word_field(alloc, value, "kind", "pending")?;
+    let length = whole_field(alloc, value, "length")?;
+    let sizes = sizes_field(alloc, value, sized, &tags, length)?;
+    Ok(Parts {
+        length,
+        tags,
+        sizes,
+    })
+}
+
+/// The task and the id of an upload that has no other fields.
+#[tactic(auto, unfolding(crate::specs::Groups::numbers_in))]
+pub fn numbers_of(
+    alloc: Global,
+    value: &Value,
+    sized: bool,
+    members: &Map<String, Value>,
+) -> Result<Numbers, RecordFault>
+    ensures { Gives result (numbers_in sized (members_view members.now.entries) (view value.now)) }
+{
+    let task = u32_field(alloc, value, "task")?;
+    let upload = whole_field(alloc, value, "upload")?;
+    no_others(alloc, members, pending_table(sized))?;
+    Ok(Numbers { task, upload })
+}
+
+/// A set's attempt, where its version is known.
+#[tactic(auto, unfolding(crate::specs::Groups::attempt_in))]
+pub fn attempt_of(alloc: Global, value: &Value) -> Result<u32, RecordFault>
+    ensures { Gives result (attempt_in (view value.now)) }
+{
+    version_field(alloc, value)?;
+    u32_field(alloc, value, "attempt")
+}
+
+/// The task of a set that has no other fields.
+#[tactic(auto, unfolding(crate::specs::Groups::task_in))]
+pub fn task_of(
+    alloc: Global,
+    value: &Value,
+    members: &Map<String, Value>,
+) -> Result<u32, RecordFault>
+    ensures { Gives result (task_in (members_view members.now.entries) (view value.now)) }
+{
+    word_field(alloc, value, "kind", "pendingset")?;
+    let number = u32_field(alloc, value, "task")?;
+    no_others(alloc, members, Table::Set)?;
+    Ok(number)
+}
