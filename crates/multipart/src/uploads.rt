@@ -66,6 +66,26 @@ impl Clone for Uploads {
     }
 }
 
+/// An entry of the index.
+#[derive(Drop)]
+struct Indexed {
+    place: Place,
+    key: Key,
+}
+
+/// The entry of an upload of this key.
+fn entry_of(key: &Key, upload: u64) -> Result<Indexed, AllocError>
+    ensures place { IfOk result (λ entry. entry.place ≡ record { key = key.now; upload = upload }) }
+    ensures key { IfOk result (λ entry. entry.key ≡ key.now) }
+{
+    let text = key.as_text().clone()?;
+    let key = key.clone()?;
+    Ok(Indexed {
+        place: Place { text, upload },
+        key,
+    })
+}
+
 impl Uploads {
     /// No uploads. Takes no memory.
     pub fn new(alloc: Global) -> Uploads
@@ -85,11 +105,10 @@ impl Uploads {
         ensures ok { OnOk result (self.new ≡ fin.insert self.old upload (record { key = key; parts = fin.empty })) }
         ensures err { OnErr result (self.new ≡ self.old) }
     {
-        let text = key.as_text().clone()?;
-        let indexed = key.clone()?;
+        let indexed = entry_of(&key, upload)?;
         let live = Live::new(self.alloc, key)?;
         self.lives.insert(upload, live)?;
-        let Err(_) = self.index.insert(Place { text, upload }, indexed) else {
+        let Err(_) = self.index.insert(indexed.place, indexed.key) else {
             return Ok(());
         };
         let _ = self.lives.remove(upload);

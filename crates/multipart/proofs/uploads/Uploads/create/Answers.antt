@@ -13,7 +13,7 @@ invariant_of-self-in_default c =
     let none : fin.get c.self.inside.lives c.args.upload ≡ None = ap (λ m. fin.get m c.args.upload) c.self.view_is ∙ c.requires c.args.upload le in
     let e = keyed_insert c.self.inside.lives c.args.upload (record { key = c.args.key; parts = fin.empty }) none in
     c.in_default.ensures.ok
-    ∙ (λ i. fin.insert (c.self.invariant i) (record { key = (c.in_ok-text.ensures.cases ∙ c.as_text.ensures.text) i; upload = c.args.upload }) (c.in_ok-indexed.ensures.cases i))
+    ∙ (λ i. fin.insert (c.self.invariant i) (c.in_ok-indexed.ensures.place i) (c.in_ok-indexed.ensures.key i))
     ∙ sym e ∙ ap keyed (sym (c.in_ok-insert.ensures.ok ∙ ap (fin.insert c.self.inside.lives c.args.upload) c.in_ok-live.ensures))
 
 pub invariant_of-self-2 : goal.invariant_of-self-2
