@@ -10,13 +10,15 @@ use Rattle.s3_types.specs.declared.reply.Reply.{Reply}
 use Rattle.s3_types.specs.declared.reply.Reply.TheVariants.{Stored, Upload, Part, Completed, Refused}
 use Rattle.s3_types.specs.declared.reply.Refusal.{Refusal}
 use Rattle.s3_types.specs.declared.reply.Refusal.TheVariants.{NoSuchUpload}
-use Rattle.machine.specs.Item.{Got, Fine}
+use Rattle.sendings.specs.Operation.{run}
+use Rattle.sendings.specs.Retries.{Got, Retried, step}
+use Rattle.machine.specs.Standing.{Fine}
 use Rattle.machine.specs.Keeping.{Keeps}
 use Rattle.machine.specs.Drove.{Drove}
-use Rattle.machine.specs.Turns.{run}
+use Rattle.machine.specs.Turns.{retried}
 use Rattle.machine.specs.declared.retrying.Retrying.{Retrying}
 use Rattle.machine.specs.declared.driving.DriveStop.{DriveStop}
-use Rattle.machine.proofs.Keeps.{run_keeps}
+use Rattle.machine.proofs.Keeps.{kept_run}
 use Rattle.block_stream.specs.declared.mode.StreamEnd.TheVariants.{Done}
 use Rattle.block_stream.specs.declared.stage.Stage.{Stage}
 use Rattle.block_stream.specs.declared.stage.Stage.TheVariants.{Putting, Beginning, Sending, Completing}
@@ -77,11 +79,12 @@ module _ (actor : Actor) (event : ℕ) (t t' : Retrying Stream) (s s' : Scene) (
   -- where it went on to its end, what was written is held
   holds_over : (d : Ran (Ok tt)) → (bytes : List ℕ) → Holds t.machine s t.repeated bytes → Holds t'.machine s' t'.repeated bytes
   holds_over d bytes h =
-      let k = run_keeps (holds_kept bytes) t s d.part d.is_run.follows d.is_run.honest h in
-      subst (λ (v : Retrying Stream). Holds v.machine s' v.repeated bytes) (sym d.ended.there) (subst (λ v. Holds (run moved t d.part).machine v (run moved t d.part).repeated bytes) (sym d.is_run.scene) k)
+      let k = kept_run (holds_kept bytes) t.retries (retried t) s d.part d.is_run.follows d.is_run.honest h in
+      let u : Retried Stream = run (step t.retries moved) (retried t) d.part in
+      subst (λ (v : Retried Stream). Holds v.operation s' v.repeated bytes) (sym d.ended.there) (subst (λ v. Holds u.operation v u.repeated bytes) (sym d.is_run.scene) k)
 
   same_over : Ran (Ok tt) → IsSameOutput t.machine t'.machine
-  same_over d = subst (λ (v : Retrying Stream). IsSameOutput t.machine v.machine) (sym d.ended.there) (run_keeps (same_kept t.machine) t s d.part d.is_run.follows d.is_run.honest (the_same t.machine))
+  same_over d = subst (λ (v : Retried Stream). IsSameOutput t.machine v.operation) (sym d.ended.there) (kept_run (same_kept t.machine) t.retries (retried t) s d.part d.is_run.follows d.is_run.honest (the_same t.machine))
 
   pub same_if : (result : Result (Unit {0}) DriveStop) → Ran result → IfOk result (λ _. IsSameOutput t.machine t'.machine)
   same_if (Ok tt) d = same_over d

@@ -3,7 +3,7 @@ use Rattle.std.specs.Prelude.{◌≡◌, ℕ, Bool, true, false, cond, List, Opt
 use Rattle.std.proofs.Common.{refl, sym, ap, subst, ◌∙◌, true≢false}
 use Rattle.std.proofs.lemmas.Option.{none-some}
 use Rattle.s3_types.specs.Store.{Scene, BucketContent}
-use Rattle.machine.specs.Item.{Fine}
+use Rattle.machine.specs.Standing.{Fine}
 use Rattle.block_stream.specs.declared.mode.StreamEnd.{StreamEnd}
 use Rattle.block_stream.specs.declared.mode.StreamEnd.TheVariants.{Done, Gone, StoreFault, NoMemory}
 use Rattle.block_stream.specs.declared.stage.Stage.TheVariants.{Putting, Sending}

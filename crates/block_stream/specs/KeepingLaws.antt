@@ -22,7 +22,6 @@ use Rattle.s3_types.specs.declared.reply.Reply.TheVariants.{Part, Completed, Ref
 use Rattle.s3_types.specs.declared.reply.Refusal.{Refusal}
 use Rattle.s3_types.specs.declared.reply.Refusal.TheVariants.{NoSuchUpload}
 use Rattle.s3_types.specs.Blocks.{named_from}
-use Rattle.machine.specs.Item.{Fine}
 use Rattle.block_stream.specs.declared.mode.StreamEnd.{StreamEnd}
 use Rattle.block_stream.specs.declared.mode.StreamEnd.TheVariants.{Done, Gone, StoreFault, NoMemory}
 use Rattle.block_stream.specs.declared.stage.Stage.{Stage}

@@ -1,5 +1,5 @@
 ghost use Rattle.std.specs.Prelude.{◌≡◌, ℕ, ◌≤◌, List, length, true, IfOk};
-ghost use Rattle.machine.specs.Item.{Fine};
+ghost use Rattle.machine.specs.Standing.{Fine};
 ghost use Rattle.machine.specs.Counted.{Counted};
 ghost use Rattle.machine.specs.Drove.{Drove};
 ghost use Rattle.block_stream.specs.Stream.{wanted, moved, standing};

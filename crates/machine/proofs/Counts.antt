@@ -1,5 +1,5 @@
 -- Counts of sendings one after another.
-use Rattle.std.proofs.Common.{◌≡◌, ℕ, ◌+◌, ◌≤◌, Bool, false, List, [], ◌∷◌, ◌++◌, length, Option, refl, sym, ap, subst, ◌∙◌, arith, append_assoc, length-append}
+use Rattle.std.proofs.Common.{◌≡◌, ℕ, ◌+◌, ◌≤◌, false, List, [], ◌∷◌, ◌++◌, length, Option, sym, ap, subst, ◌∙◌, arith, append_assoc, length-append}
 use Rattle.s3_types.specs.Moment.{is_unanswered}
 use Rattle.s3_types.specs.declared.fates.Fate.{Fate}
 use Rattle.s3_types.specs.declared.journal.Entry.{Entry}

@@ -5,18 +5,22 @@ use Rattle.s3_types.specs.declared.fates.Fate.{Fate}
 use Rattle.s3_types.specs.declared.request.Request.{Request}
 use Rattle.s3_types.specs.declared.request.Actor.{Actor}
 use Rattle.s3_types.specs.declared.journal.Entry.{Entry}
-use Rattle.machine.specs.Item.{Item, Standing}
+use Rattle.sendings.specs.Retries.{Item}
+use Rattle.machine.specs.Standing.{Standing}
+use Rattle.machine.specs.Turns.{retried}
 use Rattle.machine.specs.Drove.{Drove, Driving, IsOver, IsRun, standing_after}
 use Rattle.machine.specs.declared.retrying.Retrying.{Retrying}
 use Rattle.machine.specs.declared.driving.DriveStop.TheVariants.{StoreFault}
 use Rattle.machine.proofs.Tries.{tried_worn, tried_whole}
+use Rattle.machine.proofs.Literal.{literal_worn, literal_whole}
 
 module _ {M : Type 0} (wants : M → Option Request) (after : M → Item → M) (ready : M → Scene → Bool → Type 0) (standing : M → Standing) (actor : Actor) (event : ℕ) where
   over : (t t' u : Retrying M) (s s' z : Scene) (old new : List Entry) (before now : ℕ) (told tells : ℕ → Option Fate) (first requests : ℕ) (worn b : Bool)
       → (d : Driving after wants ready standing actor event t t' s s' old new before now told tells first requests worn)
       → wants t'.machine ≡ None → u ≡ t' → z ≡ s' → worn ≡ b → IsOver wants after ready standing t d.part u z b
   over t t' u s s' z old new before now told tells first requests worn b d none eu ez w = record {
-    there = eu ∙ d.there;
+    there = ap (λ (v : Retrying M). retried v) eu ∙ d.there;
+    retries = ap (λ (v : Retrying M). v.retries) eu ∙ d.retries;
     over = ap (λ v. wants v.machine) eu ∙ none;
     ready_still = subst (λ v. ready v.machine z v.repeated) (sym eu) (subst (λ v. ready t'.machine v t'.repeated) (sym ez) d.ready_still);
     wore = sym d.wore ∙ w;
@@ -35,7 +39,8 @@ module _ {M : Type 0} (wants : M → Option Request) (after : M → Item → M) 
     appended = ee ∙ d.appended;
     is_run = scene_of t s s' z d.part ez d.is_run;
     foretold = d.foretold;
-    tried = tried_worn wants after t d.part d.is_run.follows (sym (ap (λ v. wants v.machine) d.there) ∙ none) (sym d.wore ∙ w);
+    tried = tried_worn t.retries wants after (retried t) d.part d.is_run.follows (sym (ap (λ v. wants v.operation) d.there) ∙ none) (sym d.wore ∙ w);
+    literal = literal_worn t.retries wants after (retried t) t.machine d.part d.is_run.follows (sym d.wore ∙ w);
     ended = (over t t' u s s' z old new before now told tells first requests worn true d none eu ez w, subst (λ n. before < n) (sym en) (d.lost w));
   }
 
@@ -48,6 +53,7 @@ module _ {M : Type 0} (wants : M → Option Request) (after : M → Item → M) 
     appended = ee ∙ d.appended;
     is_run = scene_of t s s' z d.part ez d.is_run;
     foretold = d.foretold;
-    tried = tried_whole wants after x t d.part d.is_run.follows (sym (ap (λ v. wants v.machine) d.there) ∙ none) (sym d.wore ∙ w);
+    tried = tried_whole t.retries wants after x (retried t) d.part d.is_run.follows (sym (ap (λ v. wants v.operation) d.there) ∙ none) (sym d.wore ∙ w);
+    literal = literal_whole t.retries wants after (retried t) t.machine d.part d.is_run.follows (sym d.wore ∙ w);
     ended = over t t' u s s' z old new before now told tells first requests worn false d none eu ez w;
   }

@@ -1,5 +1,5 @@
 -- A run goes on by one sending.
-use Rattle.std.proofs.Common.{◌≡◌, ℕ, zero, suc, take, ◌+◌, ◌*◌, ◌<◌, ◌≤◌, ◌==◌, Bool, true, false, ◌||◌, List, [], ◌∷◌, ◌++◌, length, Option, Some, refl, sym, ap, subst, ◌∙◌, arith, if◌then◌else◌}
+use Rattle.std.proofs.Common.{◌≡◌, ℕ, zero, suc, take, ◌+◌, ◌*◌, ◌<◌, ◌≤◌, Bool, true, false, ◌||◌, List, [], ◌∷◌, ◌++◌, length, Option, Some, refl, sym, ap, subst, ◌∙◌, arith}
 use Rattle.std.specs.Prelude.{IsTrue}
 use Rattle.s3_types.specs.Store.{Scene}
 use Rattle.s3_types.specs.Answer.{answer, apply}
@@ -12,12 +12,13 @@ use Rattle.s3_types.specs.declared.reply.Reply.{Reply}
 use Rattle.s3_types.specs.declared.journal.Outcome.{Outcome}
 use Rattle.s3_types.specs.declared.journal.Outcome.TheVariants.{Answered, Slow, RequestLost, ReplyLost}
 use Rattle.s3_types.specs.declared.journal.Entry.{Entry}
-use Rattle.machine.specs.Item.{Item, Got, WornOut, Standing}
+use Rattle.sendings.specs.Operation.{Follows, run}
+use Rattle.sendings.specs.Retries.{Item, Got, WornOut, Retried, wants_of, step, wears, is_zero, has_worn, unanswered_by}
+use Rattle.sendings.proofs.Runs.{run_more, follows_more, has_worn_more}
+use Rattle.machine.specs.Standing.{Standing}
 use Rattle.machine.specs.Laws.{Laws}
-use Rattle.machine.specs.Turns.{Follows, run, step, wears, has_worn, unanswered, unanswered_if, AreBy, turn_of, tells_worn}
+use Rattle.machine.specs.Turns.{retried, AreBy, turn_if, turn_of, tells_worn}
 use Rattle.std.proofs.Common.{append_assoc, length-append}
-use Rattle.std.proofs.lemmas.Bool.Decides.{nat_tests}
-use Rattle.machine.specs.declared.retrying.Turn.TheVariants.{Again, WornOut as Worn}
 use Rattle.machine.specs.Counted.{Counted}
 use Rattle.machine.specs.Drove.{IsRun, IsSent, Driving, standing_after}
 use Rattle.machine.specs.declared.retrying.Retrying.{Retrying}
@@ -35,53 +36,18 @@ pub by_more : (actor : Actor) (event : ℕ) (part : List Entry) (e : Entry) → 
 by_more actor event [] e h a b = (a, b, tt)
 by_more actor event (x ∷ part) e h a b = (h.0, h.1, by_more actor event part e h.2 a b)
 
-pub run_more : {M : Type 0} (after : M → Item → M) (t : Retrying M) (part : List Entry) (e : Entry) → run after t (part ++ e ∷ []) ≡ step after (run after t part) e.outcome
-run_more after t [] e = refl
-run_more after t (x ∷ part) e = run_more after (step after t x.outcome) part e
-
-pub follows_more : {M : Type 0} (wants : M → Option Request) (after : M → Item → M) (t : Retrying M) (part : List Entry) (e : Entry) → Follows wants after t part → wants (run after t part).machine ≡ Some e.request → Follows wants after t (part ++ e ∷ [])
-follows_more wants after t [] e h k = (k, tt)
-follows_more wants after t (x ∷ part) e h k = (h.0, follows_more wants after (step after t x.outcome) part e h.1 k)
-
-or_assoc : (a b c : Bool) → (a || (b || c)) ≡ ((a || b) || c)
-or_assoc true b c = refl
-or_assoc false b c = refl
-
-or_false : (a : Bool) → (a || false) ≡ (false || a)
-or_false true = refl
-or_false false = refl
-
-pub worn_more : {M : Type 0} (after : M → Item → M) (t : Retrying M) (part : List Entry) (e : Entry) → has_worn after t (part ++ e ∷ []) ≡ (has_worn after t part || wears (run after t part) e.outcome)
-worn_more after t [] e = or_false (wears t e.outcome)
-worn_more after t (x ∷ part) e = ap (λ b. wears t x.outcome || b) (worn_more after (step after t x.outcome) part e) ∙ or_assoc (wears t x.outcome) _ _
-
 pub is_run_more : {M : Type 0} (wants : M → Option Request) (after : M → Item → M) (actor : Actor) (event : ℕ) (t : Retrying M) (s : Scene) (part : List Entry) (s' : Scene) (t' : Retrying M) (e : Entry) (s'' : Scene)
-    → t' ≡ run after t part → IsRun wants after actor event t s part s' → IsSent wants actor event t' s' e s'' → IsRun wants after actor event t s (part ++ e ∷ []) s''
+    → retried t' ≡ run (step t.retries after) (retried t) part → IsRun wants after actor event t s part s' → IsSent wants actor event t' s' e s'' → IsRun wants after actor event t s (part ++ e ∷ []) s''
 is_run_more wants after actor event t s part s' t' e s'' there r k = record {
   by = by_more actor event part e r.by k.by k.during;
   honest = honest_more s part e r.honest (subst (λ v. IsHonestOutcome e.outcome (answer v e.request)) r.scene k.honest);
-  follows = follows_more wants after t part e r.follows (ap (λ v. wants v.machine) (sym there) ∙ k.wanted);
+  follows = follows_more (wants_of wants) (step t.retries after) (retried t) part e r.follows (ap (wants_of wants) (sym there) ∙ k.wanted);
   scene = k.scene ∙ ap (λ v. effect v e.request e.outcome) r.scene ∙ sym (after_all_more s part e);
 }
 
 -- readiness is kept, and the work that is left falls
-abbrev pub work : {M : Type 0} → (M → Scene → ℕ) → Retrying M → Scene → ℕ
-work left t s = left t.machine s * (t.retries + 1) + t.spare
-
-pub ready_unanswered : {M : Type 0} {wants : M → Option Request} {after : M → Item → M} {fits : M → Reply → Bool → Type 0} {ready : M → Scene → Bool → Type 0} {left : M → Scene → ℕ} {standing : M → Standing} (laws : Laws wants after fits ready left standing)
-    (t : Retrying M) (s : Scene) (r : Request) (b : Bool) → wants t.machine ≡ Some r → ready t.machine s b → ready (unanswered after t b).machine s (unanswered after t b).repeated
-ready_unanswered {after = after} {ready = ready} laws t s r b w h =
-    elim (t.spare == 0) as (λ z. ready (unanswered_if z after t b).machine s (unanswered_if z after t b).repeated) [
-      | true ↦ laws.gave_up t.machine s r b w h
-      | false ↦ h
-    ]
-
-pub ready_step : {M : Type 0} {wants : M → Option Request} {after : M → Item → M} {fits : M → Reply → Bool → Type 0} {ready : M → Scene → Bool → Type 0} {left : M → Scene → ℕ} {standing : M → Standing} (laws : Laws wants after fits ready left standing)
-    (t : Retrying M) (s : Scene) (r : Request) (o : Outcome) → wants t.machine ≡ Some r → ready t.machine s t.repeated → IsHonestOutcome o (answer s r) → ready (step after t o).machine (effect s r o) (step after t o).repeated
-ready_step {after = after} {ready = ready} laws t s r (Answered a) w h k = subst (λ v. ready (after t.machine (Got v t.repeated)) (apply s r) false) (sym k) (laws.took t.machine s r t.repeated w h)
-ready_step laws t s r Slow w h k = ready_unanswered laws t s r t.repeated w h
-ready_step laws t s r RequestLost w h k = ready_unanswered laws t s r true w (laws.lost t.machine s t.repeated h)
-ready_step laws t s r ReplyLost w h k = ready_unanswered laws t (apply s r) r true w (laws.hidden t.machine s r t.repeated w h)
+abbrev pub work : {M : Type 0} → (M → Scene → ℕ) → ℕ → Retried M → Scene → ℕ
+work left retries t s = left t.operation s * (retries + 1) + t.spare
 
 -- arithmetic of the measure
 more_times : (a b n : ℕ) → a < b → a * (n + 1) + (n + 1) ≤ b * (n + 1)
@@ -93,39 +59,21 @@ less_work a b n x y h k = omega (arith, more_times a b n h)
 no_more_times : (a b n : ℕ) → a ≤ b → a * (n + 1) ≤ b * (n + 1)
 no_more_times a b n h = grind arith
 
-not_none : (n : ℕ) → (n == 0) ≡ false → 0 < n
-not_none n h = grind (arith, nat_tests)
+one_less : (a n : ℕ) → a + n < a + suc n
+one_less a n = omega arith
 
-falls_unanswered : {M : Type 0} {wants : M → Option Request} {after : M → Item → M} {fits : M → Reply → Bool → Type 0} {ready : M → Scene → Bool → Type 0} {left : M → Scene → ℕ} {standing : M → Standing} (laws : Laws wants after fits ready left standing)
-    (t : Retrying M) (s : Scene) (r : Request) (b : Bool) → wants t.machine ≡ Some r → ready t.machine s b → work left (unanswered after t b) s < work left t s
-falls_unanswered {after = after} {left = left} laws t s r b w h =
-    elim (t.spare == 0) as (λ z. (t.spare == 0) ≡ z → work left (unanswered_if z after t b) s < work left t s) [
-      | true ↦ λ _. less_work (left (after t.machine WornOut) s) (left t.machine s) t.retries t.retries t.spare (laws.falls_worn t.machine s r b w h) (omega arith)
-      | false ↦ λ z. let k : 0 < t.spare = not_none t.spare z in omega (arith, k)
-    ] refl
-
-pub falls_step : {M : Type 0} {wants : M → Option Request} {after : M → Item → M} {fits : M → Reply → Bool → Type 0} {ready : M → Scene → Bool → Type 0} {left : M → Scene → ℕ} {standing : M → Standing} (laws : Laws wants after fits ready left standing)
-    (t : Retrying M) (s : Scene) (r : Request) (o : Outcome) → wants t.machine ≡ Some r → ready t.machine s t.repeated → IsHonestOutcome o (answer s r) → work left (step after t o) (effect s r o) < work left t s
-falls_step {after = after} {left = left} laws t s r (Answered a) w h k =
-    subst (λ v. work left (step after t (Answered v)) (apply s r) < work left t s) (sym k)
-    (less_work (left (after t.machine (Got (answer s r) t.repeated)) (apply s r)) (left t.machine s) t.retries t.retries t.spare (laws.falls t.machine s r t.repeated w h) (omega arith))
-falls_step laws t s r Slow w h k = falls_unanswered laws t s r t.repeated w h
-falls_step laws t s r RequestLost w h k = falls_unanswered laws t s r true w (laws.lost t.machine s t.repeated h)
-falls_step {after = after} {left = left} laws t s r ReplyLost w h k =
-    omega (arith, falls_unanswered laws t (apply s r) r true w (laws.hidden t.machine s r t.repeated w h), no_more_times (left t.machine (apply s r)) (left t.machine s) t.retries (laws.no_rise t.machine s r t.repeated w h))
-
-told_if : (b : Bool) → tells_worn (if b then Worn else Again) ≡ b
+told_if : (b : Bool) → tells_worn (turn_if false b) ≡ b
 told_if true = refl
 told_if false = refl
 
 -- `StoreFault` is told where a request was worn out
-pub told : {M : Type 0} (t : Retrying M) (o : Outcome) → tells_worn (turn_of t o) ≡ wears t o
+pub told : {M : Type 0} (t : Retried M) (o : Outcome) → tells_worn (turn_of t o) ≡ wears t o
 told t (Answered r) = refl
-told t Slow = told_if (t.spare == 0)
-told t RequestLost = told_if (t.spare == 0)
-told t ReplyLost = told_if (t.spare == 0)
+told t Slow = told_if (is_zero t.spare)
+told t RequestLost = told_if (is_zero t.spare)
+told t ReplyLost = told_if (is_zero t.spare)
 
-pub lost_if_worn : {M : Type 0} (t : Retrying M) (o : Outcome) → wears t o ≡ true → IsTrue (is_unanswered o)
+pub lost_if_worn : {M : Type 0} (t : Retried M) (o : Outcome) → wears t o ≡ true → IsTrue (is_unanswered o)
 lost_if_worn t (Answered r) h = cc
 lost_if_worn t Slow h = refl
 lost_if_worn t RequestLost h = refl
@@ -140,20 +88,39 @@ standing_both true true f = refl
 standing_both true false f = refl
 standing_both false b f = refl
 
-standing_unanswered : {M : Type 0} {wants : M → Option Request} {after : M → Item → M} {fits : M → Reply → Bool → Type 0} {ready : M → Scene → Bool → Type 0} {left : M → Scene → ℕ} {standing : M → Standing} (laws : Laws wants after fits ready left standing)
-    (t : Retrying M) (r : Request) (b : Bool) → wants t.machine ≡ Some r → standing (unanswered after t b).machine ≡ standing_after (t.spare == 0) (standing t.machine)
-standing_unanswered {after = after} {standing = standing} laws t r b w =
-    elim (t.spare == 0) as (λ z. standing (unanswered_if z after t b).machine ≡ standing_after z (standing t.machine)) [
-      | true ↦ laws.faults t.machine r w
-      | false ↦ refl
-    ]
+module _ {M : Type 0} {wants : M → Option Request} {after : M → Item → M} {fits : M → Reply → Bool → Type 0} {ready : M → Scene → Bool → Type 0} {left : M → Scene → ℕ} {standing : M → Standing} (laws : Laws wants after fits ready left standing) (retries : ℕ) where
+  ready_unanswered : (m : M) (spare : ℕ) (s : Scene) (r : Request) (b : Bool) → wants m ≡ Some r → ready m s b → ready (unanswered_by retries after m b spare).operation s (unanswered_by retries after m b spare).repeated
+  ready_unanswered m zero s r b w h = laws.gave_up m s r b w h
+  ready_unanswered m (suc n) s r b w h = h
 
-pub standing_step : {M : Type 0} {wants : M → Option Request} {after : M → Item → M} {fits : M → Reply → Bool → Type 0} {ready : M → Scene → Bool → Type 0} {left : M → Scene → ℕ} {standing : M → Standing} (laws : Laws wants after fits ready left standing)
-    (t : Retrying M) (s : Scene) (r : Request) (o : Outcome) → wants t.machine ≡ Some r → ready t.machine s t.repeated → IsHonestOutcome o (answer s r) → standing (step after t o).machine ≡ standing_after (wears t o) (standing t.machine)
-standing_step {fits = fits} laws t s r (Answered a) w h k = laws.goes_on t.machine r a t.repeated w (subst (λ v. fits t.machine v t.repeated) (sym k) (laws.fit t.machine s r t.repeated w h))
-standing_step laws t s r Slow w h k = standing_unanswered laws t r t.repeated w
-standing_step laws t s r RequestLost w h k = standing_unanswered laws t r true w
-standing_step laws t s r ReplyLost w h k = standing_unanswered laws t r true w
+  pub ready_step : (t : Retried M) (s : Scene) (r : Request) (o : Outcome) → wants t.operation ≡ Some r → ready t.operation s t.repeated → IsHonestOutcome o (answer s r) → ready (step retries after t o).operation (effect s r o) (step retries after t o).repeated
+  ready_step t s r (Answered a) w h k = subst (λ v. ready (after t.operation (Got v t.repeated)) (apply s r) false) (sym k) (laws.took t.operation s r t.repeated w h)
+  ready_step t s r Slow w h k = ready_unanswered t.operation t.spare s r t.repeated w h
+  ready_step t s r RequestLost w h k = ready_unanswered t.operation t.spare s r true w (laws.lost t.operation s t.repeated h)
+  ready_step t s r ReplyLost w h k = ready_unanswered t.operation t.spare (apply s r) r true w (laws.hidden t.operation s r t.repeated w h)
+
+  falls_unanswered : (m : M) (spare : ℕ) (s : Scene) (r : Request) (b : Bool) → wants m ≡ Some r → ready m s b → work left retries (unanswered_by retries after m b spare) s < left m s * (retries + 1) + spare
+  falls_unanswered m zero s r b w h = less_work (left (after m WornOut) s) (left m s) retries retries 0 (laws.falls_worn m s r b w h) (omega arith)
+  falls_unanswered m (suc n) s r b w h = one_less (left m s * (retries + 1)) n
+
+  pub falls_step : (t : Retried M) (s : Scene) (r : Request) (o : Outcome) → wants t.operation ≡ Some r → ready t.operation s t.repeated → IsHonestOutcome o (answer s r) → work left retries (step retries after t o) (effect s r o) < work left retries t s
+  falls_step t s r (Answered a) w h k =
+      subst (λ v. work left retries (step retries after t (Answered v)) (apply s r) < work left retries t s) (sym k)
+      (less_work (left (after t.operation (Got (answer s r) t.repeated)) (apply s r)) (left t.operation s) retries retries t.spare (laws.falls t.operation s r t.repeated w h) (omega arith))
+  falls_step t s r Slow w h k = falls_unanswered t.operation t.spare s r t.repeated w h
+  falls_step t s r RequestLost w h k = falls_unanswered t.operation t.spare s r true w (laws.lost t.operation s t.repeated h)
+  falls_step t s r ReplyLost w h k =
+      omega (arith, falls_unanswered t.operation t.spare (apply s r) r true w (laws.hidden t.operation s r t.repeated w h), no_more_times (left t.operation (apply s r)) (left t.operation s) retries (laws.no_rise t.operation s r t.repeated w h))
+
+  standing_unanswered : (m : M) (spare : ℕ) (r : Request) (b : Bool) → wants m ≡ Some r → standing (unanswered_by retries after m b spare).operation ≡ standing_after (is_zero spare) (standing m)
+  standing_unanswered m zero r b w = laws.faults m r w
+  standing_unanswered m (suc n) r b w = refl
+
+  pub standing_step : (t : Retried M) (s : Scene) (r : Request) (o : Outcome) → wants t.operation ≡ Some r → ready t.operation s t.repeated → IsHonestOutcome o (answer s r) → standing (step retries after t o).operation ≡ standing_after (wears t o) (standing t.operation)
+  standing_step t s r (Answered a) w h k = laws.goes_on t.operation r a t.repeated w (subst (λ v. fits t.operation v t.repeated) (sym k) (laws.fit t.operation s r t.repeated w h))
+  standing_step t s r Slow w h k = standing_unanswered t.operation t.spare r t.repeated w
+  standing_step t s r RequestLost w h k = standing_unanswered t.operation t.spare r true w
+  standing_step t s r ReplyLost w h k = standing_unanswered t.operation t.spare r true w
 
 pub told_more : (told : ℕ → Option Fate) (n : ℕ) (part : List Entry) (e : Entry) → AreForetold told n part → IsForetold (told (n + length part)) e.outcome → AreForetold told n (part ++ e ∷ [])
 told_more p n [] e h k =
@@ -172,35 +139,39 @@ pub driving_more : {M : Type 0} {wants : M → Option Request} {after : M → It
     → Driving after wants ready standing actor event t t' s s' old new before now told tells first requests worn
     → IsSent wants actor event t' s' e s''
     → new' ≡ new ++ e ∷ []
-    → t'' ≡ step after t' e.outcome
+    → retried t'' ≡ step t'.retries after (retried t') e.outcome
+    → t''.retries ≡ t'.retries
     → Counted new new' requests requests' now now' tells tells'
     → (IsTrue (is_unanswered e.outcome) → now < now')
-    → worn' ≡ (worn || wears t' e.outcome)
+    → worn' ≡ (worn || wears (retried t') e.outcome)
     → IsForetold (tells (requests + 1)) e.outcome
     → Driving after wants ready standing actor event t t'' s s'' old new' before now' told tells' first requests' worn'
-driving_more {wants = wants} {after = after} {fits = fits} {ready = ready} {standing = standing} laws actor event t t' t'' s s' s'' old new new' before now now' told tells tells' first requests requests' worn worn' e d k en et ec lost ew it = record {
-  part = d.part ++ e ∷ [];
-  appended = en ∙ ap (λ v. v ++ e ∷ []) d.appended ∙ append_assoc old d.part (e ∷ []);
-  is_run = is_run_more wants after actor event t s d.part s' t' e s'' d.there d.is_run k;
-  there = et ∙ ap (λ v. step after v e.outcome) d.there ∙ sym (run_more after t d.part e);
-  wore = ew ∙ ap (λ v. v || wears t' e.outcome) d.wore ∙ ap (λ v. has_worn after t d.part || wears v e.outcome) d.there ∙ sym (worn_more after t d.part e);
-  ready_still = subst (λ v. ready v.machine s'' v.repeated) (sym et) (subst (λ v. ready (step after t' e.outcome).machine v (step after t' e.outcome).repeated) (sym k.scene) (ready_step laws t' s' e.request e.outcome k.wanted d.ready_still k.honest));
-  foretold = let n : requests + 1 ≡ first + 1 + length d.part = next_number old new d.part first requests d.appended d.counts.made in told_more told (first + 1) d.part e d.foretold (subst (λ v. IsForetold v e.outcome) (d.counts.foretold (requests + 1) ∙ ap told n) it);
-  counted = omega (arith, d.counted, ec.made);
-  counts = counted_then old new new' d.part (e ∷ []) first requests requests' before now now' told tells tells' d.appended en d.counts ec;
-  stands = ap (λ v. standing v.machine) et ∙ standing_step laws t' s' e.request e.outcome k.wanted d.ready_still k.honest ∙ ap (standing_after (wears t' e.outcome)) d.stands
-      ∙ standing_both worn (wears t' e.outcome) (standing t.machine) ∙ ap (λ b. standing_after b (standing t.machine)) (sym ew);
-  lost = λ h. lost_now worn (wears t' e.outcome) before now now' d.counts.losses ec.losses d.lost (λ w. lost (lost_if_worn t' e.outcome w)) (sym ew ∙ h);
-}
+driving_more {M = M} {wants = wants} {after = after} {fits = fits} {ready = ready} {standing = standing} laws actor event t t' t'' s s' s'' old new new' before now now' told tells tells' first requests requests' worn worn' e d k en et er ec lost ew it =
+    let stepped : retried t'' ≡ step t.retries after (retried t') e.outcome = et ∙ ap (λ n. step n after (retried t') e.outcome) d.retries in
+    record {
+      part = d.part ++ e ∷ [];
+      appended = en ∙ ap (λ v. v ++ e ∷ []) d.appended ∙ append_assoc old d.part (e ∷ []);
+      is_run = is_run_more wants after actor event t s d.part s' t' e s'' d.there d.is_run k;
+      there = stepped ∙ ap (λ v. step t.retries after v e.outcome) d.there ∙ sym (run_more (step t.retries after) (retried t) d.part e);
+      retries = er ∙ d.retries;
+      wore = ew ∙ ap (λ v. v || wears (retried t') e.outcome) d.wore ∙ ap (λ v. has_worn t.retries after (retried t) d.part || wears v e.outcome) d.there ∙ sym (has_worn_more t.retries after (retried t) d.part e);
+      ready_still = subst (λ (v : Retried M). ready v.operation s'' v.repeated) (sym stepped) (subst (λ v. ready (step t.retries after (retried t') e.outcome).operation v (step t.retries after (retried t') e.outcome).repeated) (sym k.scene) (ready_step laws t.retries (retried t') s' e.request e.outcome k.wanted d.ready_still k.honest));
+      foretold = let n : requests + 1 ≡ first + 1 + length d.part = next_number old new d.part first requests d.appended d.counts.made in told_more told (first + 1) d.part e d.foretold (subst (λ v. IsForetold v e.outcome) (d.counts.foretold (requests + 1) ∙ ap told n) it);
+      counted = omega (arith, d.counted, ec.made);
+      counts = counted_then old new new' d.part (e ∷ []) first requests requests' before now now' told tells tells' d.appended en d.counts ec;
+      stands = ap (λ (v : Retried M). standing v.operation) stepped ∙ standing_step laws t.retries (retried t') s' e.request e.outcome k.wanted d.ready_still k.honest ∙ ap (standing_after (wears (retried t') e.outcome)) d.stands
+          ∙ standing_both worn (wears (retried t') e.outcome) (standing t.machine) ∙ ap (λ b. standing_after b (standing t.machine)) (sym ew);
+      lost = λ h. lost_now worn (wears (retried t') e.outcome) before now now' d.counts.losses ec.losses d.lost (λ w. lost (lost_if_worn (retried t') e.outcome w)) (sym ew ∙ h);
+    }
 
 -- what each sending keeps, a run keeps, at its end and at each moment of it
-module _ {M : Type 0} (wants : M → Option Request) (after : M → Item → M) (P : Retrying M → Scene → Type 0)
-    (keeps : (t : Retrying M) (s : Scene) (e : Entry) → wants t.machine ≡ Some e.request → IsHonestOutcome e.outcome (answer s e.request) → P t s → P (step after t e.outcome) (effect s e.request e.outcome)) where
-  pub run_keeps : (t : Retrying M) (s : Scene) (es : List Entry) → Follows wants after t es → AreHonest s es → P t s → P (run after t es) (after_all s es)
-  run_keeps t s [] f h p = p
-  run_keeps t s (e ∷ es) f h p = run_keeps (step after t e.outcome) (effect s e.request e.outcome) es f.1 h.1 (keeps t s e f.0 h.0 p)
+module _ {M : Type 0} (wants : M → Option Request) (tells : M → Outcome → M) (P : M → Scene → Type 0)
+    (keeps : (m : M) (s : Scene) (e : Entry) → wants m ≡ Some e.request → IsHonestOutcome e.outcome (answer s e.request) → P m s → P (tells m e.outcome) (effect s e.request e.outcome)) where
+  pub run_keeps : (m : M) (s : Scene) (es : List Entry) → Follows wants tells m es → AreHonest s es → P m s → P (run tells m es) (after_all s es)
+  run_keeps m s [] f h p = p
+  run_keeps m s (e ∷ es) f h p = run_keeps (tells m e.outcome) (effect s e.request e.outcome) es f.1 h.1 (keeps m s e f.0 h.0 p)
 
-  pub run_keeps_at : (m : ℕ) (t : Retrying M) (s : Scene) (es : List Entry) → Follows wants after t es → AreHonest s es → P t s → P (run after t (take m es)) (after_all s (take m es))
-  run_keeps_at zero t s es f h p = p
-  run_keeps_at (suc m) t s [] f h p = p
-  run_keeps_at (suc m) t s (e ∷ es) f h p = run_keeps_at m (step after t e.outcome) (effect s e.request e.outcome) es f.1 h.1 (keeps t s e f.0 h.0 p)
+  pub run_keeps_at : (n : ℕ) (m : M) (s : Scene) (es : List Entry) → Follows wants tells m es → AreHonest s es → P m s → P (run tells m (take n es)) (after_all s (take n es))
+  run_keeps_at zero m s es f h p = p
+  run_keeps_at (suc n) m s [] f h p = p
+  run_keeps_at (suc n) m s (e ∷ es) f h p = run_keeps_at n (tells m e.outcome) (effect s e.request e.outcome) es f.1 h.1 (keeps m s e f.0 h.0 p)

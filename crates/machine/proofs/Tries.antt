@@ -1,16 +1,14 @@
 -- A run falls into tries, and wore out exactly where one of them did.
-use Rattle.std.proofs.Common.{◌≡◌, ℕ, suc, ◌+◌, ◌-◌, ◌<◌, ◌≤◌, ◌==◌, Bool, true, false, ◌||◌, List, [], ◌∷◌, ◌++◌, length, Option, Some, None, Ok, Err, refl, sym, ap, subst, ◌∙◌, arith, append_assoc, append-nil}
+use Rattle.std.proofs.Common.{◌≡◌, ℕ, zero, suc, ◌+◌, ◌<◌, ◌≤◌, Bool, true, false, ◌||◌, List, [], ◌∷◌, ◌++◌, length, Option, Some, None, Ok, Err, refl, sym, ap, subst, ◌∙◌, arith, append_assoc, append-nil}
 use Rattle.std.proofs.lemmas.Bool.{false≢true}
-use Rattle.std.proofs.lemmas.Bool.Decides.{nat_tests}
 use Rattle.s3_types.specs.Moment.{is_unanswered}
 use Rattle.s3_types.specs.declared.request.Request.{Request}
 use Rattle.s3_types.specs.declared.journal.Outcome.{Outcome}
 use Rattle.s3_types.specs.declared.journal.Outcome.TheVariants.{Answered, Slow, RequestLost, ReplyLost}
 use Rattle.s3_types.specs.declared.journal.Entry.{Entry}
-use Rattle.machine.specs.Item.{Item}
-use Rattle.machine.specs.Turns.{Follows, run, step, wears, has_worn, unanswered_if}
+use Rattle.sendings.specs.Operation.{Follows, run}
+use Rattle.sendings.specs.Retries.{Item, Retried, wants_of, step, wears, is_zero, has_worn, unanswered_by}
 use Rattle.machine.specs.Tries.{AreUnanswered, Try, IsTry, AreTries, IsClosed, spare_after, answer_in, sendings_of, is_worn, some_worn, IsBrokenOff, HasUnanswered, Tried}
-use Rattle.machine.specs.declared.retrying.Retrying.{Retrying}
 use Rattle.machine.specs.declared.driving.DriveStop.TheVariants.{StoreFault, NoMemory}
 
 -- the request that is present is the first of these
@@ -67,58 +65,52 @@ another retries spare e es here worn now o later x is k asked h g = record {
 }
 
 -- one loss more
-closed_more : (spare : ℕ) (r : Request) (n : ℕ) (a : Option Entry) → 0 < spare → IsClosed (spare - 1) r n a → IsClosed spare r (suc n) a
-closed_more spare r n (Some e) p k = let l : suc n ≤ spare = omega (arith, k.2) in (k.0, k.1, l)
-closed_more spare r n None p k = omega arith
+closed_more : (spare : ℕ) (r : Request) (n : ℕ) (a : Option Entry) → IsClosed spare r n a → IsClosed (suc spare) r (suc n) a
+closed_more spare r n (Some e) k = let l : suc n ≤ suc spare = omega (arith, k.2) in (k.0, k.1, l)
+closed_more spare r n None k = omega arith
 
-one_less : (n spare : ℕ) → 0 < spare → n ≤ spare - 1 → suc n ≤ spare
-one_less n spare p h = omega arith
+one_more : (n spare : ℕ) → n ≤ spare → suc n ≤ suc spare
+one_more n spare h = omega arith
 
 same_request : (o : Option Request) (a b : Request) → o ≡ Some a → o ≡ Some b → a ≡ b
 same_request o a b h k = cc
 
 -- a sending without an answer in front of a try that may lose one less
-again_by : (retries spare : ℕ) (e : Entry) (es : List Entry) (worn : Bool) (now later : Option Request) → 0 < spare → is_unanswered e.outcome ≡ true → now ≡ Some e.request
-    → (ts : List Try) (rest : List Entry) → es ≡ sendings_of ts ++ rest → AreTries retries (spare - 1) ts → IsBrokenOff (spare_after retries (spare - 1) ts) rest
-    → worn ≡ some_worn ts → Leads now ts rest → Ends rest ts now later → Grouped retries spare (e ∷ es) worn now later
-again_by retries spare e es worn now later p u asked [] [] is k broken wore first last =
-    let few : 1 ≤ spare = omega arith in
+again_by : (retries spare : ℕ) (e : Entry) (es : List Entry) (worn : Bool) (now later : Option Request) → is_unanswered e.outcome ≡ true → now ≡ Some e.request
+    → (ts : List Try) (rest : List Entry) → es ≡ sendings_of ts ++ rest → AreTries retries spare ts → IsBrokenOff (spare_after retries spare ts) rest
+    → worn ≡ some_worn ts → Leads now ts rest → Ends rest ts now later → Grouped retries (suc spare) (e ∷ es) worn now later
+again_by retries spare e es worn now later u asked [] [] is k broken wore first last =
+    let few : 1 ≤ suc spare = omega arith in
     record { tries = []; rest = e ∷ []; entries = ap (λ l. e ∷ l) is; each = tt; broken_off = ((refl, u, tt), few); wore = wore; first = asked; last = last ∙ asked }
-again_by retries spare e es worn now later p u asked [] (y ∷ ys) is k broken wore first last =
+again_by retries spare e es worn now later u asked [] (y ∷ ys) is k broken wore first last =
     let same : y.request ≡ e.request = same_request now y.request e.request first asked in
     record {
       tries = [];
       rest = e ∷ y ∷ ys;
       entries = ap (λ l. e ∷ l) is;
       each = tt;
-      broken_off = ((refl, u, subst (λ r. AreUnanswered r (y ∷ ys)) same broken.0), one_less (length (y ∷ ys)) spare p broken.1);
+      broken_off = ((refl, u, subst (λ r. AreUnanswered r (y ∷ ys)) same broken.0), one_more (length (y ∷ ys)) spare broken.1);
       wore = wore;
       first = asked;
       last = last ∙ ap Some same;
     }
-again_by retries spare e es worn now later p u asked (x ∷ ts) rest is k broken wore first last =
+again_by retries spare e es worn now later u asked (x ∷ ts) rest is k broken wore first last =
     let same : e.request ≡ x.request = same_request now e.request x.request asked first in
     let y : Try = record { request = x.request; unanswered = e ∷ x.unanswered; answered = x.answered } in
     record {
       tries = y ∷ ts;
       rest = rest;
       entries = ap (λ l. e ∷ l) is;
-      each = (record { lost = (same, u, k.0.lost); closed = closed_more spare x.request (length x.unanswered) x.answered p k.0.closed }, k.1);
+      each = (record { lost = (same, u, k.0.lost); closed = closed_more spare x.request (length x.unanswered) x.answered k.0.closed }, k.1);
       broken_off = broken;
       wore = wore;
       first = first;
       last = ends_alike rest ts x y now later last;
     }
 
-again : (retries spare : ℕ) (e : Entry) (es : List Entry) (worn : Bool) (now later : Option Request) → 0 < spare → is_unanswered e.outcome ≡ true → now ≡ Some e.request
-    → Grouped retries (spare - 1) es worn now later → Grouped retries spare (e ∷ es) worn now later
-again retries spare e es worn now later p u asked g = again_by retries spare e es worn now later p u asked g.tries g.rest g.entries g.each g.broken_off g.wore g.first g.last
-
-is_none : (n : ℕ) → (n == 0) ≡ true → n ≡ 0
-is_none n h = grind (arith, nat_tests)
-
-is_some : (n : ℕ) → (n == 0) ≡ false → 0 < n
-is_some n h = grind (arith, nat_tests)
+again : (retries spare : ℕ) (e : Entry) (es : List Entry) (worn : Bool) (now later : Option Request) → is_unanswered e.outcome ≡ true → now ≡ Some e.request
+    → Grouped retries spare es worn now later → Grouped retries (suc spare) (e ∷ es) worn now later
+again retries spare e es worn now later u asked g = again_by retries spare e es worn now later u asked g.tries g.rest g.entries g.each g.broken_off g.wore g.first g.last
 
 -- nothing is broken off where no request is present at the end
 none_left : (rest : List Entry) (ts : List Try) (now later : Option Request) → Ends rest ts now later → later ≡ None → rest ≡ []
@@ -155,52 +147,48 @@ window retries spare (x ∷ ts) rest k e h = window_by retries spare ts rest x.r
 
 -- ---- of a machine
 
-module _ {M : Type 0} (wants : M → Option Request) (after : M → Item → M) where
+module _ {M : Type 0} (retries : ℕ) (wants : M → Option Request) (after : M → Item → M) where
   -- the entries of a run from t on, as tries
-  abbrev pub GroupedFrom : Retrying M → List Entry → Type 0
-  GroupedFrom t part = Grouped t.retries t.spare part (has_worn after t part) (wants t.machine) (wants (run after t part).machine)
+  abbrev pub GroupedFrom : Retried M → List Entry → Type 0
+  GroupedFrom t part = Grouped retries t.spare part (has_worn retries after t part) (wants t.operation) (wants (run (step retries after) t part).operation)
 
-  by_spare : (t : Retrying M) (e : Entry) (es : List Entry) (b z : Bool) → (t.spare == 0) ≡ z → is_unanswered e.outcome ≡ true → wants t.machine ≡ Some e.request → GroupedFrom (unanswered_if z after t b) es
-      → Grouped t.retries t.spare (e ∷ es) (z || has_worn after (unanswered_if z after t b) es) (wants t.machine) (wants (run after (unanswered_if z after t b) es).machine)
-  by_spare t e es b true is u asked g =
+  by_spare : (m : M) (spare : ℕ) (e : Entry) (es : List Entry) (b : Bool) → is_unanswered e.outcome ≡ true → wants m ≡ Some e.request → GroupedFrom (unanswered_by retries after m b spare) es
+      → Grouped retries spare (e ∷ es) (is_zero spare || has_worn retries after (unanswered_by retries after m b spare) es) (wants m) (wants (run (step retries after) (unanswered_by retries after m b spare) es).operation)
+  by_spare m zero e es b u asked g =
       let x : Try = record { request = e.request; unanswered = e ∷ []; answered = None } in
-      let n : t.spare ≡ 0 = is_none t.spare is in
-      let one : length (e ∷ []) ≡ t.spare + 1 = omega arith in
-      another t.retries t.spare e es true _ _ _ _ x refl (record { lost = (refl, u, tt); closed = one }) asked refl g
-  by_spare t e es b false is u asked g = again t.retries t.spare e es _ _ _ (is_some t.spare is) u asked g
+      let one : length (e ∷ []) ≡ 0 + 1 = omega arith in
+      another retries 0 e es true _ _ _ _ x refl (record { lost = (refl, u, tt); closed = one }) asked refl g
+  by_spare m (suc n) e es b u asked g = again retries n e es _ _ _ u asked g
 
-  by_outcome : (t : Retrying M) (e : Entry) (es : List Entry) (o : Outcome) → e.outcome ≡ o → wants t.machine ≡ Some e.request → GroupedFrom (step after t o) es
-      → Grouped t.retries t.spare (e ∷ es) (wears t o || has_worn after (step after t o) es) (wants t.machine) (wants (run after (step after t o) es).machine)
+  by_outcome : (t : Retried M) (e : Entry) (es : List Entry) (o : Outcome) → e.outcome ≡ o → wants t.operation ≡ Some e.request → GroupedFrom (step retries after t o) es
+      → Grouped retries t.spare (e ∷ es) (wears t o || has_worn retries after (step retries after t o) es) (wants t.operation) (wants (run (step retries after) (step retries after t o) es).operation)
   by_outcome t e es (Answered r) is asked g =
       let x : Try = record { request = e.request; unanswered = []; answered = Some e } in
       let few : 0 ≤ t.spare = omega arith in
-      another t.retries t.spare e es false _ _ _ _ x refl (record { lost = tt; closed = (refl, ap is_unanswered is, few) }) asked refl g
-  by_outcome t e es Slow is asked g = by_spare t e es t.repeated (t.spare == 0) refl (ap is_unanswered is) asked g
-  by_outcome t e es RequestLost is asked g = by_spare t e es true (t.spare == 0) refl (ap is_unanswered is) asked g
-  by_outcome t e es ReplyLost is asked g = by_spare t e es true (t.spare == 0) refl (ap is_unanswered is) asked g
+      another retries t.spare e es false _ _ _ _ x refl (record { lost = tt; closed = (refl, ap is_unanswered is, few) }) asked refl g
+  by_outcome t e es Slow is asked g = by_spare t.operation t.spare e es t.repeated (ap is_unanswered is) asked g
+  by_outcome t e es RequestLost is asked g = by_spare t.operation t.spare e es true (ap is_unanswered is) asked g
+  by_outcome t e es ReplyLost is asked g = by_spare t.operation t.spare e es true (ap is_unanswered is) asked g
 
-  grouped : (t : Retrying M) (part : List Entry) → Follows wants after t part → GroupedFrom t part
-  grouped t [] f = nothing t.retries t.spare (wants t.machine)
-  grouped t (e ∷ es) f = by_outcome t e es e.outcome refl f.0 (grouped (step after t e.outcome) es f.1)
+  grouped : (t : Retried M) (part : List Entry) → Follows (wants_of wants) (step retries after) t part → GroupedFrom t part
+  grouped t [] f = nothing retries t.spare (wants t.operation)
+  grouped t (e ∷ es) f = by_outcome t e es e.outcome refl f.0 (grouped (step retries after t e.outcome) es f.1)
 
   -- ---- more losses in a row than are spared wear a request out
 
-  worn_spare : (t : Retrying M) (b : Bool) (es behind : List Entry) (z : Bool) → (t.spare == 0) ≡ z → t.spare < suc (length es)
-      → ((t' : Retrying M) → t'.spare < length es → has_worn after t' (es ++ behind) ≡ true) → (z || has_worn after (unanswered_if z after t b) (es ++ behind)) ≡ true
-  worn_spare t b es behind true is l ih = refl
-  worn_spare t b es behind false is l ih =
-      let p : 0 < t.spare = is_some t.spare is in
-      let m : t.spare - 1 < length es = omega arith in
-      ih (unanswered_if false after t b) m
+  worn_spare : (m : M) (spare : ℕ) (b : Bool) (es behind : List Entry) → spare < suc (length es)
+      → ((t' : Retried M) → t'.spare < length es → has_worn retries after t' (es ++ behind) ≡ true) → (is_zero spare || has_worn retries after (unanswered_by retries after m b spare) (es ++ behind)) ≡ true
+  worn_spare m zero b es behind l ih = refl
+  worn_spare m (suc n) b es behind l ih = let k : n < length es = omega arith in ih (unanswered_by retries after m b (suc n)) k
 
-  worn_outcome : (t : Retrying M) (es behind : List Entry) (o : Outcome) → is_unanswered o ≡ true → t.spare < suc (length es)
-      → ((t' : Retrying M) → t'.spare < length es → has_worn after t' (es ++ behind) ≡ true) → (wears t o || has_worn after (step after t o) (es ++ behind)) ≡ true
+  worn_outcome : (t : Retried M) (es behind : List Entry) (o : Outcome) → is_unanswered o ≡ true → t.spare < suc (length es)
+      → ((t' : Retried M) → t'.spare < length es → has_worn retries after t' (es ++ behind) ≡ true) → (wears t o || has_worn retries after (step retries after t o) (es ++ behind)) ≡ true
   worn_outcome t es behind (Answered r) u l ih = absurd (false≢true u)
-  worn_outcome t es behind Slow u l ih = worn_spare t t.repeated es behind (t.spare == 0) refl l ih
-  worn_outcome t es behind RequestLost u l ih = worn_spare t true es behind (t.spare == 0) refl l ih
-  worn_outcome t es behind ReplyLost u l ih = worn_spare t true es behind (t.spare == 0) refl l ih
+  worn_outcome t es behind Slow u l ih = worn_spare t.operation t.spare t.repeated es behind l ih
+  worn_outcome t es behind RequestLost u l ih = worn_spare t.operation t.spare true es behind l ih
+  worn_outcome t es behind ReplyLost u l ih = worn_spare t.operation t.spare true es behind l ih
 
-  worn_here : (t : Retrying M) (r : Request) (these behind : List Entry) → AreUnanswered r these → t.spare < length these → has_worn after t (these ++ behind) ≡ true
+  worn_here : (t : Retried M) (r : Request) (these behind : List Entry) → AreUnanswered r these → t.spare < length these → has_worn retries after t (these ++ behind) ≡ true
   worn_here t r [] behind u l = let no : ⊥ = omega arith in absurd no
   worn_here t r (e ∷ es) behind u l = worn_outcome t es behind e.outcome u.1 l (λ t' l'. worn_here t' r es behind u.2 l')
 
@@ -208,30 +196,29 @@ module _ {M : Type 0} (wants : M → Option Request) (after : M → Item → M) 
   or_true true b h = refl
   or_true false b h = h
 
-  kept_if : (z : Bool) (t : Retrying M) (b : Bool) → t.spare ≤ t.retries → ((unanswered_if z after t b).retries ≡ t.retries) × ((unanswered_if z after t b).spare ≤ t.retries)
-  kept_if true t b h = let k : t.retries ≤ t.retries = omega arith in (refl, k)
-  kept_if false t b h = let k : t.spare - 1 ≤ t.retries = omega arith in (refl, k)
+  -- no request has more to spare than there are retries
+  kept_by : (m : M) (spare : ℕ) (b : Bool) → spare ≤ retries → (unanswered_by retries after m b spare).spare ≤ retries
+  kept_by m zero b h = omega arith
+  kept_by m (suc n) b h = omega arith
 
-  kept : (t : Retrying M) (o : Outcome) → t.spare ≤ t.retries → ((step after t o).retries ≡ t.retries) × ((step after t o).spare ≤ t.retries)
-  kept t (Answered r) h = let k : t.retries ≤ t.retries = omega arith in (refl, k)
-  kept t Slow h = kept_if (t.spare == 0) t t.repeated h
-  kept t RequestLost h = kept_if (t.spare == 0) t true h
-  kept t ReplyLost h = kept_if (t.spare == 0) t true h
+  kept : (t : Retried M) (o : Outcome) → t.spare ≤ retries → (step retries after t o).spare ≤ retries
+  kept t (Answered r) h = omega arith
+  kept t Slow h = kept_by t.operation t.spare t.repeated h
+  kept t RequestLost h = kept_by t.operation t.spare true h
+  kept t ReplyLost h = kept_by t.operation t.spare true h
 
-  worn_behind : (t : Retrying M) (r : Request) (before these behind : List Entry) → t.spare ≤ t.retries → AreUnanswered r these → length these ≡ t.retries + 1 → has_worn after t (before ++ (these ++ behind)) ≡ true
+  worn_behind : (t : Retried M) (r : Request) (before these behind : List Entry) → t.spare ≤ retries → AreUnanswered r these → length these ≡ retries + 1 → has_worn retries after t (before ++ (these ++ behind)) ≡ true
   worn_behind t r [] these behind l u n = let m : t.spare < length these = omega arith in worn_here t r these behind u m
-  worn_behind t r (e ∷ es) these behind l u n =
-      let k = kept t e.outcome l in
-      or_true (wears t e.outcome) _ (worn_behind (step after t e.outcome) r es these behind (subst (λ m. (step after t e.outcome).spare ≤ m) (sym k.0) k.1) u (n ∙ ap (λ m. m + 1) (sym k.0)))
+  worn_behind t r (e ∷ es) these behind l u n = or_true (wears t e.outcome) _ (worn_behind (step retries after t e.outcome) r es these behind (kept t e.outcome l) u n)
 
   -- ---- what driving tells of it
 
-  pub tried_short : {T : Type 0} (t : Retrying M) (part : List Entry) → Follows wants after t part → Tried {T = T} t.retries t.spare part (Err NoMemory)
+  pub tried_short : {T : Type 0} (t : Retried M) (part : List Entry) → Follows (wants_of wants) (step retries after) t part → Tried {T = T} retries t.spare part (Err NoMemory)
   tried_short t part f =
       let g = grouped t part f in
       record { tries = g.tries; rest = g.rest; entries = g.entries; each = g.each; broken_off = g.broken_off; told = tt; fault = λ _. tt }
 
-  pub tried_worn : {T : Type 0} (t : Retrying M) (part : List Entry) → Follows wants after t part → wants (run after t part).machine ≡ None → has_worn after t part ≡ true → Tried {T = T} t.retries t.spare part (Err StoreFault)
+  pub tried_worn : {T : Type 0} (t : Retried M) (part : List Entry) → Follows (wants_of wants) (step retries after) t part → wants (run (step retries after) t part).operation ≡ None → has_worn retries after t part ≡ true → Tried {T = T} retries t.spare part (Err StoreFault)
   tried_worn t part f over h =
       let g = grouped t part f in
       record {
@@ -241,10 +228,10 @@ module _ {M : Type 0} (wants : M → Option Request) (after : M → Item → M) 
         each = g.each;
         broken_off = g.broken_off;
         told = (sym g.wore ∙ h, none_left g.rest g.tries _ _ g.last over);
-        fault = λ same. subst (HasUnanswered (t.retries + 1)) (sym g.entries) (window t.retries t.spare g.tries g.rest g.each same (sym g.wore ∙ h));
+        fault = λ same. subst (HasUnanswered (retries + 1)) (sym g.entries) (window retries t.spare g.tries g.rest g.each same (sym g.wore ∙ h));
       }
 
-  pub tried_whole : {T : Type 0} (x : T) (t : Retrying M) (part : List Entry) → Follows wants after t part → wants (run after t part).machine ≡ None → has_worn after t part ≡ false → Tried t.retries t.spare part (Ok x)
+  pub tried_whole : {T : Type 0} (x : T) (t : Retried M) (part : List Entry) → Follows (wants_of wants) (step retries after) t part → wants (run (step retries after) t part).operation ≡ None → has_worn retries after t part ≡ false → Tried retries t.spare part (Ok x)
   tried_whole x t part f over h =
       let g = grouped t part f in
       record {
@@ -255,6 +242,6 @@ module _ {M : Type 0} (wants : M → Option Request) (after : M → Item → M) 
         broken_off = g.broken_off;
         told = (sym g.wore ∙ h, none_left g.rest g.tries _ _ g.last over);
         fault = λ same w.
-            let l : t.spare ≤ t.retries = omega arith in
-            false≢true (sym h ∙ ap (has_worn after t) w.is ∙ worn_behind t w.request w.before w.these w.behind l w.lost w.count);
+            let l : t.spare ≤ retries = omega arith in
+            false≢true (sym h ∙ ap (has_worn retries after t) w.is ∙ worn_behind t w.request w.before w.these w.behind l w.lost w.count);
       }

@@ -9,10 +9,12 @@ use Rattle.s3_types.specs.declared.request.Request.{Request}
 use Rattle.s3_types.specs.declared.request.Actor.{Actor}
 use Rattle.s3_types.specs.declared.reply.Reply.{Reply}
 use Rattle.s3_types.specs.declared.journal.Entry.{Entry}
-use Rattle.machine.specs.Item.{Item, Standing, Faulted}
-use Rattle.machine.specs.Turns.{Follows, run, step, has_worn, turn_of, AreBy}
+use Rattle.sendings.specs.Operation.{Follows, run}
+use Rattle.sendings.specs.Retries.{Item, wants_of, fresh, step, has_worn}
+use Rattle.machine.specs.Standing.{Standing, Faulted}
+use Rattle.machine.specs.Turns.{retried, turn_of, AreBy}
 use Rattle.machine.specs.Counted.{Counted}
-use Rattle.machine.specs.Tries.{Tried}
+use Rattle.machine.specs.Tries.{Tried, IsFaultBy}
 use Rattle.machine.specs.declared.retrying.Retrying.{Retrying}
 use Rattle.machine.specs.declared.retrying.Turn.{Turn}
 use Rattle.machine.specs.declared.driving.DriveStop.{DriveStop}
@@ -22,7 +24,7 @@ use Rattle.machine.specs.declared.driving.DriveStop.TheVariants.{StoreFault, NoM
 pub record IsRun {M : Type 0} (wants : M → Option Request) (after : M → Item → M) (actor : Actor) (event : ℕ) (t : Retrying M) (s : Scene) (part : List Entry) (s' : Scene) : Type 0 where
   pub by : AreBy actor event part
   pub honest : AreHonest s part
-  pub follows : Follows wants after t part
+  pub follows : Follows (wants_of wants) (step t.retries after) (retried t) part
   pub scene : s' ≡ after_all s part
 
 -- one sending, by a machine at t: the entry, which is honest, and the scene after it
@@ -39,8 +41,9 @@ Sent wants after actor event t t' s s' old new before now told first requests No
 Sent wants after actor event t t' s s' old new before now told first requests (Some turn) = (e : Entry)
     × IsSent wants actor event t s e s'
     × (new ≡ old ++ e ∷ [])
-    × (t' ≡ step after t e.outcome)
-    × (turn ≡ turn_of t e.outcome)
+    × (retried t' ≡ step t.retries after (retried t) e.outcome)
+    × (t'.retries ≡ t.retries)
+    × (turn ≡ turn_of (retried t) e.outcome)
     × (IsTrue (is_unanswered e.outcome) → before < now)
     × IsForetold (told (first + 1)) e.outcome
     × (requests ≡ first + 1)
@@ -58,10 +61,11 @@ standing_after false x = x
 
 -- the machine is where these entries lead, and asks nothing more
 pub record IsOver {M : Type 0} (wants : M → Option Request) (after : M → Item → M) (ready : M → Scene → Bool → Type 0) (standing : M → Standing) (t : Retrying M) (part : List Entry) (t' : Retrying M) (s' : Scene) (worn : Bool) : Type 0 where
-  pub there : t' ≡ run after t part
+  pub there : retried t' ≡ run (step t.retries after) (retried t) part
+  pub retries : t'.retries ≡ t.retries
   pub over : wants t'.machine ≡ None
   pub ready_still : ready t'.machine s' t'.repeated
-  pub wore : has_worn after t part ≡ worn
+  pub wore : has_worn t.retries after (retried t) part ≡ worn
   pub stands : standing t'.machine ≡ standing_after worn (standing t.machine)
 
 -- StoreFault exactly where a request wore out here, and then something was lost
@@ -77,6 +81,8 @@ pub record Drove {M T : Type 0} (wants : M → Option Request) (after : M → It
   pub is_run : IsRun wants after actor event t s part s'
   pub foretold : AreForetold told (first + 1) part
   pub tried : Tried t.retries t.spare part result
+  -- where nothing of its present request was sent before
+  pub literal : retried t ≡ fresh t.retries t.machine → IsFaultBy t.retries part result
   pub ended : Ended (IsOver wants after ready standing t part t' s') before now result
 
 -- the same in the middle of it
@@ -84,8 +90,9 @@ pub record Driving {M : Type 0} (after : M → Item → M) (wants : M → Option
   pub part : List Entry
   pub appended : new ≡ old ++ part
   pub is_run : IsRun wants after actor event t s part s'
-  pub there : t' ≡ run after t part
-  pub wore : worn ≡ has_worn after t part
+  pub there : retried t' ≡ run (step t.retries after) (retried t) part
+  pub retries : t'.retries ≡ t.retries
+  pub wore : worn ≡ has_worn t.retries after (retried t) part
   pub ready_still : ready t'.machine s' t'.repeated
   pub foretold : AreForetold told (first + 1) part
   pub counted : requests ≤ length new

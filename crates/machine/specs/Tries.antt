@@ -3,6 +3,7 @@ use Rattle.std.specs.Prelude.{◌≡◌, ℕ, ◌+◌, ◌≤◌, Bool, true, fa
 use Rattle.s3_types.specs.Moment.{is_unanswered}
 use Rattle.s3_types.specs.declared.request.Request.{Request}
 use Rattle.s3_types.specs.declared.journal.Entry.{Entry}
+use Rattle.sendings.specs.Worn.{WornFirst}
 use Rattle.machine.specs.declared.driving.DriveStop.{DriveStop}
 use Rattle.machine.specs.declared.driving.DriveStop.TheVariants.{StoreFault, NoMemory}
 
@@ -94,3 +95,9 @@ pub record Tried {T : Type 0} (retries spare : ℕ) (part : List Entry) (result 
   pub told : IsToldBy (some_worn tries) rest result
   -- where the first request was not sent before
   pub fault : spare ≡ retries → IsFaultWhere (HasUnanswered (retries + 1) part) result
+
+-- StoreFault exactly where some request of these entries wore out, by the entries alone, unless memory was wanting
+abbrev pub IsFaultBy : {T : Type 0} → ℕ → List Entry → Result T DriveStop → Type 0
+IsFaultBy retries part (Ok x) = WornFirst retries part None
+IsFaultBy retries part (Err StoreFault) = (r : Request) × WornFirst retries part (Some r)
+IsFaultBy retries part (Err NoMemory) = Unit {0}

@@ -68,7 +68,8 @@ pub fn send<M: Machine, S: ObjectStore>(
 
 /// Drives a machine that is alone until it asks nothing more. It appends one entry for each sending.
 /// Each request is sent at most `retries + 1` times. StoreFault comes exactly where a request wore out:
-/// `retries + 1` sendings of it in a row got no answer.
+/// `retries + 1` sendings of it in a row got no answer. Where nothing of the present request was sent
+/// before, that is exactly where a request wore out by the new entries alone.
 pub fn drive<M: Machine, S: ObjectStore>(
     alloc: Global,
     machine: &mut Retrying<M>,

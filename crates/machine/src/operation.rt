@@ -3,8 +3,9 @@ ghost use Rattle.std.specs.Option.{option_copied};
 ghost use Rattle.s3_types.specs.Store.{Scene};
 ghost use Rattle.s3_types.specs.declared.request.Request.{Request};
 ghost use Rattle.s3_types.specs.declared.reply.Reply.{Reply};
+ghost use Rattle.sendings.specs.Retries.{Item, Got, WornOut, OutOfMemory};
 ghost use Rattle.machine.specs.Laws.{Laws};
-ghost use Rattle.machine.specs.Item.{Item, Got, WornOut, OutOfMemory, Standing};
+ghost use Rattle.machine.specs.Standing.{Standing};
 
 use s3_types::{Reply, Request};
 use std::alloc::AllocError;

@@ -1,6 +1,7 @@
-ghost use Rattle.std.specs.Prelude.{◌≡◌, ◌≤◌, Option, IfOk, OnOk, OnErr, IsSome};
+ghost use Rattle.std.specs.Prelude.{◌≡◌, ◌≤◌, false, Option, IfOk, OnOk, OnErr, IsSome};
 ghost use Rattle.std.specs.Option.{option_copied};
-ghost use Rattle.machine.specs.Turns.{fresh, step, broken, unanswered, turn_of, turn_unanswered, tells_worn, FitsOutcome};
+ghost use Rattle.sendings.specs.Retries.{fresh, step, unanswered, is_zero};
+ghost use Rattle.machine.specs.Turns.{retried, broken, turn_of, turn_if, tells_worn, FitsOutcome};
 
 use crate::operation::Machine;
 use s3_types::{Outcome, Request};
@@ -33,7 +34,8 @@ pub enum Turn {
 impl<M: Machine> Retrying<M> {
     /// A machine of which nothing was sent yet. Takes no memory.
     pub fn new(machine: M, retries: u32) -> Retrying<M>
-        ensures { result ≡ fresh machine retries }
+        ensures unsent { retried result ≡ fresh retries machine }
+        ensures retries { result.retries ≡ retries }
     {
         Retrying {
             machine,
@@ -55,9 +57,10 @@ impl<M: Machine> Retrying<M> {
     pub fn take(&mut self, outcome: &Outcome) -> Result<Turn, AllocError>
         requires asked { IsSome (M.wants self.old.machine) }
         requires fits { FitsOutcome M.fits self.old outcome.now }
-        ensures ok { OnOk result (self.new ≡ step M.after self.old outcome.now) }
-        ensures turn { IfOk result (λ turn. turn ≡ turn_of self.old outcome.now) }
-        ensures err { OnErr result (self.new ≡ broken M.after self.old) }
+        ensures ok { OnOk result (retried self.new ≡ step self.old.retries M.after (retried self.old) outcome.now) }
+        ensures turn { IfOk result (λ turn. turn ≡ turn_of (retried self.old) outcome.now) }
+        ensures err { OnErr result (retried self.new ≡ broken M.after (retried self.old)) }
+        ensures retries { self.new.retries ≡ self.old.retries }
     {
         match outcome {
             Outcome::Answered(reply) => {
@@ -73,9 +76,10 @@ impl<M: Machine> Retrying<M> {
 
     fn unanswered(&mut self, repeated: bool) -> Result<Turn, AllocError>
         requires asked { IsSome (M.wants self.old.machine) }
-        ensures ok { OnOk result (self.new ≡ unanswered M.after self.old repeated) }
-        ensures turn { IfOk result (λ turn. turn ≡ turn_unanswered self.old) }
-        ensures err { OnErr result (self.new ≡ broken M.after self.old) }
+        ensures ok { OnOk result (retried self.new ≡ unanswered self.old.retries M.after (retried self.old) repeated) }
+        ensures turn { IfOk result (λ turn. turn ≡ turn_if false (is_zero self.old.spare)) }
+        ensures err { OnErr result (retried self.new ≡ broken M.after (retried self.old)) }
+        ensures retries { self.new.retries ≡ self.old.retries }
     {
         if self.spare == 0 {
             self.machine.worn()?;

@@ -6,20 +6,22 @@ use Rattle.s3_types.specs.declared.request.Request.{Request}
 use Rattle.s3_types.specs.declared.reply.Reply.{Reply}
 use Rattle.s3_types.specs.declared.request.Actor.{Actor}
 use Rattle.s3_types.specs.declared.journal.Entry.{Entry}
-use Rattle.machine.specs.Item.{Item}
+use Rattle.sendings.specs.Operation.{Follows, run}
+use Rattle.sendings.specs.Retries.{Retried, wants_of, step}
+use Rattle.sendings.proofs.Runs.{follows_take}
 use Rattle.machine.specs.Drove.{IsRun}
 use Rattle.machine.specs.Counted.{Counted}
 use Rattle.s3_types.specs.Foretold.{AreForetold}
 use Rattle.s3_types.specs.declared.fates.Fate.{Fate}
 use Rattle.std.specs.Prelude.{Result, Ok, Err, ◌+◌, length}
 use Rattle.std.proofs.lemmas.List.{take_all}
-use Rattle.machine.specs.Tries.{Tried, IsToldBy, IsFaultWhere, HasUnanswered, some_worn}
+use Rattle.machine.specs.Tries.{Tried, IsToldBy, IsFaultWhere, IsFaultBy, HasUnanswered, some_worn}
 use Rattle.machine.specs.declared.driving.DriveStop.{DriveStop}
 use Rattle.machine.specs.declared.driving.DriveStop.TheVariants.{StoreFault as Worn, NoMemory as NoRoom}
-use Rattle.machine.specs.Turns.{Follows, run, step}
+use Rattle.machine.specs.Turns.{retried}
 use Rattle.machine.specs.declared.retrying.Retrying.{Retrying}
 use Rattle.machine.proofs.Counts.{counted_none}
-use Rattle.machine.proofs.Keeps.{run_keeps}
+use Rattle.machine.proofs.Keeps.{kept_run}
 use Rattle.operations.specs.declared.plan.Step.{Step}
 use Rattle.operations.specs.declared.operation.Stage.{Stage}
 use Rattle.operations.specs.declared.operation.Stage.TheVariants.{On, Over, StoreFault, NoMemory}
@@ -27,12 +29,6 @@ use Rattle.operations.specs.Operations.{wanted, after, Kept, IsReady}
 use Rattle.operations.specs.Courses.{IsCourse}
 use Rattle.operations.specs.CourseLaws.{keeps, at_any}
 use Rattle.operations.specs.Performed.{Performed}
-
-module _ {M : Type 0} (wants : M → Option Request) (after : M → Item → M) where
-  follows_take : (m : ℕ) (t : Retrying M) (part : List Entry) → Follows wants after t part → Follows wants after t (take m part)
-  follows_take zero t part h = tt
-  follows_take (suc m) t [] h = tt
-  follows_take (suc m) t (e ∷ es) h = (h.0, follows_take m (step after t e.outcome) es h.1)
 
 take_none : (m : ℕ) → ◌≡◌ {A = List Entry} (take m []) []
 take_none zero = refl
@@ -75,6 +71,14 @@ tried_err retries spare part r NoRoom e h = record {
   fault = λ s. tt;
 }
 
+-- and which request wore out by the entries alone
+pub literal_ok : {T U : Type 0} (retries : ℕ) (part : List Entry) (r : Result T DriveStop) (x : T) (y : U) → r ≡ Ok x → IsFaultBy retries part r → IsFaultBy retries part (Ok y)
+literal_ok retries part r x y e h = subst (λ v. IsFaultBy retries part v) e h
+
+pub literal_err : {T : Type 0} (retries : ℕ) (part : List Entry) (r : Result T DriveStop) (stop : DriveStop) → (stop ≡ Worn → r ≡ Err Worn) → IsFaultBy retries part r → IsFaultBy {T = T} retries part (Err stop)
+literal_err retries part r Worn e h = subst (λ v. IsFaultBy retries part v) (e refl) h
+literal_err retries part r NoRoom e h = tt
+
 module _ {P A : Type 0} {starts : P → Type 0} {asks : P → Request} {goes : P → Reply → Bool → Step P A} {holds : P → Scene → P → Scene → Bool → Type 0} {gives : P → Scene → A → Scene → Type 0} {always : P → Scene → Scene → Type 0} {more : P → Scene → ℕ} (plan : IsCourse starts asks goes holds gives always more) (o : P) (z : Scene) where
   pub kept_start : starts o → Kept (holds o z) (gives o z) (always o z) (On o) z false
   kept_start h = plan.begin o z h
@@ -85,20 +89,27 @@ module _ {P A : Type 0} {starts : P → Type 0} {asks : P → Request} {goes : P
       (subst (λ s. IsReady holds gives always (On o) s b) (sym f)
       (subst (λ b. IsReady holds gives always (On o) z b) (sym q) (record { first = o; opening = z; kept = kept_start h })))
 
-  pub kept_run : (t : Retrying (Stage P A)) → t.machine ≡ On o → t.repeated ≡ false → starts o → (part : List Entry) → Follows (wanted asks) (after goes) t part → AreHonest z part
-      → Kept (holds o z) (gives o z) (always o z) (run (after goes) t part).machine (after_all z part) (run (after goes) t part).repeated
-  kept_run t e q h part f a =
-      run_keeps (keeps plan o z) t z part f a
+  -- what a run leads to
+  abbrev Led : Retrying (Stage P A) → List Entry → Retried (Stage P A)
+  Led t part = run (step t.retries (after goes)) (retried t) part
+
+  abbrev Ran : Retrying (Stage P A) → List Entry → Type 0
+  Ran t part = Follows (wants_of (wanted asks)) (step t.retries (after goes)) (retried t) part
+
+  pub kept_all : (t : Retrying (Stage P A)) → t.machine ≡ On o → t.repeated ≡ false → starts o → (part : List Entry) → Ran t part → AreHonest z part
+      → Kept (holds o z) (gives o z) (always o z) (Led t part).operation (after_all z part) (Led t part).repeated
+  kept_all t e q h part f a =
+      kept_run (keeps plan o z) t.retries (retried t) z part f a
       (subst (λ m. Kept (holds o z) (gives o z) (always o z) m z t.repeated) (sym e) (subst (λ b. Kept (holds o z) (gives o z) (always o z) (On o) z b) (sym q) (kept_start h)))
 
-  pub moments : (t : Retrying (Stage P A)) → t.machine ≡ On o → t.repeated ≡ false → starts o → (part : List Entry) → Follows (wanted asks) (after goes) t part → AreHonest z part
+  pub moments : (t : Retrying (Stage P A)) → t.machine ≡ On o → t.repeated ≡ false → starts o → (part : List Entry) → Ran t part → AreHonest z part
       → (m : ℕ) → always o z (after_all z (take m part))
-  moments t e q h part f a m = at_any plan o z _ _ _ (kept_run t e q h (take m part) (follows_take (wanted asks) (after goes) m t part f) (honest_take m z part a))
+  moments t e q h part f a m = at_any plan o z _ _ _ (kept_all t e q h (take m part) (follows_take (wants_of (wanted asks)) (step t.retries (after goes)) m (retried t) part f) (honest_take m z part a))
 
   pub performed : {U : Type 0} (result : Result U DriveStop) (actor : Actor) (event retries : ℕ) (t : Retrying (Stage P A)) (s : Scene) (old new part : List Entry) (first requests before now : ℕ) (told tells : ℕ → Option Fate) → t.machine ≡ On o → t.repeated ≡ false → starts o
-      → IsRun (wanted asks) (after goes) actor event t z part s → new ≡ old ++ part → AreForetold told (first + 1) part → Tried retries retries part result → Counted old new first requests before now told tells
+      → IsRun (wanted asks) (after goes) actor event t z part s → new ≡ old ++ part → AreForetold told (first + 1) part → Tried retries retries part result → IsFaultBy retries part result → Counted old new first requests before now told tells
       → Performed actor event retries (always o z) z s old new first requests before now told tells result
-  performed result actor event retries t s old new part first requests before now told tells e q h r a f d n = record {
+  performed result actor event retries t s old new part first requests before now told tells e q h r a f d l n = record {
     part = part;
     appended = a;
     by = r.by;
@@ -106,16 +117,17 @@ module _ {P A : Type 0} {starts : P → Type 0} {asks : P → Request} {goes : P
     scene = r.scene;
     moments = moments t e q h part r.follows r.honest;
     tried = d;
+    literal = l;
     foretold = f;
     counts = n;
   }
 
-  pub given : (t t' : Retrying (Stage P A)) (s : Scene) (part : List Entry) (a : A) → t.machine ≡ On o → t.repeated ≡ false → starts o → Follows (wanted asks) (after goes) t part → AreHonest z part
-      → t' ≡ run (after goes) t part → s ≡ after_all z part → t'.machine ≡ Over a → gives o z a s
+  pub given : (t t' : Retrying (Stage P A)) (s : Scene) (part : List Entry) (a : A) → t.machine ≡ On o → t.repeated ≡ false → starts o → Ran t part → AreHonest z part
+      → retried t' ≡ Led t part → s ≡ after_all z part → t'.machine ≡ Over a → gives o z a s
   given t t' s part a e q h f honest there scene over =
       subst (λ v. gives o z a v) (sym scene)
-      (subst (λ m. Kept (holds o z) (gives o z) (always o z) m (after_all z part) (run (after goes) t part).repeated) (sym (ap (λ (t : Retrying (Stage P A)). t.machine) there) ∙ over)
-      (kept_run t e q h part f honest))
+      (subst (λ m. Kept (holds o z) (gives o z) (always o z) m (after_all z part) (Led t part).repeated) (sym (ap (λ (t : Retried (Stage P A)). t.operation) there) ∙ over)
+      (kept_all t e q h part f honest))
 
   pub nothing_done : {U : Type 0} (actor : Actor) (event retries : ℕ) (es : List Entry) (first before : ℕ) (told : ℕ → Option Fate) → starts o → Performed {A = U} actor event retries (always o z) z z es es first first before before told told (Err NoRoom)
   nothing_done actor event retries es first before told h = record {
@@ -126,6 +138,7 @@ module _ {P A : Type 0} {starts : P → Type 0} {asks : P → Request} {goes : P
     scene = refl;
     moments = λ m. subst (λ (es : List Entry). always o z (after_all z es)) (sym (take_none m)) (plan.during o z o z false (plan.begin o z h));
     tried = record { tries = []; rest = []; entries = refl; each = tt; broken_off = tt; told = tt; fault = λ s. tt };
+    literal = tt;
     foretold = tt;
     counts = counted_none es es first first before before told told refl refl refl (λ n. refl);
   }
@@ -144,12 +157,12 @@ module _ {P A : Type 0} {starts : P → Type 0} {asks : P → Request} {goes : P
     sent_now NoMemory s b r w k = absurd (cc)
 
     -- each request that is sent is one that the phases may send
-    pub all_sent : (t : Retrying (Stage P A)) (s : Scene) (part : List Entry) → Follows (wanted asks) (after goes) t part → AreHonest s part
-        → Kept (holds o z) (gives o z) (always o z) t.machine s t.repeated → AllSent part
-    all_sent t s [] f h k = tt
-    all_sent t s (e ∷ es) f h k = (
-      sent_now t.machine s t.repeated e.request f.0 k,
-      all_sent (step (after goes) t e.outcome) (effect s e.request e.outcome) es f.1 h.1 (run_keeps (keeps plan o z) t s (e ∷ []) (f.0, tt) (h.0, tt) k),
+    pub all_sent : (retries : ℕ) (t : Retried (Stage P A)) (s : Scene) (part : List Entry) → Follows (wants_of (wanted asks)) (step retries (after goes)) t part → AreHonest s part
+        → Kept (holds o z) (gives o z) (always o z) t.operation s t.repeated → AllSent part
+    all_sent retries t s [] f h k = tt
+    all_sent retries t s (e ∷ es) f h k = (
+      sent_now t.operation s t.repeated e.request f.0 k,
+      all_sent retries (step retries (after goes) t e.outcome) (effect s e.request e.outcome) es f.1 h.1 (kept_run (keeps plan o z) retries t s (e ∷ []) (f.0, tt) (h.0, tt) k),
     )
 
 -- what is so always is so at the end

@@ -5,7 +5,7 @@ use Rattle.s3_types.specs.Store.{Scene}
 use Rattle.s3_types.specs.Answer.{answer, apply}
 use Rattle.s3_types.specs.declared.request.Request.{Request}
 use Rattle.s3_types.specs.declared.reply.Reply.{Reply}
-use Rattle.machine.specs.Item.{Fine}
+use Rattle.machine.specs.Standing.{Fine}
 use Rattle.machine.specs.Laws.{Laws}
 use Rattle.machine.specs.Keeping.{Keeps}
 use Rattle.operations.specs.declared.plan.Step.{Step}

@@ -8,7 +8,7 @@ use Rattle.s3_types.specs.declared.request.Actor.{Actor}
 use Rattle.s3_types.specs.declared.journal.Entry.{Entry}
 use Rattle.machine.specs.Counted.{Counted}
 use Rattle.machine.specs.Turns.{AreBy}
-use Rattle.machine.specs.Tries.{Tried}
+use Rattle.machine.specs.Tries.{Tried, IsFaultBy}
 use Rattle.machine.specs.declared.driving.DriveStop.{DriveStop}
 
 -- a journal gained entries of this actor and event, which lead from the scene z to s
@@ -23,5 +23,7 @@ pub record Performed {A : Type 0} (actor : Actor) (event retries : ℕ) (always 
   pub moments : (m : ℕ) → always (after_all z (take m part))
   -- each request is sent at most `retries + 1` times, and StoreFault comes exactly where one wore out
   pub tried : Tried retries retries part result
+  -- and where one wore out by the entries alone
+  pub literal : IsFaultBy retries part result
   pub foretold : AreForetold told (first + 1) part
   pub counts : Counted old new first requests before now told tells

@@ -1,6 +1,7 @@
 use Rattle.std.proofs.Common.{refl, ◌≡◌, ◌+◌, ◌∙◌, ap, sym, subst, ◌||◌, inl, inr, [], ◌<◌, ◌++◌, append_assoc, append-nil, ◌∷◌, length}
 use Rattle.std.proofs.lemmas.Bool.{false≢true}
-use Rattle.machine.specs.Turns.{step, tells_worn}
+use Rattle.sendings.specs.Retries.{step}
+use Rattle.machine.specs.Turns.{retried, tells_worn}
 use Rattle.s3_types.specs.Foretold.{IsForetold}
 use Rattle.machine.proofs.Counts.{counted_none, counted_then}
 use Rattle.machine.proofs.Runs.{told_more, driving_more, next_number, falls_step, told, is_run_more, work}
@@ -14,6 +15,7 @@ sending-init g c = record {
   appended = sym (append-nil _);
   is_run = record { by = tt; honest = tt; follows = tt; scene = refl };
   there = refl;
+  retries = refl;
   wore = refl;
   ready_still = c.requires.ready;
   foretold = tt;
@@ -26,15 +28,18 @@ sending-init g c = record {
 pub sending-preserved : goal.sending-preserved
 sending-preserved g c =
     let h = rw c.in-Ok-Some.field-0-is at c.in-Ok-Some.ensures.sent in
-    driving_more g.met.M.Machine.laws _ _ _ _ _ _ _ _ _ _ _ _ _ _ _ _ _ _ _ _ _ _ h.0 c.sending.invariant h.1 h.2 h.3 c.in-Ok-Some.ensures.counts h.5
-    (ap (λ b. c.sending.worn || b) (c.is_worn-worn.ensures ∙ ap tells_worn h.4 ∙ told c.sending.machine h.0.outcome)) h.6
+    driving_more g.met.M.Machine.laws _ _ _ _ _ _ _ _ _ _ _ _ _ _ _ _ _ _ _ _ _ _ h.0 c.sending.invariant h.1 h.2 h.3 h.4 c.in-Ok-Some.ensures.counts h.6
+    (ap (λ b. c.sending.worn || b) (c.is_worn-worn.ensures ∙ ap tells_worn h.5 ∙ told (retried c.sending.machine) h.0.outcome)) h.7
 
 pub sending-smaller : goal.sending-smaller
 sending-smaller g c =
     let h = rw c.in-Ok-Some.field-0-is at c.in-Ok-Some.ensures.sent in
-    let f = falls_step g.met.M.Machine.laws c.sending.machine _ h.0.request h.0.outcome h.1.wanted c.sending.invariant.ready_still h.1.honest in
-    subst (λ t. work g.M.Machine.left t (g.S.ObjectStore.scene c.send.new.store) < work g.M.Machine.left c.sending.machine (g.S.ObjectStore.scene c.sending.store)) (sym h.3)
-    (subst (λ s. work g.M.Machine.left (step g.M.Machine.after c.sending.machine h.0.outcome) s < work g.M.Machine.left c.sending.machine (g.S.ObjectStore.scene c.sending.store)) (sym h.1.scene) f)
+    let n = c.sending.machine.retries in
+    let w = work g.M.Machine.left n (retried c.sending.machine) (g.S.ObjectStore.scene c.sending.store) in
+    let f = falls_step g.met.M.Machine.laws n (retried c.sending.machine) _ h.0.request h.0.outcome h.1.wanted c.sending.invariant.ready_still h.1.honest in
+    subst (λ k. work g.M.Machine.left k (retried c.send.new.machine) (g.S.ObjectStore.scene c.send.new.store) < w) (sym h.4)
+    (subst (λ t. work g.M.Machine.left n t (g.S.ObjectStore.scene c.send.new.store) < w) (sym h.3)
+    (subst (λ s. work g.M.Machine.left n (step n g.M.Machine.after (retried c.sending.machine) h.0.outcome) s < w) (sym h.1.scene) f))
 
 pub returns-in-Err-clause-drove : goal.returns-in-Err-clause-drove
 returns-in-Err-clause-drove g c =
@@ -45,7 +50,8 @@ returns-in-Err-clause-drove g c =
         appended = h.0 ∙ k.appended;
         is_run = record { by = k.is_run.by; honest = k.is_run.honest; follows = k.is_run.follows; scene = h.1 ∙ k.is_run.scene };
         foretold = k.foretold;
-        tried = tried_short g.M.Machine.wants g.M.Machine.after c.args.machine.now k.part k.is_run.follows;
+        tried = tried_short c.args.machine.now.retries g.M.Machine.wants g.M.Machine.after (retried c.args.machine.now) k.part k.is_run.follows;
+        literal = λ f. tt;
         ended = tt;
       }
       | inr h ↦
@@ -56,7 +62,8 @@ returns-in-Err-clause-drove g c =
             appended = h.2 ∙ ap (λ v. v ++ h.0 ∷ []) k.appended ∙ append_assoc _ k.part (h.0 ∷ []);
             is_run = r;
             foretold = told_more _ _ k.part h.0 k.foretold (subst (λ v. IsForetold v h.0.outcome) (k.counts.foretold _ ∙ ap (g.S.ObjectStore.foretold c.args.store.now) n) h.3);
-            tried = tried_short g.M.Machine.wants g.M.Machine.after c.args.machine.now (k.part ++ h.0 ∷ []) r.follows;
+            tried = tried_short c.args.machine.now.retries g.M.Machine.wants g.M.Machine.after (retried c.args.machine.now) (k.part ++ h.0 ∷ []) r.follows;
+            literal = λ f. tt;
             ended = tt;
           }
     ]

@@ -1,3 +1,4 @@
+use Rattle.machine.specs.Turns.{retried}
 use Rattle.machine.specs.Drove.{Driving}
 use Rattle.machine.proofs.Runs.{work}
 use Rattle.machine.proofs.driving.drive.Given as goal
@@ -10,4 +11,4 @@ invariant-sending g l =
     l.fn.journal.entries l.journal.entries (losses l.fn.store) (losses l.store) (g.S.ObjectStore.foretold l.fn.store) (g.S.ObjectStore.foretold l.store) (g.S.ObjectStore.requests l.fn.store) (g.S.ObjectStore.requests l.store) l.worn
 
 abbrev pub decreases-sending : goal.decreases-sending
-decreases-sending g l = work g.M.Machine.left l.machine (g.S.ObjectStore.scene l.store)
+decreases-sending g l = work g.M.Machine.left l.machine.retries (retried l.machine) (g.S.ObjectStore.scene l.store)
