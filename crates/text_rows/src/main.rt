@@ -1,0 +1,88 @@
+//! What texts are read as, line by line. A line `== NAME` of standard input says what the lines behind it
+//! are; each of those is answered by a line, or some.
+//!
+//! `records`: `upload`, `set` or `mark` and a JSON text, in which `~` stands for the byte 255. Printed is the
+//! one text of the record that it is, or why it is none. Behind `made` stands a record that is made of its fields.
+//!
+//! `scripts`: a job script, of which is told what it is, or its fault. In it `|` stands for LF, `^` for CR,
+//! `~` for the byte 255, and `@` for the first five lines of an ordinary script. Behind a `{` stand a count,
+//! a `:`, and a text that is repeated so often, with `%` for the number of its turn, from 1, and `$` for that
+//! number's hundreds, a dot, and its rest. Of a script in a line that begins with `!` each part is told; one in a
+//! line that begins with `=` is printed. In a line that begins with `<` each front of the script is read, and in
+//! one that begins with `*` the script with the lowest bit of each of its bytes turned; of both it is told where
+//! the answer changes.
+//!
+//! `paths`: what is asked of a path, where `{` and a number stand for so many letters. `commands`: the words of a
+//! command line, with a `|` between them. Last comes what stands in no line of input.
+#![tactic(auto)]
+
+mod commands;
+mod layout;
+mod paths;
+mod records;
+mod records_made;
+mod scripts;
+mod scripts_changed;
+mod scripts_spelled;
+mod scripts_told;
+mod standings;
+
+use anyhow::Result;
+use commands::show_command;
+use layout::show_layout;
+use paths::show_path;
+use records::show_record;
+use scripts::show_script;
+use standings::show_standings;
+use std::alloc::Global;
+
+/// What a line is.
+#[derive(Clone, Copy)]
+enum Part {
+    Record,
+    Script,
+    Path,
+    Command,
+}
+
+fn part_named(name: &str) -> Part {
+    match name {
+        "records" => Part::Record,
+        "scripts" => Part::Script,
+        "paths" => Part::Path,
+        _ => Part::Command,
+    }
+}
+
+fn show_row(rt: &impl Print, alloc: Global, part: Part, line: &str) -> Result<()> {
+    match part {
+        Part::Record => show_record(rt, alloc, line),
+        Part::Script => show_script(rt, alloc, line),
+        Part::Path => show_path(rt, alloc, line),
+        Part::Command => show_command(rt, alloc, line),
+    }
+}
+
+/// Answers a line, and says what the lines behind it are.
+fn part_after(rt: &impl Print, alloc: Global, part: Part, line: &str) -> Result<Part> {
+    match line.strip_prefix("== ") {
+        Some(name) => {
+            println!(rt; "== {name}")?;
+            Ok(part_named(name))
+        }
+        None => {
+            show_row(rt, alloc, part, line)?;
+            Ok(part)
+        }
+    }
+}
+
+fn main(rt: HostRuntime) -> Result<()> {
+    let alloc = rt.alloc();
+    let mut part = Part::Record;
+    for line in rt.lines(alloc) {
+        part = part_after(&rt, alloc, part, line?.as_str())?;
+    }
+    show_layout(&rt, alloc)?;
+    show_standings(&rt, alloc)
+}
