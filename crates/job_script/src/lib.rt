@@ -23,6 +23,3 @@ pub use fault::ScriptFault;
 pub use job_model::Script;
 pub use print::print_script;
 pub use reading::read_script;
-
-#[cfg(test)]
-mod tests;

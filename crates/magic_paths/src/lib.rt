@@ -17,6 +17,3 @@ pub use layout::{
     temporary_path,
 };
 pub use refusal::MagicRefusal;
-
-#[cfg(test)]
-mod tests;

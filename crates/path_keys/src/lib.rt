@@ -10,6 +10,3 @@ mod split;
 pub use fault::PathFault;
 pub use path::S3Path;
 pub use split::first_element;
-
-#[cfg(test)]
-mod tests;

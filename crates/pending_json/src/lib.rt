@@ -54,6 +54,3 @@ pub fn extra_field_is_least()
         → get list d ≡ Some (array ds) → get_item i ds ≡ Some (object ms)
         → only_fields (is_field_of table) ms ≡ Err (ExtraField name) → IsLeastOther table (object ms) name }
 {}
-
-#[cfg(test)]
-mod tests;

@@ -13,6 +13,3 @@ pub use command::{Command, StoreCommand, read_command};
 pub use held::{Held, ShelfStop, load, save};
 pub use minimum::PartMinimum;
 pub use work::fault_text;
-
-#[cfg(test)]
-mod tests;

@@ -4,8 +4,6 @@
 
 mod report;
 mod standing;
-#[cfg(test)]
-mod tests;
 
 pub use report::{Report, report_text};
 pub use standing::Standings;

@@ -281,9 +281,13 @@ fn held(alloc: Global, image: &str) -> Result<Option<Bytes>, AllocError> {
     }
 }
 
+/// The image of a store with the empty bucket `lake` whose parts have at least 5,242,880 bytes.
+const LAKE_ALONE: &str =
+    "533341494d47303100000000005000000000000000000001000000000000000100046c616b6500000000000000000000000000000000";
+
 /// The words, the image that the shelf holds in hex or nothing, and the status, the text and the image
 /// then.
-static STORES: [(&str, &str, u8, &str, &str); 9] = [
+static STORES: [(&str, &str, u8, &str, &str); 13] = [
     ("lake init 4", "", 0, "", EMPTY_STORE),
     (
         "lake init 4",
@@ -291,6 +295,16 @@ static STORES: [(&str, &str, u8, &str, &str); 9] = [
         1,
         "refused exists\n",
         EMPTY_STORE,
+    ),
+    ("lake init", EMPTY_STORE, 1, "refused exists\n", EMPTY_STORE),
+    ("lake mb ab", "", 1, "refused bad-name\n", ""),
+    ("lake mb lake", "", 0, "", LAKE_ALONE),
+    (
+        "lake mb lake",
+        LAKE_ALONE,
+        1,
+        "refused bucket-exists\n",
+        LAKE_ALONE,
     ),
     ("lake mb lake", EMPTY_STORE, 0, "", LAKE_STORE),
     (
