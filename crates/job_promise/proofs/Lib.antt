@@ -1,2 +1,3 @@
 mod Told
 mod Complete
+mod Restarted

@@ -1,14 +1,25 @@
 -- The laws of this crate.
-use Rattle.std.specs.Prelude.{◌≡◌, ℕ, Bool, true, false, List, Option, None}
+use Rattle.std.specs.Prelude.{◌≡◌, ℕ, suc, ◌⊎◌, Bool, true, false, List, [], ◌∷◌, ◌++◌, length, slice_get, Option, Some, None}
 use Rattle.s3_types.specs.Store.{Content}
 use Rattle.s3_types.specs.Moment.{effect, moment, IsHonest}
-use Rattle.s3_types.specs.declared.request.Actor.TheVariants.{Shell}
+use Rattle.s3_types.specs.declared.request.Actor.TheVariants.{Driver, Attempt, Shell}
 use Rattle.s3_types.specs.declared.journal.Entry.{Entry}
 use Rattle.job_model.specs.JobScript.{Script}
+use Rattle.job_model.specs.declared.events.Op.TheVariants.{Commit}
+use Rattle.job_model.specs.declared.events.Event.TheVariants.{Start, Restart}
+use Rattle.job_model.specs.declared.ends.SetupEnd.{SetupEnd}
 use Rattle.job_model.specs.declared.ends.CommitEnd.TheVariants as commits
+use Rattle.job_model.specs.declared.ends.OpEnd.{OpEnd}
+use Rattle.job_model.specs.declared.ends.OpEnd.TheVariants as ends
+use Rattle.job_model.specs.declared.ends.EventEnd.{EventEnd}
+use Rattle.job_model.specs.declared.ends.EventEnd.TheVariants.{Done, Refused}
+use Rattle.job_model.specs.declared.ends.EventFault.{EventFault}
+use Rattle.job_model.specs.declared.states.Life.TheVariants.{Idle}
+use Rattle.job_model.specs.declared.states.ActorStage.TheVariants as stage
 use Rattle.job_operations.specs.Outputs.{Picks, is_clash}
 use Rattle.job_promise.specs.Ends.{commit_due}
 use Rattle.job_promise.specs.Seen.{Seen, see, seen}
+use Rattle.job_promise.specs.States.{NotBegun, Unended, EndedSo, past, missing, is_committing, end_verdict, verdict_or, verdict}
 use Rattle.job_promise.specs.Turns.{IsRising}
 use Rattle.job_promise.specs.Eyes.{in_eyes}
 
@@ -28,3 +39,30 @@ pub record EyesAreTrue : Type 0 where
 -- a job's commit that misses no task, of which no request wore out and whose picks do not clash is due to end Committed
 pub record CommitsComplete : Type 0 where
   pub committed : (w : Script) (picks : Picks) → is_clash w picks ≡ false → commit_due w picks None None ≡ commits.Committed
+
+-- a restart after these events: a new driver, which has failed where the old one was committing and else stands where that stood, and knows no report
+pub record RestartsAnew : Type 0 where
+  pub idle : (w : Script) (xs : List EventEnd) → slice_get w.events (length xs) ≡ Some Restart → ((past w (xs ++ Done ∷ [])).state Driver).life ≡ Idle
+  pub failed : (w : Script) (xs : List EventEnd) → slice_get w.events (length xs) ≡ Some Restart → ((past w xs).state Driver).stage ≡ stage.Committing
+      → ((past w (xs ++ Done ∷ [])).state Driver).stage ≡ stage.Failed
+  pub stays : (w : Script) (xs : List EventEnd) → slice_get w.events (length xs) ≡ Some Restart → is_committing ((past w xs).state Driver).stage ≡ false
+      → ((past w (xs ++ Done ∷ [])).state Driver).stage ≡ ((past w xs).state Driver).stage
+  -- no report from before it counts, so a commit that begins right after it misses the first task there is
+  pub forgets : (w : Script) (xs : List EventEnd) → slice_get w.events (length xs) ≡ Some Restart → (t : ℕ) → (past w (xs ++ Done ∷ [])).reported t ≡ false
+  pub misses : (w : Script) (xs : List EventEnd) (n : ℕ) → slice_get w.events (length xs) ≡ Some Restart → w.tasks ≡ suc n → missing w (past w (xs ++ Done ∷ [])).reported ≡ Some 0
+  -- attempts stay as they are
+  pub attempts : (w : Script) (xs : List EventEnd) → slice_get w.events (length xs) ≡ Some Restart → (t a : ℕ) → (past w (xs ++ Done ∷ [])).state (Attempt t a) ≡ (past w xs).state (Attempt t a)
+
+-- which operation decides the status of a run
+pub record CommitDecides : Type 0 where
+  -- of a commit that was begun 0 comes only where it ended Committed, and of a set-up it never comes
+  pub zero : (w : Script) (xs : List EventEnd) → verdict w xs ≡ 0 → ((past w xs).commit ≡ EndedSo (ends.Commit commits.Committed)) ⊎ ((past w xs).commit ≡ NotBegun)
+  pub setup : (w : Script) (xs : List EventEnd) (e : SetupEnd) → (past w xs).commit ≡ NotBegun → (past w xs).setup ≡ EndedSo (ends.Setup e) → verdict w xs ≡ 0 → ⊥
+  -- a commit that was begun decides alone, whatever set-ups did
+  pub ended : (w : Script) (xs : List EventEnd) (e : OpEnd) → (past w xs).commit ≡ EndedSo e → verdict w xs ≡ end_verdict e
+  pub unended : (w : Script) (xs : List EventEnd) → (past w xs).commit ≡ Unended → verdict w xs ≡ 1
+  pub begun : (w : Script) (xs : List EventEnd) → slice_get w.events (length xs) ≡ Some (Start Driver Commit) → verdict w (xs ++ Done ∷ []) ≡ 1
+  -- one that was not leaves it to the last set-up
+  pub not_begun : (w : Script) (xs : List EventEnd) → (past w xs).commit ≡ NotBegun → verdict w xs ≡ verdict_or 1 (past w xs).setup
+  -- a refused event, and so a refused commit, decides nothing
+  pub refused : (w : Script) (xs : List EventEnd) (f : EventFault) → verdict w (xs ++ Refused f ∷ []) ≡ verdict w xs

@@ -2,7 +2,7 @@
 //! actors, and how operations end, in `specs/`.
 #![tactic(auto)]
 
-ghost use Rattle.job_promise.specs.Laws.{SeenIsMoment, EyesAreTrue, CommitsComplete};
+ghost use Rattle.job_promise.specs.Laws.{SeenIsMoment, EyesAreTrue, CommitsComplete, RestartsAnew, CommitDecides};
 
 /// What a journal says of a job.
 pub fn folds()
@@ -17,4 +17,14 @@ pub fn eyes()
 /// The end of a job's commit that nothing hinders.
 pub fn commits()
     ensures complete { CommitsComplete }
+{}
+
+/// A driver that takes the place of a dead one.
+pub fn restarts()
+    ensures anew { RestartsAnew }
+{}
+
+/// The status of a run.
+pub fn verdicts()
+    ensures decided { CommitDecides }
 {}
