@@ -1,2 +1,9 @@
 mod Digits
 mod OneSet
+mod MapLists
+mod Tagged
+mod Books
+mod Checks
+mod Sights
+mod Refusals
+mod RefusedEnds

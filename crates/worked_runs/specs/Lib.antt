@@ -4,3 +4,5 @@ pub mod OneFile
 pub mod Steps
 pub mod Lanes
 pub mod Modes
+pub mod Refused
+pub mod RefusedEnds

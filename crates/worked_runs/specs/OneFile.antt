@@ -1,6 +1,7 @@
 -- A job of one attempt with one file, from its set-up to its commit.
 use Rattle.std.specs.Prelude.{◌≡◌, ℕ, true, false, List, [], ◌∷◌, ◌++◌, Option, Some, None, codes}
 use Rattle.serde_json.specs.Written.{compact_text}
+use Rattle.s3_types.specs.Tags.{plain_tag, joined_tag}
 use Rattle.s3_types.specs.declared.request.Actor.{Actor}
 use Rattle.s3_types.specs.declared.request.Actor.TheVariants.{Driver}
 use Rattle.s3_types.specs.declared.request.Request.TheVariants.{PutObject, GetObject, HeadObject, DeleteObject, ListPage, CreateUpload, UploadPart, CompleteUpload}
@@ -60,8 +61,8 @@ abbrev pub write_entries : List Entry
 write_entries =
     said 2 worker (CreateUpload lake (codes "out/part-00000")) (Upload 1)
     ∷ said 2 worker (UploadPart lake (codes "out/part-00000") 1 1 (codes "hello")) (Part hello_tag)
-    ∷ said 2 worker (PutObject lake (codes "out/__magic/job-j1/tasks/0_0/__base/part-00000") [] (Some 5)) (Stored hello_tag)
-    ∷ said 2 worker (PutObject lake (codes "out/__magic/job-j1/tasks/0_0/__base/part-00000.pending") (compact_text (pending_tree the_record)) None) (Stored hello_tag)
+    ∷ said 2 worker (PutObject lake (codes "out/__magic/job-j1/tasks/0_0/__base/part-00000") [] (Some 5)) (Stored (plain_tag []))
+    ∷ said 2 worker (PutObject lake (codes "out/__magic/job-j1/tasks/0_0/__base/part-00000.pending") (compact_text (pending_tree the_record)) None) (Stored (plain_tag (compact_text (pending_tree the_record))))
     ∷ []
 
 abbrev pub task_entries : List Entry
@@ -69,15 +70,25 @@ task_entries =
     said 3 worker (ListPage lake (codes "out/__magic/job-j1/tasks/0_0/__base/") false [] 1000)
     (Page (Listed (codes "out/__magic/job-j1/tasks/0_0/__base/part-00000") 0 ∷ Listed (codes "out/__magic/job-j1/tasks/0_0/__base/part-00000.pending") 166 ∷ []) false)
     ∷ said 3 worker (GetObject lake (codes "out/__magic/job-j1/tasks/0_0/__base/part-00000.pending")) (Object (compact_text (pending_tree the_record)) None)
-    ∷ said 3 worker (PutObject lake (codes "out/__magic/job-j1/sets/task_0.pendingset") (compact_text (set_tree the_set)) None) (Stored hello_tag)
+    ∷ said 3 worker (PutObject lake (codes "out/__magic/job-j1/sets/task_0.pendingset") (compact_text (set_tree the_set)) None) (Stored (plain_tag (compact_text (set_tree the_set))))
     ∷ []
 
+-- all that comes before the job's commit
+abbrev pub attempt_entries : List Entry
+attempt_entries = setup_entries ++ write_entries ++ task_entries
+
+-- the commit's read of the set, its completion of the upload and its put of the marker
+abbrev pub the_read : Entry
+the_read = said 4 Driver (GetObject lake (codes "out/__magic/job-j1/sets/task_0.pendingset")) (Object (compact_text (set_tree the_set)) None)
+
+abbrev pub the_completion : ℕ → Entry
+the_completion k = said k Driver (CompleteUpload lake (codes "out/part-00000") 1 (record { number = 1; tag = hello_tag } ∷ [])) (Completed (joined_tag (hello_tag ∷ [])))
+
+abbrev pub the_marking : Entry
+the_marking = said 4 Driver (PutObject lake (codes "out/_SUCCESS") (compact_text (success_tree the_mark)) None) (Stored (plain_tag (compact_text (success_tree the_mark))))
+
 abbrev pub commit_entries : List Entry
-commit_entries =
-    said 4 Driver (GetObject lake (codes "out/__magic/job-j1/sets/task_0.pendingset")) (Object (compact_text (set_tree the_set)) None)
-    ∷ said 4 Driver (CompleteUpload lake (codes "out/part-00000") 1 (record { number = 1; tag = hello_tag } ∷ [])) (Completed hello_tag)
-    ∷ said 4 Driver (PutObject lake (codes "out/_SUCCESS") (compact_text (success_tree the_mark)) None) (Stored hello_tag)
-    ∷ []
+commit_entries = the_read ∷ the_completion 4 ∷ the_marking ∷ []
 
 abbrev pub journal : List Entry
 journal = setup_entries ++ write_entries ++ task_entries ++ commit_entries

@@ -5,6 +5,8 @@
 ghost use Rattle.worked_runs.specs.Decisions.{DecidesSo, RestartsSo};
 ghost use Rattle.worked_runs.specs.OneFile.{OneFileRuns, OneFileSeen};
 ghost use Rattle.worked_runs.specs.Lanes.{LanesRun};
+ghost use Rattle.worked_runs.specs.Refused.{Misshown, MisshownRuns};
+ghost use Rattle.worked_runs.specs.RefusedEnds.{Misended};
 ghost use Rattle.worked_runs.specs.Modes.{SetupsRun, StagingRuns, DriversRun};
 
 /// Verdicts on runs, and drivers that are restarted.
@@ -29,4 +31,15 @@ pub fn committers()
     ensures setups { SetupsRun }
     ensures staging { StagingRuns }
     ensures drivers { DriversRun }
+{}
+
+/// Journals whose destination shows what it should not.
+pub fn misshown()
+    ensures shown { Misshown }
+    ensures runs { MisshownRuns }
+{}
+
+/// Ends that are not due, and a marker over two attempts of one task.
+pub fn misended()
+    ensures ends { Misended }
 {}
