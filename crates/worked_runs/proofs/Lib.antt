@@ -7,3 +7,7 @@ mod Checks
 mod Sights
 mod Refusals
 mod RefusedEnds
+mod Owed
+mod Frames
+mod OneMoments
+mod OnePlays

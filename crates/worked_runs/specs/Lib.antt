@@ -6,3 +6,4 @@ pub mod Lanes
 pub mod Modes
 pub mod Refused
 pub mod RefusedEnds
+pub mod OneFinished

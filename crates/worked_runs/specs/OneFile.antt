@@ -68,7 +68,7 @@ write_entries =
 abbrev pub task_entries : List Entry
 task_entries =
     said 3 worker (ListPage lake (codes "out/__magic/job-j1/tasks/0_0/__base/") false [] 1000)
-    (Page (Listed (codes "out/__magic/job-j1/tasks/0_0/__base/part-00000") 0 ∷ Listed (codes "out/__magic/job-j1/tasks/0_0/__base/part-00000.pending") 166 ∷ []) false)
+    (Page (Listed (codes "out/__magic/job-j1/tasks/0_0/__base/part-00000") 0 ∷ Listed (codes "out/__magic/job-j1/tasks/0_0/__base/part-00000.pending") 177 ∷ []) false)
     ∷ said 3 worker (GetObject lake (codes "out/__magic/job-j1/tasks/0_0/__base/part-00000.pending")) (Object (compact_text (pending_tree the_record)) None)
     ∷ said 3 worker (PutObject lake (codes "out/__magic/job-j1/sets/task_0.pendingset") (compact_text (set_tree the_set)) None) (Stored (plain_tag (compact_text (set_tree the_set))))
     ∷ []
