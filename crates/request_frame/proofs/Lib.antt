@@ -1,0 +1,4 @@
+pub mod Members
+pub mod Framed
+pub mod Reading
+pub mod Flat

@@ -1,0 +1,25 @@
+-- What stands at a bucket's key, and the live upload of a bucket's id.
+use Rattle.std.specs.Prelude.{◌≡◌, ℕ, List, Option, Some, None}
+use Rattle.std.specs.FinMap as fin
+use Rattle.s3_types.specs.Store.{BucketContent, Content, Upload}
+use Rattle.s3_types.specs.declared.object.Object.{Object}
+
+abbrev pub object_in : Option BucketContent → List ℕ → Option Object
+object_in None k = None
+object_in (Some b) k = fin.get b.objects k
+
+-- the object at a bucket's key
+abbrev pub object_at : Content → List ℕ → List ℕ → Option Object
+object_at c bucket k = object_in (fin.get c.buckets bucket) k
+
+abbrev pub upload_in : Option BucketContent → ℕ → Option Upload
+upload_in None id = None
+upload_in (Some b) id = fin.get b.uploads id
+
+-- the live upload with a bucket's id
+abbrev pub upload_at : Content → List ℕ → ℕ → Option Upload
+upload_at c bucket id = upload_in (fin.get c.buckets bucket) id
+
+-- the bucket stands
+abbrev pub HasBucket : Content → List ℕ → Type 0
+HasBucket c n = (b : BucketContent) × (fin.get c.buckets n ≡ Some b)
