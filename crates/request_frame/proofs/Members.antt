@@ -82,6 +82,9 @@ text_here m k q v e = get-insert text_total m k v q ∙ ap (λ b. cond b (Some v
 pub text_other : {X : Type 0} (m : FinMap text_cmp X) (k q : List ℕ) (v : X) → (q ≡ k → ⊥) → get (insert m k v) q ≡ get m q
 text_other m k q v ne = get-insert text_total m k v q ∙ ap (λ b. cond b (Some v) (get m q)) (sym (text_ties q k) ∙ text_false q k ne)
 
+pub text_gone : {X : Type 0} (m : FinMap text_cmp X) (k q : List ℕ) → q ≡ k → get (remove m k) q ≡ None
+text_gone m k q e = get-remove text_total m k q ∙ ap (λ b. cond b None (get m q)) (sym (text_ties q k) ∙ text_true q k e)
+
 pub text_left : {X : Type 0} (m : FinMap text_cmp X) (k q : List ℕ) → (q ≡ k → ⊥) → get (remove m k) q ≡ get m q
 text_left m k q ne = get-remove text_total m k q ∙ ap (λ b. cond b None (get m q)) (sym (text_ties q k) ∙ text_false q k ne)
 

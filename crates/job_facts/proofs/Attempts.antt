@@ -1,0 +1,44 @@
+-- Attempts that are the same or not, and functions of them.
+use Rattle.std.proofs.Common.{◌≡◌, ℕ, ◌⊎◌, inl, inr, nat_eq, ◌||◌, Bool, true, false, cond, refl, sym, ap, ◌∙◌}
+use Rattle.std.proofs.lemmas.Bool.{and_parts}
+use Rattle.request_frame.proofs.Members.{eq_nat, nat_true, false_true, true_or_false}
+use Rattle.job_model.specs.Attempts.{Who, same_name}
+use Rattle.job_facts.specs.Told.{put_who}
+
+abbrev pub attempt : ℕ → ℕ → Who
+attempt t n = record { task = t; attempt = n }
+
+pub who_true : (a b : Who) → a ≡ b → same_name a b ≡ true
+who_true a b e = rw (nat_true a.task b.task (ap (λ (x : Who). x.task) e), nat_true a.attempt b.attempt (ap (λ (x : Who). x.attempt) e)) refl
+
+pub who_is : (a b : Who) → same_name a b ≡ true → a ≡ b
+who_is a b h =
+    let p = and_parts (nat_eq a.task b.task) (nat_eq a.attempt b.attempt) h in
+    ap (λ (x : ℕ). attempt x a.attempt) (eq_nat a.task b.task p.0) ∙ ap (λ (x : ℕ). attempt b.task x) (eq_nat a.attempt b.attempt p.1)
+
+pub same_or_another : (a b : Who) → (a ≡ b) ⊎ (a ≡ b → ⊥)
+same_or_another a b = elim (true_or_false (same_name a b)) [ inl h ↦ inl (who_is a b h) | inr h ↦ inr (λ e. false_true h (who_true a b e)) ]
+
+pub who_false : (a b : Who) → (a ≡ b → ⊥) → same_name a b ≡ false
+who_false a b ne = elim (true_or_false (same_name a b)) [ inl h ↦ absurd (ne (who_is a b h)) | inr h ↦ h ]
+
+pub who_here : {X : Type 0} (f : Who → X) (a : Who) (v : X) (b : Who) → b ≡ a → put_who f a v b ≡ v
+who_here f a v b e = ap (λ t. cond t v (f b)) (who_true b a e)
+
+pub who_other : {X : Type 0} (f : Who → X) (a : Who) (v : X) (b : Who) → (b ≡ a → ⊥) → put_who f a v b ≡ f b
+who_other f a v b ne = ap (λ t. cond t v (f b)) (who_false b a ne)
+
+-- what was there is put again
+pub who_same : {X : Type 0} (f : Who → X) (a : Who) (v : X) → v ≡ f a → put_who f a v ≡ f
+who_same {X = X} f a v e = λ i b. at b i
+  where
+    at : (b : Who) → put_who f a v b ≡ f b
+    at b = elim (same_or_another b a) [ inl h ↦ who_here f a v b h ∙ e ∙ ap f (sym h) | inr ne ↦ who_other f a v b ne ]
+
+pub or_false : (b : Bool) → (b || false) ≡ b
+or_false true = refl
+or_false false = refl
+
+pub or_true : (b : Bool) → (b || true) ≡ true
+or_true true = refl
+or_true false = refl

@@ -1,0 +1,14 @@
+pub mod Attempts
+pub mod Unique
+pub mod Legal
+pub mod Placed
+pub mod Shapes
+pub mod Keep
+pub mod Learn
+pub mod Foreign
+pub mod Staged
+pub mod Sent
+pub mod Publishes
+pub mod Undone
+pub mod Cut
+pub mod Ordered

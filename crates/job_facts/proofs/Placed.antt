@@ -1,0 +1,128 @@
+-- Places of a job: where they are, and that they are apart.
+use Rattle.std.proofs.Common.{◌≡◌, ℕ, ◌<◌, ◌≤◌, ◌^◌, Bool, true, false, List, [], ◌∷◌, ◌++◌, length, Option, Some, None, refl, sym, ap, subst, ◌∙◌, codes}
+use Rattle.std.specs.Fmt.{decimal}
+use Rattle.std.specs.Option.{option_map}
+use Rattle.std.proofs.lemmas.Bool.{false≢true}
+use Rattle.std.proofs.lemmas.List.{append_cancel_left}
+use Rattle.s3_types.specs.Store.{Scene}
+use Rattle.s3_types.specs.Pages.{begins}
+use Rattle.s3_types.specs.declared.object.Object.{Object}
+use Rattle.s3_types.specs.declared.request.Committer.{Committer}
+use Rattle.s3_types.specs.declared.request.Committer.TheVariants.{Magic, Directory, Partitioned}
+use Rattle.magic_paths.specs.Layout.{magic_prefix, cluster_prefix}
+use Rattle.magic_paths.specs.Places.{Place, FilePlace, MarkerPlace, RecordPlace, SetPlace, SuccessPlace, ClusterPlace, TemporaryPlace, StagedSetPlace, IsPlace, IsClusterPlace, key_at, path_at, is_record, is_magic_place}
+use Rattle.magic_paths.proofs.Tails.{begins_behind, below_is, keys_apart, paths_apart, key_magic}
+use Rattle.job_model.specs.Files.{File}
+use Rattle.job_model.specs.Attempts.{Who}
+use Rattle.job_model.specs.Legal.{IsLegal}
+use Rattle.job_model.specs.JobScript.{Script}
+use Rattle.job_operations.specs.Outputs.{files}
+use Rattle.job_operations.specs.Records.{file_key}
+use Rattle.job_promise.specs.Seen.{is_magic, is_staging}
+use Rattle.request_frame.specs.Members.{IsIn}
+use Rattle.job_facts.specs.Facts.{IsAttempt, IsOwnPlace}
+use Rattle.job_facts.specs.Stores.{at_place, at_path, set_at}
+use Rattle.job_facts.proofs.Attempts.{attempt}
+use Rattle.job_facts.proofs.Legal.{some_dest, is_attempt, no_record, same_file, small_task, small_attempt}
+
+-- ---- the committers
+
+pub not_both : (c : Committer) → is_magic c ≡ true → is_staging c ≡ true → ⊥
+not_both Magic h g = false≢true g
+not_both Directory h g = false≢true h
+not_both Partitioned h g = false≢true h
+
+-- ---- places in the store
+
+pub record_place : {w : Script} → IsLegal w → is_magic w.committer ≡ true → (a : Who) (f : File) → IsIn f (files w a) → IsPlace (RecordPlace a.task a.attempt f.0)
+record_place j magic a f i = let s = small_attempt j a (is_attempt j a f i) in (s.0, s.1, no_record j magic a f i)
+
+pub own_place : {w : Script} → IsLegal w → is_magic w.committer ≡ true → (p : Place) → IsOwnPlace w p → IsPlace p
+own_place j magic (FilePlace p) h = absurd h
+own_place j magic (MarkerPlace t a p) h = let s = small_attempt j (attempt t a) (is_attempt j (attempt t a) h.0 h.1) in (s.0, s.1, ap is_record h.2 ∙ no_record j magic (attempt t a) h.0 h.1)
+own_place j magic (RecordPlace t a p) h = let s = small_attempt j (attempt t a) (is_attempt j (attempt t a) h.0 h.1) in (s.0, s.1, ap is_record h.2 ∙ no_record j magic (attempt t a) h.0 h.1)
+own_place j magic (SetPlace t) h = small_task j t h
+own_place j magic SuccessPlace h = absurd h
+
+own_is : (w : Script) (p : Place) → IsOwnPlace w p → is_magic_place p ≡ true
+own_is w (FilePlace p) h = absurd h
+own_is w (MarkerPlace t a p) h = refl
+own_is w (RecordPlace t a p) h = refl
+own_is w (SetPlace t) h = refl
+own_is w SuccessPlace h = absurd h
+
+-- the key of such a place is below the magic directory
+pub own_magic : {w : Script} → IsLegal w → is_magic w.committer ≡ true → (p : Place) → IsOwnPlace w p → begins (magic_prefix w.dest.key w.job) (key_at w.dest.key w.job p) ≡ true
+own_magic {w = w} j magic p h = key_magic w.dest.key w.job p (some_dest j) (own_place j magic p h) ∙ own_is w p h
+
+pub record_magic : {w : Script} → IsLegal w → is_magic w.committer ≡ true → (a : Who) (f : File) → IsIn f (files w a) → begins (magic_prefix w.dest.key w.job) (key_at w.dest.key w.job (RecordPlace a.task a.attempt f.0)) ≡ true
+record_magic j magic a f i = own_magic j magic (RecordPlace a.task a.attempt f.0) (f, i, refl)
+
+pub set_magic : {w : Script} → IsLegal w → (t : ℕ) → t < w.tasks → begins (magic_prefix w.dest.key w.job) (key_at w.dest.key w.job (SetPlace t)) ≡ true
+set_magic {w = w} j t h = key_magic w.dest.key w.job (SetPlace t) (some_dest j) (small_task j t h)
+
+-- places of the job with one key are one
+pub one_place : {w : Script} → IsLegal w → (p q : Place) → IsPlace p → IsPlace q → key_at w.dest.key w.job p ≡ key_at w.dest.key w.job q → p ≡ q
+one_place {w = w} j p q g h e = keys_apart w.dest.key w.job w.job p q (some_dest j) j.job j.job g h e
+
+-- files of one key are of one path
+pub one_key : {w : Script} → IsLegal w → (f g : File) → file_key w f ≡ file_key w g → f.0 ≡ g.0
+one_key {w = w} j f g e =
+    let cut_off : 47 ∷ f.0 ≡ 47 ∷ g.0 = append_cancel_left w.dest.key (47 ∷ f.0) (47 ∷ g.0) (sym (below_is w.dest.key f.0 (some_dest j)) ∙ e ∙ below_is w.dest.key g.0 (some_dest j)) in
+    append_cancel_left (47 ∷ []) f.0 g.0 cut_off
+
+-- and of one attempt they are one
+pub key_file : {w : Script} → IsLegal w → (a : Who) (f g : File) → IsIn f (files w a) → IsIn g (files w a) → file_key w f ≡ file_key w g → f ≡ g
+key_file j a f g i k e = same_file j a f g i k (one_key j f g e)
+
+-- ---- places in the cluster
+
+behind_job : (job rest : List ℕ) → begins (cluster_prefix job) (codes "jobs/" ++ (job ++ 47 ∷ rest)) ≡ true
+behind_job job rest = begins_behind (codes "jobs/") (job ++ codes "/") (job ++ 47 ∷ rest) ∙ begins_behind job (codes "/") (47 ∷ rest)
+
+-- they are below the job's directory there
+pub path_below : (w : Script) (p : ClusterPlace) → begins (cluster_prefix w.job) (path_at w.job p) ≡ true
+path_below w (TemporaryPlace t a) = behind_job w.job (codes "tmp/" ++ (decimal t ++ (codes "_" ++ (decimal a ++ codes ".pendingset"))))
+path_below w (StagedSetPlace t) = behind_job w.job (codes "sets/task_" ++ (decimal t ++ codes ".pendingset"))
+
+pub temporary_place : {w : Script} → IsLegal w → (a : Who) → IsAttempt w a → IsClusterPlace (TemporaryPlace a.task a.attempt)
+temporary_place j a d = small_attempt j a d
+
+pub staged_place : {w : Script} → IsLegal w → (t : ℕ) → t < w.tasks → IsClusterPlace (StagedSetPlace t)
+staged_place j t h = small_task j t h
+
+pub one_path : {w : Script} → IsLegal w → (p q : ClusterPlace) → IsClusterPlace p → IsClusterPlace q → path_at w.job p ≡ path_at w.job q → p ≡ q
+one_path {w = w} j p q g h e = (paths_apart w.job w.job p q j.job j.job g h e).0
+
+-- ---- a task's set, where the committer keeps it
+
+pub magic_set : (c : Committer) (w : Script) (s : Scene) (t : ℕ) → is_magic c ≡ true → set_at c w s t ≡ option_map (λ o. o.bytes) (at_place w s.content (SetPlace t))
+magic_set Magic w s t h = refl
+magic_set Directory w s t h = absurd (false≢true h)
+magic_set Partitioned w s t h = absurd (false≢true h)
+
+pub staged_set : (c : Committer) (w : Script) (s : Scene) (t : ℕ) → is_staging c ≡ true → set_at c w s t ≡ at_path w s (StagedSetPlace t)
+staged_set Magic w s t h = absurd (false≢true h)
+staged_set Directory w s t h = refl
+staged_set Partitioned w s t h = refl
+
+pub set_same : (c : Committer) (w : Script) (s u : Scene) (t : ℕ) → at_place w u.content (SetPlace t) ≡ at_place w s.content (SetPlace t) → at_path w u (StagedSetPlace t) ≡ at_path w s (StagedSetPlace t) → set_at c w u t ≡ set_at c w s t
+set_same Magic w s u t e f = ap (option_map (λ o. o.bytes)) e
+set_same Directory w s u t e f = f
+set_same Partitioned w s u t e f = f
+
+-- what stands stood before
+pub set_stood : (c : Committer) (w : Script) (s u : Scene) (t : ℕ) (b : List ℕ) → ((x : Object) → at_place w u.content (SetPlace t) ≡ Some x → at_place w s.content (SetPlace t) ≡ Some x)
+    → ((x : List ℕ) → at_path w u (StagedSetPlace t) ≡ Some x → at_path w s (StagedSetPlace t) ≡ Some x) → set_at c w u t ≡ Some b → set_at c w s t ≡ Some b
+set_stood Magic w s u t b e f h = by (at_place w u.content (SetPlace t)) refl h
+  where
+    by : (o : Option Object) → at_place w u.content (SetPlace t) ≡ o → option_map (λ o. o.bytes) o ≡ Some b → option_map (λ o. o.bytes) (at_place w s.content (SetPlace t)) ≡ Some b
+    by None g k = absurd cc
+    by (Some x) g k = ap (option_map (λ o. o.bytes)) (e x g) ∙ k
+set_stood Directory w s u t b e f h = f b h
+set_stood Partitioned w s u t b e f h = f b h
+
+-- an object that stands there, of which these are the bytes
+pub set_object : (o : Option Object) (b : List ℕ) → option_map (λ o. o.bytes) o ≡ Some b → (x : Object) × (o ≡ Some x) × (x.bytes ≡ b)
+set_object None b h = absurd cc
+set_object (Some x) b h = (x, refl, cc)

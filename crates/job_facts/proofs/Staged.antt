@@ -1,0 +1,143 @@
+-- How the facts of a staging job are kept where a file of the cluster is put, moved onto a task's set, or taken away.
+use Rattle.std.proofs.Common.{◌≡◌, ℕ, ◌<◌, inl, inr, true, false, List, [], ◌∷◌, Option, Some, None, refl, sym, ap, subst, ◌∙◌}
+use Rattle.std.specs.FinMap as fin
+use Rattle.s3_types.specs.Store.{Scene, Files}
+use Rattle.s3_types.specs.Answer.{with_files}
+use Rattle.magic_paths.specs.Places.{TemporaryPlace, StagedSetPlace, path_at}
+use Rattle.job_model.specs.Attempts.{Who}
+use Rattle.job_model.specs.Legal.{IsLegal}
+use Rattle.job_model.specs.JobScript.{Script}
+use Rattle.job_operations.specs.Outputs.{files}
+use Rattle.job_promise.specs.Seen.{is_magic, is_staging}
+use Rattle.request_frame.specs.Held.{HasBucket}
+use Rattle.request_frame.proofs.Members.{some_is, none_some, same_or_not, same_or_other, text_here, text_other, text_left, text_gone}
+use Rattle.job_facts.specs.Told.{Told}
+use Rattle.job_facts.specs.Stores.{at_path, sets_at}
+use Rattle.job_facts.specs.Facts.{IsAttempt, IsSet, IsTemporary, Facts}
+use Rattle.job_facts.proofs.Attempts.{attempt}
+use Rattle.job_facts.proofs.Keep.{Drops, drops_keep}
+use Rattle.job_facts.proofs.Placed.{not_both, temporary_place, staged_place, one_path, staged_set, set_same}
+
+-- attempts of one temporary place are one
+same_attempt : (a b : Who) → TemporaryPlace b.task b.attempt ≡ TemporaryPlace a.task a.attempt → b ≡ a
+same_attempt a b e =
+    let t : b.task ≡ a.task = cc in
+    let n : b.attempt ≡ a.attempt = cc in
+    ap (λ (x : ℕ). attempt x b.attempt) t ∙ ap (λ (x : ℕ). attempt a.task x) n
+
+not_staged : (t n v : ℕ) → StagedSetPlace t ≡ TemporaryPlace n v → ⊥
+not_staged t n v e = absurd cc
+
+module _ {w : Script} (j : IsLegal w) (staging : is_staging w.committer ≡ true) (a : Who) (d : IsAttempt w a) where
+  abbrev mine : List ℕ
+  mine = path_at w.job (TemporaryPlace a.task a.attempt)
+
+  -- its temporary file is no task's set
+  apart : (t : ℕ) → t < w.tasks → path_at w.job (StagedSetPlace t) ≡ mine → ⊥
+  apart t h e = not_staged t a.task a.attempt (one_path j (StagedSetPlace t) (TemporaryPlace a.task a.attempt) (staged_place j t h) (temporary_place j a d) e)
+
+  -- and no other attempt's
+  other : (b : Who) → IsAttempt w b → (b ≡ a → ⊥) → path_at w.job (TemporaryPlace b.task b.attempt) ≡ mine → ⊥
+  other b e ne is = ne (same_attempt a b (one_path j (TemporaryPlace b.task b.attempt) (TemporaryPlace a.task a.attempt) (temporary_place j b e) (temporary_place j a d) is))
+
+  -- ---- its temporary file is put
+
+  pub stage_keep : {minimum : ℕ} {s : Scene} {last : ℕ → Option ℕ} {m : Told} (bytes : List ℕ) → IsTemporary w minimum (m.put_sent a) (m.drawn a) a bytes → Facts w minimum s last m → Facts w minimum (with_files s (fin.insert s.files mine bytes)) last m
+  stage_keep {minimum = minimum} {s = s} {m = m} bytes temporary f =
+      let u : Scene = with_files s (fin.insert s.files mine bytes) in
+      let set : (t : ℕ) → t < w.tasks → sets_at w u t ≡ sets_at w s t = λ t h. set_same w.committer w s u t refl (text_other s.files mine _ bytes (apart t h)) in
+      record {
+        there = f.there;
+        least = f.least;
+        ids = f.ids;
+        owned = f.owned;
+        below = f.below;
+        records = f.records;
+        sets = λ t b h e. f.sets t b h (sym (set t h) ∙ e);
+        standing = λ c t b h e. let x = f.standing c t b h e in (x.0, set t h ∙ x.1);
+        temporaries = λ g b x e o h. elim (same_or_other (path_at w.job (TemporaryPlace b.task b.attempt)) mine) [
+          | inl is ↦
+              let who : b ≡ a = same_attempt a b (one_path j (TemporaryPlace b.task b.attempt) (TemporaryPlace a.task a.attempt) (temporary_place j b e) (temporary_place j a d) is) in
+              let same : bytes ≡ x = some_is (sym (text_here s.files mine _ bytes is) ∙ h) in
+              subst (λ (v : Who). IsTemporary w minimum (m.put_sent v) (m.drawn v) v x) (sym who) (subst (λ z. IsTemporary w minimum (m.put_sent a) (m.drawn a) a z) same temporary)
+          | inr ne ↦ f.temporaries g b x e o (sym (text_other s.files mine _ bytes ne) ∙ h)
+        ];
+        kept = f.kept;
+      }
+
+  -- ---- and moved onto its task's set
+
+  abbrev target : List ℕ
+  target = path_at w.job (StagedSetPlace a.task)
+
+  abbrev moved : Files → List ℕ → Files
+  moved m bytes = fin.insert (fin.remove m mine) target bytes
+
+  moved_other : (m : Files) (bytes p : List ℕ) → (p ≡ mine → ⊥) → (p ≡ target → ⊥) → fin.get (moved m bytes) p ≡ fin.get m p
+  moved_other m bytes p nm nt = text_other (fin.remove m mine) target p bytes nt ∙ text_left m mine p nm
+
+  pub rename_keep : {minimum : ℕ} {s : Scene} {last : ℕ → Option ℕ} {m : Told} (bytes : List ℕ) (more : ℕ → Option ℕ) → at_path w s (TemporaryPlace a.task a.attempt) ≡ Some bytes → m.undone a ≡ false → m.publish_sent a ≡ true
+      → more a.task ≡ Some a.attempt → ((t : ℕ) → (t ≡ a.task → ⊥) → more t ≡ last t) → Facts w minimum s last m → Facts w minimum (with_files s (moved s.files bytes)) more m
+  rename_keep {minimum = minimum} {s = s} {last = last} {m = m} bytes more stood clean sent latest others f =
+      let u : Scene = with_files s (moved s.files bytes) in
+      let temporary : IsTemporary w minimum (m.put_sent a) (m.drawn a) a bytes = f.temporaries staging a bytes d clean stood in
+      let here : sets_at w u a.task ≡ Some bytes = staged_set w.committer w u a.task staging ∙ text_here (fin.remove s.files mine) target target bytes refl in
+      let set : (t : ℕ) → t < w.tasks → (t ≡ a.task → ⊥) → sets_at w u t ≡ sets_at w s t = λ t h ne. set_same w.committer w s u t refl (moved_other s.files bytes _ (apart t h) (λ e. ne (same_task t h e))) in
+      record {
+        there = f.there;
+        least = f.least;
+        ids = f.ids;
+        owned = f.owned;
+        below = f.below;
+        records = f.records;
+        sets = λ t b h e. elim (same_or_not t a.task) [
+          | inl is ↦
+              let same : bytes ≡ b = some_is (sym here ∙ ap (sets_at w u) (sym is) ∙ e) in
+              record {
+                by = a;
+                task = sym is;
+                number = d.attempt;
+                latest = ap more is ∙ latest;
+                has_sent = sent;
+                commits = files w a;
+                are = temporary.are;
+                text = sym same ∙ temporary.text;
+              }
+          | inr ne ↦
+              let old = f.sets t b h (sym (set t h ne) ∙ e) in
+              record { by = old.by; task = old.task; number = old.number; latest = others t ne ∙ old.latest; has_sent = old.has_sent; commits = old.commits; are = old.are; text = old.text }
+        ];
+        standing = λ c t b h e. elim (same_or_not t a.task) [
+          | inl is ↦ (bytes, ap (sets_at w u) is ∙ here)
+          | inr ne ↦ let x = f.standing c t b h (sym (others t ne) ∙ e) in (x.0, set t h ne ∙ x.1)
+        ];
+        temporaries = λ g b x e o h. f.temporaries g b x e o (moved_stood b x e h);
+        kept = f.kept;
+      }
+    where
+      same_task : (t : ℕ) → t < w.tasks → path_at w.job (StagedSetPlace t) ≡ target → t ≡ a.task
+      same_task t h e = let at : StagedSetPlace t ≡ StagedSetPlace a.task = one_path j (StagedSetPlace t) (StagedSetPlace a.task) (staged_place j t h) (staged_place j a.task d.task) e in cc
+
+      no_target : (b : Who) → IsAttempt w b → path_at w.job (TemporaryPlace b.task b.attempt) ≡ target → ⊥
+      no_target b e is = not_staged a.task b.task b.attempt (sym (one_path j (TemporaryPlace b.task b.attempt) (StagedSetPlace a.task) (temporary_place j b e) (staged_place j a.task d.task) is))
+
+      -- a temporary file that stands afterwards stood before
+      moved_stood : (b : Who) (x : List ℕ) → IsAttempt w b → fin.get (moved s.files bytes) (path_at w.job (TemporaryPlace b.task b.attempt)) ≡ Some x → at_path w s (TemporaryPlace b.task b.attempt) ≡ Some x
+      moved_stood b x e h = elim (same_or_other (path_at w.job (TemporaryPlace b.task b.attempt)) mine) [
+        | inl is ↦ absurd (none_some (text_other (fin.remove s.files mine) target _ bytes (no_target b e) ∙ gone is) h)
+        | inr ne ↦ sym (moved_other s.files bytes _ ne (no_target b e)) ∙ h
+      ]
+        where
+          gone : path_at w.job (TemporaryPlace b.task b.attempt) ≡ mine → fin.get (fin.remove s.files mine) (path_at w.job (TemporaryPlace b.task b.attempt)) ≡ None
+          gone is = text_gone s.files mine _ is
+
+-- ---- a file is taken away
+
+removed_stood : (m : Files) (p q b : List ℕ) → fin.get (fin.remove m p) q ≡ Some b → fin.get m q ≡ Some b
+removed_stood m p q b e = elim (same_or_other q p) [
+  | inl is ↦ absurd (none_some (text_gone m p q is) e)
+  | inr ne ↦ sym (text_left m p q ne) ∙ e
+]
+
+pub remove_drops : (w : Script) (s : Scene) → HasBucket s.content w.dest.bucket → (p : List ℕ) → Drops w s (with_files s (fin.remove s.files p))
+remove_drops w s there p = record { there = there; least = refl; next = refl; objects = λ k x e. e; uploads = λ id. refl; files = λ q b e. removed_stood s.files p q b e }

@@ -1,0 +1,110 @@
+-- How far an attempt's operation has come, by what the attempt knows and has sent.
+use Rattle.std.specs.Prelude.{◌≡◌, ℕ, ◌≤◌, ◌⊎◌, Bool, true, false, List, [], ◌∷◌, length, drop}
+use Rattle.s3_types.specs.Pages.{begins}
+use Rattle.s3_types.specs.declared.request.Committer.{Committer}
+use Rattle.s3_types.specs.declared.request.Committer.TheVariants.{Magic, Directory, Partitioned}
+use Rattle.request_frame.specs.Members.{IsIn, RisesFrom}
+use Rattle.job_model.specs.Files.{File}
+use Rattle.job_model.specs.Attempts.{Who}
+use Rattle.job_model.specs.JobScript.{Script}
+use Rattle.job_model.specs.declared.ends.TaskEnd.TheVariants as tasks
+use Rattle.job_operations.specs.Outputs.{files}
+use Rattle.job_operations.specs.Knowledge.{Drawn, Known}
+use Rattle.job_operations.specs.Records.{file_key}
+use Rattle.job_operations.specs.Walks.{Sweep, Listing, Deleting}
+use Rattle.job_operations.specs.Uploading.{Uploading, Creating, Sending, file_parts}
+use Rattle.job_operations.specs.Writes.{Write, Marking, Recording, WriteOver}
+use Rattle.job_operations.specs.Writes as writes
+use Rattle.job_operations.specs.TaskCommits.{TaskCommit, Looking, Reading, Publishing, Checking, Storing, Renaming, TaskCommitOver, attempt_prefix}
+use Rattle.job_operations.specs.TaskCommits as commits
+use Rattle.job_operations.specs.TaskAborts.{TaskAbort, Dropping, Sweeping, Removing, TaskAbortOver}
+use Rattle.job_operations.specs.Operations.{Operation, TheSetup, TheWrite, TheTaskCommit, TheTaskAbort, TheCommit, TheClean}
+use Rattle.job_promise.specs.Seen.{is_magic, is_staging}
+use Rattle.job_facts.specs.Told.{Told, known}
+use Rattle.job_facts.specs.Facts.{IsWritten, ApartFiles, AreCommits}
+
+-- these files are left to upload: no upload of them is known, and all others are written
+pub record Todo (w : Script) (minimum : ℕ) (a : Who) (ds : List Drawn) (fs : List File) : Type 0 where
+  pub each : (f : File) → IsIn f fs → IsIn f (files w a)
+  pub once : ApartFiles fs
+  pub unknown : (f : File) → IsIn f fs → (d : Drawn) → IsIn d ds → d.key ≡ file_key w f → ⊥
+  pub others : (f : File) → IsIn f (files w a) → IsIn f fs ⊎ IsWritten w minimum ds f
+
+-- the upload of this file was drawn last, these parts of it are left, and then these files
+pub record Begun (w : Script) (minimum : ℕ) (a : Who) (ds : List Drawn) (f : File) (fs : List File) (parts : List (List ℕ)) : Type 0 where
+  pub latest : Drawn
+  pub before : List Drawn
+  pub is : ds ≡ latest ∷ before
+  pub key : latest.key ≡ file_key w f
+  pub few : length latest.tags ≤ length (file_parts w minimum f)
+  pub left : parts ≡ drop (length latest.tags) (file_parts w minimum f)
+  pub each : (g : File) → IsIn g (f ∷ fs) → IsIn g (files w a)
+  pub once : ApartFiles (f ∷ fs)
+  pub unknown : (g : File) → IsIn g fs → (d : Drawn) → IsIn d ds → d.key ≡ file_key w g → ⊥
+  pub others : (g : File) → IsIn g (files w a) → IsIn g (f ∷ fs) ⊎ IsWritten w minimum ds g
+
+abbrev pub AllWritten : Script → ℕ → Who → List Drawn → Type 0
+AllWritten w minimum a ds = (f : File) → IsIn f (files w a) → IsWritten w minimum ds f
+
+-- it has sent neither the put of its temporary file nor its publishing request, and may still learn of uploads
+abbrev pub IsOpen : Known → Type 0
+IsOpen k = (k.publish_sent ≡ false) × (k.put_sent ≡ false)
+
+-- ---- uploads, of any committer
+
+abbrev pub FitsUpload : Script → ℕ → Who → Known → File → List File → Uploading → Type 0
+FitsUpload w minimum a k f fs Creating = Todo w minimum a k.drawn (f ∷ fs)
+FitsUpload w minimum a k f fs (Sending p ps) = Begun w minimum a k.drawn f fs (p ∷ ps)
+
+-- ---- a write
+
+-- what a write that is done has done: of the magic committer all, of the others nothing yet
+abbrev pub Wrote : Committer → Script → ℕ → Who → List Drawn → Type 0
+Wrote Magic w minimum a ds = AllWritten w minimum a ds
+Wrote Directory w minimum a ds = Todo w minimum a ds (files w a)
+Wrote Partitioned w minimum a ds = Todo w minimum a ds (files w a)
+
+abbrev pub FitsWrite : Script → ℕ → Who → Known → Write → Type 0
+FitsWrite w minimum a k (writes.Uploads f fs u) = (is_magic w.committer ≡ true) × IsOpen k × FitsUpload w minimum a k f fs u
+FitsWrite w minimum a k (Marking f fs) = (is_magic w.committer ≡ true) × IsOpen k × Begun w minimum a k.drawn f fs []
+FitsWrite w minimum a k (Recording f fs) = (is_magic w.committer ≡ true) × IsOpen k × Begun w minimum a k.drawn f fs []
+FitsWrite w minimum a k (WriteOver end) = end ≡ tasks.Done → IsOpen k × Wrote w.committer w minimum a k.drawn
+
+-- ---- a task's commit
+
+abbrev pub FitsCommit : Script → ℕ → Who → Known → TaskCommit → Type 0
+FitsCommit w minimum a k (Looking keys) = (is_magic w.committer ≡ true) × AllWritten w minimum a k.drawn × RisesFrom [] keys
+FitsCommit w minimum a k (Reading cs f fs) = (is_magic w.committer ≡ true) × AreCommits w minimum k.drawn a cs
+FitsCommit w minimum a k (Publishing cs) = (is_magic w.committer ≡ true) × AreCommits w minimum k.drawn a cs
+FitsCommit w minimum a k (Checking d ds) = (is_staging w.committer ≡ true) × IsOpen k × Todo w minimum a k.drawn (files w a)
+FitsCommit w minimum a k (commits.Uploads f fs u) = (is_staging w.committer ≡ true) × IsOpen k × FitsUpload w minimum a k f fs u
+FitsCommit w minimum a k Storing = (is_staging w.committer ≡ true) × AreCommits w minimum k.drawn a (files w a)
+FitsCommit w minimum a k Renaming = (is_staging w.committer ≡ true) × (k.put_sent ≡ true) × AreCommits w minimum k.drawn a (files w a)
+FitsCommit w minimum a k (TaskCommitOver end) = end ≡ tasks.Done → k.publish_sent ≡ true
+
+-- ---- a task's abort
+
+-- keys of the attempt's own directory
+abbrev pub AllOwn : Script → Who → List (List ℕ) → Type 0
+AllOwn w a keys = (q : List ℕ) → IsIn q keys → begins (attempt_prefix w a) q ≡ true
+
+abbrev pub FitsSweep : Script → Who → Sweep → Type 0
+FitsSweep w a (Listing keys) = AllOwn w a keys
+FitsSweep w a (Deleting q qs) = AllOwn w a (q ∷ qs)
+
+abbrev pub FitsAbort : Script → Who → Known → TaskAbort → Type 0
+FitsAbort w a k (Dropping d ds sent) = (k.publish_sent ≡ false) × ((e : Drawn) → IsIn e (d ∷ ds) → IsIn e k.drawn)
+FitsAbort w a k (Sweeping s) = (k.publish_sent ≡ false) × FitsSweep w a s
+FitsAbort w a k Removing = k.publish_sent ≡ false
+-- it is kept exactly where the attempt has sent its publishing request
+FitsAbort w a k (TaskAbortOver end) = (end ≡ tasks.Kept → k.publish_sent ≡ true) × (k.publish_sent ≡ true → end ≡ tasks.Kept)
+
+-- ---- all operations of an attempt
+
+abbrev pub Fits : Script → ℕ → Who → Told → Operation → Type 0
+Fits w minimum a m (TheSetup t) = ⊥
+Fits w minimum a m (TheWrite t) = (m.undone a ≡ false) × FitsWrite w minimum a (known m a) t.operation
+Fits w minimum a m (TheTaskCommit t) = (m.undone a ≡ false) × FitsCommit w minimum a (known m a) t.operation
+Fits w minimum a m (TheTaskAbort t) = FitsAbort w a (known m a) t.operation
+Fits w minimum a m (TheCommit c) = ⊥
+Fits w minimum a m (TheClean t) = ⊥

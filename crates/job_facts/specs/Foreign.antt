@@ -1,0 +1,18 @@
+-- Requests that leave a job's own keys, uploads and cluster files alone.
+use Rattle.std.specs.Prelude.{◌≡◌, ℕ, true, false, List, Some}
+use Rattle.s3_types.specs.Pages.{begins}
+use Rattle.s3_types.specs.Answer.{bucket_of}
+use Rattle.s3_types.specs.declared.request.Request.{Request}
+use Rattle.request_frame.specs.Members.{IsIn}
+use Rattle.request_frame.specs.Frame.{changed_keys, changed_upload, changed_paths}
+use Rattle.magic_paths.specs.Layout.{magic_prefix, cluster_prefix}
+use Rattle.job_model.specs.Attempts.{Who}
+use Rattle.job_model.specs.JobScript.{Script}
+use Rattle.job_operations.specs.Knowledge.{Drawn}
+use Rattle.job_facts.specs.Stores.{IsKnown}
+
+-- it changes no key below the job's magic directory, no upload that an attempt knows, and no path below the job's directory in the cluster
+pub record IsForeign (w : Script) (drawn : Who → List Drawn) (r : Request) : Type 0 where
+  pub keys : bucket_of r ≡ w.dest.bucket → (k : List ℕ) → IsIn k (changed_keys r) → begins (magic_prefix w.dest.key w.job) k ≡ false
+  pub uploads : bucket_of r ≡ w.dest.bucket → (id : ℕ) → changed_upload r ≡ Some id → IsKnown drawn id → ⊥
+  pub paths : (p : List ℕ) → IsIn p (changed_paths r) → begins (cluster_prefix w.job) p ≡ false

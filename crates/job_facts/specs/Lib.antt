@@ -1,0 +1,6 @@
+pub mod Told
+pub mod Stores
+pub mod Facts
+pub mod Foreign
+pub mod Fits
+pub mod Laws

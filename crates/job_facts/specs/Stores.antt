@@ -1,0 +1,100 @@
+-- What a store and the cluster have at the places of a job, and how a request may change it.
+use Rattle.std.specs.Prelude.{◌≡◌, ℕ, ◌+◌, ◌≤◌, ◌<◌, ◌&&◌, true, cond, List, Option, Some, None}
+use Rattle.std.specs.FinMap as fin
+use Rattle.std.specs.Option.{option_map}
+use Rattle.proof_base.specs.Order.{text_eq}
+use Rattle.s3_types.specs.Store.{Content, Scene, Upload}
+use Rattle.s3_types.specs.Pages.{begins}
+use Rattle.s3_types.specs.Multipart.{is_part_number, with_part}
+use Rattle.s3_types.specs.declared.object.Object.{Object}
+use Rattle.s3_types.specs.declared.request.Committer.{Committer}
+use Rattle.s3_types.specs.declared.request.Committer.TheVariants.{Magic, Directory, Partitioned}
+use Rattle.request_frame.specs.Members.{IsIn}
+use Rattle.request_frame.specs.Held.{HasBucket}
+use Rattle.magic_paths.specs.Layout.{magic_prefix, cluster_prefix}
+use Rattle.magic_paths.specs.Places.{Place, SetPlace, ClusterPlace, StagedSetPlace, key_at, path_at}
+use Rattle.job_model.specs.Attempts.{Who}
+use Rattle.job_model.specs.JobScript.{Script}
+use Rattle.job_operations.specs.View.{object_at}
+use Rattle.job_operations.specs.Knowledge.{Drawn}
+use Rattle.job_promise.specs.Scope.{upload_at}
+
+-- what stands at a key of the job's bucket, and at a place
+abbrev pub at_key : Script → Content → List ℕ → Option Object
+at_key w c k = object_at c w.dest.bucket k
+
+abbrev pub at_place : Script → Content → Place → Option Object
+at_place w c p = at_key w c (key_at w.dest.key w.job p)
+
+-- the live upload of an id
+abbrev pub at_id : Script → Content → ℕ → Option Upload
+at_id w c id = upload_at c w.dest.bucket id
+
+-- what stands at a place in the cluster
+abbrev pub at_path : Script → Scene → ClusterPlace → Option (List ℕ)
+at_path w s p = fin.get s.files (path_at w.job p)
+
+abbrev pub set_at : Committer → Script → Scene → ℕ → Option (List ℕ)
+set_at Magic w s t = option_map (λ o. o.bytes) (at_place w s.content (SetPlace t))
+set_at Directory w s t = at_path w s (StagedSetPlace t)
+set_at Partitioned w s t = at_path w s (StagedSetPlace t)
+
+-- the bytes of the set that stands for a task, where the committer keeps it
+abbrev pub sets_at : Script → Scene → ℕ → Option (List ℕ)
+sets_at w s t = set_at w.committer w s t
+
+-- some attempt knows the upload
+abbrev pub IsKnown : (Who → List Drawn) → ℕ → Type 0
+IsKnown drawn id = (a : Who) × (d : Drawn) × IsIn d (drawn a) × (d.upload ≡ id)
+
+-- ---- how a scene may change
+
+-- Nothing changes below the job's magic directory, below its directory in the cluster, nor at an upload that an attempt knows.
+pub record Leaves (w : Script) (drawn : Who → List Drawn) (s t : Scene) : Type 0 where
+  pub there : HasBucket t.content w.dest.bucket
+  pub least : t.content.minimum ≡ s.content.minimum
+  pub later : s.content.next ≤ t.content.next
+  pub objects : (k : List ℕ) → begins (magic_prefix w.dest.key w.job) k ≡ true → at_key w t.content k ≡ at_key w s.content k
+  pub uploads : (id : ℕ) → IsKnown drawn id → at_id w t.content id ≡ at_id w s.content id
+  pub fresh : (id : ℕ) (x : Upload) → at_id w t.content id ≡ Some x → id < t.content.next
+  pub files : (p : List ℕ) → begins (cluster_prefix w.job) p ≡ true → fin.get t.files p ≡ fin.get s.files p
+
+-- An object is put at a key, and nothing else changes.
+pub record Puts (w : Script) (s t : Scene) (key : List ℕ) (x : Object) : Type 0 where
+  pub there : HasBucket t.content w.dest.bucket
+  pub least : t.content.minimum ≡ s.content.minimum
+  pub next : t.content.next ≡ s.content.next
+  pub here : at_key w t.content key ≡ Some x
+  pub others : (k : List ℕ) → (k ≡ key → ⊥) → at_key w t.content k ≡ at_key w s.content k
+  pub uploads : (id : ℕ) → at_id w t.content id ≡ at_id w s.content id
+  pub files : t.files ≡ s.files
+
+-- What stands at the id of an upload changes, and nothing else.
+pub record Turns (w : Script) (s t : Scene) (id : ℕ) (x : Option Upload) : Type 0 where
+  pub there : HasBucket t.content w.dest.bucket
+  pub least : t.content.minimum ≡ s.content.minimum
+  pub next : t.content.next ≡ s.content.next
+  pub here : at_id w t.content id ≡ x
+  pub others : (u : ℕ) → (u ≡ id → ⊥) → at_id w t.content u ≡ at_id w s.content u
+  pub objects : (k : List ℕ) → at_key w t.content k ≡ at_key w s.content k
+  pub files : t.files ≡ s.files
+
+-- An upload is begun for a key under the next id, and nothing else changes.
+pub record Draws (w : Script) (s t : Scene) (key : List ℕ) : Type 0 where
+  pub there : HasBucket t.content w.dest.bucket
+  pub least : t.content.minimum ≡ s.content.minimum
+  pub next : t.content.next ≡ s.content.next + 1
+  pub here : at_id w t.content s.content.next ≡ Some (record { key = key; parts = fin.empty })
+  pub others : (u : ℕ) → (u ≡ s.content.next → ⊥) → at_id w t.content u ≡ at_id w s.content u
+  pub objects : (k : List ℕ) → at_key w t.content k ≡ at_key w s.content k
+  pub files : t.files ≡ s.files
+
+-- what a part that is sent leaves at an upload's id
+abbrev pub part_left : List ℕ → ℕ → List ℕ → Option Upload → Option Upload
+part_left key number bytes None = None
+part_left key number bytes (Some u) = cond (text_eq u.key key && is_part_number number) (Some (with_part u number bytes)) (Some u)
+
+-- what an end leaves there
+abbrev pub end_left : List ℕ → Option Upload → Option Upload
+end_left key None = None
+end_left key (Some u) = cond (text_eq u.key key) None (Some u)
