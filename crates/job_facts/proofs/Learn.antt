@@ -206,7 +206,7 @@ part_upload id tag size d = by (nat_eq d.upload id)
     by true = refl
     by false = refl
 
-part_key : (id : ℕ) (tag : Spelled) (size : ℕ) (d : Drawn) → (with_part id tag size d).key ≡ d.key
+pub part_key : (id : ℕ) (tag : Spelled) (size : ℕ) (d : Drawn) → (with_part id tag size d).key ≡ d.key
 part_key id tag size d = by (nat_eq d.upload id)
   where
     by : (b : Bool) → (cond b (record { key = d.key; upload = d.upload; tags = d.tags ++ tag ∷ []; sizes = d.sizes ++ size ∷ [] }) d).key ≡ d.key
@@ -235,7 +235,7 @@ take_next (suc n) (x ∷ xs) b e = ap (λ l. x ∷ l) (take_next n xs b e)
 next_of : {Y : Type 0} (g : List ℕ → Y) (ys : List Y) (y : Y) (xs : List (List ℕ)) (b : List ℕ) (n : ℕ) → n ≡ length ys → ys ≡ map g (take n xs) → slice_get xs n ≡ Some b → y ≡ g b → ys ++ y ∷ [] ≡ map g (take (suc n) xs)
 next_of g ys y xs b n long e at is = ap (λ l. l ++ y ∷ []) e ∙ ap (λ v. map g (take n xs) ++ v ∷ []) is ∙ sym (ap (map g) (take_next n xs b at) ∙ map_append g (take n xs) b)
 
-longer : (tags : List Spelled) (tag : Spelled) → length (tags ++ tag ∷ []) ≡ suc (length tags)
+pub longer : (tags : List Spelled) (tag : Spelled) → length (tags ++ tag ∷ []) ≡ suc (length tags)
 longer tags tag = length-append tags (tag ∷ []) ∙ omega arith
 
 pub learn_part_keep : {w : Script} {minimum : ℕ} {s : Scene} {last : ℕ → Option ℕ} {m : Told} → IsLegal w → (a : Who) (x : Drawn) (f : File) (bytes : List ℕ) (tag : Spelled)

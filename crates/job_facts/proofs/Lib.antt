@@ -12,3 +12,7 @@ pub mod Publishes
 pub mod Undone
 pub mod Cut
 pub mod Ordered
+pub mod Uploads
+pub mod Going
+pub mod Writing
+pub mod Committing

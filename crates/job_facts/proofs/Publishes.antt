@@ -41,7 +41,7 @@ module _ (w : Script) (minimum : ℕ) (k : Option ℕ) (s : Seen) (m : Told) (a 
   sent_here : has_sent.publish_sent a ≡ true
   sent_here = who_here m.publish_sent a true a refl
 
-  is_set_here : is_set_key w a.task w.dest.bucket (layout.set_key w.dest.key w.job a.task) ≡ true
+  pub is_set_here : is_set_key w a.task w.dest.bucket (layout.set_key w.dest.key w.job a.task) ≡ true
   is_set_here = rw (text_true w.dest.bucket w.dest.bucket refl, text_true (layout.set_key w.dest.key w.job a.task) (layout.set_key w.dest.key w.job a.task) refl) refl
 
   -- the last publishers, where this request publishes the attempt

@@ -193,7 +193,7 @@ part_keeps w minimum k s m a n o j g x bytes mine unsent unput known_one key blo
 -- ---- puts of a marker and of a record
 
 -- the key of another place of the job is not that of a task's set
-not_set : {w : Script} → IsLegal w → is_magic w.committer ≡ true → (t : ℕ) (p : Place) → IsOwnPlace w p → t < w.tasks → (p ≡ SetPlace t → ⊥) → is_set_key w t w.dest.bucket (key_at w.dest.key w.job p) ≡ false
+pub not_set : {w : Script} → IsLegal w → is_magic w.committer ≡ true → (t : ℕ) (p : Place) → IsOwnPlace w p → t < w.tasks → (p ≡ SetPlace t → ⊥) → is_set_key w t w.dest.bucket (key_at w.dest.key w.job p) ≡ false
 not_set {w = w} j magic t p own small ne =
     ap (λ b. text_eq w.dest.bucket w.dest.bucket && b) (text_false _ _ (λ e. ne (one_place j p (SetPlace t) (own_place j magic p own) (small_task j t small) e))) ∙ and_false _
   where
