@@ -31,7 +31,7 @@ use Rattle.request_frame.proofs.Flat.{page_rises, joins}
 use Rattle.job_facts.specs.Told.{Told, known, undoes, entry, tell, tell_attempt}
 use Rattle.job_facts.specs.Facts.{IsAttempt, AreCommits, Facts, Hold}
 use Rattle.job_facts.specs.Fits.{Todo, Begun, AllWritten, IsOpen, FitsUpload, FitsCommit}
-use Rattle.job_facts.proofs.Attempts.{or_true}
+use Rattle.job_facts.proofs.Whose.{or_true}
 use Rattle.job_facts.proofs.Legal.{files_apart}
 use Rattle.job_facts.proofs.Ordered.{order_each, order_all, order_apart, none_missing}
 use Rattle.job_facts.proofs.Shapes.{answer_is}

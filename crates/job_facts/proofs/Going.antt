@@ -10,7 +10,7 @@ use Rattle.job_model.specs.Attempts.{Who}
 use Rattle.job_model.specs.JobScript.{Script}
 use Rattle.job_operations.specs.Knowledge.{Known, learn}
 use Rattle.job_facts.specs.Told.{Told, known, undoes, tell_attempt}
-use Rattle.job_facts.proofs.Attempts.{who_here}
+use Rattle.job_facts.proofs.Whose.{who_here}
 
 module _ (w : Script) (m : Told) (a : Who) (r : Request) (o : Outcome) where
   pub known_now : known (tell_attempt w m a r o) a ≡ learn w a (known m a) r o

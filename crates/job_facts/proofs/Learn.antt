@@ -17,7 +17,7 @@ use Rattle.request_frame.proofs.Members.{some_is, none_some, false_true, same_or
 use Rattle.job_facts.specs.Told.{Told, put_who}
 use Rattle.job_facts.specs.Stores.{at_id, IsKnown}
 use Rattle.job_facts.specs.Facts.{IsHeld, IsOwned, IsWritten, AreCommits, IsSet, IsTemporary, Facts, knowing}
-use Rattle.job_facts.proofs.Attempts.{same_or_another, who_here, who_other}
+use Rattle.job_facts.proofs.Whose.{same_or_another, who_here, who_other}
 use Rattle.job_facts.proofs.Placed.{key_file}
 
 -- ---- what an attempt has sent

@@ -1,4 +1,4 @@
-pub mod Attempts
+pub mod Whose
 pub mod Unique
 pub mod Legal
 pub mod Placed
@@ -16,3 +16,5 @@ pub mod Uploads
 pub mod Going
 pub mod Writing
 pub mod Committing
+pub mod Aborting
+pub mod Acting

@@ -22,7 +22,7 @@ use Rattle.job_promise.specs.Seen.{is_magic, is_staging}
 use Rattle.request_frame.specs.Members.{IsIn}
 use Rattle.job_facts.specs.Facts.{IsAttempt, IsOwnPlace}
 use Rattle.job_facts.specs.Stores.{at_place, at_path, set_at}
-use Rattle.job_facts.proofs.Attempts.{attempt}
+use Rattle.job_facts.proofs.Whose.{attempt}
 use Rattle.job_facts.proofs.Legal.{some_dest, is_attempt, no_record, same_file, small_task, small_attempt}
 
 -- ---- the committers

@@ -25,7 +25,7 @@ use Rattle.request_frame.proofs.Members.{text_true, nat_true, nat_false}
 use Rattle.job_facts.specs.Told.{Told, known, put_who, entry, tell, tell_attempt}
 use Rattle.job_facts.specs.Stores.{at_path}
 use Rattle.job_facts.specs.Facts.{IsAttempt, AreCommits, IsSet, IsTemporary, Facts, Hold}
-use Rattle.job_facts.proofs.Attempts.{who_here, who_same, or_false, or_true}
+use Rattle.job_facts.proofs.Whose.{who_here, who_same, or_false, or_true}
 use Rattle.job_facts.proofs.Shapes.{puts}
 use Rattle.job_facts.proofs.Keep.{put_keep}
 use Rattle.job_facts.proofs.Learn.{sends_publish, sends_put}

@@ -35,7 +35,7 @@ use Rattle.request_frame.proofs.Members.{some_is, none_some, false_true, text_tr
 use Rattle.job_facts.specs.Told.{Told, known, put_who, undoes, entry, tell, tell_attempt}
 use Rattle.job_facts.specs.Stores.{at_id, at_path, IsKnown, Turns, part_left}
 use Rattle.job_facts.specs.Facts.{IsAttempt, IsWritten, IsRecord, AreCommits, IsSet, IsTemporary, IsOwnPlace, Facts, Hold, knowing}
-use Rattle.job_facts.proofs.Attempts.{attempt, who_here, who_same, or_false, or_true}
+use Rattle.job_facts.proofs.Whose.{attempt, who_here, who_same, or_false, or_true}
 use Rattle.job_facts.proofs.Legal.{is_attempt, same_file, small_task}
 use Rattle.job_facts.proofs.Placed.{not_both, own_place, one_place}
 use Rattle.job_facts.proofs.Shapes.{id_before, puts, draws, part_turns, abort_turns, answer_is}

@@ -14,7 +14,7 @@ use Rattle.request_frame.proofs.Members.{some_is, none_some, same_or_not, same_o
 use Rattle.job_facts.specs.Told.{Told}
 use Rattle.job_facts.specs.Stores.{at_path, sets_at}
 use Rattle.job_facts.specs.Facts.{IsAttempt, IsSet, IsTemporary, Facts}
-use Rattle.job_facts.proofs.Attempts.{attempt}
+use Rattle.job_facts.proofs.Whose.{attempt}
 use Rattle.job_facts.proofs.Keep.{Drops, drops_keep}
 use Rattle.job_facts.proofs.Placed.{not_both, temporary_place, staged_place, one_path, staged_set, set_same}
 

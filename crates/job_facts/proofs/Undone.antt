@@ -29,7 +29,7 @@ use Rattle.request_frame.proofs.Framed.{with_bucket, frame}
 use Rattle.job_facts.specs.Told.{Told, known, put_who, undoes, entry, tell, tell_attempt}
 use Rattle.job_facts.specs.Stores.{at_key, at_path, sets_at}
 use Rattle.job_facts.specs.Facts.{IsAttempt, Facts, Hold}
-use Rattle.job_facts.proofs.Attempts.{who_here, who_same, or_true}
+use Rattle.job_facts.proofs.Whose.{who_here, who_same, or_true}
 use Rattle.job_facts.proofs.Shapes.{key_before, key_after, id_before, id_after, bucket_after, abort_turns, with_store}
 use Rattle.job_facts.proofs.Keep.{Drops, drops_keep, abort_keep}
 use Rattle.job_facts.proofs.Learn.{sends_undo}

@@ -28,7 +28,7 @@ use Rattle.request_frame.proofs.Members.{some_is}
 use Rattle.job_facts.specs.Told.{Told, known, undoes, entry, tell, tell_attempt}
 use Rattle.job_facts.specs.Facts.{IsAttempt, IsOwnPlace, Hold}
 use Rattle.job_facts.specs.Fits.{Todo, Begun, AllWritten, IsOpen, FitsUpload, Wrote, FitsWrite}
-use Rattle.job_facts.proofs.Attempts.{or_false}
+use Rattle.job_facts.proofs.Whose.{or_false}
 use Rattle.job_facts.proofs.Sent.{not_set, marker_keeps, record_keeps}
 use Rattle.job_facts.proofs.Uploads.{FitsUploaded, begun_written, next_todo, todo_none, upload_keeps, upload_goes, upload_flags}
 use Rattle.job_facts.proofs.Going.{known_now, step_so, unlearnt}

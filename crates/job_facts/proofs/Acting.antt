@@ -1,0 +1,77 @@
+-- Every operation of an attempt keeps the facts with each of its requests, and goes on as it should; and it names only what is its own.
+use Rattle.std.proofs.Common.{◌≡◌, ℕ, inl, inr, ◌||◌, Bool, true, false, List, [], ◌∷◌, take, Option, Some, None, refl, sym, ap, subst, ◌∙◌}
+use Rattle.s3_types.specs.Answer.{answer}
+use Rattle.s3_types.specs.Moment.{IsHonestOutcome}
+use Rattle.s3_types.specs.declared.request.Request.{Request}
+use Rattle.s3_types.specs.declared.journal.Outcome.{Outcome}
+use Rattle.sendings.specs.Retries.{step}
+use Rattle.job_operations.specs.TaskAborts.{task_abort_after}
+use Rattle.job_model.specs.Attempts.{Who}
+use Rattle.job_model.specs.Legal.{IsLegal}
+use Rattle.job_model.specs.JobScript.{Script}
+use Rattle.job_operations.specs.Knowledge.{Known}
+use Rattle.job_operations.specs.Uploading.{Uploading, Creating, Sending, upload_asks}
+use Rattle.job_model.specs.Files.{File}
+use Rattle.job_operations.specs.Writes.{Write, Marking, Recording, WriteOver, write_asks, write_after}
+use Rattle.job_operations.specs.Writes as writes
+use Rattle.job_operations.specs.TaskCommits.{TaskCommit, Looking, Reading, Publishing, Checking, Storing, Renaming, TaskCommitOver, task_commit_asks, task_commit_after}
+use Rattle.job_operations.specs.TaskCommits as commits
+use Rattle.job_operations.specs.Operations.{Setting, Operation, TheSetup, TheWrite, TheTaskCommit, TheTaskAbort, TheCommit, TheClean, asks, tells}
+use Rattle.job_promise.specs.Seen.{Seen}
+use Rattle.request_frame.proofs.Members.{some_is}
+use Rattle.job_facts.specs.Told.{Told, known, undoes, tell_attempt}
+use Rattle.job_facts.specs.Facts.{IsAttempt, Hold}
+use Rattle.job_facts.specs.Fits.{Fits, FitsWrite, FitsCommit, FitsAbort}
+use Rattle.job_facts.specs.Laws.{Goes}
+use Rattle.job_facts.proofs.Whose.{or_false}
+use Rattle.job_facts.proofs.Going.{known_now, undone_now}
+use Rattle.job_facts.proofs.Writing.{write_keeps, write_goes}
+use Rattle.job_facts.proofs.Committing.{commit_keeps, commit_goes}
+use Rattle.job_facts.proofs.Aborting.{abort_operation_keeps, abort_goes}
+
+-- ---- writes and commits take nothing away
+
+upload_adds : (w : Script) (k : Known) (f : File) (u : Uploading) → undoes (upload_asks w k f u) ≡ false
+upload_adds w k f Creating = refl
+upload_adds w k f (Sending p ps) = refl
+
+write_adds : (w : Script) (a : Who) (k : Known) (t : Write) (r : Request) → write_asks w a k t ≡ Some r → undoes r ≡ false
+write_adds w a k (writes.Uploads f fs u) r e = ap undoes (sym (some_is e)) ∙ upload_adds w k f u
+write_adds w a k (Marking f fs) r e = ap undoes (sym (some_is e))
+write_adds w a k (Recording f fs) r e = ap undoes (sym (some_is e))
+write_adds w a k (WriteOver end) r e = absurd cc
+
+commit_adds : (w : Script) (a : Who) (k : Known) (t : TaskCommit) (r : Request) → task_commit_asks w a k t ≡ Some r → undoes r ≡ false
+commit_adds w a k (Looking keys) r e = ap undoes (sym (some_is e))
+commit_adds w a k (Reading cs f fs) r e = ap undoes (sym (some_is e))
+commit_adds w a k (Publishing cs) r e = ap undoes (sym (some_is e))
+commit_adds w a k (Checking p ps) r e = ap undoes (sym (some_is e))
+commit_adds w a k (commits.Uploads f fs u) r e = ap undoes (sym (some_is e)) ∙ upload_adds w k f u
+commit_adds w a k Storing r e = ap undoes (sym (some_is e))
+commit_adds w a k Renaming r e = ap undoes (sym (some_is e))
+commit_adds w a k (TaskCommitOver end) r e = absurd cc
+
+-- ---- all operations
+
+module _ (g : Setting) (j : IsLegal g.script) (k : Option ℕ) (s : Seen) (m : Told) (a : Who) (n : ℕ) (d : IsAttempt g.script a) (h : Hold g.script g.minimum s m) where
+  clean_now : (r : Request) (o : Outcome) → m.undone a ≡ false → undoes r ≡ false → (tell_attempt g.script m a r o).undone a ≡ false
+  clean_now r o clean adds = undone_now g.script m a r o ∙ ap (λ b. m.undone a || b) adds ∙ or_false (m.undone a) ∙ clean
+
+  pub operation_goes : (op : Operation) → Fits g.script g.minimum a m op → (r : Request) → asks g a (known m a) op ≡ Some r → (o : Outcome) → IsHonestOutcome o (answer s.scene r) → Goes g k s m a n r o (tells g a op o)
+  operation_goes (TheSetup t) fits r e o honest = absurd fits
+  operation_goes (TheWrite t) fits r e o honest = record {
+    hold = write_keeps g.script g.minimum k s m a n j d h t.operation fits.1 r e o honest;
+    fits = (clean_now r o fits.0 (write_adds g.script a (known m a) t.operation r e),
+        subst (λ x. FitsWrite g.script g.minimum a x (step g.script.retries (write_after g.script g.minimum) t o).operation) (sym (known_now g.script m a r o)) (write_goes g.script g.minimum k s m a n j d h g.script.retries t.spare t.repeated t.operation fits.1 r e o honest));
+  }
+  operation_goes (TheTaskCommit t) fits r e o honest = record {
+    hold = commit_keeps g.script g.minimum k s m a n j d fits.0 h t.operation fits.1 r e o honest;
+    fits = (clean_now r o fits.0 (commit_adds g.script a (known m a) t.operation r e),
+        subst (λ x. FitsCommit g.script g.minimum a x (step g.script.retries (task_commit_after g.script g.minimum a) t o).operation) (sym (known_now g.script m a r o)) (commit_goes g.script g.minimum k s m a n j d fits.0 h g.script.retries t.spare t.repeated t.operation fits.1 r e o honest));
+  }
+  operation_goes (TheTaskAbort t) fits r e o honest = record {
+    hold = abort_operation_keeps g.script g.minimum k s m a n j d h t.operation fits r e o honest;
+    fits = subst (λ x. FitsAbort g.script a x (step g.script.retries (task_abort_after g.script) t o).operation) (sym (known_now g.script m a r o)) (abort_goes g.script g.minimum k s m a n j d h g.script.retries t.spare t.repeated t.operation fits r e o honest);
+  }
+  operation_goes (TheCommit c) fits r e o honest = absurd fits
+  operation_goes (TheClean t) fits r e o honest = absurd fits
