@@ -28,12 +28,15 @@ held_same : {w : Script} {minimum : ℕ} {more uploads : ℕ → Option Upload} 
 held_same same h = record { parts = h.parts; stands = same ∙ h.stands; blocks = h.blocks; back = h.back }
 
 -- an upload is owned as it was, where what is live of it is
+owned_so : {w : Script} {minimum : ℕ} {uploads more : ℕ → Option Upload} (m : Told) {a : Who} {d : Drawn} → (m.ended d.upload ≡ false → more d.upload ≡ uploads d.upload) → IsOwned w minimum uploads m.ended m.undone a d → IsOwned w minimum more m.ended m.undone a d
+owned_so m same o = record { file = o.file; mine = o.mine; key = o.key; few = o.few; tags = o.tags; sizes = o.sizes; held = λ e u. held_same (same e) (o.held e u) }
+
 owned_same : {w : Script} {minimum : ℕ} {uploads more : ℕ → Option Upload} (m : Told) {a : Who} {d : Drawn} → more d.upload ≡ uploads d.upload → IsOwned w minimum uploads m.ended m.undone a d → IsOwned w minimum more m.ended m.undone a d
-owned_same m same o = record { file = o.file; mine = o.mine; key = o.key; few = o.few; tags = o.tags; sizes = o.sizes; held = λ e u. held_same same (o.held e u) }
+owned_same m same o = owned_so m (λ e. same) o
 
 -- ---- the scene leaves the job alone
 
-pub leaves_keep : {w : Script} {minimum : ℕ} {s u : Scene} {last : ℕ → Option ℕ} {m : Told} → IsLegal w → Leaves w m.drawn s u → Facts w minimum s last m → Facts w minimum u last m
+pub leaves_keep : {w : Script} {minimum : ℕ} {s u : Scene} {last : ℕ → Option ℕ} {m : Told} → IsLegal w → Leaves w m.drawn m.ended s u → Facts w minimum s last m → Facts w minimum u last m
 leaves_keep {w = w} {s = s} {u = u} {m = m} j l f =
     let later : s.content.next ≤ u.content.next = l.later in
     let set : (t : ℕ) → t < w.tasks → sets_at w u t ≡ sets_at w s t = λ t h. set_same w.committer w s u t (l.objects _ (set_magic j t h)) (l.files _ (path_below w (StagedSetPlace t))) in
@@ -46,7 +49,7 @@ leaves_keep {w = w} {s = s} {u = u} {m = m} j l f =
         apart = f.ids.apart;
         once = f.ids.once;
       };
-      owned = λ a x i. owned_same m (l.uploads x.upload (a, x, i, refl)) (f.owned a x i);
+      owned = λ a x i. owned_so m (l.uploads x.upload (a, x, i, refl)) (f.owned a x i);
       below = λ g k x h e. f.below g k x h (sym (l.objects k h) ∙ e);
       records = λ g a h x i e. f.records g a h x i (sym (l.objects _ (record_magic j g a h i)) ∙ e);
       sets = λ t b h e. f.sets t b h (sym (set t h) ∙ e);

@@ -18,3 +18,4 @@ pub mod Writing
 pub mod Committing
 pub mod Aborting
 pub mod Acting
+pub mod Driving

@@ -9,6 +9,7 @@ use Rattle.magic_paths.specs.Layout.{magic_prefix, cluster_prefix}
 use Rattle.job_model.specs.Attempts.{Who}
 use Rattle.job_model.specs.JobScript.{Script}
 use Rattle.job_operations.specs.Knowledge.{Drawn}
+use Rattle.job_facts.specs.Told.{ends}
 use Rattle.job_facts.specs.Stores.{IsKnown}
 
 -- it changes no key below the job's magic directory, no upload that an attempt knows, and no path below the job's directory in the cluster
@@ -16,3 +17,16 @@ pub record IsForeign (w : Script) (drawn : Who → List Drawn) (r : Request) : T
   pub keys : bucket_of r ≡ w.dest.bucket → (k : List ℕ) → IsIn k (changed_keys r) → begins (magic_prefix w.dest.key w.job) k ≡ false
   pub uploads : bucket_of r ≡ w.dest.bucket → (id : ℕ) → changed_upload r ≡ Some id → IsKnown drawn id → ⊥
   pub paths : (p : List ℕ) → IsIn p (changed_paths r) → begins (cluster_prefix w.job) p ≡ false
+
+-- a request that the driver may send once the set-up is done and until it cleans up: it changes no key below the job's magic directory and no path below the job's directory in the cluster, and an upload only by ending it
+pub record IsDriving (w : Script) (r : Request) : Type 0 where
+  pub keys : bucket_of r ≡ w.dest.bucket → (k : List ℕ) → IsIn k (changed_keys r) → begins (magic_prefix w.dest.key w.job) k ≡ false
+  pub uploads : (id : ℕ) → changed_upload r ≡ Some id → ends r id ≡ true
+  pub paths : (p : List ℕ) → IsIn p (changed_paths r) → begins (cluster_prefix w.job) p ≡ false
+
+-- a request of an attempt that knows these uploads: it changes keys and paths of the job's own directories alone, and an upload only where the attempt knows it
+pub record IsOwn (w : Script) (ds : List Drawn) (r : Request) : Type 0 where
+  pub bucket : (k : List ℕ) → IsIn k (changed_keys r) → bucket_of r ≡ w.dest.bucket
+  pub keys : (k : List ℕ) → IsIn k (changed_keys r) → begins (magic_prefix w.dest.key w.job) k ≡ true
+  pub uploads : (id : ℕ) → changed_upload r ≡ Some id → (d : Drawn) × IsIn d ds × (d.upload ≡ id)
+  pub paths : (p : List ℕ) → IsIn p (changed_paths r) → begins (cluster_prefix w.job) p ≡ true

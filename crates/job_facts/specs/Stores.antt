@@ -1,5 +1,5 @@
 -- What a store and the cluster have at the places of a job, and how a request may change it.
-use Rattle.std.specs.Prelude.{◌≡◌, ℕ, ◌+◌, ◌≤◌, ◌<◌, ◌&&◌, true, cond, List, Option, Some, None}
+use Rattle.std.specs.Prelude.{◌≡◌, ℕ, ◌+◌, ◌≤◌, ◌<◌, ◌&&◌, Bool, true, false, cond, List, Option, Some, None}
 use Rattle.std.specs.FinMap as fin
 use Rattle.std.specs.Option.{option_map}
 use Rattle.proof_base.specs.Order.{text_eq}
@@ -49,13 +49,13 @@ IsKnown drawn id = (a : Who) × (d : Drawn) × IsIn d (drawn a) × (d.upload ≡
 
 -- ---- how a scene may change
 
--- Nothing changes below the job's magic directory, below its directory in the cluster, nor at an upload that an attempt knows.
-pub record Leaves (w : Script) (drawn : Who → List Drawn) (s t : Scene) : Type 0 where
+-- Nothing changes below the job's magic directory, below its directory in the cluster, nor at an upload that an attempt knows and the driver has not ended.
+pub record Leaves (w : Script) (drawn : Who → List Drawn) (ended : ℕ → Bool) (s t : Scene) : Type 0 where
   pub there : HasBucket t.content w.dest.bucket
   pub least : t.content.minimum ≡ s.content.minimum
   pub later : s.content.next ≤ t.content.next
   pub objects : (k : List ℕ) → begins (magic_prefix w.dest.key w.job) k ≡ true → at_key w t.content k ≡ at_key w s.content k
-  pub uploads : (id : ℕ) → IsKnown drawn id → at_id w t.content id ≡ at_id w s.content id
+  pub uploads : (id : ℕ) → IsKnown drawn id → ended id ≡ false → at_id w t.content id ≡ at_id w s.content id
   pub fresh : (id : ℕ) (x : Upload) → at_id w t.content id ≡ Some x → id < t.content.next
   pub files : (p : List ℕ) → begins (cluster_prefix w.job) p ≡ true → fin.get t.files p ≡ fin.get s.files p
 
