@@ -35,7 +35,7 @@ use Rattle.job_facts.proofs.Sent.{read_keeps}
 use Rattle.job_facts.proofs.Undone.{abort_keeps, delete_keeps, remove_keeps}
 use Rattle.job_facts.proofs.Going.{step_so}
 
-taken_in : (n : ℕ) (ks : List (List ℕ)) (k : List ℕ) → IsIn k (take n ks) → IsIn k ks
+pub taken_in : (n : ℕ) (ks : List (List ℕ)) (k : List ℕ) → IsIn k (take n ks) → IsIn k ks
 taken_in zero ks k i = absurd i
 taken_in (suc n) [] k i = absurd i
 taken_in (suc n) (q ∷ ks) k (inl e) = inl e

@@ -35,13 +35,13 @@ upload_adds : (w : Script) (k : Known) (f : File) (u : Uploading) → undoes (up
 upload_adds w k f Creating = refl
 upload_adds w k f (Sending p ps) = refl
 
-write_adds : (w : Script) (a : Who) (k : Known) (t : Write) (r : Request) → write_asks w a k t ≡ Some r → undoes r ≡ false
+pub write_adds : (w : Script) (a : Who) (k : Known) (t : Write) (r : Request) → write_asks w a k t ≡ Some r → undoes r ≡ false
 write_adds w a k (writes.Uploads f fs u) r e = ap undoes (sym (some_is e)) ∙ upload_adds w k f u
 write_adds w a k (Marking f fs) r e = ap undoes (sym (some_is e))
 write_adds w a k (Recording f fs) r e = ap undoes (sym (some_is e))
 write_adds w a k (WriteOver end) r e = absurd cc
 
-commit_adds : (w : Script) (a : Who) (k : Known) (t : TaskCommit) (r : Request) → task_commit_asks w a k t ≡ Some r → undoes r ≡ false
+pub commit_adds : (w : Script) (a : Who) (k : Known) (t : TaskCommit) (r : Request) → task_commit_asks w a k t ≡ Some r → undoes r ≡ false
 commit_adds w a k (Looking keys) r e = ap undoes (sym (some_is e))
 commit_adds w a k (Reading cs f fs) r e = ap undoes (sym (some_is e))
 commit_adds w a k (Publishing cs) r e = ap undoes (sym (some_is e))

@@ -19,3 +19,5 @@ pub mod Committing
 pub mod Aborting
 pub mod Acting
 pub mod Driving
+pub mod Shows
+pub mod Owning

@@ -1,0 +1,65 @@
+-- What is changed below the magic directory alone, no reader of the destination sees.
+use Rattle.std.proofs.Common.{◌≡◌, ℕ, inl, inr, not, ◌&&◌, nat_eq, Bool, true, false, cond, List, [], ◌∷◌, ◌++◌, Option, Some, None, refl, sym, ap, ◌∙◌, codes}
+use Rattle.std.specs.Prelude.{bytes_eq}
+use Rattle.std.specs.Option.{option_map}
+use Rattle.std.proofs.lemmas.Bool.{and_parts, not-true, false≢true}
+use Rattle.s3_types.specs.Store.{Content, Scene}
+use Rattle.s3_types.specs.Pages.{begins}
+use Rattle.s3_types.specs.Answer.{apply, bucket_of}
+use Rattle.s3_types.specs.Moment.{effect}
+use Rattle.s3_types.specs.declared.object.Object.{Object}
+use Rattle.s3_types.specs.declared.request.Request.{Request}
+use Rattle.s3_types.specs.declared.journal.Outcome.{Outcome}
+use Rattle.s3_types.specs.declared.journal.Outcome.TheVariants.{Answered, Slow, RequestLost, ReplyLost}
+use Rattle.path_keys.specs.Paths.{below}
+use Rattle.magic_paths.specs.Layout.{magic_prefix}
+use Rattle.magic_paths.proofs.Tails.{begins_behind, below_is}
+use Rattle.job_model.specs.Legal.{IsLegal}
+use Rattle.job_model.specs.JobScript.{Script}
+use Rattle.job_operations.specs.View.{view, is_folder, is_file_path}
+use Rattle.job_promise.specs.Headline.{Same}
+use Rattle.request_frame.specs.Members.{IsIn}
+use Rattle.request_frame.specs.Held.{HasBucket}
+use Rattle.request_frame.specs.Frame.{changed_keys}
+use Rattle.request_frame.proofs.Members.{false_true, true_or_false}
+use Rattle.request_frame.proofs.Framed.{frame}
+use Rattle.job_facts.specs.Stores.{at_key}
+use Rattle.job_facts.proofs.Legal.{some_dest}
+
+pub begins_front : (a b q : List ℕ) → begins (a ++ b) q ≡ true → begins a q ≡ true
+begins_front [] b q h = refl
+begins_front (x ∷ a) b [] h = absurd (false≢true h)
+begins_front (x ∷ a) b (y ∷ q) h = let p = and_parts (nat_eq x y) (begins (a ++ b) q) h in rw (p.0, begins_front a b q p.1) refl
+
+-- a file's path is not below the magic directory
+shown_key : {w : Script} → IsLegal w → (p : List ℕ) → is_file_path p ≡ true → begins (magic_prefix w.dest.key w.job) (below w.dest.key p) ≡ false
+shown_key {w = w} j p h = elim (true_or_false (begins (magic_prefix w.dest.key w.job) (below w.dest.key p))) [
+  | inr no_so ↦ no_so
+  | inl yes_so ↦
+      let a = and_parts (not (is_folder p) && not (begins (codes "__magic/") p)) (not (bytes_eq p (codes "_SUCCESS"))) h in
+      let b = and_parts (not (is_folder p)) (not (begins (codes "__magic/") p)) a.0 in
+      let at : begins (codes "/__magic/job-" ++ (w.job ++ codes "/")) (47 ∷ p) ≡ true =
+      sym (begins_behind w.dest.key (codes "/__magic/job-" ++ (w.job ++ codes "/")) (47 ∷ p)) ∙ ap (begins (magic_prefix w.dest.key w.job)) (sym (below_is w.dest.key p (some_dest j))) ∙ yes_so in
+      let front : begins (codes "__magic/") p ≡ true = begins_front (codes "__magic/") (codes "job-" ++ (w.job ++ codes "/")) p at in
+      absurd (false_true (not-true (begins (codes "__magic/") p) b.1) front)
+]
+
+pub view_same : {w : Script} → IsLegal w → (c d : Content) → ((k : List ℕ) → begins (magic_prefix w.dest.key w.job) k ≡ false → at_key w d k ≡ at_key w c k) → Same (view w.dest d) (view w.dest c)
+view_same {w = w} j c d same p = by (is_file_path p) refl
+  where
+    by : (b : Bool) → is_file_path p ≡ b → cond b (option_map (λ (o : Object). o.bytes) (at_key w d (below w.dest.key p))) None ≡ cond b (option_map (λ (o : Object). o.bytes) (at_key w c (below w.dest.key p))) None
+    by true h = ap (λ x. option_map (λ (o : Object). o.bytes) x) (same (below w.dest.key p) (shown_key j p h))
+    by false h = refl
+
+-- a request that changes no key of the job's bucket but below the magic directory
+abbrev pub HidesAll : Script → Request → Type 0
+HidesAll w r = bucket_of r ≡ w.dest.bucket → (k : List ℕ) → IsIn k (changed_keys r) → begins (magic_prefix w.dest.key w.job) k ≡ true
+
+hides : {w : Script} → IsLegal w → (s : Scene) (r : Request) → HasBucket s.content w.dest.bucket → HidesAll w r → Same (view w.dest (apply s r).content) (view w.dest s.content)
+hides {w = w} j s r there h = view_same j s.content (apply s r).content (λ k n. (frame s w.dest.bucket r there).keys k (λ e i. false_true n (h e k i)))
+
+pub hidden_shows : {w : Script} → IsLegal w → (s : Scene) (r : Request) (o : Outcome) → HasBucket s.content w.dest.bucket → HidesAll w r → Same (view w.dest (effect s r o).content) (view w.dest s.content)
+hidden_shows j s r (Answered x) there h = hides j s r there h
+hidden_shows j s r Slow there h = λ p. refl
+hidden_shows j s r RequestLost there h = λ p. refl
+hidden_shows j s r ReplyLost there h = hides j s r there h
