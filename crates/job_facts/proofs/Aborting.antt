@@ -41,7 +41,7 @@ taken_in (suc n) [] k i = absurd i
 taken_in (suc n) (q ∷ ks) k (inl e) = inl e
 taken_in (suc n) (q ∷ ks) k (inr i) = inr (taken_in n ks k i)
 
-dropped_in : (n : ℕ) (ks : List (List ℕ)) (k : List ℕ) → IsIn k (drop n ks) → IsIn k ks
+pub dropped_in : (n : ℕ) (ks : List (List ℕ)) (k : List ℕ) → IsIn k (drop n ks) → IsIn k ks
 dropped_in zero ks k i = i
 dropped_in (suc n) [] k i = absurd i
 dropped_in (suc n) (q ∷ ks) k i = inr (dropped_in n ks k i)

@@ -21,3 +21,5 @@ pub mod Acting
 pub mod Driving
 pub mod Shows
 pub mod Owning
+pub mod Cleaning
+pub mod Starting

@@ -2,7 +2,13 @@
 //! two requests, in `specs/`: kept by every request of the job and by every stranger's.
 #![tactic(auto)]
 
-ghost use Rattle.job_facts.specs.Laws.{AttemptGoes, ForeignKeeps};
+ghost use Rattle.job_facts.specs.Laws.{AttemptGoes, AttemptNames, CleanGoes, DrivingKeeps, FactsBegin, ForeignKeeps, ReadsKeep};
+
+/// Where the facts begin, and requests that change nothing.
+pub fn beginning()
+    ensures begins { FactsBegin }
+    ensures reads { ReadsKeep }
+{}
 
 /// A stranger's request.
 pub fn strangers()
@@ -12,4 +18,11 @@ pub fn strangers()
 /// An attempt's operations.
 pub fn attempts()
     ensures goes { AttemptGoes }
+    ensures names { AttemptNames }
+{}
+
+/// The driver's requests once its set-up is done, and its abort or clean of the job.
+pub fn driver()
+    ensures keep { DrivingKeeps }
+    ensures clean { CleanGoes }
 {}

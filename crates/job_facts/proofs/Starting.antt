@@ -1,0 +1,70 @@
+-- The facts begin where the set-up is done; and what only reads keeps them, whoever sends it.
+use Rattle.std.proofs.Common.{◌≡◌, ℕ, ◌<◌, Bool, true, false, List, Option, Some, None, refl, sym, ap, ◌∙◌}
+use Rattle.std.proofs.lemmas.Bool.{false≢true}
+use Rattle.std.specs.Option.{option_map}
+use Rattle.s3_types.specs.Store.{Scene, Upload}
+use Rattle.s3_types.specs.Answer.{answer}
+use Rattle.s3_types.specs.Moment.{IsHonestOutcome}
+use Rattle.s3_types.specs.Requests.{only_reads}
+use Rattle.s3_types.specs.Pages.{begins}
+use Rattle.s3_types.specs.declared.request.Actor.{Actor}
+use Rattle.s3_types.specs.declared.request.Actor.TheVariants.{Driver, Attempt, Shell}
+use Rattle.s3_types.specs.declared.request.Committer.{Committer}
+use Rattle.s3_types.specs.declared.request.Committer.TheVariants.{Magic, Directory, Partitioned}
+use Rattle.s3_types.specs.declared.journal.Entry.{Entry}
+use Rattle.s3_types.specs.declared.journal.Outcome.{Outcome}
+use Rattle.s3_types.specs.declared.journal.Outcome.TheVariants.{Answered, Slow, RequestLost, ReplyLost}
+use Rattle.s3_types.specs.declared.object.Object.{Object}
+use Rattle.magic_paths.specs.Layout.{magic_prefix, cluster_prefix}
+use Rattle.magic_paths.specs.Places.{SetPlace, TemporaryPlace, StagedSetPlace, key_at, path_at}
+use Rattle.job_model.specs.Legal.{IsLegal}
+use Rattle.job_model.specs.JobScript.{Script}
+use Rattle.job_promise.specs.Seen.{Seen, see, is_magic, is_staging}
+use Rattle.request_frame.specs.Held.{HasBucket}
+use Rattle.request_frame.proofs.Members.{none_some}
+use Rattle.job_facts.specs.Told.{Told, tell, nothing_told}
+use Rattle.job_facts.specs.Stores.{at_key, at_id, at_path, at_place, set_at, sets_at}
+use Rattle.job_facts.specs.Facts.{Facts, Hold}
+use Rattle.job_facts.specs.Laws.{IsBare}
+use Rattle.job_facts.proofs.Whose.{attempt}
+use Rattle.job_facts.proofs.Placed.{record_magic, set_magic, path_below}
+use Rattle.job_facts.proofs.Sent.{read_keeps}
+use Rattle.job_facts.proofs.Foreign.{reads_effect}
+use Rattle.job_facts.proofs.Driving.{driving_keeps, reads_drive}
+
+-- where nothing of the job's own stands, no set does
+no_set : (c : Committer) (w : Script) (s : Scene) (t : ℕ) (b : List ℕ) → (is_magic c ≡ true → at_place w s.content (SetPlace t) ≡ None) → (is_staging c ≡ true → at_path w s (StagedSetPlace t) ≡ None) → set_at c w s t ≡ Some b → ⊥
+no_set Magic w s t b h g e = none_some (ap (λ o. option_map (λ (x : Object). x.bytes) o) (h refl)) e
+no_set Directory w s t b h g e = none_some (g refl) e
+no_set Partitioned w s t b h g e = none_some (g refl) e
+
+pub facts_begin : (w : Script) (minimum : ℕ) (s : Scene) (last : ℕ → Option ℕ) → IsLegal w → HasBucket s.content w.dest.bucket → s.content.minimum ≡ minimum → ((id : ℕ) (x : Upload) → at_id w s.content id ≡ Some x → id < s.content.next) → IsBare w s → ((t : ℕ) → last t ≡ None)
+    → Facts w minimum s last nothing_told
+facts_begin w minimum s last j there least fresh bare none = record {
+  there = there;
+  least = least;
+  ids = record { fresh = fresh; below = λ a d i. absurd i; apart = λ a b d e i k. absurd i; once = λ a d e i k. absurd i };
+  owned = λ a d i. absurd i;
+  below = λ g k x h e. absurd (none_some (bare.keys g k h) e);
+  records = λ g a f x i e. absurd (none_some (bare.keys g _ (record_magic j g a f i)) e);
+  sets = λ t b h e. absurd (no_set w.committer w s t b (λ g. bare.keys g _ (set_magic j t h)) (λ g. bare.paths g _ (path_below w (StagedSetPlace t))) e);
+  standing = λ c t a h e. absurd (none_some (none t) e);
+  temporaries = λ g a b d o e. absurd (none_some (bare.paths g _ (path_below w (TemporaryPlace a.task a.attempt))) e);
+  kept = λ a e. refl;
+}
+
+-- ---- what only reads
+
+pub idle_keeps : (w : Script) (minimum : ℕ) (k : Option ℕ) (s : Seen) (m : Told) (e : Entry) → IsLegal w → only_reads e.request ≡ true → IsHonestOutcome e.outcome (answer s.scene e.request) → Hold w minimum s m → Hold w minimum (see w k s e) (tell w m e)
+idle_keeps w minimum k s m e j reads honest f = by e.actor
+  where
+    by : (a : Actor) → let x : Entry = record { event = e.event; actor = a; request = e.request; outcome = e.outcome } in Hold w minimum (see w k s x) (tell w m x)
+    by Driver = driving_keeps w minimum k s m e.event e.request e.outcome j (reads_drive w e.request reads) f
+    by (Attempt t n) = read_keeps w minimum k s m (attempt t n) e.event e.request e.outcome reads honest f
+    by Shell = strange e.outcome
+      where
+        strange : (o : Outcome) → let x : Entry = record { event = e.event; actor = Shell; request = e.request; outcome = o } in Hold w minimum (see w k s x) (tell w m x)
+        strange (Answered y) = reads_effect s.scene e.request reads f
+        strange Slow = f
+        strange RequestLost = f
+        strange ReplyLost = reads_effect s.scene e.request reads f
