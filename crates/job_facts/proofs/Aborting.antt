@@ -19,7 +19,8 @@ use Rattle.job_model.specs.Legal.{IsLegal}
 use Rattle.job_model.specs.JobScript.{Script}
 use Rattle.job_model.specs.declared.ends.TaskEnd.{TaskEnd}
 use Rattle.job_model.specs.declared.ends.TaskEnd.TheVariants as tasks
-use Rattle.job_operations.specs.Knowledge.{Drawn, Known, learn, as_made}
+use Rattle.job_model.specs.Known.{Drawn, Known}
+use Rattle.job_operations.specs.Knowledge.{learn, as_made}
 use Rattle.job_operations.specs.Walks.{Sweep, Listing, Deleting, Walked, walked, walked_by, keys_on, last_of, page_after, deleting, swept, sweep_asks, sweep_hears, all_go}
 use Rattle.job_operations.specs.TaskCommits.{attempt_prefix, temporary_path}
 use Rattle.job_operations.specs.TaskAborts.{TaskAbort, Dropping, Sweeping, Removing, TaskAbortOver, task_abort_asks, task_abort_after, task_abort_hears, task_abort_start, task_abort_by, removing, dropped, dropping, sweeping}

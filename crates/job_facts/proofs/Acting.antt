@@ -9,7 +9,7 @@ use Rattle.job_operations.specs.TaskAborts.{task_abort_after}
 use Rattle.job_model.specs.Attempts.{Who}
 use Rattle.job_model.specs.Legal.{IsLegal}
 use Rattle.job_model.specs.JobScript.{Script}
-use Rattle.job_operations.specs.Knowledge.{Known}
+use Rattle.job_model.specs.Known.{Known}
 use Rattle.job_operations.specs.Uploading.{Uploading, Creating, Sending, upload_asks}
 use Rattle.job_model.specs.Files.{File}
 use Rattle.job_operations.specs.Writes.{Write, Marking, Recording, WriteOver, write_asks, write_after}

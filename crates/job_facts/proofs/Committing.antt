@@ -19,7 +19,8 @@ use Rattle.job_model.specs.Legal.{IsLegal}
 use Rattle.job_model.specs.JobScript.{Script}
 use Rattle.job_model.specs.declared.ends.TaskEnd.TheVariants as tasks
 use Rattle.job_operations.specs.Outputs.{files}
-use Rattle.job_operations.specs.Knowledge.{Drawn, Known, learn, is_set_key}
+use Rattle.job_model.specs.Known.{Drawn, Known}
+use Rattle.job_operations.specs.Knowledge.{learn, is_set_key}
 use Rattle.job_operations.specs.Records.{record_key, set_text}
 use Rattle.job_operations.specs.Walks.{Walked, More, Whole, walked, walked_by, keys_on, last_of, page_after}
 use Rattle.job_operations.specs.Uploading.{Uploading, Creating, Uploaded, GoesOn, AllSent, IsGone, upload_asks, upload_hears}

@@ -10,7 +10,7 @@ use Rattle.s3_types.specs.declared.journal.Outcome.TheVariants.{Answered, Slow, 
 use Rattle.job_model.specs.Attempts.{Who}
 use Rattle.job_model.specs.Legal.{IsLegal}
 use Rattle.job_model.specs.JobScript.{Script}
-use Rattle.job_operations.specs.Knowledge.{Drawn}
+use Rattle.job_model.specs.Known.{Drawn}
 use Rattle.job_promise.specs.Seen.{Seen, see}
 use Rattle.request_frame.proofs.Members.{false_true}
 use Rattle.request_frame.proofs.Framed.{frame}

@@ -11,7 +11,7 @@ use Rattle.job_model.specs.Attempts.{Who}
 use Rattle.job_model.specs.Legal.{IsLegal}
 use Rattle.job_model.specs.JobScript.{Script}
 use Rattle.job_operations.specs.Outputs.{files}
-use Rattle.job_operations.specs.Knowledge.{Drawn}
+use Rattle.job_model.specs.Known.{Drawn}
 use Rattle.job_operations.specs.Records.{file_key}
 use Rattle.job_operations.specs.Uploading.{file_parts}
 use Rattle.job_promise.specs.Seen.{is_magic}

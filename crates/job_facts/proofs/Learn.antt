@@ -9,7 +9,8 @@ use Rattle.job_model.specs.Attempts.{Who}
 use Rattle.job_model.specs.Legal.{IsLegal}
 use Rattle.job_model.specs.JobScript.{Script}
 use Rattle.job_operations.specs.Outputs.{files}
-use Rattle.job_operations.specs.Knowledge.{Drawn, with_part}
+use Rattle.job_model.specs.Known.{Drawn}
+use Rattle.job_operations.specs.Knowledge.{with_part}
 use Rattle.job_operations.specs.Records.{file_key, set_text}
 use Rattle.job_operations.specs.Uploading.{file_parts}
 use Rattle.request_frame.specs.Members.{IsIn}

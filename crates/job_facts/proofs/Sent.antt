@@ -24,7 +24,8 @@ use Rattle.job_model.specs.Attempts.{Who}
 use Rattle.job_model.specs.Legal.{IsLegal}
 use Rattle.job_model.specs.JobScript.{Script}
 use Rattle.job_operations.specs.Outputs.{files}
-use Rattle.job_operations.specs.Knowledge.{Drawn, Known, learn, learn_upload, learn_part, is_set_key, is_set_path}
+use Rattle.job_model.specs.Known.{Drawn, Known}
+use Rattle.job_operations.specs.Knowledge.{learn, learn_upload, learn_part, is_set_key, is_set_path}
 use Rattle.job_operations.specs.Knowledge as knowledge
 use Rattle.job_operations.specs.Records.{file_key, marker_key, record_key, record_text, set_text}
 use Rattle.job_operations.specs.Uploading.{file_parts}

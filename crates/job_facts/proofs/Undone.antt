@@ -19,7 +19,8 @@ use Rattle.magic_paths.proofs.Tails.{begins_behind}
 use Rattle.job_model.specs.Attempts.{Who}
 use Rattle.job_model.specs.Legal.{IsLegal}
 use Rattle.job_model.specs.JobScript.{Script}
-use Rattle.job_operations.specs.Knowledge.{Drawn, learn}
+use Rattle.job_model.specs.Known.{Drawn}
+use Rattle.job_operations.specs.Knowledge.{learn}
 use Rattle.job_operations.specs.TaskCommits.{attempt_prefix, temporary_path}
 use Rattle.job_promise.specs.Seen.{Seen, see, is_magic, is_staging, is_publishing, last_by}
 use Rattle.request_frame.specs.Members.{IsIn}

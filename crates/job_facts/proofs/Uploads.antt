@@ -19,7 +19,8 @@ use Rattle.job_model.specs.Attempts.{Who}
 use Rattle.job_model.specs.Legal.{IsLegal}
 use Rattle.job_model.specs.JobScript.{Script}
 use Rattle.job_operations.specs.Outputs.{files}
-use Rattle.job_operations.specs.Knowledge.{Drawn, Known, learn, with_part, drawn_last, first_drawn}
+use Rattle.job_model.specs.Known.{Drawn, Known}
+use Rattle.job_operations.specs.Knowledge.{learn, with_part, drawn_last, first_drawn}
 use Rattle.job_operations.specs.Records.{file_key}
 use Rattle.job_operations.specs.Uploading.{Uploading, Creating, Sending, Uploaded, GoesOn, AllSent, IsGone, upload_asks, upload_hears, file_parts, sending, created, sent_part}
 use Rattle.job_promise.specs.Seen.{Seen, see}

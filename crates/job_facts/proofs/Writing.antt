@@ -18,7 +18,8 @@ use Rattle.job_model.specs.Legal.{IsLegal}
 use Rattle.job_model.specs.JobScript.{Script}
 use Rattle.job_model.specs.declared.ends.TaskEnd.TheVariants as tasks
 use Rattle.job_operations.specs.Outputs.{files}
-use Rattle.job_operations.specs.Knowledge.{Drawn, Known, learn, is_set_key, first_drawn}
+use Rattle.job_model.specs.Known.{Drawn, Known}
+use Rattle.job_operations.specs.Knowledge.{learn, is_set_key, first_drawn}
 use Rattle.job_operations.specs.Records.{marker_key, record_key, record_text}
 use Rattle.job_operations.specs.Uploading.{Uploading, Creating, Sending, Uploaded, GoesOn, AllSent, IsGone, upload_asks, upload_hears}
 use Rattle.job_operations.specs.Writes.{Write, Uploads, Marking, Recording, WriteOver, writing, write_asks, write_after, write_hears, uploaded}

@@ -13,7 +13,7 @@ use Rattle.job_model.specs.Files.{File}
 use Rattle.job_model.specs.Attempts.{Who}
 use Rattle.job_model.specs.JobScript.{Script}
 use Rattle.job_operations.specs.Outputs.{files}
-use Rattle.job_operations.specs.Knowledge.{Drawn, Known}
+use Rattle.job_model.specs.Known.{Drawn, Known}
 use Rattle.job_operations.specs.Records.{file_key, record_text, set_text}
 use Rattle.job_operations.specs.Uploading.{file_parts}
 use Rattle.job_promise.specs.Seen.{Seen, is_magic, is_staging}

@@ -9,7 +9,7 @@ use Rattle.job_model.specs.Attempts.{Who}
 use Rattle.job_model.specs.JobScript.{Script}
 use Rattle.job_model.specs.declared.ends.TaskEnd.TheVariants as tasks
 use Rattle.job_operations.specs.Outputs.{files}
-use Rattle.job_operations.specs.Knowledge.{Drawn, Known}
+use Rattle.job_model.specs.Known.{Drawn, Known}
 use Rattle.job_operations.specs.Records.{file_key}
 use Rattle.job_operations.specs.Walks.{Sweep, Listing, Deleting}
 use Rattle.job_operations.specs.Uploading.{Uploading, Creating, Sending, file_parts}

@@ -8,7 +8,7 @@ use Rattle.request_frame.specs.Frame.{changed_keys, changed_upload, changed_path
 use Rattle.magic_paths.specs.Layout.{magic_prefix, cluster_prefix}
 use Rattle.job_model.specs.Attempts.{Who}
 use Rattle.job_model.specs.JobScript.{Script}
-use Rattle.job_operations.specs.Knowledge.{Drawn}
+use Rattle.job_model.specs.Known.{Drawn}
 use Rattle.job_facts.specs.Told.{ends}
 use Rattle.job_facts.specs.Stores.{IsKnown}
 

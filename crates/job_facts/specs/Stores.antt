@@ -16,7 +16,7 @@ use Rattle.magic_paths.specs.Places.{Place, SetPlace, ClusterPlace, StagedSetPla
 use Rattle.job_model.specs.Attempts.{Who}
 use Rattle.job_model.specs.JobScript.{Script}
 use Rattle.job_operations.specs.View.{object_at}
-use Rattle.job_operations.specs.Knowledge.{Drawn}
+use Rattle.job_model.specs.Known.{Drawn}
 use Rattle.job_promise.specs.Scope.{upload_at}
 
 -- what stands at a key of the job's bucket, and at a place

@@ -9,7 +9,8 @@ use Rattle.s3_types.specs.declared.journal.Outcome.{Outcome}
 use Rattle.s3_types.specs.declared.journal.Entry.{Entry}
 use Rattle.job_model.specs.Attempts.{Who, same_name, actor_of}
 use Rattle.job_model.specs.JobScript.{Script}
-use Rattle.job_operations.specs.Knowledge.{Drawn, Known, learn}
+use Rattle.job_model.specs.Known.{Drawn, Known}
+use Rattle.job_operations.specs.Knowledge.{learn}
 use Rattle.job_promise.specs.Ends.{lists_uploads}
 
 pub record Told : Type 0 where
