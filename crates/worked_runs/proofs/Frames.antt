@@ -1,29 +1,22 @@
 -- What each entry of a run over a store as lists may change, and what it was answered, as tests that compute.
-use Rattle.std.proofs.Common.{◌≡◌, ◌≤◌, ◌⊎◌, ℕ, zero, suc, ◌+◌, Bool, true, false, ◌&&◌, not, cond, List, [], ◌∷◌, ◌++◌, length, take, Option, Some, None, refl, sym, ap, subst, ◌∙◌, codes, inl, inr, arith, T}
+use Rattle.std.proofs.Common.{◌≡◌, ◌⊎◌, ℕ, zero, suc, ◌+◌, Bool, true, false, not, cond, List, [], ◌∷◌, ◌++◌, take, Option, Some, None, refl, sym, ap, subst, ◌∙◌, codes, inl, inr, arith}
 use Rattle.std.specs.List.{list_all, slice_get}
 use Rattle.std.specs.Option.{option_map}
 use Rattle.std.specs.Ordering.{eq_by_cmp, nat_cmp}
-use Rattle.std.specs.FinMap.{get}
 use Rattle.std.specs.FinMap.Entries.{where_key, find, find-where_key}
-use Rattle.std.proofs.lemmas.Bool.{and_parts, true≢false, false≢true}
+use Rattle.std.proofs.lemmas.Bool.{and_parts, true≢false}
 use Rattle.proof_base.specs.Order.{text_cmp, text_eq}
-use Rattle.s3_types.specs.Store.{Content, BucketContent, Scene}
-use Rattle.s3_types.specs.Answer.{answer}
-use Rattle.s3_types.specs.Moment.{effect, moment, is_effective, IsHonest, IsHonestOutcome, AreHonest}
+use Rattle.s3_types.specs.Moment.{moment, is_effective, IsHonest, IsHonestOutcome, AreHonest}
 use Rattle.s3_types.specs.Pages.{begins}
 use Rattle.s3_types.specs.declared.object.Object.{Object}
 use Rattle.s3_types.specs.declared.request.Actor.TheVariants.{Driver}
-use Rattle.s3_types.specs.declared.reply.Reply.{Reply}
-use Rattle.s3_types.specs.declared.journal.Outcome.{Outcome}
-use Rattle.s3_types.specs.declared.journal.Outcome.TheVariants.{Answered, Slow, RequestLost, ReplyLost}
 use Rattle.s3_types.specs.declared.journal.Entry.{Entry}
 use Rattle.job_model.specs.JobScript.{Script}
 use Rattle.job_operations.specs.View.{view, object_at}
 use Rattle.job_operations.specs.Setup.{dest_prefix}
 use Rattle.job_promise.specs.Headline.{Same}
 use Rattle.job_promise.specs.Scope.{SameOutside, SameOutsideUpload, upload_at, upload_in}
-use Rattle.job_promise.specs.Entries.{is_copy, sends_data, may_show, IsZeroRename, ZeroRename, OutsideStays, AreOwn}
-use Rattle.job_promise.specs.Turns.{is_own}
+use Rattle.job_promise.specs.Entries.{is_copy, sends_data, may_show, IsZeroRename, ZeroRename, OutsideStays}
 use Rattle.worked_runs.specs.Jobs.{lake}
 use Rattle.worked_runs.proofs.Books.{Book, Draft, upload_of, scene_of, content_of, files_of, text_exact, is_ours, reply, answers, InOrder, at_bucket, no_other, upload_found}
 use Rattle.worked_runs.proofs.Checks.{dest, visible, views, objects_at, are_ours, without_files, effect_on, effect_is, book_after, moment_is}
@@ -114,9 +107,9 @@ inside_at os b (e ∷ es) h (suc m) = inside_at os (effect_on b e.request e.outc
 honest_from : (os : List (List ℕ × Object)) (b : Book) (es : List Entry) → Steps os b es → AreHonest (scene_of b) es
 honest_from os b [] h = tt
 honest_from os b (e ∷ es) h = (
-    subst (IsHonestOutcome e.outcome) (sym (answers b e.request h.0.ours h.0.order)) h.0.honest,
-    subst (λ s. AreHonest s es) (sym (effect_is b e.request e.outcome h.0.ours)) (honest_from os (effect_on b e.request e.outcome) es h.1),
-  )
+  subst (IsHonestOutcome e.outcome) (sym (answers b e.request h.0.ours h.0.order)) h.0.honest,
+  subst (λ s. AreHonest s es) (sym (effect_is b e.request e.outcome h.0.ours)) (honest_from os (effect_on b e.request e.outcome) es h.1),
+)
 
 pub honest : (os : List (List ℕ × Object)) (b : Book) (es : List Entry) → Steps os (without_files b) es → IsHonest (content_of (without_files b)) es
 unfolding files_of

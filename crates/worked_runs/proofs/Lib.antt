@@ -11,3 +11,4 @@ mod Owed
 mod Frames
 mod OneMoments
 mod OnePlays
+mod OneEnds

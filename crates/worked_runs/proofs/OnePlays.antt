@@ -1,5 +1,5 @@
 -- The run of one attempt with one file plays as its script says.
-use Rattle.std.proofs.Common.{◌≡◌, ◌≤◌, ◌⊎◌, ℕ, zero, suc, ◌+◌, Bool, true, false, ◌&&◌, cond, List, [], ◌∷◌, ◌++◌, length, take, Option, Some, None, is_some, refl, sym, ap, subst, ◌∙◌, codes, inl, inr, arith}
+use Rattle.std.proofs.Common.{◌≡◌, ◌⊎◌, ℕ, zero, suc, ◌+◌, Bool, true, false, ◌&&◌, cond, List, [], ◌∷◌, take, Option, Some, None, refl, sym, ap, subst, inr, arith}
 use Rattle.std.specs.Fmt.{digits}
 use Rattle.std.specs.List.{list_all, slice_get}
 use Rattle.std.specs.Prelude.{nat_le, nat_eq}
@@ -9,7 +9,6 @@ use Rattle.proof_base.proofs.Numbers.{at_most_is}
 use Rattle.s3_types.specs.declared.request.Actor.{Actor}
 use Rattle.s3_types.specs.declared.request.Actor.TheVariants.{Driver, Attempt, Shell}
 use Rattle.s3_types.specs.declared.journal.Entry.{Entry}
-use Rattle.job_model.specs.declared.events.Op.{Op}
 use Rattle.job_model.specs.declared.events.Op.TheVariants as ops
 use Rattle.job_model.specs.declared.events.Event.{Event}
 use Rattle.job_model.specs.declared.events.Event.TheVariants.{Do}
@@ -20,12 +19,11 @@ use Rattle.job_model.specs.declared.ends.OpEnd.{OpEnd}
 use Rattle.job_model.specs.declared.ends.OpEnd.TheVariants as ends
 use Rattle.job_model.specs.declared.ends.ActorEnd.{ActorEnd}
 use Rattle.job_model.specs.declared.ends.EventEnd.{EventEnd}
-use Rattle.job_model.specs.declared.ends.EventEnd.TheVariants.{Done, Ended, Refused}
-use Rattle.job_model.specs.declared.ends.EventFault.{EventFault}
+use Rattle.job_model.specs.declared.ends.EventEnd.TheVariants.{Ended}
 use Rattle.job_operations.specs.Operations.{Setting}
-use Rattle.job_promise.specs.States.{Doing, same_actor, past, refusal, after_event, open_event, told}
-use Rattle.job_promise.specs.Turns.{of_event, until, by_actor, is_busy, is_memory, AllFrom, IsRising, AllUpTo}
-use Rattle.job_promise.specs.Follows.{OpFollows, op_over, Obeyed, AllObeyed, IsUnended, Plays}
+use Rattle.job_promise.specs.States.{Doing, past, after_event}
+use Rattle.job_promise.specs.Turns.{until, by_actor, is_busy, is_memory, AllFrom, IsRising, AllUpTo}
+use Rattle.job_promise.specs.Follows.{OpFollows, op_over, Obeyed, AllObeyed, Plays}
 use Rattle.worked_runs.specs.Jobs.{worker}
 use Rattle.worked_runs.specs.OneFile.{script, setting, doing, journal, OneFileRuns}
 use Rattle.worked_runs.specs.OneFinished.{the_ends}
@@ -59,7 +57,7 @@ by_actors P d v o s (Attempt t a) = by (nat_eq t 0 && nat_eq a 0) refl
     by true h = let e = both_same t a h in subst (λ (x : ℕ × ℕ). P (Attempt x.0 x.1)) (λ i. (sym e.0 i, sym e.1 i)) v
     by false h = o t a h
 
-same_some : {X : Type 0} (x y : X) → Some x ≡ Some y → x ≡ y
+pub same_some : {X : Type 0} (x y : X) → Some x ≡ Some y → x ≡ y
 same_some x y e = cc
 
 -- what an actor does, told by an equation

@@ -1,25 +1,24 @@
 -- What is owed at each moment of a run over a store as lists, as tests that compute.
-use Rattle.std.proofs.Common.{◌≡◌, ◌≤◌, ◌⊎◌, ℕ, zero, suc, ◌+◌, Bool, true, false, ◌&&◌, ◌||◌, not, cond, List, [], ◌∷◌, ◌++◌, length, take, Option, Some, None, is_some, refl, sym, ap, subst, ◌∙◌, codes, inl, inr, arith}
-use Rattle.std.specs.List.{list_all, slice_get}
+use Rattle.std.proofs.Common.{◌≡◌, ◌≤◌, ◌⊎◌, ℕ, zero, suc, Bool, true, false, ◌&&◌, ◌||◌, not, cond, List, [], ◌∷◌, ◌++◌, length, take, Option, Some, None, is_some, refl, sym, ap, subst, ◌∙◌, codes, inl, inr, arith}
+use Rattle.std.specs.List.{list_all}
 use Rattle.std.specs.Map.{lookup}
 use Rattle.std.specs.Ordering.{eq_by_cmp}
 use Rattle.std.specs.FinMap.Entries.{put, where_key, find, find-put, find-where_key}
 use Rattle.std.proofs.lemmas.Bool.{and_parts, true≢false, false≢true}
 use Rattle.proof_base.specs.Order.{text_cmp, text_eq, text_total, text_ties}
 use Rattle.proof_base.proofs.Tree.{tied}
-use Rattle.s3_types.specs.Store.{Content}
 use Rattle.s3_types.specs.declared.object.Object.{Object}
 use Rattle.s3_types.specs.declared.journal.Entry.{Entry}
 use Rattle.magic_paths.specs.Layout.{success_key}
 use Rattle.job_model.specs.JobScript.{Script}
-use Rattle.job_operations.specs.View.{Shown, view, object_at}
+use Rattle.job_operations.specs.View.{view, object_at}
 use Rattle.job_operations.specs.Outputs.{Picks, wanted, wanted_at, is_picked, is_clash, is_decided}
 use Rattle.job_operations.specs.Conflicts.{keeps_of}
 use Rattle.job_operations.specs.Records.{mark_text}
-use Rattle.job_promise.specs.Seen.{Seen, see, see_all, seen, nothing_seen, is_marked}
+use Rattle.job_promise.specs.Seen.{see_all}
 use Rattle.job_promise.specs.Headline.{Same, or_else, done, Kept, Always}
-use Rattle.worked_runs.proofs.Books.{Book, scene_of, content_of, text_exact, is_ours}
-use Rattle.worked_runs.proofs.Checks.{dest, visible, views, objects_at, are_ours, without_files}
+use Rattle.worked_runs.proofs.Books.{Book, content_of, text_exact, is_ours}
+use Rattle.worked_runs.proofs.Checks.{dest, visible, views, objects_at, without_files}
 use Rattle.worked_runs.proofs.Sights.{Saw, seen_of, saw, sees_by, opens}
 use Rattle.worked_runs.proofs.Refusals.{opens_is}
 

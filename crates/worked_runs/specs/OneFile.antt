@@ -65,12 +65,16 @@ write_entries =
     ∷ said 2 worker (PutObject lake (codes "out/__magic/job-j1/tasks/0_0/__base/part-00000.pending") (compact_text (pending_tree the_record)) None) (Stored (plain_tag (compact_text (pending_tree the_record))))
     ∷ []
 
+-- the attempt's put of its task's set
+abbrev pub the_publishing : Entry
+the_publishing = said 3 worker (PutObject lake (codes "out/__magic/job-j1/sets/task_0.pendingset") (compact_text (set_tree the_set)) None) (Stored (plain_tag (compact_text (set_tree the_set))))
+
 abbrev pub task_entries : List Entry
 task_entries =
     said 3 worker (ListPage lake (codes "out/__magic/job-j1/tasks/0_0/__base/") false [] 1000)
     (Page (Listed (codes "out/__magic/job-j1/tasks/0_0/__base/part-00000") 0 ∷ Listed (codes "out/__magic/job-j1/tasks/0_0/__base/part-00000.pending") 177 ∷ []) false)
     ∷ said 3 worker (GetObject lake (codes "out/__magic/job-j1/tasks/0_0/__base/part-00000.pending")) (Object (compact_text (pending_tree the_record)) None)
-    ∷ said 3 worker (PutObject lake (codes "out/__magic/job-j1/sets/task_0.pendingset") (compact_text (set_tree the_set)) None) (Stored (plain_tag (compact_text (set_tree the_set))))
+    ∷ the_publishing
     ∷ []
 
 -- all that comes before the job's commit

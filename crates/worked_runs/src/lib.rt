@@ -4,6 +4,7 @@
 
 ghost use Rattle.worked_runs.specs.Decisions.{DecidesSo, RestartsSo};
 ghost use Rattle.worked_runs.specs.OneFile.{OneFileRuns, OneFileSeen};
+ghost use Rattle.worked_runs.specs.OneFinished.{OneFileFinished};
 ghost use Rattle.worked_runs.specs.Lanes.{LanesRun};
 ghost use Rattle.worked_runs.specs.Refused.{Misshown, MisshownRuns};
 ghost use Rattle.worked_runs.specs.RefusedEnds.{Misended};
@@ -19,6 +20,7 @@ pub fn verdicts()
 pub fn one_file()
     ensures runs { OneFileRuns }
     ensures seen { OneFileSeen }
+    ensures finished { OneFileFinished }
 {}
 
 /// A job's commit in lanes.

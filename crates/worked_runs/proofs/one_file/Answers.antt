@@ -1,15 +1,11 @@
 use Rattle.std.proofs.Common.{refl}
 use Rattle.worked_runs.proofs.Digits.{zero_digit}
-use Rattle.worked_runs.proofs.OneSet.{set_is_read}
+use Rattle.worked_runs.proofs.OnePlays.{goes}
+use Rattle.worked_runs.proofs.OneEnds.{one_finished}
 use Rattle.worked_runs.proofs.one_file.Goals as goal
 
 pub returns-clause-runs : goal.returns-clause-runs
-returns-clause-runs c = record {
-  setup = ((refl, (refl, (refl, tt))), refl);
-  write = (rw zero_digit (refl, (refl, (refl, (refl, tt)))), refl);
-  task = (rw zero_digit (refl, rw zero_digit (refl, (refl, tt))), rw zero_digit refl);
-  commit = (rw set_is_read (rw zero_digit (refl, (refl, (refl, tt)))), rw set_is_read refl);
-}
+returns-clause-runs c = goes
 
 pub returns-clause-seen : goal.returns-clause-seen
 returns-clause-seen c = record {
@@ -32,3 +28,6 @@ returns-clause-seen c = record {
   no_publisher = refl;
   no_mark = refl;
 }
+
+pub returns-clause-finished : goal.returns-clause-finished
+returns-clause-finished c = one_finished

@@ -1,0 +1,267 @@
+-- The operations of the run of one attempt with one file end as is due, and the run is finished.
+use Rattle.std.proofs.Common.{◌≡◌, ◌⊎◌, ℕ, zero, suc, ◌+◌, Bool, true, not, ◌&&◌, List, [], ◌∷◌, length, take, Option, Some, None, is_some, refl, sym, ap, subst, ◌∙◌, codes, inr, arith}
+use Rattle.std.specs.Fmt.{digits}
+use Rattle.json.specs.Print.{escape_byte}
+use Rattle.std.specs.List.{list_all, slice_get}
+use Rattle.std.specs.Prelude.{IsSome}
+use Rattle.std.proofs.lemmas.Bool.{and_parts}
+use Rattle.std.specs.FinMap as fin
+use Rattle.std.specs.FinMap.{gets}
+use Rattle.std.specs.FinMap.Entries.{find}
+use Rattle.proof_base.specs.Order.{text_cmp}
+use Rattle.s3_types.specs.Fates.{fate_at}
+use Rattle.s3_types.specs.Foretold.{AreForetold, fate_of}
+use Rattle.s3_types.specs.Moment.{moment, is_unanswered}
+use Rattle.s3_types.specs.declared.request.Actor.{Actor}
+use Rattle.s3_types.specs.declared.request.Actor.TheVariants.{Driver, Attempt}
+use Rattle.s3_types.specs.declared.request.Request.{Request}
+use Rattle.s3_types.specs.declared.journal.Outcome.{Outcome}
+use Rattle.s3_types.specs.declared.journal.Outcome.TheVariants.{Answered, Slow, RequestLost, ReplyLost}
+use Rattle.s3_types.specs.declared.journal.Entry.{Entry}
+use Rattle.sendings.specs.Worn.{WornFirst, first_worn}
+use Rattle.sendings.proofs.First.{computed, none_sent}
+use Rattle.job_model.specs.declared.events.Op.{Op}
+use Rattle.job_model.specs.declared.events.Op.TheVariants as ops
+use Rattle.job_model.specs.declared.events.Event.{Event}
+use Rattle.job_model.specs.declared.events.Event.TheVariants.{Do}
+use Rattle.job_model.specs.declared.ends.SetupEnd.{SetupEnd}
+use Rattle.job_model.specs.declared.ends.SetupEnd.TheVariants as setups
+use Rattle.job_model.specs.declared.ends.TaskEnd.{TaskEnd}
+use Rattle.job_model.specs.declared.ends.TaskEnd.TheVariants as tasks
+use Rattle.job_model.specs.declared.ends.CommitEnd.TheVariants as commits
+use Rattle.job_model.specs.declared.ends.OpEnd.{OpEnd}
+use Rattle.job_model.specs.declared.ends.OpEnd.TheVariants as ends
+use Rattle.job_model.specs.declared.ends.ActorEnd.{ActorEnd}
+use Rattle.job_model.specs.declared.ends.EventEnd.TheVariants.{Ended}
+use Rattle.job_promise.specs.States.{Doing, past, after_event, told}
+use Rattle.job_promise.specs.Seen.{seen, see_all, is_marked}
+use Rattle.job_promise.specs.Turns.{until, since, before, by_actor}
+use Rattle.job_promise.specs.Ends.{EndedIn, is_mark_answered, has_cleaned}
+use Rattle.job_promise.specs.Follows.{known_then}
+use Rattle.job_promise.specs.OperationEnds.{SetupIs, TaskIs, IsFree, WasPublished}
+use Rattle.job_promise.specs.Promise.{SetupsEnd, TasksEnd, Publishes, CleansEnd, CommitEnds, CommitsEnd, Promised, seen_until, setting, all_picks}
+use Rattle.worked_runs.specs.Jobs.{worker}
+use Rattle.worked_runs.specs.OneFile.{script, opening, journal, the_publishing}
+use Rattle.worked_runs.specs.OneFinished.{the_ends, the_picks, OneFileFinished}
+use Rattle.worked_runs.proofs.Books.{content_of, at_bucket}
+use Rattle.worked_runs.proofs.Checks.{objects_at}
+use Rattle.worked_runs.proofs.Sights.{Saw, opens, saw_all, sees}
+use Rattle.worked_runs.proofs.Refusals.{empty_book, opening_is, opens_is}
+use Rattle.worked_runs.proofs.Tagged.{hello_is}
+use Rattle.worked_runs.proofs.OneMoments.{always_kept, is_honest, no_rename, nothing_outside}
+use Rattle.worked_runs.proofs.OnePlays.{same_some, setup_doing, write_doing, task_doing, commit_doing, plays}
+
+-- ---- which operations ended
+
+told_one : (x : ActorEnd) (i : ℕ) (y : ActorEnd) → slice_get (x ∷ []) i ≡ Some y → x ≡ y
+told_one x zero y e = same_some x y e
+told_one x (suc i) y e = absurd (cc)
+
+-- what an operation's end in event j tells, where the event and its end are these
+pub record Was (j : ℕ) (a : Actor) (op : Op) (end : OpEnd) (b : Actor) (d : Doing) (e : OpEnd) : Type 0 where
+  pub actor : a ≡ b
+  pub end_is : end ≡ e
+  pub doing : (after_event script (past script (take j the_ends)) (Do a op) (Ended end)).doing a ≡ Some d
+
+ended_at : (j : ℕ) (a : Actor) (op : Op) (end : OpEnd) → slice_get script.events j ≡ Some (Do a op) → slice_get the_ends j ≡ Some (Ended end)
+    → (b : Actor) (d : Doing) (e : OpEnd) (es : List Entry) → EndedIn script the_ends journal j b d e es → Was j a op end b d e
+ended_at j a op end g k b d e es h =
+    let ev : Do a op ≡ h.event = same_some (Do a op) h.event (sym g ∙ h.is_event) in
+    let en : Ended end ≡ h.event_end = same_some (Ended end) h.event_end (sym k ∙ h.has_ended) in
+    let t : ◌≡◌ {A = ActorEnd} (record { actor = a; end = end }) (record { actor = b; end = e }) = told_one (record { actor = a; end = end }) h.place (record { actor = b; end = e }) ((λ i. slice_get (told (ev i) (en i)) h.place) ∙ h.told_there) in
+    record {
+      actor = ap (λ (x : ActorEnd). x.actor) t;
+      end_is = ap (λ (x : ActorEnd). x.end) t;
+      doing = (λ i. (after_event script (past script (take j the_ends)) (ev i) (en i)).doing (t i).actor) ∙ h.doing;
+    }
+
+no_event : {Z : Type 0} (j : ℕ) (b : Actor) (d : Doing) (e : OpEnd) (es : List Entry) → EndedIn script the_ends journal (suc (suc (suc (suc j)))) b d e es → Z
+no_event j b d e es h = by h.event h.is_event
+  where
+    by : {Y : Type 0} (ev : Event) → (let n : Option Event = None in n ≡ Some ev) → Y
+    by ev k = absurd (cc)
+
+worn_none : (es fs : List Entry) → first_worn 3 fs ≡ None → es ≡ fs → WornFirst 3 es None
+worn_none es fs h g = subst (λ l. WornFirst 3 l None) (sym g) (subst (λ o. WornFirst 3 fs o) h (computed 3 [] fs (none_sent 3)))
+
+-- ---- the set-up
+
+is_free : IsFree script opening
+is_free = subst (λ c. IsFree script c) opening_is (subst (λ o. IsSome o) (sym (at_bucket empty_book)) refl, objects_at empty_book (codes "out"))
+
+abbrev SetupSo : Doing → SetupEnd → List Entry → Type 0
+SetupSo d e es = (e ≡ setups.NoMemory) ⊎ ((worn : Option Request) × WornFirst 3 es worn × SetupIs script (moment opening journal (length (before d.since journal))).content worn e)
+
+setup_so : (es : List Entry) → es ≡ since 1 (by_actor Driver (until 1 journal)) → SetupSo setup_doing setups.Done es
+setup_so es g = inr (None, worn_none es (since 1 (by_actor Driver (until 1 journal))) refl g, (is_free, λ k. absurd (cc)))
+
+setups_end : SetupsEnd script opening journal the_ends
+setups_end own zero d e es h =
+    let t = ended_at 0 Driver ops.Setup (ends.Setup setups.Done) refl refl Driver d (ends.Setup e) es h in
+    let end : ends.Setup setups.Done ≡ ends.Setup e = t.end_is in
+    let k : setups.Done ≡ e = cc in
+    subst (λ c. es ≡ since c.since (by_actor Driver (until 1 journal)) → SetupSo c e es) (same_some setup_doing d t.doing) (λ g. subst (λ y. SetupSo setup_doing y es) k (setup_so es g)) h.entries_are
+setups_end own (suc zero) d e es h = let k : ends.Task tasks.Done ≡ ends.Setup e = (ended_at 1 worker ops.Write (ends.Task tasks.Done) refl refl Driver d (ends.Setup e) es h).end_is in absurd (cc)
+setups_end own (suc (suc zero)) d e es h = let k : ends.Task tasks.Done ≡ ends.Setup e = (ended_at 2 worker ops.Commit (ends.Task tasks.Done) refl refl Driver d (ends.Setup e) es h).end_is in absurd (cc)
+setups_end own (suc (suc (suc zero))) d e es h = let k : ends.Commit commits.Committed ≡ ends.Setup e = (ended_at 3 Driver ops.Commit (ends.Commit commits.Committed) refl refl Driver d (ends.Setup e) es h).end_is in absurd (cc)
+setups_end own (suc (suc (suc (suc j)))) d e es h = no_event j Driver d (ends.Setup e) es h
+
+-- ---- the attempt
+
+abbrev TaskSo : ℕ → ℕ → Doing → TaskEnd → List Entry → ℕ → Type 0
+TaskSo t a d e es j = (e ≡ tasks.NoMemory) ⊎ ((worn : Option Request) × WornFirst 3 es worn × TaskIs d.op script (known_then (setting script opening) (Attempt t a) d (by_actor (Attempt t a) journal)).publish_sent (has_cleaned (until (j + 1) journal)) worn e)
+
+-- of an attempt's operation that is done
+task_so : (j t a : ℕ) (d c : Doing) (e : TaskEnd) (es : List Entry) → worker ≡ Attempt t a → tasks.Done ≡ e → c ≡ d
+    → first_worn 3 (since c.since (by_actor worker (until (j + 1) journal))) ≡ None → es ≡ since d.since (by_actor (Attempt t a) (until (j + 1) journal))
+    → ((sent cleaned : Bool) → TaskIs c.op script sent cleaned None tasks.Done) → TaskSo t a d e es j
+task_so j t a d c e es who end doing worn entries may = subst (λ y. TaskSo t a d y es j) end (inr (
+  None,
+  worn_none es (since c.since (by_actor worker (until (j + 1) journal))) worn (entries ∙ λ i. since (sym doing i).since (by_actor (sym who i) (until (j + 1) journal))),
+  subst (λ x. TaskIs x.op script (known_then (setting script opening) (Attempt t a) d (by_actor (Attempt t a) journal)).publish_sent (has_cleaned (until (j + 1) journal)) None tasks.Done) doing (may _ _),
+))
+
+write_worn : first_worn 3 (since 2 (by_actor worker (until 2 journal))) ≡ None
+unfolding digits escape_byte
+write_worn = refl
+
+task_worn : first_worn 3 (since 3 (by_actor worker (until 3 journal))) ≡ None
+unfolding digits escape_byte
+task_worn = refl
+
+abbrev doing_after : ℕ → Op → OpEnd → Actor → Option Doing
+doing_after j op end a = (after_event script (past script (take j the_ends)) (Do worker op) (Ended end)).doing a
+
+tasks_end : TasksEnd script opening journal the_ends
+tasks_end own zero t a d e es h = let k : ends.Setup setups.Done ≡ ends.Task e = (ended_at 0 Driver ops.Setup (ends.Setup setups.Done) refl refl (Attempt t a) d (ends.Task e) es h).end_is in absurd (cc)
+tasks_end own (suc zero) t a d e es h =
+    let w = ended_at 1 worker ops.Write (ends.Task tasks.Done) refl refl (Attempt t a) d (ends.Task e) es h in
+    let k : ends.Task tasks.Done ≡ ends.Task e = w.end_is in
+    let x : tasks.Done ≡ e = cc in
+    task_so 1 t a d write_doing e es w.actor x (same_some write_doing d w.doing) write_worn h.entries_are (λ s c. tt)
+tasks_end own (suc (suc zero)) t a d e es h =
+    let w = ended_at 2 worker ops.Commit (ends.Task tasks.Done) refl refl (Attempt t a) d (ends.Task e) es h in
+    let k : ends.Task tasks.Done ≡ ends.Task e = w.end_is in
+    let x : tasks.Done ≡ e = cc in
+    task_so 2 t a d task_doing e es w.actor x (same_some task_doing d w.doing) task_worn h.entries_are (λ s c. tt)
+tasks_end own (suc (suc (suc zero))) t a d e es h = let k : ends.Commit commits.Committed ≡ ends.Task e = (ended_at 3 Driver ops.Commit (ends.Commit commits.Committed) refl refl (Attempt t a) d (ends.Task e) es h).end_is in absurd (cc)
+tasks_end own (suc (suc (suc (suc j)))) t a d e es h = no_event j (Attempt t a) d (ends.Task e) es h
+
+the_published : WasPublished script opening journal 0 0 3
+unfolding digits
+the_published = record { m = 9; entry = the_publishing; is_entry = refl; by = refl; until = omega arith; effective = refl; publishes = refl }
+
+publishes : Publishes script opening journal the_ends
+publishes zero t a d es h op c = let k : ends.Setup setups.Done ≡ ends.Task tasks.Done = (ended_at 0 Driver ops.Setup (ends.Setup setups.Done) refl refl (Attempt t a) d (ends.Task tasks.Done) es h).end_is in absurd (cc)
+publishes (suc zero) t a d es h op c =
+    let w = ended_at 1 worker ops.Write (ends.Task tasks.Done) refl refl (Attempt t a) d (ends.Task tasks.Done) es h in
+    let k : ops.Write ≡ ops.Commit = ap (λ (x : Doing). x.op) (same_some write_doing d w.doing) ∙ op in
+    absurd (cc)
+publishes (suc (suc zero)) t a d es h op c =
+    let w = ended_at 2 worker ops.Commit (ends.Task tasks.Done) refl refl (Attempt t a) d (ends.Task tasks.Done) es h in
+    let k : worker ≡ Attempt t a = w.actor in
+    let x : 0 ≡ t = cc in
+    let y : 0 ≡ a = cc in
+    subst (λ (p : ℕ × ℕ). WasPublished script opening journal p.0 p.1 3) (λ i. (x i, y i)) the_published
+publishes (suc (suc (suc zero))) t a d es h op c = let k : ends.Commit commits.Committed ≡ ends.Task tasks.Done = (ended_at 3 Driver ops.Commit (ends.Commit commits.Committed) refl refl (Attempt t a) d (ends.Task tasks.Done) es h).end_is in absurd (cc)
+publishes (suc (suc (suc (suc j)))) t a d es h op c = no_event j (Attempt t a) d (ends.Task tasks.Done) es h
+
+-- ---- no clean
+
+cleans_end : CleansEnd script opening journal the_ends
+cleans_end zero d e es h = let k : ends.Setup setups.Done ≡ ends.Clean e = (ended_at 0 Driver ops.Setup (ends.Setup setups.Done) refl refl Driver d (ends.Clean e) es h).end_is in absurd (cc)
+cleans_end (suc zero) d e es h = let k : ends.Task tasks.Done ≡ ends.Clean e = (ended_at 1 worker ops.Write (ends.Task tasks.Done) refl refl Driver d (ends.Clean e) es h).end_is in absurd (cc)
+cleans_end (suc (suc zero)) d e es h = let k : ends.Task tasks.Done ≡ ends.Clean e = (ended_at 2 worker ops.Commit (ends.Task tasks.Done) refl refl Driver d (ends.Clean e) es h).end_is in absurd (cc)
+cleans_end (suc (suc (suc zero))) d e es h = let k : ends.Commit commits.Committed ≡ ends.Clean e = (ended_at 3 Driver ops.Commit (ends.Commit commits.Committed) refl refl Driver d (ends.Clean e) es h).end_is in absurd (cc)
+cleans_end (suc (suc (suc (suc j)))) d e es h = no_event j Driver d (ends.Clean e) es h
+
+-- ---- the commit
+
+abbrev last : Saw
+last = saw_all script (Some 4) (opens empty_book) journal
+
+mark_stands : is_some (find text_cmp (codes "out/_SUCCESS") last.book.objects) ≡ true
+unfolding digits
+mark_stands = rw hello_is refl
+
+marked_over : is_marked script (seen script (Some 4) (content_of empty_book) journal 13) ≡ true
+unfolding digits
+marked_over =
+    ap (λ s. is_marked script (see_all script (Some 4) s journal)) (opens_is empty_book)
+    ∙ ap (λ s. is_marked script s) (sees script (Some 4) (opens empty_book) journal refl)
+    ∙ ap (λ o. true && is_some o) (objects_at last.book (codes "out/_SUCCESS"))
+    ∙ mark_stands
+
+is_marked_last : is_marked script (seen_until script opening journal the_ends 4) ≡ true
+is_marked_last = subst (λ c. is_marked script (seen script (Some 4) c journal 13) ≡ true) opening_is marked_over
+
+commit_worn : first_worn 3 (since 4 (by_actor Driver (until 4 journal))) ≡ None
+unfolding digits escape_byte
+commit_worn = refl
+
+commit_so : (es : List Entry) → es ≡ since 4 (by_actor Driver (until 4 journal)) → CommitEnds script opening journal the_ends 3 commit_doing commits.Committed es
+unfolding digits
+commit_so es g = record {
+  due = record {
+    worn = None;
+    first = worn_none es (since 4 (by_actor Driver (until 4 journal))) commit_worn g;
+    due = inr refl;
+    answered = λ e. ap (is_mark_answered script) g;
+  };
+  marked = λ e own. is_marked_last;
+  untouched = λ e. absurd (cc);
+  reverted = λ e. absurd (cc);
+}
+
+commits_end : CommitsEnd script opening journal the_ends
+commits_end zero d e es h = let k : ends.Setup setups.Done ≡ ends.Commit e = (ended_at 0 Driver ops.Setup (ends.Setup setups.Done) refl refl Driver d (ends.Commit e) es h).end_is in absurd (cc)
+commits_end (suc zero) d e es h = let k : ends.Task tasks.Done ≡ ends.Commit e = (ended_at 1 worker ops.Write (ends.Task tasks.Done) refl refl Driver d (ends.Commit e) es h).end_is in absurd (cc)
+commits_end (suc (suc zero)) d e es h = let k : ends.Task tasks.Done ≡ ends.Commit e = (ended_at 2 worker ops.Commit (ends.Task tasks.Done) refl refl Driver d (ends.Commit e) es h).end_is in absurd (cc)
+commits_end (suc (suc (suc zero))) d e es h =
+    let w = ended_at 3 Driver ops.Commit (ends.Commit commits.Committed) refl refl Driver d (ends.Commit e) es h in
+    let k : ends.Commit commits.Committed ≡ ends.Commit e = w.end_is in
+    let x : commits.Committed ≡ e = cc in
+    subst (λ c. es ≡ since c.since (by_actor Driver (until 4 journal)) → CommitEnds script opening journal the_ends 3 c e es) (same_some commit_doing d w.doing)
+    (λ g. subst (λ y. CommitEnds script opening journal the_ends 3 commit_doing y es) x (commit_so es g)) h.entries_are
+commits_end (suc (suc (suc (suc j)))) d e es h = no_event j Driver d (ends.Commit e) es h
+
+-- ---- the promise
+
+fated : (n : ℕ) (es : List Entry) → list_all (λ e. not (is_unanswered e.outcome)) es ≡ true → AreForetold (λ m. Some (fate_at fin.empty m)) n es
+fated n [] h = tt
+fated n (e ∷ es) h = let p = and_parts (not (is_unanswered e.outcome)) _ h in (by e.outcome p.0, fated (n + 1) es p.1)
+  where
+    by : (o : Outcome) → not (is_unanswered o) ≡ true → fate_of o ≡ fate_at fin.empty n
+    by (Answered r) k = simp gets refl
+    by Slow k = absurd (cc)
+    by RequestLost k = absurd (cc)
+    by ReplyLost k = absurd (cc)
+
+picked : all_picks script opening journal the_ends ≡ the_picks
+unfolding digits
+picked = refl
+
+pub promised : Promised script opening journal the_picks the_ends
+promised = record {
+  always = λ own. always_kept;
+  plays = plays;
+  picks = ([], sym picked);
+  zero_rename = no_rename;
+  outside = nothing_outside;
+  setups = setups_end;
+  tasks = tasks_end;
+  publishes = publishes;
+  cleans = cleans_end;
+  commits = commits_end;
+}
+
+pub one_finished : OneFileFinished
+one_finished = record {
+  finished = record {
+    promised = promised;
+    sent = record { honest = is_honest; fated = fated 1 journal refl };
+    events = refl;
+    picks = λ h. sym picked;
+  };
+  verdict = refl;
+}
