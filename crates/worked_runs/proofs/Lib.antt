@@ -12,3 +12,4 @@ mod Frames
 mod OneMoments
 mod OnePlays
 mod OneEnds
+mod LostMarks

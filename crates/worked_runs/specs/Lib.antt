@@ -7,3 +7,4 @@ pub mod Modes
 pub mod Refused
 pub mod RefusedEnds
 pub mod OneFinished
+pub mod LostMark

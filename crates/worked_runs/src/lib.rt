@@ -5,6 +5,7 @@
 ghost use Rattle.worked_runs.specs.Decisions.{DecidesSo, RestartsSo};
 ghost use Rattle.worked_runs.specs.OneFile.{OneFileRuns, OneFileSeen};
 ghost use Rattle.worked_runs.specs.OneFinished.{OneFileFinished};
+ghost use Rattle.worked_runs.specs.LostMark.{LostMark};
 ghost use Rattle.worked_runs.specs.Lanes.{LanesRun};
 ghost use Rattle.worked_runs.specs.Refused.{Misshown, MisshownRuns};
 ghost use Rattle.worked_runs.specs.RefusedEnds.{Misended};
@@ -44,4 +45,9 @@ pub fn misshown()
 /// Ends that are not due, and a marker over two attempts of one task.
 pub fn misended()
     ensures ends { Misended }
+{}
+
+/// One attempt with one file, where the replies to the last put are lost.
+pub fn lost_mark()
+    ensures { LostMark }
 {}
