@@ -65,7 +65,7 @@ pub record IsDeclared (tasks : ℕ) (fs : List File) (a : Who) : Type 0 where
   pub files : AreFiles [] fs
 
 -- its files as the script writes them
-abbrev written : Script → Who → List File
+abbrev pub written : Script → Who → List File
 written w a = unwrap_or (lookup (same_name a) w.attempts) []
 
 declared_in : (tasks : ℕ) (before es : List Declared) (a : Who) (f : File) → AreAttempts tasks before es → IsIn f (unwrap_or (lookup (same_name a) es) []) → IsDeclared tasks (unwrap_or (lookup (same_name a) es) []) a
@@ -82,7 +82,7 @@ declared_in tasks before (e ∷ es) a f h i = by (same_name a e.0) refl i (decla
         record { task = subst (λ x. x < tasks) (sym t) h.0; attempt = subst (λ x. x ≤ 99) (sym n) h.1; files = h.3 }
     by false s k old = old k
 
-files_are : (w : Script) (a : Who) → files w a ≡ placed w.unique w.job (written w a)
+pub files_are : (w : Script) (a : Who) → files w a ≡ placed w.unique w.job (written w a)
 files_are w a = by (lookup (same_name a) w.attempts)
   where
     by : (o : Option (List File)) → unwrap_or (option_map (placed w.unique w.job) o) [] ≡ placed w.unique w.job (unwrap_or o [])
@@ -90,12 +90,12 @@ files_are w a = by (lookup (same_name a) w.attempts)
     by (Some fs) = refl
 
 -- a file of an attempt is one that the script gives it, at its path
-record FromScript (w : Script) (a : Who) (f : File) : Type 0 where
+pub record FromScript (w : Script) (a : Who) (f : File) : Type 0 where
   pub given : File
   pub one : IsIn given (written w a)
   pub is : f ≡ (path_of w.unique w.job given.0, given.1)
 
-from_script : (w : Script) (a : Who) (f : File) → IsIn f (files w a) → FromScript w a f
+pub from_script : (w : Script) (a : Who) (f : File) → IsIn f (files w a) → FromScript w a f
 from_script w a f i =
     let g = in_map (λ (x : File). let y : File = (path_of w.unique w.job x.0, x.1) in y) f (written w a) (subst (λ (fs : List File). IsIn f fs) (files_are w a) i) in
     record { given = g.0; one = g.1; is = g.2 }
@@ -134,6 +134,9 @@ one_of (x ∷ fs) h f g (inr i) (inr k) e = one_of fs h.1 f g i k e
 -- two of them with one path are one
 pub same_file : {w : Script} → IsLegal w → (a : Who) (f g : File) → IsIn f (files w a) → IsIn g (files w a) → f.0 ≡ g.0 → f ≡ g
 same_file {w = w} j a f g i k e = one_of (files w a) (files_apart j a) f g i k e
+
+pub given_of : {w : Script} → IsLegal w → (a : Who) (f : File) → (i : IsIn f (files w a)) → IsGiven (from_script w a f i).given.0
+given_of {w = w} j a f i = let g = from_script w a f i in given_in [] (written w a) g.given (declared_in w.tasks [] w.attempts a g.given j.attempts g.one).files g.one
 
 -- ---- of the magic committer they are at the paths that the script gives
 

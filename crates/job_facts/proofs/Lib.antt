@@ -23,3 +23,8 @@ pub mod Shows
 pub mod Owning
 pub mod Cleaning
 pub mod Starting
+pub mod KeyNames
+pub mod Joined
+pub mod Legible
+pub mod Replies
+pub mod JobCommitting

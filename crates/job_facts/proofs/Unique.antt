@@ -24,12 +24,12 @@ id_others : (s : ℕ) (id : List ℕ) → is_id_byte s ≡ false → list_all is
 id_others s [] n h = refl
 id_others s (b ∷ id) n h = let p = and_parts (is_id_byte b) (list_all is_id_byte id) h in rw (id_byte s b n p.0, id_others s id n p.1) refl
 
-id_bytes : (id : List ℕ) → is_job_id id ≡ true → list_all is_id_byte id ≡ true
+pub id_bytes : (id : List ℕ) → is_job_id id ≡ true → list_all is_id_byte id ≡ true
 id_bytes id h = (and_parts _ _ h).1
 
 -- ---- a name with the id, cut at the first dot
 
-record Cut (id x : List ℕ) : Type 0 where
+pub record Cut (id x : List ℕ) : Type 0 where
   pub front : List ℕ
   pub rest : List ℕ
   pub is : x ≡ front ++ rest
@@ -37,7 +37,7 @@ record Cut (id x : List ℕ) : Type 0 where
   pub clean : list_all (is_other 46) front ≡ true
   pub ends : (rest ≡ []) ⊎ ((r : List ℕ) × (rest ≡ 46 ∷ r))
 
-cut_id : (id x : List ℕ) → Cut id x
+pub cut_id : (id x : List ℕ) → Cut id x
 cut_id id [] = record { front = []; rest = []; is = refl; made = sym (append-nil (45 ∷ id)); clean = refl; ends = inl refl }
 cut_id id (x ∷ name) = by (x == 46) refl (cut_id id name)
   where
@@ -138,12 +138,12 @@ joined_lasts id e [] p = joined_parts (with_id id e) [] p
 joined_lasts id e (f ∷ es) p = joined_parts e (with_id_last id (f ∷ es)) p
 
 -- there is always a part
-record HasFirst (es : List (List ℕ)) : Type 0 where
+pub record HasFirst (es : List (List ℕ)) : Type 0 where
   pub first : List ℕ
   pub others : List (List ℕ)
   pub is : es ≡ first ∷ others
 
-some_part : (part text : List ℕ) → HasFirst (parts_from 47 part text)
+pub some_part : (part text : List ℕ) → HasFirst (parts_from 47 part text)
 unfolding parts_from
 some_part part [] = record { first = part; others = []; is = refl }
 some_part part (x ∷ xs) = by (x == 47) refl (some_part (part ++ x ∷ []) xs)
@@ -152,7 +152,7 @@ some_part part (x ∷ xs) = by (x == 47) refl (some_part (part ++ x ∷ []) xs)
     by true e old = record { first = part; others = parts_from 47 [] xs; is = rw e refl }
     by false e old = record { first = old.first; others = old.others; is = rw e old.is }
 
-unique_parts : (id p : List ℕ) → list_all is_id_byte id ≡ true → parts_of 47 (unique_name p id) ≡ with_id_last id (parts_of 47 p)
+pub unique_parts : (id p : List ℕ) → list_all is_id_byte id ≡ true → parts_of 47 (unique_name p id) ≡ with_id_last id (parts_of 47 p)
 unique_parts id p h =
     let f = some_part [] p in
     let clean : AreParts (with_id_last id (f.first ∷ f.others)) = subst (λ es. AreParts (with_id_last id es)) f.is (lasts_clean id (parts_of 47 p) h (parts_clean [] p refl)) in

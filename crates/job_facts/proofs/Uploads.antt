@@ -169,7 +169,7 @@ module _ (w : Script) (minimum : ℕ) (k : Option ℕ) (s : Seen) (m : Told) (a 
 
 -- ---- and after an answer it is as far as it says
 
-number_fits : (n : ℕ) → n < 10000 → is_part_number (n + 1) ≡ true
+pub number_fits : (n : ℕ) → n < 10000 → is_part_number (n + 1) ≡ true
 number_fits n h = grind (arith, nat_tests)
 
 -- an answer to a part is its tag, or that the upload is not there

@@ -1,13 +1,22 @@
--- How far the driver's abort or clean of the job has come.
-use Rattle.std.specs.Prelude.{◌≡◌, ℕ, Bool, true, List, ◌∷◌}
+-- How far the driver's commit, and its abort or clean of the job, have come.
+use Rattle.std.specs.Prelude.{◌≡◌, ℕ, ◌<◌, ◌≤◌, Bool, true, List, [], ◌∷◌, length, slice_get, Some}
 use Rattle.s3_types.specs.Pages.{begins}
+use Rattle.s3_types.specs.declared.request.Request.{Request}
 use Rattle.s3_types.specs.declared.request.UploadRef.{UploadRef}
 use Rattle.request_frame.specs.Members.{IsIn}
 use Rattle.magic_paths.specs.Layout.{magic_prefix, cluster_prefix}
+use Rattle.pending_json.specs.declared.records.PendingSet.{PendingSet}
+use Rattle.job_model.specs.Files.{File}
+use Rattle.job_model.specs.Attempts.{Who}
 use Rattle.job_model.specs.JobScript.{Script}
+use Rattle.job_operations.specs.Knowledge.{Drawn}
+use Rattle.job_operations.specs.Records.{files_set}
+use Rattle.job_operations.specs.JobCommits.{Sets, Commit, Fetching, Replacing, Completing, Marking, Reverting, CommitOver, is_no_magic}
 use Rattle.job_operations.specs.Setup.{dest_prefix}
 use Rattle.job_operations.specs.Walks.{Sweep, Listing, Deleting}
 use Rattle.job_operations.specs.Cleanups.{Clean, Walking, Aborting, Sweeping, Naming, Removing, CleanOver}
+use Rattle.job_facts.specs.Foreign.{IsDriving}
+use Rattle.job_facts.specs.Facts.{AreCommits, knowing}
 
 -- keys below the job's magic directory
 abbrev pub AllMagic : Script → List (List ℕ) → Type 0
@@ -33,3 +42,36 @@ FitsClean w cleaned (Sweeping s) = (cleaned ≡ true) × FitsSweep w s
 FitsClean w cleaned Naming = cleaned ≡ true
 FitsClean w cleaned (Removing p ps) = (cleaned ≡ true) × AllCluster w (p ∷ ps)
 FitsClean w cleaned (CleanOver end) = Unit {0}
+
+-- ---- the commit
+
+-- a set that the driver holds is that of an attempt of the task which has sent its publishing request, and so learns no more
+pub record IsHeldSet (w : Script) (minimum : ℕ) (sent : Who → Bool) (drawn : Who → List Drawn) (t : ℕ) (s : PendingSet) : Type 0 where
+  pub by : Who
+  pub task : by.task ≡ t
+  pub number : by.attempt ≤ 99
+  pub has_sent : sent by ≡ true
+  pub commits : List File
+  pub are : AreCommits w minimum (drawn by) by commits
+  pub is : s ≡ files_set w by commits (knowing (drawn by))
+
+-- the sets that it has read, by task
+abbrev pub Reads : Script → ℕ → (Who → Bool) → (Who → List Drawn) → Sets → Type 0
+Reads w minimum sent drawn sets = (t : ℕ) (s : PendingSet) → slice_get sets t ≡ Some s → IsHeldSet w minimum sent drawn t s
+
+-- keys that a replace mode may delete
+abbrev pub FitsReplace : Script → Sweep → Type 0
+FitsReplace w (Listing keys) = Unit {0}
+FitsReplace w (Deleting q qs) = (k : List ℕ) → IsIn k (q ∷ qs) → is_no_magic w k ≡ true
+
+abbrev pub AllDriving : Script → List Request → Type 0
+AllDriving w [] = Unit {0}
+AllDriving w (r ∷ rs) = IsDriving w r × AllDriving w rs
+
+abbrev pub FitsJobCommit : Script → ℕ → (Who → Bool) → (Who → List Drawn) → Commit → Type 0
+FitsJobCommit w minimum sent drawn (Fetching sets n) = (length sets < w.tasks) × Reads w minimum sent drawn sets
+FitsJobCommit w minimum sent drawn (Replacing sets p ps s n) = Reads w minimum sent drawn sets × FitsReplace w s
+FitsJobCommit w minimum sent drawn (Completing sets x xs finished) = Reads w minimum sent drawn sets
+FitsJobCommit w minimum sent drawn (Marking sets n) = Reads w minimum sent drawn sets
+FitsJobCommit w minimum sent drawn (Reverting r rs n) = AllDriving w (r ∷ rs)
+FitsJobCommit w minimum sent drawn (CommitOver end) = Unit {0}

@@ -1,11 +1,25 @@
 -- The laws of this crate.
-use Rattle.std.specs.Prelude.{◌≡◌, ℕ, ◌<◌, true, false, List, Option, Some, None}
+use Rattle.std.specs.Prelude.{◌≡◌, ℕ, ◌+◌, ◌<◌, ◌≤◌, ◌^◌, ◌⊎◌, true, false, List, map, length, slice_get, Option, Some, None, Ok}
 use Rattle.std.specs.FinMap as fin
 use Rattle.s3_types.specs.Store.{Scene, Upload}
 use Rattle.s3_types.specs.Pages.{begins}
 use Rattle.s3_types.specs.Moment.{effect}
 use Rattle.s3_types.specs.Requests.{only_reads}
 use Rattle.s3_types.specs.declared.journal.Entry.{Entry}
+use Rattle.s3_types.specs.Blocks.{named_from}
+use Rattle.s3_types.specs.Tags.{plain_tag, joined_tag}
+use Rattle.s3_types.specs.declared.request.Request.TheVariants.{GetObject, UploadPart, CompleteUpload}
+use Rattle.s3_types.specs.declared.reply.Reply.{Reply}
+use Rattle.s3_types.specs.declared.reply.Reply.TheVariants.{Object as Found, Part, Completed, Refused}
+use Rattle.s3_types.specs.declared.reply.Refusal.TheVariants.{NoSuchKey, NoSuchFile}
+use Rattle.pending_json.specs.Reading as reading
+use Rattle.job_model.specs.Files.{File}
+use Rattle.job_operations.specs.Outputs.{files}
+use Rattle.job_operations.specs.Knowledge.{Drawn, drawn_in}
+use Rattle.job_operations.specs.Records.{file_key, record_key, file_record, record_text, files_set}
+use Rattle.job_operations.specs.Uploading.{file_parts}
+use Rattle.job_operations.specs.JobCommits.{set_request, set_read, ok_set}
+use Rattle.request_frame.specs.Members.{IsIn}
 use Rattle.sendings.specs.Retries.{Retried, step}
 use Rattle.request_frame.specs.Held.{HasBucket}
 use Rattle.magic_paths.specs.Layout.{magic_prefix, cluster_prefix}
@@ -22,9 +36,9 @@ use Rattle.job_operations.specs.Operations.{Setting, Operation, asks, tells}
 use Rattle.job_promise.specs.Headline.{Same}
 use Rattle.job_promise.specs.Seen.{Seen, see, is_magic, is_staging}
 use Rattle.job_facts.specs.Told.{Told, known, undoes, nothing_told, tell, entry, driver_entry, strange_entry}
-use Rattle.job_facts.specs.Stores.{at_key, at_id}
+use Rattle.job_facts.specs.Stores.{at_key, at_id, sets_at}
 use Rattle.job_facts.specs.Foreign.{IsForeign, IsDriving, IsOwn}
-use Rattle.job_facts.specs.Facts.{IsAttempt, Facts, Hold}
+use Rattle.job_facts.specs.Facts.{IsAttempt, IsWritten, IsSet, Facts, Hold, knowing}
 use Rattle.job_facts.specs.Fits.{Fits}
 use Rattle.job_facts.specs.Driver.{FitsClean}
 
@@ -86,3 +100,38 @@ abbrev pub CleanGoes : Type 0
 CleanGoes = (g : Setting) → IsLegal g.script → (k : Option ℕ) (s : Seen) (m : Told) (n : ℕ) → Hold g.script g.minimum s m
     → (t : Retried Clean) → FitsClean g.script m.cleaned t.operation → (r : Request) → clean_asks g.script t.operation ≡ Some r → (o : Outcome) → IsHonestOutcome o (answer s.scene r)
     → Cleans g k s m n r o (step g.script.retries (clean_after g.script) t o)
+
+-- ---- answers that are due
+
+-- an answer to the read of a set: refused where none stands, and else read by its bytes
+abbrev pub IsSetAnswer : Option (List ℕ) → Reply → Type 0
+IsSetAnswer None x = (x ≡ Refused NoSuchKey) ⊎ (x ≡ Refused NoSuchFile)
+IsSetAnswer (Some bytes) x = set_read x ≡ ok_set (reading.set_of bytes)
+
+-- a set that is there is read as that of the attempt which published last
+pub record IsThere (w : Script) (minimum : ℕ) (s : Scene) (last : ℕ → Option ℕ) (m : Told) (t : ℕ) : Type 0 where
+  pub bytes : List ℕ
+  pub stands : sets_at w s t ≡ Some bytes
+  pub set : IsSet w minimum last m.publish_sent m.drawn t bytes
+  pub is_read : set_read (answer s (set_request w.committer w t)) ≡ Some (files_set w set.by set.commits (knowing (m.drawn set.by)))
+
+-- what the driver is answered to its read of a task's set
+abbrev pub SetAnswered : Script → ℕ → Scene → (ℕ → Option ℕ) → Told → ℕ → Type 0
+SetAnswered w minimum s last m t = IsSetAnswer None (answer s (set_request w.committer w t)) ⊎ IsThere w minimum s last m t
+
+-- while the facts hold
+pub record AnswersFit : Type 0 where
+  -- a part of an upload is taken while the driver has not ended it and its attempt has taken nothing back
+  pub part : (w : Script) (minimum : ℕ) (s : Scene) (last : ℕ → Option ℕ) (m : Told) → IsLegal w → Facts w minimum s last m → (a : Who) (x : Drawn) (g : File) (bytes : List ℕ) → IsIn x (m.drawn a) → IsIn g (files w a) → x.key ≡ file_key w g
+      → m.ended x.upload ≡ false → m.undone a ≡ false → slice_get (file_parts w minimum g) (length x.tags) ≡ Some bytes → answer s (UploadPart w.dest.bucket x.key x.upload (length x.tags + 1) bytes) ≡ Part (plain_tag bytes)
+  -- and one with all its parts is completed
+  pub complete : (w : Script) (minimum : ℕ) (s : Scene) (last : ℕ → Option ℕ) (m : Told) → IsLegal w → Facts w minimum s last m → (a : Who) (g : File) → IsIn g (files w a) → (x : IsWritten w minimum (m.drawn a) g)
+      → m.ended x.drawn.upload ≡ false → m.undone a ≡ false → answer s (CompleteUpload w.dest.bucket (file_key w g) x.drawn.upload (named_from 1 x.drawn.tags)) ≡ Completed (joined_tag (map (λ n. n.tag) (named_from 1 x.drawn.tags)))
+  -- a record is absent, or that of the upload which the attempt knows for the file, and is read as that
+  pub record_there : (w : Script) (minimum : ℕ) (s : Scene) (last : ℕ → Option ℕ) (m : Told) → IsLegal w → Facts w minimum s last m → is_magic w.committer ≡ true → (a : Who) (g : File) → IsIn g (files w a)
+      → (answer s (GetObject w.dest.bucket (record_key w a g)) ≡ Refused NoSuchKey)
+      ⊎ ((header : Option ℕ) × (answer s (GetObject w.dest.bucket (record_key w a g)) ≡ Found (record_text w a g (drawn_in (m.drawn a) (file_key w g))) header))
+  pub record_read : (w : Script) (minimum : ℕ) (s : Scene) (last : ℕ → Option ℕ) (m : Told) → IsLegal w → Facts w minimum s last m → s.content.next ≤ 2 ^ 64 → (a : Who) (g : File) → IsIn g (files w a) → (x : IsWritten w minimum (m.drawn a) g)
+      → reading.pending_of (record_text w a g x.drawn) ≡ Ok (file_record w a g x.drawn)
+  -- a set is absent, or that of the last publisher, and is read as that
+  pub set_there : (w : Script) (minimum : ℕ) (s : Scene) (last : ℕ → Option ℕ) (m : Told) → IsLegal w → Facts w minimum s last m → s.content.next ≤ 2 ^ 64 → (t : ℕ) → t < w.tasks → SetAnswered w minimum s last m t

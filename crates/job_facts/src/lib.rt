@@ -2,7 +2,7 @@
 //! two requests, in `specs/`: kept by every request of the job and by every stranger's.
 #![tactic(auto)]
 
-ghost use Rattle.job_facts.specs.Laws.{AttemptGoes, AttemptNames, CleanGoes, DrivingKeeps, FactsBegin, ForeignKeeps, ReadsKeep};
+ghost use Rattle.job_facts.specs.Laws.{AnswersFit, AttemptGoes, AttemptNames, CleanGoes, DrivingKeeps, FactsBegin, ForeignKeeps, ReadsKeep};
 
 /// Where the facts begin, and requests that change nothing.
 pub fn beginning()
@@ -25,4 +25,9 @@ pub fn attempts()
 pub fn driver()
     ensures keep { DrivingKeeps }
     ensures clean { CleanGoes }
+{}
+
+/// The answers that are due.
+pub fn answers()
+    ensures fit { AnswersFit }
 {}

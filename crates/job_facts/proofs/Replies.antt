@@ -1,0 +1,137 @@
+-- The answers that are due, where the facts hold.
+use Rattle.std.proofs.Common.{◌≡◌, ℕ, suc, ◌+◌, ◌<◌, ◌≤◌, ◌^◌, ◌⊎◌, inl, inr, nat_lt, Bool, true, false, cond, List, [], ◌∷◌, map, length, slice_get, Option, Some, None, Result, Ok, Err, refl, sym, ap, subst, ◌∙◌, arith}
+use Rattle.std.specs.FinMap as fin
+use Rattle.std.specs.Option.{option_map}
+use Rattle.std.proofs.lemmas.Option.{slice_get_within}
+use Rattle.std.proofs.lemmas.Bool.{false≢true}
+use Rattle.s3_types.specs.Blocks.{named_from}
+use Rattle.s3_types.specs.Store.{Scene, Upload}
+use Rattle.s3_types.specs.Tags.{Spelled, plain_tag, joined_tag}
+use Rattle.s3_types.specs.Multipart.{live, with_key, joined, is_part_number}
+use Rattle.s3_types.specs.Answer.{answer, found, read_answer, part_answer, complete_answer}
+use Rattle.s3_types.specs.declared.object.Object.{Object}
+use Rattle.s3_types.specs.declared.request.NamedPart.{NamedPart}
+use Rattle.s3_types.specs.declared.request.Request.{Request}
+use Rattle.s3_types.specs.declared.request.Request.TheVariants.{GetObject, UploadPart, CompleteUpload, ClusterGet}
+use Rattle.s3_types.specs.declared.request.Committer.{Committer}
+use Rattle.s3_types.specs.declared.request.Committer.TheVariants.{Magic, Directory, Partitioned}
+use Rattle.s3_types.specs.declared.reply.Reply.{Reply}
+use Rattle.s3_types.specs.declared.reply.Reply.TheVariants.{Object as Found, Part, Completed, Refused, ClusterBytes}
+use Rattle.s3_types.specs.declared.reply.Refusal.TheVariants.{NoSuchKey, NoSuchFile, BadPartNumber}
+use Rattle.magic_paths.specs.Places.{RecordPlace, SetPlace, StagedSetPlace, key_at, path_at}
+use Rattle.pending_json.specs.Reading as reading
+use Rattle.job_model.specs.Files.{File}
+use Rattle.job_model.specs.Attempts.{Who}
+use Rattle.job_model.specs.Legal.{IsLegal}
+use Rattle.job_model.specs.JobScript.{Script}
+use Rattle.job_operations.specs.Outputs.{files}
+use Rattle.job_operations.specs.Knowledge.{Drawn, drawn_in}
+use Rattle.job_operations.specs.Records.{file_key, record_key, record_text, files_set}
+use Rattle.job_operations.specs.Uploading.{file_parts}
+use Rattle.job_operations.specs.JobCommits.{set_request, set_read, ok_set}
+use Rattle.job_promise.specs.Seen.{is_magic, is_staging}
+use Rattle.request_frame.specs.Members.{IsIn}
+use Rattle.request_frame.proofs.Members.{none_or_some, text_true, nat_true}
+use Rattle.job_facts.specs.Told.{Told}
+use Rattle.job_facts.specs.Stores.{at_key, at_id, at_path, at_place, sets_at, set_at}
+use Rattle.job_facts.specs.Facts.{IsAttempt, IsHeld, IsWritten, AreCommits, IsSet, Facts, knowing}
+use Rattle.job_facts.specs.Laws.{IsSetAnswer, SetAnswered}
+use Rattle.job_facts.proofs.Cut.{parts_few}
+use Rattle.job_facts.proofs.Joined.{held_joined}
+use Rattle.job_facts.proofs.Legible as legible
+use Rattle.job_facts.proofs.Legible.{drawn_is, written_tags}
+use Rattle.job_facts.proofs.Placed.{key_file}
+use Rattle.job_facts.proofs.Shapes.{key_before, id_before, answer_is}
+use Rattle.job_facts.proofs.Uploads.{number_fits}
+
+module _ {w : Script} {minimum : ℕ} {s : Scene} {last : ℕ → Option ℕ} {m : Told} (j : IsLegal w) (f : Facts w minimum s last m) where
+  -- ---- uploads
+
+  -- an upload that is known, and neither ended nor taken back, is held with the blocks of its file
+  pub held_of : (a : Who) (x : Drawn) (g : File) → IsIn x (m.drawn a) → IsIn g (files w a) → x.key ≡ file_key w g → m.ended x.upload ≡ false → m.undone a ≡ false → IsHeld w minimum (at_id w s.content) x g
+  held_of a x g i mine key e r =
+      let o = f.owned a x i in
+      subst (λ v. IsHeld w minimum (at_id w s.content) x v) (key_file j a o.file g o.mine mine (sym o.key ∙ key)) (o.held e r)
+
+  -- it is live with its key
+  held_live : (x : Drawn) (g : File) → (h : IsHeld w minimum (at_id w s.content) x g) → live f.there.0.uploads x.key x.upload ≡ Some (record { key = x.key; parts = h.parts })
+  held_live x g h =
+      ap (with_key x.key) (sym (id_before w s f.there.0 f.there.1 x.upload) ∙ h.stands)
+      ∙ ap (λ b. cond b (Some (record { key = x.key; parts = h.parts })) None) (text_true x.key x.key refl)
+
+  -- a part is taken
+  pub part_taken : (a : Who) (x : Drawn) (g : File) (bytes : List ℕ) → IsIn x (m.drawn a) → IsIn g (files w a) → x.key ≡ file_key w g → m.ended x.upload ≡ false → m.undone a ≡ false
+      → slice_get (file_parts w minimum g) (length x.tags) ≡ Some bytes → answer s (UploadPart w.dest.bucket x.key x.upload (length x.tags + 1) bytes) ≡ Part (plain_tag bytes)
+  part_taken a x g bytes i mine key e r block =
+      let h = held_of a x g i mine key e r in
+      let low : length x.tags < length (file_parts w minimum g) = slice_get_within _ _ _ block in
+      let few : length (file_parts w minimum g) ≤ 10000 = parts_few w minimum g in
+      answer_is w s f.there.0 f.there.1 (UploadPart w.dest.bucket x.key x.upload (length x.tags + 1) bytes) refl
+      ∙ ap (λ u. part_answer u (length x.tags + 1) bytes) (held_live x g h)
+      ∙ ap (λ b. cond b (Part (plain_tag bytes)) (Refused BadPartNumber)) (number_fits (length x.tags) (omega arith))
+
+  -- and an upload with all its parts is completed to its file
+  pub completed : (a : Who) (g : File) → IsIn g (files w a) → (x : IsWritten w minimum (m.drawn a) g) → m.ended x.drawn.upload ≡ false → m.undone a ≡ false
+      → answer s (CompleteUpload w.dest.bucket (file_key w g) x.drawn.upload (named_from 1 x.drawn.tags)) ≡ Completed (joined_tag (map (λ n. n.tag) (named_from 1 x.drawn.tags)))
+  completed a g mine x e r =
+      let h = held_of a x.drawn g x.known mine x.key e r in
+      let tags = (written_tags j f a g mine x).0 in
+      let whole = held_joined w minimum (at_id w s.content) x.drawn g h tags x.complete in
+      let least : s.content.minimum ≡ minimum = f.least in
+      ap (λ q. answer s (CompleteUpload w.dest.bucket q x.drawn.upload (named_from 1 x.drawn.tags))) (sym x.key)
+      ∙ answer_is w s f.there.0 f.there.1 (CompleteUpload w.dest.bucket x.drawn.key x.drawn.upload (named_from 1 x.drawn.tags)) refl
+      ∙ ap (λ u. complete_answer (named_from 1 x.drawn.tags) (joined u (named_from 1 x.drawn.tags) s.content.minimum)) (held_live x.drawn g h)
+      ∙ ap (λ n. complete_answer (named_from 1 x.drawn.tags) (joined (Some (record { key = x.drawn.key; parts = h.parts })) (named_from 1 x.drawn.tags) n)) least
+      ∙ ap (complete_answer (named_from 1 x.drawn.tags)) whole
+
+  -- ---- records
+
+  -- a record that is there is that of the upload which the attempt knows for the file
+  pub record_there : is_magic w.committer ≡ true → (a : Who) (g : File) → IsIn g (files w a)
+      → (answer s (GetObject w.dest.bucket (record_key w a g)) ≡ Refused NoSuchKey)
+      ⊎ ((header : Option ℕ) × (answer s (GetObject w.dest.bucket (record_key w a g)) ≡ Found (record_text w a g (drawn_in (m.drawn a) (file_key w g))) header))
+  record_there magic a g i =
+      let due : answer s (GetObject w.dest.bucket (record_key w a g)) ≡ found (at_key w s.content (record_key w a g)) = answer_is w s f.there.0 f.there.1 (GetObject w.dest.bucket (record_key w a g)) refl ∙ ap found (sym (key_before w s f.there.0 f.there.1 (record_key w a g))) in
+      elim (none_or_some (at_key w s.content (record_key w a g))) [
+        | inl none ↦ inl (due ∙ ap found none)
+        | inr x ↦
+            let r = f.records magic a g x.0 i x.1 in
+            let is : r.written.drawn ≡ drawn_in (m.drawn a) (file_key w g) = sym (ap (drawn_in (m.drawn a)) (sym r.written.key) ∙ drawn_is f a r.written.drawn r.written.known) in
+            inr (x.0.header, due ∙ ap found x.1 ∙ ap (λ b. Found b x.0.header) (r.bytes ∙ ap (record_text w a g) is))
+      ]
+
+  -- ---- sets
+
+  -- a set that is there is read as that of the last publisher
+  bytes_read : (few : s.content.next ≤ 2 ^ 64) (t : ℕ) (bytes : List ℕ) → t < w.tasks → (x : IsSet w minimum last m.publish_sent m.drawn t bytes) → reading.set_of bytes ≡ Ok (files_set w x.by x.commits (knowing (m.drawn x.by)))
+  bytes_read few t bytes lt x =
+      let d : IsAttempt w x.by = record { task = subst (λ n. n < w.tasks) (sym x.task) lt; attempt = x.number } in
+      ap reading.set_of x.text ∙ legible.set_read j f few x.by x.commits d x.are
+
+  staged : (t : ℕ) (o : Option (List ℕ)) → at_path w s (StagedSetPlace t) ≡ o → IsSetAnswer o (answer s (ClusterGet (path_at w.job (StagedSetPlace t))))
+  staged t None e = inr (ap read_answer e)
+  staged t (Some b) e = ap (λ x. set_read (read_answer x)) e
+
+  set_reply : (c : Committer) (t : ℕ) → ((o : Option (List ℕ)) → set_at c w s t ≡ o → IsSetAnswer o (answer s (set_request c w t)))
+  set_reply Magic t o e = by (at_place w s.content (SetPlace t)) o e due
+    where
+      due : answer s (set_request Magic w t) ≡ found (at_place w s.content (SetPlace t))
+      due = answer_is w s f.there.0 f.there.1 (set_request Magic w t) refl ∙ ap found (sym (key_before w s f.there.0 f.there.1 (key_at w.dest.key w.job (SetPlace t))))
+
+      by : (x : Option Object) (o : Option (List ℕ)) → option_map (λ y. y.bytes) x ≡ o → answer s (set_request Magic w t) ≡ found x → IsSetAnswer o (answer s (set_request Magic w t))
+      by None None e d = inl d
+      by None (Some b) e d = absurd cc
+      by (Some x) None e d = absurd cc
+      by (Some x) (Some b) e d = let same : x.bytes ≡ b = cc in ap set_read d ∙ ap (λ y. ok_set (reading.set_of y)) same
+  set_reply Directory t o e = staged t o e
+  set_reply Partitioned t o e = staged t o e
+
+  -- what the driver reads of a task's set: nothing where none stands, and else that of the last publisher
+  pub set_answered : (few : s.content.next ≤ 2 ^ 64) (t : ℕ) → t < w.tasks → SetAnswered w minimum s last m t
+  set_answered few t lt = by (sets_at w s t) refl
+    where
+      by : (o : Option (List ℕ)) → sets_at w s t ≡ o → SetAnswered w minimum s last m t
+      by None e = inl (set_reply w.committer t None e)
+      by (Some b) e =
+          let x = f.sets t b lt e in
+          inr (record { bytes = b; stands = e; set = x; is_read = set_reply w.committer t (Some b) e ∙ ap ok_set (bytes_read few t b lt x) })
