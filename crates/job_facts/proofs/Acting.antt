@@ -61,13 +61,17 @@ module _ (g : Setting) (j : IsLegal g.script) (k : Option ℕ) (s : Seen) (m : T
   operation_goes (TheSetup t) fits r e o honest = absurd fits
   operation_goes (TheWrite t) fits r e o honest = record {
     hold = write_keeps g.script g.minimum k s m a n j d h t.operation fits.1 r e o honest;
-    fits = (clean_now r o fits.0 (write_adds g.script a (known m a) t.operation r e),
-        subst (λ x. FitsWrite g.script g.minimum a x (step g.script.retries (write_after g.script g.minimum) t o).operation) (sym (known_now g.script m a r o)) (write_goes g.script g.minimum k s m a n j d h g.script.retries t.spare t.repeated t.operation fits.1 r e o honest));
+    fits = (
+      clean_now r o fits.0 (write_adds g.script a (known m a) t.operation r e),
+      subst (λ x. FitsWrite g.script g.minimum a x (step g.script.retries (write_after g.script g.minimum) t o).operation) (sym (known_now g.script m a r o)) (write_goes g.script g.minimum k s m a n j d h g.script.retries t.spare t.repeated t.operation fits.1 r e o honest),
+    );
   }
   operation_goes (TheTaskCommit t) fits r e o honest = record {
     hold = commit_keeps g.script g.minimum k s m a n j d fits.0 h t.operation fits.1 r e o honest;
-    fits = (clean_now r o fits.0 (commit_adds g.script a (known m a) t.operation r e),
-        subst (λ x. FitsCommit g.script g.minimum a x (step g.script.retries (task_commit_after g.script g.minimum a) t o).operation) (sym (known_now g.script m a r o)) (commit_goes g.script g.minimum k s m a n j d fits.0 h g.script.retries t.spare t.repeated t.operation fits.1 r e o honest));
+    fits = (
+      clean_now r o fits.0 (commit_adds g.script a (known m a) t.operation r e),
+      subst (λ x. FitsCommit g.script g.minimum a x (step g.script.retries (task_commit_after g.script g.minimum a) t o).operation) (sym (known_now g.script m a r o)) (commit_goes g.script g.minimum k s m a n j d fits.0 h g.script.retries t.spare t.repeated t.operation fits.1 r e o honest),
+    );
   }
   operation_goes (TheTaskAbort t) fits r e o honest = record {
     hold = abort_operation_keeps g.script g.minimum k s m a n j d h t.operation fits r e o honest;

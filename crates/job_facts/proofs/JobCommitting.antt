@@ -153,10 +153,15 @@ module _ {w : Script} (j : IsLegal w) where
   ]
 
   revert_drives : (ps : List Pending) → ((p : Pending) → IsIn p ps → Sound w p) → (worn : ℕ) (xs : List Turn) (finished : List ℕ) → AllDriving w (revert ps worn xs finished)
-  revert_drives ps h worn xs finished = (abort_drives (nth ps worn), (deletion_drives (nth ps worn) (nth_sound ps h worn),
+  revert_drives ps h worn xs finished = (
+    abort_drives (nth ps worn),
+    (
+      deletion_drives (nth ps worn) (nth_sound ps h worn),
       both_drive (undo (chosen (is_tried xs) 0 ps)) (map deletion (in_turn ps finished) ++ map abort (chosen (is_unsent worn xs finished) 0 ps))
-      (undo_drives (chosen (is_tried xs) 0 ps) (λ p i. h p (chosen_in (is_tried xs) 0 ps p i)))
-      (both_drive (map deletion (in_turn ps finished)) (map abort (chosen (is_unsent worn xs finished) 0 ps)) (deletions_drive (in_turn ps finished) (turns_sound ps h finished)) (aborts_drive (chosen (is_unsent worn xs finished) 0 ps)))))
+          (undo_drives (chosen (is_tried xs) 0 ps) (λ p i. h p (chosen_in (is_tried xs) 0 ps p i)))
+          (both_drive (map deletion (in_turn ps finished)) (map abort (chosen (is_unsent worn xs finished) 0 ps)) (deletions_drive (in_turn ps finished) (turns_sound ps h finished)) (aborts_drive (chosen (is_unsent worn xs finished) 0 ps))),
+    ),
+  )
 
   -- ---- the sets that the driver holds
 

@@ -110,9 +110,12 @@ is_attempt j a f i = let d = declared j a f i in record { task = d.task; attempt
 
 placed_apart : (u : Bool) (id : List ℕ) (job : is_job_id id ≡ true) (fs : List File) → ApartFiles fs → ApartFiles (placed u id fs)
 placed_apart u id job [] h = tt
-placed_apart u id job (f ∷ fs) h = (λ g i e.
-    let o = in_map (λ (x : File). let y : File = (path_of u id x.0, x.1) in y) g fs i in
-    h.0 o.0 o.1 (path_same u id f.0 o.0.0 job (e ∙ ap (λ (x : File). x.0) o.2)), placed_apart u id job fs h.1)
+placed_apart u id job (f ∷ fs) h = (
+  λ g i e.
+      let o = in_map (λ (x : File). let y : File = (path_of u id x.0, x.1) in y) g fs i in
+      h.0 o.0 o.1 (path_same u id f.0 o.0.0 job (e ∙ ap (λ (x : File). x.0) o.2)),
+  placed_apart u id job fs h.1,
+)
 
 apart_if : (fs : List File) → ((f : File) → IsIn f fs → AreFiles [] fs) → ApartFiles fs
 apart_if [] h = tt

@@ -143,9 +143,10 @@ module _ {w : Script} {minimum : ℕ} {s : Scene} {last : ℕ → Option ℕ} {m
       let o = f.owned a x.drawn x.known in
       let same : o.file ≡ g = key_file j a o.file g o.mine i (sym o.key ∙ x.key) in
       let P : File → Type 0 = λ v. length x.drawn.tags ≡ length (file_parts w minimum v) in
-      let all : length x.drawn.tags ≡ length (file_parts w minimum o.file) = subst P (sym same) x.complete in
-      (all_tags x.drawn (file_parts w minimum o.file) o.tags all ∙ ap (λ v. map plain_tag (file_parts w minimum v)) same,
-      all_sizes x.drawn (file_parts w minimum o.file) o.sizes all ∙ ap (λ v. map length (file_parts w minimum v)) same)
+      let all : length x.drawn.tags ≡ length (file_parts w minimum o.file) = subst P (sym same) x.complete in (
+        all_tags x.drawn (file_parts w minimum o.file) o.tags all ∙ ap (λ v. map plain_tag (file_parts w minimum v)) same,
+        all_sizes x.drawn (file_parts w minimum o.file) o.sizes all ∙ ap (λ v. map length (file_parts w minimum v)) same,
+      )
 
   module _ (few : s.content.next ≤ 2 ^ 64) where
     pub legal_record : (a : Who) (g : File) → IsIn g (files w a) → (x : IsWritten w minimum (m.drawn a) g) → IsPending (file_record w a g x.drawn)

@@ -1,0 +1,13 @@
+//! Walks over listings page by page, and sweeps, which list all keys below a prefix and then delete those
+//! that are to go: plain data that operations hold.
+#![tactic(auto)]
+
+mod key_test;
+mod key_walk;
+mod sweeping;
+mod upload_walk;
+
+pub use key_test::{AllBut, AllKeys, KeyTest};
+pub use key_walk::KeyWalk;
+pub use sweeping::Sweep;
+pub use upload_walk::UploadWalk;
