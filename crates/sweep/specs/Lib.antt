@@ -1,2 +1,4 @@
 pub mod Fitting
 pub mod Kept
+pub mod Left
+pub mod Laws

@@ -1,13 +1,15 @@
 //! Walks over listings page by page, and sweeps, which list all keys below a prefix and then delete those
-//! that are to go: plain data that operations hold.
+//! that are to go: plain data that operations hold, and what they have left among others that send.
 #![tactic(auto)]
 
 mod key_test;
 mod key_walk;
+mod laws;
 mod sweeping;
 mod upload_walk;
 
 pub use key_test::{AllBut, AllKeys, KeyTest};
 pub use key_walk::KeyWalk;
+pub use laws::{growth, sweeps_end, upload_walks_end, walks_end};
 pub use sweeping::Sweep;
 pub use upload_walk::UploadWalk;
