@@ -32,7 +32,8 @@ use Rattle.job_model.specs.declared.ends.CommitEnd.TheVariants as ends
 use Rattle.job_model.specs.declared.ends.Stage.TheVariants as stages
 use Rattle.job_model.proofs.PathBounds.{placed_open}
 use Rattle.job_operations.specs.Outputs.{files, same_path}
-use Rattle.job_operations.specs.Knowledge.{Drawn, drawn_for}
+use Rattle.job_model.specs.Known.{Drawn}
+use Rattle.job_operations.specs.Knowledge.{drawn_for}
 use Rattle.job_operations.specs.Records.{file_key, file_record, files_set, mark_text}
 use Rattle.job_operations.specs.Setup.{dest_prefix}
 use Rattle.job_operations.specs.Walks.{Sweep, Listing, Deleting, Walked, More, Whole, walked, sweep_start, sweep_asks, sweep_hears, deleting, page_after}

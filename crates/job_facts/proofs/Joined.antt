@@ -11,7 +11,7 @@ use Rattle.s3_types.specs.Multipart.{joined, rises, rises_from, is_sent, has_tag
 use Rattle.s3_types.specs.declared.request.NamedPart.{NamedPart}
 use Rattle.job_model.specs.Files.{File}
 use Rattle.job_model.specs.JobScript.{Script}
-use Rattle.job_operations.specs.Knowledge.{Drawn}
+use Rattle.job_model.specs.Known.{Drawn}
 use Rattle.job_operations.specs.Uploading.{file_parts}
 use Rattle.request_frame.proofs.Members.{some_is, nat_true, text_true}
 use Rattle.job_facts.specs.Facts.{IsHeld}

@@ -26,7 +26,8 @@ use Rattle.job_model.specs.Placed.{placed}
 use Rattle.job_model.specs.Legal.{IsLegal, bytes_of, bytes_in}
 use Rattle.job_model.specs.JobScript.{Script}
 use Rattle.job_operations.specs.Outputs.{files}
-use Rattle.job_operations.specs.Knowledge.{Drawn, drawn_in, drawn_for}
+use Rattle.job_model.specs.Known.{Drawn}
+use Rattle.job_operations.specs.Knowledge.{drawn_in, drawn_for}
 use Rattle.job_operations.specs.Records.{file_key, file_record, files_set}
 use Rattle.job_operations.specs.Uploading.{file_parts}
 use Rattle.s3_types.specs.Store.{Scene}

@@ -25,7 +25,8 @@ use Rattle.job_model.specs.Attempts.{Who}
 use Rattle.job_model.specs.Legal.{IsLegal}
 use Rattle.job_model.specs.JobScript.{Script}
 use Rattle.job_operations.specs.Outputs.{files}
-use Rattle.job_operations.specs.Knowledge.{Drawn, drawn_in}
+use Rattle.job_model.specs.Known.{Drawn}
+use Rattle.job_operations.specs.Knowledge.{drawn_in}
 use Rattle.job_operations.specs.Records.{file_key, record_key, record_text, files_set}
 use Rattle.job_operations.specs.Uploading.{file_parts}
 use Rattle.job_operations.specs.JobCommits.{set_request, set_read, ok_set}

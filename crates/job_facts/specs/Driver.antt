@@ -9,7 +9,7 @@ use Rattle.pending_json.specs.declared.records.PendingSet.{PendingSet}
 use Rattle.job_model.specs.Files.{File}
 use Rattle.job_model.specs.Attempts.{Who}
 use Rattle.job_model.specs.JobScript.{Script}
-use Rattle.job_operations.specs.Knowledge.{Drawn}
+use Rattle.job_model.specs.Known.{Drawn}
 use Rattle.job_operations.specs.Records.{files_set}
 use Rattle.job_operations.specs.JobCommits.{Sets, Commit, Fetching, Replacing, Completing, Marking, Reverting, CommitOver, is_no_magic}
 use Rattle.job_operations.specs.Setup.{dest_prefix}

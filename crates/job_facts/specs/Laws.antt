@@ -15,7 +15,8 @@ use Rattle.s3_types.specs.declared.reply.Refusal.TheVariants.{NoSuchKey, NoSuchF
 use Rattle.pending_json.specs.Reading as reading
 use Rattle.job_model.specs.Files.{File}
 use Rattle.job_operations.specs.Outputs.{files}
-use Rattle.job_operations.specs.Knowledge.{Drawn, drawn_in}
+use Rattle.job_model.specs.Known.{Drawn}
+use Rattle.job_operations.specs.Knowledge.{drawn_in}
 use Rattle.job_operations.specs.Records.{file_key, record_key, file_record, record_text, files_set}
 use Rattle.job_operations.specs.Uploading.{file_parts}
 use Rattle.job_operations.specs.JobCommits.{set_request, set_read, ok_set}
