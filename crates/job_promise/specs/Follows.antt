@@ -13,7 +13,7 @@ use Rattle.job_model.specs.Known.{Known}
 use Rattle.job_operations.specs.Knowledge.{knows}
 use Rattle.job_operations.specs.Operations.{Setting, Operation, Running, who, wants, advance, start_of, over}
 use Rattle.job_promise.specs.States.{Doing, past, refusal, after_event, open_event, told}
-use Rattle.job_promise.specs.Turns.{of_event, until, before, since, by_actor, is_busy, is_memory, Turns, IsRising, AllUpTo}
+use Rattle.job_promise.specs.Turns.{own, of_event, until, before, since, by_actor, is_busy, is_memory, Turns, OpenTurns, AllFrom, IsRising, AllUpTo}
 
 -- ---- an operation and its entries
 
@@ -64,14 +64,24 @@ pub record Obeyed (g : Setting) (before_it : List EventEnd) (journal : List Entr
 abbrev pub AllObeyed : Setting → List EventEnd → List Entry → Type 0
 AllObeyed g xs journal = (k : ℕ) (ev : Event) (end : EventEnd) → slice_get g.script.events k ≡ Some ev → slice_get xs k ≡ Some end → Obeyed g (take k xs) (until (k + 1) journal) ev end
 
--- the event that has begun and has no end yet: its entries follow the operations as far as they go
+-- Of the event that has begun and has no end yet, by the ends before it.
+pub record Going (g : Setting) (xs : List EventEnd) (journal : List Entry) (ev : Event) : Type 0 where
+  -- each operation has sent what is asked next, as far as it went
+  pub follow : (a : Actor) (d : Doing) → (open_event g.script (past g.script xs) ev).doing a ≡ Some d → OpFollows g a d (by_actor a journal)
+  -- its entries are by turns, and it has none where it is to be refused
+  pub turns : refusal (past g.script xs).state ev ≡ None → OpenTurns g.script (past g.script xs).state ev (of_event (length xs + 1) journal)
+  pub silent : (f : EventFault) → refusal (past g.script xs).state ev ≡ Some f → of_event (length xs + 1) journal ≡ []
+
 abbrev pub IsUnended : Setting → List EventEnd → List Entry → Type 0
-IsUnended g xs journal = (ev : Event) → slice_get g.script.events (length xs) ≡ Some ev → (a : Actor) (d : Doing) → (open_event g.script (past g.script xs) ev).doing a ≡ Some d → OpFollows g a d (by_actor a journal)
+IsUnended g xs journal = (ev : Event) → slice_get g.script.events (length xs) ≡ Some ev → Going g xs journal ev
 
 -- What ties a journal and ends to a script, where the store's least size of a part is given
 pub record Plays (g : Setting) (xs : List EventEnd) (journal : List Entry) : Type 0 where
   pub obeyed : AllObeyed g xs journal
   pub unended : IsUnended g xs journal
+  -- the job has no entry outside its events, which are numbered from 1
+  pub numbered : AllFrom 1 (own journal)
+  pub none : slice_get g.script.events (length xs) ≡ None → of_event (length xs + 1) journal ≡ []
   -- the events of the entries never fall, and none is of a later event
   pub rising : IsRising journal
   pub past : AllUpTo (length xs + 1) journal

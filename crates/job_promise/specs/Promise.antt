@@ -73,9 +73,9 @@ TasksEnd w opening journal xs = AreOwn journal → (j t a : ℕ) (d : Doing) (e 
     → (e ≡ tasks.NoMemory) ⊎ ((worn : Option Request) × WornFirst w.retries es worn
     × TaskIs d.op w (known_then (setting w opening) (Attempt t a) d (by_actor (Attempt t a) journal)).publish_sent (has_cleaned (until (j + 1) journal)) worn e)
 
--- an attempt's commit that ended Done before the driver's abort or clean has begun has published
+-- an attempt's commit that ended Done before the driver's abort or clean has begun has published, where no stranger sends
 abbrev pub Publishes : Script → Content → List Entry → List EventEnd → Type 0
-Publishes w opening journal xs = (j t a : ℕ) (d : Doing) (es : List Entry) → EndedIn w xs journal j (Attempt t a) d (ends.Task tasks.Done) es → d.op ≡ ops.Commit
+Publishes w opening journal xs = AreOwn journal → (j t a : ℕ) (d : Doing) (es : List Entry) → EndedIn w xs journal j (Attempt t a) d (ends.Task tasks.Done) es → d.op ≡ ops.Commit
     → has_cleaned (until (j + 1) journal) ≡ false → WasPublished w opening journal t a (j + 1)
 
 -- the driver's abort or clean; where it is Done and nobody else has sent since it began, nothing is left and nothing was hidden
@@ -84,9 +84,9 @@ CleansEnd w opening journal xs = (j : ℕ) (d : Doing) (e : CleanEnd) (es : List
     → ((e ≡ cleans.NoMemory) ⊎ ((worn : Option Request) × WornFirst w.retries es worn × CleanIs worn e))
     × (e ≡ cleans.Done → AllBy Driver (since d.since (until (j + 1) journal)) → Cleaned w (moment opening journal (length (before d.since journal))) (moment opening journal (length (until (j + 1) journal))))
 
--- the driver's commit: the end that is due, and what it leaves
+-- the driver's commit, where no stranger sends: the end that is due, and what it leaves
 pub record CommitEnds (w : Script) (opening : Content) (journal : List Entry) (xs : List EventEnd) (j : ℕ) (d : Doing) (e : CommitEnd) (es : List Entry) : Type 0 where
-  pub due : CommitEnded w (seen_until w opening journal xs (j + 1)) d.missing es e
+  pub due : AreOwn journal → CommitEnded w (seen_until w opening journal xs (j + 1)) d.missing es e
   -- where it ended Committed its marker stands
   pub marked : e ≡ commits.Committed → AreOwn journal → is_marked w (seen_until w opening journal xs (j + 1)) ≡ true
   -- before anything was deleted or completed the destination shows its opening files, at each moment of the run

@@ -6,7 +6,7 @@ use Rattle.s3_types.specs.declared.request.Actor.TheVariants.{Driver, Attempt, S
 use Rattle.s3_types.specs.declared.journal.Entry.{Entry}
 use Rattle.job_model.specs.JobScript.{Script}
 use Rattle.job_model.specs.declared.events.Event.{Event}
-use Rattle.job_model.specs.declared.events.Event.TheVariants.{Do, Start, Step, Run, Kill, Mix, Restart}
+use Rattle.job_model.specs.declared.events.Event.TheVariants.{Do, Start, Step, Run, Kill, Mix, Restart, Recover}
 use Rattle.job_model.specs.declared.ends.OpEnd.{OpEnd}
 use Rattle.job_model.specs.declared.ends.OpEnd.TheVariants as ends
 use Rattle.job_model.specs.declared.ends.TaskEnd.TheVariants as tasks
@@ -115,6 +115,17 @@ Turns w st (Kill a) Done es = es ≡ []
 Turns w st (Mix seed) (Mixed xs) es = Mixing seed (busy_actors w st) es xs []
 Turns w st Restart Done es = es ≡ []
 Turns w st ev end es = ⊥
+
+-- which entries an event has that has begun and has no end yet, by the states before it
+abbrev pub OpenTurns : Script → (Actor → ActorState) → Event → List Entry → Type 0
+OpenTurns w st (Do a op) es = AllBy a es
+OpenTurns w st (Start a op) es = es ≡ []
+OpenTurns w st (Step a n) es = AllBy a es × (length es ≤ n)
+OpenTurns w st (Run a) es = AllBy a es
+OpenTurns w st (Kill a) es = es ≡ []
+OpenTurns w st (Mix seed) es = (xs : List ActorEnd) × (busy : List Actor) × Mixing seed (busy_actors w st) es xs busy
+OpenTurns w st Restart es = es ≡ []
+OpenTurns w st (Recover a) es = es ≡ []
 
 -- the events of the entries never fall
 abbrev pub AllFrom : ℕ → List Entry → Type 0

@@ -13,3 +13,4 @@ mod OneMoments
 mod OnePlays
 mod OneEnds
 mod LostMarks
+mod StrayEntries

@@ -152,19 +152,19 @@ unfolding digits
 the_published = record { m = 9; entry = the_publishing; is_entry = refl; by = refl; until = omega arith; effective = refl; publishes = refl }
 
 publishes : Publishes script opening journal the_ends
-publishes zero t a d es h op c = let k : ends.Setup setups.Done ≡ ends.Task tasks.Done = (ended_at 0 Driver ops.Setup (ends.Setup setups.Done) refl refl (Attempt t a) d (ends.Task tasks.Done) es h).end_is in absurd (cc)
-publishes (suc zero) t a d es h op c =
+publishes own zero t a d es h op c = let k : ends.Setup setups.Done ≡ ends.Task tasks.Done = (ended_at 0 Driver ops.Setup (ends.Setup setups.Done) refl refl (Attempt t a) d (ends.Task tasks.Done) es h).end_is in absurd (cc)
+publishes own (suc zero) t a d es h op c =
     let w = ended_at 1 worker ops.Write (ends.Task tasks.Done) refl refl (Attempt t a) d (ends.Task tasks.Done) es h in
     let k : ops.Write ≡ ops.Commit = ap (λ (x : Doing). x.op) (same_some write_doing d w.doing) ∙ op in
     absurd (cc)
-publishes (suc (suc zero)) t a d es h op c =
+publishes own (suc (suc zero)) t a d es h op c =
     let w = ended_at 2 worker ops.Commit (ends.Task tasks.Done) refl refl (Attempt t a) d (ends.Task tasks.Done) es h in
     let k : worker ≡ Attempt t a = w.actor in
     let x : 0 ≡ t = cc in
     let y : 0 ≡ a = cc in
     subst (λ (p : ℕ × ℕ). WasPublished script opening journal p.0 p.1 3) (λ i. (x i, y i)) the_published
-publishes (suc (suc (suc zero))) t a d es h op c = let k : ends.Commit commits.Committed ≡ ends.Task tasks.Done = (ended_at 3 Driver ops.Commit (ends.Commit commits.Committed) refl refl (Attempt t a) d (ends.Task tasks.Done) es h).end_is in absurd (cc)
-publishes (suc (suc (suc (suc j)))) t a d es h op c = no_event j (Attempt t a) d (ends.Task tasks.Done) es h
+publishes own (suc (suc (suc zero))) t a d es h op c = let k : ends.Commit commits.Committed ≡ ends.Task tasks.Done = (ended_at 3 Driver ops.Commit (ends.Commit commits.Committed) refl refl (Attempt t a) d (ends.Task tasks.Done) es h).end_is in absurd (cc)
+publishes own (suc (suc (suc (suc j)))) t a d es h op c = no_event j (Attempt t a) d (ends.Task tasks.Done) es h
 
 -- ---- no clean
 
@@ -202,7 +202,7 @@ commit_worn = refl
 commit_so : (es : List Entry) → es ≡ since 4 (by_actor Driver (until 4 journal)) → CommitEnds script opening journal the_ends 3 commit_doing commits.Committed es
 unfolding digits
 commit_so es g = record {
-  due = record {
+  due = λ own. record {
     worn = None;
     first = worn_none es (since 4 (by_actor Driver (until 4 journal))) commit_worn g;
     due = inr refl;

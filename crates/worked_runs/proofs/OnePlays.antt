@@ -22,7 +22,7 @@ use Rattle.job_model.specs.declared.ends.EventEnd.{EventEnd}
 use Rattle.job_model.specs.declared.ends.EventEnd.TheVariants.{Ended}
 use Rattle.job_operations.specs.Operations.{Setting}
 use Rattle.job_promise.specs.States.{Doing, past, after_event}
-use Rattle.job_promise.specs.Turns.{until, by_actor, is_busy, is_memory, AllFrom, IsRising, AllUpTo}
+use Rattle.job_promise.specs.Turns.{own, until, by_actor, is_busy, is_memory, AllFrom, IsRising, AllUpTo}
 use Rattle.job_promise.specs.Follows.{OpFollows, op_over, Obeyed, AllObeyed, Plays}
 use Rattle.worked_runs.specs.Jobs.{worker}
 use Rattle.worked_runs.specs.OneFile.{script, setting, doing, journal, OneFileRuns}
@@ -204,6 +204,8 @@ pub plays : Plays setting the_ends journal
 plays = record {
   obeyed = all_obeyed;
   unended = λ ev e. absurd (cc);
+  numbered = from_all 1 (own journal) refl;
+  none = λ e. refl;
   rising = rising journal refl;
   past = up_to 5 journal refl;
 }

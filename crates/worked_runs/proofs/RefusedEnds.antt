@@ -66,7 +66,7 @@ not_due None (inr e) = cc
 not_due (Some r) (inr e) = cc
 
 anew_in : CommitsEnd anew_script opening [] anew_ends → ⊥
-anew_in h = let d = (h 5 anew_doing (commits.Missing 0) [] anew_ended).due in not_due d.worn d.due
+anew_in h = let d = (h 5 anew_doing (commits.Missing 0) [] anew_ended).due tt in not_due d.worn d.due
 
 -- ---- a revert
 

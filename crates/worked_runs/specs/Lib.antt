@@ -8,3 +8,4 @@ pub mod Refused
 pub mod RefusedEnds
 pub mod OneFinished
 pub mod LostMark
+pub mod Strays

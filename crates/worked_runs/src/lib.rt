@@ -9,6 +9,7 @@ ghost use Rattle.worked_runs.specs.LostMark.{LostMark};
 ghost use Rattle.worked_runs.specs.Lanes.{LanesRun};
 ghost use Rattle.worked_runs.specs.Refused.{Misshown, MisshownRuns};
 ghost use Rattle.worked_runs.specs.RefusedEnds.{Misended};
+ghost use Rattle.worked_runs.specs.Strays.{StraysAreRefused};
 ghost use Rattle.worked_runs.specs.Modes.{SetupsRun, StagingRuns, DriversRun};
 
 /// Verdicts on runs, and drivers that are restarted.
@@ -50,4 +51,9 @@ pub fn misended()
 /// One attempt with one file, where the replies to the last put are lost.
 pub fn lost_mark()
     ensures { LostMark }
+{}
+
+/// Entries that are nobody's turn.
+pub fn strays()
+    ensures { StraysAreRefused }
 {}
