@@ -56,7 +56,7 @@ module _ (w : Script) (minimum : ℕ) (a : Who) (j : IsLegal w) where
   fits_storing k [] staging free t = (staging, all_commits w minimum a j k.drawn (todo_none w minimum a k.drawn t))
   fits_storing k (f ∷ fs) staging free t = (staging, free, t)
 
-  fits_checking : (k : Known) (ds : List (List ℕ)) → is_staging w.committer ≡ true → IsOpen k → Todo w minimum a k.drawn (files w a) → FitsCommit w minimum a k (checking w a ds)
+  pub fits_checking : (k : Known) (ds : List (List ℕ)) → is_staging w.committer ≡ true → IsOpen k → Todo w minimum a k.drawn (files w a) → FitsCommit w minimum a k (checking w a ds)
   fits_checking k [] staging free t = fits_storing k (files w a) staging free t
   fits_checking k (d ∷ ds) staging free t = (staging, free, t)
 

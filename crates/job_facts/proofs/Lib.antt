@@ -28,3 +28,5 @@ pub mod Joined
 pub mod Legible
 pub mod Replies
 pub mod JobCommitting
+pub mod Beside
+pub mod Learnt

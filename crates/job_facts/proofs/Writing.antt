@@ -41,7 +41,7 @@ wrote_magic Directory w minimum a ds h all = absurd (false≢true h)
 wrote_magic Partitioned w minimum a ds h all = absurd (false≢true h)
 
 module _ (w : Script) (minimum : ℕ) (a : Who) where
-  fits_writing : (k : Known) (fs : List File) → is_magic w.committer ≡ true → IsOpen k → Todo w minimum a k.drawn fs → FitsWrite w minimum a k (writing fs)
+  pub fits_writing : (k : Known) (fs : List File) → is_magic w.committer ≡ true → IsOpen k → Todo w minimum a k.drawn fs → FitsWrite w minimum a k (writing fs)
   fits_writing k [] magic free t = λ e. (free, wrote_magic w.committer w minimum a k.drawn magic (todo_none w minimum a k.drawn t))
   fits_writing k (f ∷ fs) magic free t = (magic, free, t)
 

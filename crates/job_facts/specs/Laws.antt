@@ -1,5 +1,5 @@
 -- The laws of this crate.
-use Rattle.std.specs.Prelude.{◌≡◌, ℕ, ◌+◌, ◌<◌, ◌≤◌, ◌^◌, ◌⊎◌, true, false, List, map, length, slice_get, Option, Some, None, Ok}
+use Rattle.std.specs.Prelude.{◌≡◌, ℕ, ◌+◌, ◌<◌, ◌≤◌, ◌^◌, ◌⊎◌, true, false, List, [], map, length, slice_get, Option, Some, None, Ok}
 use Rattle.std.specs.FinMap as fin
 use Rattle.s3_types.specs.Store.{Scene, Upload}
 use Rattle.s3_types.specs.Pages.{begins}
@@ -15,11 +15,15 @@ use Rattle.s3_types.specs.declared.reply.Refusal.TheVariants.{NoSuchKey, NoSuchF
 use Rattle.pending_json.specs.Reading as reading
 use Rattle.job_model.specs.Files.{File}
 use Rattle.job_operations.specs.Outputs.{files}
-use Rattle.job_model.specs.Known.{Drawn}
-use Rattle.job_operations.specs.Knowledge.{drawn_in}
+use Rattle.job_model.specs.Known.{Drawn, Known}
+use Rattle.job_operations.specs.Knowledge.{knows, drawn_in}
 use Rattle.job_operations.specs.Records.{file_key, record_key, file_record, record_text, files_set}
 use Rattle.job_operations.specs.Uploading.{file_parts}
-use Rattle.job_operations.specs.JobCommits.{set_request, set_read, ok_set}
+use Rattle.job_model.specs.declared.ends.TaskEnd.TheVariants as tasks
+use Rattle.job_operations.specs.Writes.{WriteOver, write_start}
+use Rattle.job_operations.specs.TaskCommits.{task_commit_start}
+use Rattle.job_operations.specs.TaskAborts.{task_abort_start}
+use Rattle.job_operations.specs.JobCommits.{Commit, commit_start, commit_asks, commit_tells, set_request, set_read, ok_set}
 use Rattle.request_frame.specs.Members.{IsIn}
 use Rattle.sendings.specs.Retries.{Retried, step}
 use Rattle.request_frame.specs.Held.{HasBucket}
@@ -28,20 +32,29 @@ use Rattle.s3_types.specs.Moment.{IsHonestOutcome}
 use Rattle.s3_types.specs.Answer.{answer}
 use Rattle.s3_types.specs.declared.request.Request.{Request}
 use Rattle.s3_types.specs.declared.journal.Outcome.{Outcome}
-use Rattle.job_model.specs.Attempts.{Who}
+use Rattle.job_model.specs.Attempts.{Who, actor_of}
 use Rattle.job_model.specs.Legal.{IsLegal}
 use Rattle.job_model.specs.JobScript.{Script}
 use Rattle.job_operations.specs.View.{view}
 use Rattle.job_operations.specs.Cleanups.{Clean, clean_asks, clean_after}
 use Rattle.job_operations.specs.Operations.{Setting, Operation, asks, tells}
+use Rattle.job_promise.specs.Ends.{has_cleaned}
+use Rattle.job_promise.specs.Turns.{by_actor}
 use Rattle.job_promise.specs.Headline.{Same}
 use Rattle.job_promise.specs.Seen.{Seen, see, is_magic, is_staging}
-use Rattle.job_facts.specs.Told.{Told, known, undoes, nothing_told, tell, entry, driver_entry, strange_entry}
+use Rattle.job_facts.specs.Told.{Told, known, undoes, nothing_told, tell, tell_all, entry, driver_entry, strange_entry}
 use Rattle.job_facts.specs.Stores.{at_key, at_id, sets_at}
 use Rattle.job_facts.specs.Foreign.{IsForeign, IsDriving, IsOwn}
 use Rattle.job_facts.specs.Facts.{IsAttempt, IsWritten, IsSet, Facts, Hold, knowing}
-use Rattle.job_facts.specs.Fits.{Fits}
-use Rattle.job_facts.specs.Driver.{FitsClean}
+use Rattle.job_facts.specs.Fits.{IsOpen, Fits, FitsWrite, FitsCommit, FitsAbort}
+use Rattle.job_facts.specs.Driver.{FitsClean, FitsJobCommit}
+
+-- ---- what is told
+
+-- of an attempt it is what the attempt knows by its own entries, and of a clean that the driver has listed live uploads
+pub record ToldIsSaid : Type 0 where
+  pub known : (w : Script) (a : Who) (es : List Entry) → known (tell_all w nothing_told es) a ≡ knows w a (by_actor (actor_of a) es)
+  pub cleaned : (w : Script) (es : List Entry) → (tell_all w nothing_told es).cleaned ≡ has_cleaned es
 
 -- ---- the beginning, and what changes nothing
 
@@ -79,6 +92,12 @@ AttemptGoes = (g : Setting) → IsLegal g.script → (k : Option ℕ) (s : Seen)
     → (op : Operation) → Fits g.script g.minimum a m op → (r : Request) → asks g a (known m a) op ≡ Some r → (o : Outcome) → IsHonestOutcome o (answer s.scene r)
     → Goes g k s m a n r o (tells g a op o)
 
+-- its operations fit as they begin: a write where it knows nothing, a commit where its write is done, and an abort
+pub record AttemptBegins : Type 0 where
+  pub write : (g : Setting) → IsLegal g.script → (m : Told) (a : Who) → m.drawn a ≡ [] → IsOpen (known m a) → FitsWrite g.script g.minimum a (known m a) (write_start g.script a)
+  pub commit : (g : Setting) → IsLegal g.script → (m : Told) (a : Who) → FitsWrite g.script g.minimum a (known m a) (WriteOver tasks.Done) → FitsCommit g.script g.minimum a (known m a) (task_commit_start g.script a)
+  pub abort : (w : Script) (a : Who) (k : Known) → FitsAbort w a k (task_abort_start w k)
+
 -- it names only what is its own, takes nothing back once it has sent its publishing request, and no reader of the destination sees it
 pub record AttemptNames : Type 0 where
   pub own : (g : Setting) → IsLegal g.script → (m : Told) (a : Who) → IsAttempt g.script a → (op : Operation) → Fits g.script g.minimum a m op → (r : Request) → asks g a (known m a) op ≡ Some r → IsOwn g.script (m.drawn a) r
@@ -101,6 +120,21 @@ abbrev pub CleanGoes : Type 0
 CleanGoes = (g : Setting) → IsLegal g.script → (k : Option ℕ) (s : Seen) (m : Told) (n : ℕ) → Hold g.script g.minimum s m
     → (t : Retried Clean) → FitsClean g.script m.cleaned t.operation → (r : Request) → clean_asks g.script t.operation ≡ Some r → (o : Outcome) → IsHonestOutcome o (answer s.scene r)
     → Cleans g k s m n r o (step g.script.retries (clean_after g.script) t o)
+
+-- after an entry of its commit the facts hold, and it holds the sets as it read them and has come as far as it says
+pub record Commits (g : Setting) (k : Option ℕ) (s : Seen) (m : Told) (n : ℕ) (r : Request) (o : Outcome) (c : Commit) : Type 0 where
+  pub hold : Hold g.script g.minimum (see g.script k s (driver_entry n r o)) (tell g.script m (driver_entry n r o))
+  pub fits : FitsJobCommit g.script g.minimum (tell g.script m (driver_entry n r o)).publish_sent (tell g.script m (driver_entry n r o)).drawn c
+
+-- its commit, for every committer and every number of lanes
+pub record CommitGoes : Type 0 where
+  pub begins : (w : Script) (minimum : ℕ) → IsLegal w → (m : Told) (missing : Option ℕ) → FitsJobCommit w minimum m.publish_sent m.drawn (commit_start w missing)
+  pub goes : (g : Setting) → IsLegal g.script → (k : Option ℕ) (s : Seen) (m : Told) (n : ℕ) → Hold g.script g.minimum s m → s.scene.content.next ≤ 2 ^ 64
+      → (c : Commit) → FitsJobCommit g.script g.minimum m.publish_sent m.drawn c → (r : Request) → commit_asks g.script c ≡ Some r → (o : Outcome) → IsHonestOutcome o (answer s.scene r)
+      → Commits g k s m n r o (commit_tells g.script c o)
+  -- what an attempt sends leaves it as it is
+  pub beside : (g : Setting) (m : Told) (a : Who) (op : Operation) → Fits g.script g.minimum a m op → (r : Request) → asks g a (known m a) op ≡ Some r → (n : ℕ) (o : Outcome)
+      → let now = tell g.script m (entry a n r o) in (c : Commit) → FitsJobCommit g.script g.minimum m.publish_sent m.drawn c → FitsJobCommit g.script g.minimum now.publish_sent now.drawn c
 
 -- ---- answers that are due
 

@@ -2,10 +2,11 @@
 //! two requests, in `specs/`: kept by every request of the job and by every stranger's.
 #![tactic(auto)]
 
-ghost use Rattle.job_facts.specs.Laws.{AnswersFit, AttemptGoes, AttemptNames, CleanGoes, DrivingKeeps, FactsBegin, ForeignKeeps, ReadsKeep};
+ghost use Rattle.job_facts.specs.Laws.{AnswersFit, AttemptBegins, AttemptGoes, AttemptNames, CleanGoes, CommitGoes, DrivingKeeps, FactsBegin, ForeignKeeps, ReadsKeep, ToldIsSaid};
 
-/// Where the facts begin, and requests that change nothing.
+/// What is told of a journal, where the facts begin, and requests that change nothing.
 pub fn beginning()
+    ensures told { ToldIsSaid }
     ensures begins { FactsBegin }
     ensures reads { ReadsKeep }
 {}
@@ -17,13 +18,15 @@ pub fn strangers()
 
 /// An attempt's operations.
 pub fn attempts()
+    ensures begins { AttemptBegins }
     ensures goes { AttemptGoes }
     ensures names { AttemptNames }
 {}
 
-/// The driver's requests once its set-up is done, and its abort or clean of the job.
+/// The driver's requests once its set-up is done: its commit, and its abort or clean of the job.
 pub fn driver()
     ensures keep { DrivingKeeps }
+    ensures commit { CommitGoes }
     ensures clean { CleanGoes }
 {}
 
