@@ -1,11 +1,10 @@
 -- An attempt's abort of its task keeps the facts with each of its requests, whatever becomes of it, and goes on as it should.
-use Rattle.std.proofs.Common.{◌≡◌, ℕ, zero, suc, inl, inr, nat_lt, Bool, true, false, cond, List, [], ◌∷◌, ◌++◌, map, take, drop, length, Option, Some, None, refl, sym, ap, subst, ◌∙◌}
+use Rattle.std.proofs.Common.{◌≡◌, ℕ, zero, suc, inl, inr, nat_lt, Bool, true, false, List, [], ◌∷◌, ◌++◌, take, drop, length, Option, Some, refl, sym, subst, ◌∙◌}
 use Rattle.std.specs.List.{filter}
-use Rattle.s3_types.specs.Pages.{begins, text_in, listed}
+use Rattle.s3_types.specs.Pages.{listed}
 use Rattle.s3_types.specs.Answer.{answer}
 use Rattle.s3_types.specs.Moment.{IsHonestOutcome}
 use Rattle.s3_types.specs.declared.request.Request.{Request}
-use Rattle.s3_types.specs.declared.request.Request.TheVariants.{AbortUpload, DeleteObjects, ClusterDelete}
 use Rattle.s3_types.specs.declared.request.Committer.{Committer}
 use Rattle.s3_types.specs.declared.request.Committer.TheVariants.{Magic, Directory, Partitioned}
 use Rattle.s3_types.specs.declared.reply.Reply.{Reply}
@@ -13,7 +12,7 @@ use Rattle.s3_types.specs.declared.reply.Reply.TheVariants.{Page}
 use Rattle.s3_types.specs.declared.reply.PageEntry.{PageEntry}
 use Rattle.s3_types.specs.declared.journal.Outcome.{Outcome}
 use Rattle.s3_types.specs.declared.journal.Outcome.TheVariants.{Answered}
-use Rattle.sendings.specs.Retries.{Retried, Got, WornOut, step}
+use Rattle.sendings.specs.Retries.{Retried, step}
 use Rattle.job_model.specs.Attempts.{Who}
 use Rattle.job_model.specs.Legal.{IsLegal}
 use Rattle.job_model.specs.JobScript.{Script}
@@ -21,8 +20,8 @@ use Rattle.job_model.specs.declared.ends.TaskEnd.{TaskEnd}
 use Rattle.job_model.specs.declared.ends.TaskEnd.TheVariants as tasks
 use Rattle.job_model.specs.Known.{Drawn, Known}
 use Rattle.job_operations.specs.Knowledge.{learn, as_made}
-use Rattle.job_operations.specs.Walks.{Sweep, Listing, Deleting, Walked, walked, walked_by, keys_on, last_of, page_after, deleting, swept, sweep_asks, sweep_hears, all_go}
-use Rattle.job_operations.specs.TaskCommits.{attempt_prefix, temporary_path}
+use Rattle.job_operations.specs.Walks.{Listing, Deleting, walked, walked_by, keys_on, last_of, page_after, deleting, swept, all_go}
+use Rattle.job_operations.specs.TaskCommits.{attempt_prefix}
 use Rattle.job_operations.specs.TaskAborts.{TaskAbort, Dropping, Sweeping, Removing, TaskAbortOver, task_abort_asks, task_abort_after, task_abort_hears, task_abort_start, task_abort_by, removing, dropped, dropping, sweeping}
 use Rattle.job_promise.specs.Seen.{Seen, see}
 use Rattle.request_frame.specs.Members.{IsIn}
@@ -30,7 +29,7 @@ use Rattle.request_frame.proofs.Members.{some_is, false_true, in_append, in_filt
 use Rattle.request_frame.proofs.Flat.{page_begins}
 use Rattle.job_facts.specs.Told.{Told, known, entry, tell}
 use Rattle.job_facts.specs.Facts.{IsAttempt, Hold}
-use Rattle.job_facts.specs.Fits.{AllOwn, FitsSweep, FitsAbort}
+use Rattle.job_facts.specs.Fits.{AllOwn, FitsAbort}
 use Rattle.job_facts.proofs.Shapes.{answer_is}
 use Rattle.job_facts.proofs.Sent.{read_keeps}
 use Rattle.job_facts.proofs.Undone.{abort_keeps, delete_keeps, remove_keeps}

@@ -1,18 +1,18 @@
 -- Operations as they begin; and what an attempt sends leaves the driver's commit as it is.
-use Rattle.std.proofs.Common.{◌≡◌, ℕ, inl, inr, ◌<◌, ◌||◌, Bool, true, false, List, [], ◌∷◌, length, slice_get, Option, Some, None, refl, sym, ap, subst, ◌∙◌}
+use Rattle.std.proofs.Common.{◌≡◌, ℕ, inl, inr, ◌||◌, true, List, [], Option, Some, None, refl, sym, ap, subst, ◌∙◌}
 use Rattle.s3_types.specs.declared.request.Request.{Request}
 use Rattle.s3_types.specs.declared.request.Request.TheVariants.{PutObject, ClusterRename}
 use Rattle.s3_types.specs.declared.request.Committer.{Committer}
 use Rattle.s3_types.specs.declared.request.Committer.TheVariants.{Magic, Directory, Partitioned}
 use Rattle.s3_types.specs.declared.journal.Outcome.{Outcome}
-use Rattle.job_model.specs.Files.{File}
 use Rattle.job_model.specs.Attempts.{Who}
 use Rattle.job_model.specs.Legal.{IsLegal}
 use Rattle.job_model.specs.JobScript.{Script}
 use Rattle.job_model.specs.declared.ends.TaskEnd.TheVariants as tasks
 use Rattle.pending_json.specs.declared.records.PendingSet.{PendingSet}
 use Rattle.job_operations.specs.Outputs.{files}
-use Rattle.job_operations.specs.Knowledge.{Drawn, Known, learn, is_set_key}
+use Rattle.job_model.specs.Known.{Drawn, Known}
+use Rattle.job_operations.specs.Knowledge.{learn, is_set_key}
 use Rattle.job_operations.specs.Records.{files_set}
 use Rattle.job_operations.specs.Walks.{Listing, Deleting}
 use Rattle.job_operations.specs.Writes.{Write, Marking, Recording, WriteOver, write_start_by, write_start, write_asks}
@@ -27,7 +27,7 @@ use Rattle.request_frame.specs.Members.{IsIn}
 use Rattle.request_frame.proofs.Members.{some_is, none_some, false_true}
 use Rattle.job_facts.specs.Told.{Told, known, tell_attempt}
 use Rattle.job_facts.specs.Facts.{AreCommits, knowing}
-use Rattle.job_facts.specs.Fits.{Todo, IsOpen, Wrote, Fits, FitsWrite, FitsCommit, FitsAbort}
+use Rattle.job_facts.specs.Fits.{Todo, IsOpen, Wrote, Fits, FitsWrite, FitsCommit}
 use Rattle.job_facts.specs.Driver.{IsHeldSet, Reads, FitsJobCommit}
 use Rattle.job_facts.proofs.Whose.{same_or_another, who_here, who_other}
 use Rattle.job_facts.proofs.Legal.{files_apart}

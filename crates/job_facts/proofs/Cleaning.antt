@@ -1,47 +1,44 @@
 -- The driver's abort or clean of the job keeps the facts with each of its requests, goes on as it should, and no reader of the destination sees it.
-use Rattle.std.proofs.Common.{◌≡◌, ℕ, zero, suc, inl, inr, nat_lt, ◌||◌, ◌&&◌, Bool, true, false, cond, List, [], ◌∷◌, ◌++◌, map, take, drop, length, Option, Some, None, refl, sym, ap, subst, ◌∙◌}
+use Rattle.std.proofs.Common.{◌≡◌, ℕ, zero, suc, inl, inr, nat_lt, ◌||◌, Bool, true, false, List, [], ◌∷◌, ◌++◌, take, drop, length, Option, Some, None, refl, sym, ap, subst, ◌∙◌}
 use Rattle.std.specs.FinMap as fin
 use Rattle.std.specs.List.{filter}
 use Rattle.s3_types.specs.Store.{Uploads}
 use Rattle.s3_types.specs.Pages.{begins, listed}
 use Rattle.s3_types.specs.Multipart as multipart
 use Rattle.s3_types.specs.Answer.{answer}
-use Rattle.s3_types.specs.Moment.{effect, is_effective, IsHonestOutcome}
+use Rattle.s3_types.specs.Moment.{effect, IsHonestOutcome}
 use Rattle.s3_types.specs.declared.request.Request.{Request}
-use Rattle.s3_types.specs.declared.request.Request.TheVariants.{ListUploads, AbortUpload, DeleteObjects, ClusterList, ClusterDelete}
+use Rattle.s3_types.specs.declared.request.Request.TheVariants.{AbortUpload, DeleteObjects, ClusterList, ClusterDelete}
 use Rattle.s3_types.specs.declared.request.UploadRef.{UploadRef}
 use Rattle.s3_types.specs.declared.request.Committer.{Committer}
 use Rattle.s3_types.specs.declared.request.Committer.TheVariants.{Magic, Directory, Partitioned}
 use Rattle.s3_types.specs.declared.reply.Reply.{Reply}
-use Rattle.s3_types.specs.declared.reply.Reply.TheVariants.{Page, ClusterNames, Uploads as UploadsPage}
+use Rattle.s3_types.specs.declared.reply.Reply.TheVariants.{Page, Uploads as UploadsPage}
 use Rattle.s3_types.specs.declared.reply.PageEntry.{PageEntry}
 use Rattle.s3_types.specs.declared.journal.Outcome.{Outcome}
-use Rattle.s3_types.specs.declared.journal.Outcome.TheVariants.{Answered}
 use Rattle.sendings.specs.Retries.{Retried, step}
 use Rattle.magic_paths.specs.Layout.{magic_prefix, cluster_prefix}
 use Rattle.job_model.specs.Legal.{IsLegal}
 use Rattle.job_model.specs.JobScript.{Script}
-use Rattle.job_model.specs.declared.ends.CleanEnd.TheVariants as cleans
 use Rattle.job_operations.specs.Setup.{dest_prefix}
-use Rattle.job_operations.specs.Walks.{Listing, Deleting, Walked, walked, walked_by, walked_uploads, keys_on, last_of, last_ref, page_after, uploads_after, deleting, swept, all_go}
+use Rattle.job_operations.specs.Walks.{Listing, Deleting, walked, walked_by, walked_uploads, keys_on, last_of, last_ref, page_after, uploads_after, deleting, swept, all_go}
 use Rattle.job_operations.specs.Cleanups.{Clean, Walking, Aborting, Sweeping, Naming, Removing, CleanOver, clean_asks, clean_after, clean_hears, aborted, aborting, walking, sweeping, removing, naming}
 use Rattle.job_promise.specs.Headline.{Same}
 use Rattle.job_operations.specs.View.{view}
 use Rattle.job_promise.specs.Seen.{Seen, see}
 use Rattle.job_promise.specs.Ends.{lists_uploads}
 use Rattle.request_frame.specs.Members.{IsIn}
-use Rattle.request_frame.proofs.Members.{some_is, none_some, nat_true, in_append, in_filter}
+use Rattle.request_frame.proofs.Members.{some_is, nat_true, in_append, in_filter}
 use Rattle.request_frame.proofs.Flat.{page_begins}
-use Rattle.job_facts.specs.Told.{Told, tell, tell_driver, driver_entry}
-use Rattle.job_facts.specs.Foreign.{IsDriving}
+use Rattle.job_facts.specs.Told.{Told, tell, driver_entry}
 use Rattle.job_facts.specs.Facts.{Hold}
-use Rattle.job_facts.specs.Driver.{AllMagic, AllCluster, AllBelow, FitsSweep, FitsClean}
+use Rattle.job_facts.specs.Driver.{AllMagic, AllCluster, AllBelow, FitsClean}
 use Rattle.job_facts.proofs.Whose.{or_true}
 use Rattle.job_facts.proofs.Shapes.{answer_is}
 use Rattle.job_facts.proofs.Going.{step_so}
 use Rattle.job_facts.proofs.Driving.{driving_keeps, reads_drive, sweep_keeps, remove_file_keeps}
 use Rattle.job_facts.proofs.Aborting.{taken_in, dropped_in}
-use Rattle.job_facts.proofs.Shows.{HidesAll, hidden_shows}
+use Rattle.job_facts.proofs.Shows.{hidden_shows}
 
 -- ---- what is found
 

@@ -1,6 +1,6 @@
 -- An attempt's commit of its task keeps the facts with each of its requests, whatever becomes of it, and goes on as it should.
-use Rattle.std.proofs.Common.{◌≡◌, ℕ, inl, inr, ◌<◌, nat_lt, ◌||◌, Bool, true, false, cond, List, [], ◌∷◌, ◌++◌, map, take, length, Option, Some, None, refl, sym, ap, subst, ◌∙◌}
-use Rattle.s3_types.specs.Pages.{text_in, listed}
+use Rattle.std.proofs.Common.{◌≡◌, ℕ, nat_lt, ◌||◌, Bool, true, false, List, [], ◌∷◌, ◌++◌, map, take, length, Option, Some, None, refl, sym, ap, subst, ◌∙◌}
+use Rattle.s3_types.specs.Pages.{listed}
 use Rattle.s3_types.specs.Answer.{answer}
 use Rattle.s3_types.specs.Moment.{IsHonestOutcome}
 use Rattle.s3_types.specs.declared.request.Request.{Request}
@@ -11,27 +11,26 @@ use Rattle.s3_types.specs.declared.reply.PageEntry.{PageEntry}
 use Rattle.s3_types.specs.declared.reply.Refusal.TheVariants.{NoSuchKey, NoSuchFile}
 use Rattle.s3_types.specs.declared.journal.Outcome.{Outcome}
 use Rattle.s3_types.specs.declared.journal.Outcome.TheVariants.{Answered}
-use Rattle.sendings.specs.Retries.{Retried, Got, WornOut, step}
+use Rattle.sendings.specs.Retries.{Retried, step}
 use Rattle.magic_paths.specs.Layout as layout
 use Rattle.job_model.specs.Files.{File}
 use Rattle.job_model.specs.Attempts.{Who}
 use Rattle.job_model.specs.Legal.{IsLegal}
 use Rattle.job_model.specs.JobScript.{Script}
-use Rattle.job_model.specs.declared.ends.TaskEnd.TheVariants as tasks
 use Rattle.job_operations.specs.Outputs.{files}
 use Rattle.job_model.specs.Known.{Drawn, Known}
 use Rattle.job_operations.specs.Knowledge.{learn, is_set_key}
 use Rattle.job_operations.specs.Records.{record_key, set_text}
-use Rattle.job_operations.specs.Walks.{Walked, More, Whole, walked, walked_by, keys_on, last_of, page_after}
-use Rattle.job_operations.specs.Uploading.{Uploading, Creating, Uploaded, GoesOn, AllSent, IsGone, upload_asks, upload_hears}
+use Rattle.job_operations.specs.Walks.{walked, walked_by, keys_on, last_of, page_after}
+use Rattle.job_operations.specs.Uploading.{Uploading, Uploaded, GoesOn, AllSent, IsGone, upload_asks, upload_hears}
 use Rattle.job_operations.specs.TaskCommits.{TaskCommit, Looking, Reading, Publishing, Checking, Uploads, Storing, Renaming, TaskCommitOver, task_commit_asks, task_commit_after, task_commit_hears, attempt_prefix, temporary_path, partition_prefix, reading, looked, looked_at, read_record, storing, checking, checked, uploaded, renamed, least_missing, in_order}
 use Rattle.job_promise.specs.Seen.{Seen, see, is_magic, is_staging}
-use Rattle.request_frame.specs.Members.{IsIn, RisesFrom, last_from}
-use Rattle.request_frame.proofs.Members.{some_is, map_in, text_true}
+use Rattle.request_frame.specs.Members.{RisesFrom, last_from}
+use Rattle.request_frame.proofs.Members.{some_is, map_in}
 use Rattle.request_frame.proofs.Flat.{page_rises, joins}
-use Rattle.job_facts.specs.Told.{Told, known, undoes, entry, tell, tell_attempt}
-use Rattle.job_facts.specs.Facts.{IsAttempt, AreCommits, Facts, Hold}
-use Rattle.job_facts.specs.Fits.{Todo, Begun, AllWritten, IsOpen, FitsUpload, FitsCommit}
+use Rattle.job_facts.specs.Told.{Told, known, entry, tell}
+use Rattle.job_facts.specs.Facts.{IsAttempt, AreCommits, Hold}
+use Rattle.job_facts.specs.Fits.{Todo, AllWritten, IsOpen, FitsCommit}
 use Rattle.job_facts.proofs.Whose.{or_true}
 use Rattle.job_facts.proofs.Legal.{files_apart}
 use Rattle.job_facts.proofs.Ordered.{order_each, order_all, order_apart, none_missing}

@@ -1,5 +1,5 @@
 -- The driver's requests keep the facts: those of a commit, and those of an abort or clean of the job.
-use Rattle.std.proofs.Common.{◌≡◌, ℕ, ◌<◌, ◌||◌, ◌&&◌, Bool, true, false, List, Option, Some, None, refl, sym, ap, subst, ◌∙◌}
+use Rattle.std.proofs.Common.{◌≡◌, ℕ, ◌&&◌, Bool, true, false, List, Option, refl, sym, ap, ◌∙◌}
 use Rattle.std.proofs.lemmas.Bool.{or_parts}
 use Rattle.s3_types.specs.Store.{Scene}
 use Rattle.s3_types.specs.Answer.{apply}
@@ -9,20 +9,17 @@ use Rattle.s3_types.specs.declared.request.Request.{Request}
 use Rattle.s3_types.specs.declared.request.Request.TheVariants.{GetObject, HeadObject, ListPage, ListParts, ListUploads, DeleteObjects, ClusterGet, ClusterDelete, ClusterList}
 use Rattle.s3_types.specs.declared.journal.Outcome.{Outcome}
 use Rattle.s3_types.specs.declared.journal.Outcome.TheVariants.{Answered, Slow, RequestLost, ReplyLost}
-use Rattle.job_model.specs.Attempts.{Who}
 use Rattle.job_model.specs.Legal.{IsLegal}
 use Rattle.job_model.specs.JobScript.{Script}
 use Rattle.job_promise.specs.Seen.{Seen, see}
-use Rattle.job_promise.specs.Ends.{lists_uploads}
-use Rattle.request_frame.specs.Members.{IsIn}
 use Rattle.request_frame.proofs.Members.{none_some, false_true}
 use Rattle.request_frame.proofs.Framed.{frame}
 use Rattle.job_facts.specs.Told.{Told, ends, tell, tell_driver, driver_entry}
-use Rattle.job_facts.specs.Stores.{IsKnown, Leaves}
+use Rattle.job_facts.specs.Stores.{Leaves}
 use Rattle.job_facts.specs.Foreign.{IsDriving}
 use Rattle.job_facts.specs.Facts.{Facts, Hold}
 use Rattle.job_facts.proofs.Keep.{Drops, leaves_keep, drops_keep}
-use Rattle.job_facts.proofs.Foreign.{Stood, stood}
+use Rattle.job_facts.proofs.Foreign.{stood}
 use Rattle.job_facts.proofs.Staged.{remove_drops}
 use Rattle.job_facts.proofs.Undone.{deletes_drop}
 

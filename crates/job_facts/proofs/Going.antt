@@ -1,5 +1,5 @@
 -- What an attempt knows after one more of its own requests, and where a request that got no answer leads.
-use Rattle.std.proofs.Common.{◌≡◌, ℕ, zero, suc, ◌||◌, Bool, true, false, cond, Option, refl, sym, ap, subst, ◌∙◌}
+use Rattle.std.proofs.Common.{◌≡◌, ℕ, zero, suc, ◌||◌, Bool, true, refl}
 use Rattle.s3_types.specs.declared.request.Request.{Request}
 use Rattle.s3_types.specs.declared.request.Request.TheVariants.{PutObject, CreateUpload, UploadPart, ClusterPut, ClusterRename}
 use Rattle.s3_types.specs.declared.reply.Reply.{Reply}

@@ -1,25 +1,21 @@
 -- The driver's commit keeps the facts with each of its requests, holds the sets as it read them, and goes on as it should.
-use Rattle.std.proofs.Common.{◌≡◌, ℕ, zero, suc, ◌+◌, ◌<◌, ◌≤◌, ◌^◌, ◌⊎◌, inl, inr, not, nat_lt, nat_eq, ◌&&◌, ◌||◌, Bool, true, false, cond, List, [], ◌∷◌, ◌++◌, map, take, drop, length, slice_get, Option, Some, None, refl, sym, ap, subst, ◌∙◌, arith, codes, append_assoc}
-use Rattle.std.specs.List.{filter, flat_map}
+use Rattle.std.proofs.Common.{◌≡◌, ℕ, zero, suc, ◌+◌, ◌<◌, ◌≤◌, ◌^◌, ◌⊎◌, inl, inr, nat_lt, Bool, true, false, cond, List, [], ◌∷◌, ◌++◌, map, drop, length, slice_get, Option, Some, None, refl, sym, ap, subst, ◌∙◌, codes, append_assoc}
+use Rattle.std.specs.List.{filter}
 use Rattle.std.proofs.lemmas.Bool.{false≢true, not-true}
-use Rattle.s3_types.specs.Blocks.{named_from}
 use Rattle.s3_types.specs.Pages.{begins}
 use Rattle.s3_types.specs.Names.{is_bucket}
-use Rattle.s3_types.specs.Answer.{answer, bucket_of}
+use Rattle.s3_types.specs.Answer.{answer}
 use Rattle.s3_types.specs.Moment.{IsHonestOutcome}
 use Rattle.s3_types.specs.declared.request.Request.{Request}
-use Rattle.s3_types.specs.declared.request.Request.TheVariants.{PutObject, DeleteObject, DeleteObjects, CompleteUpload, AbortUpload}
 use Rattle.s3_types.specs.declared.request.Committer.{Committer}
 use Rattle.s3_types.specs.declared.request.Committer.TheVariants.{Magic, Directory, Partitioned}
 use Rattle.s3_types.specs.declared.reply.Reply.{Reply}
-use Rattle.s3_types.specs.declared.reply.Reply.TheVariants.{Refused}
 use Rattle.s3_types.specs.declared.journal.Outcome.{Outcome}
 use Rattle.s3_types.specs.declared.journal.Outcome.TheVariants.{Answered, Slow, RequestLost, ReplyLost}
-use Rattle.magic_paths.specs.Layout.{magic_prefix, success_key}
+use Rattle.magic_paths.specs.Layout.{magic_prefix}
 use Rattle.magic_paths.specs.Places.{FilePlace, SuccessPlace, is_open}
 use Rattle.magic_paths.proofs.Tails.{key_magic}
 use Rattle.pending_json.specs.Pending.{Pending}
-use Rattle.pending_json.specs.Reading as reading
 use Rattle.pending_json.specs.declared.records.PendingSet.{PendingSet}
 use Rattle.job_model.specs.Files.{File}
 use Rattle.job_model.specs.Attempts.{Who}
@@ -34,23 +30,22 @@ use Rattle.job_model.proofs.PathBounds.{placed_open}
 use Rattle.job_operations.specs.Outputs.{files, same_path}
 use Rattle.job_model.specs.Known.{Drawn}
 use Rattle.job_operations.specs.Knowledge.{drawn_for}
-use Rattle.job_operations.specs.Records.{file_key, file_record, files_set, mark_text}
+use Rattle.job_operations.specs.Records.{file_key, file_record, files_set}
 use Rattle.job_operations.specs.Setup.{dest_prefix}
 use Rattle.job_operations.specs.Walks.{Sweep, Listing, Deleting, Walked, More, Whole, walked, sweep_start, sweep_asks, sweep_hears, deleting, page_after}
 use Rattle.job_operations.specs.Walks as walks
 use Rattle.job_operations.specs.Lanes.{Turn, nth, nothing_pending, completion, abort, deletion, again, follow, dealt, chosen, undo, in_turn, is_tried, is_unsent, revert}
 use Rattle.job_operations.specs.JobCommits.{Sets, all_commits, picks_of, Commit, Fetching, Replacing, Completing, Marking, Reverting, CommitOver, set_request, set_read, commit_asks, commit_hears, commit_misses, commit_tells, completing, is_no_magic, replaced, replacing, decided, fetching, fetched, swept, reverting, worn_completion}
-use Rattle.job_promise.specs.Seen.{Seen, see}
+use Rattle.job_promise.specs.Seen.{Seen}
 use Rattle.proof_base.proofs.Numbers.{below_is}
 use Rattle.request_frame.specs.Members.{IsIn}
 use Rattle.request_frame.proofs.Members.{some_is, none_some, false_true, true_or_false, nat_true, in_map, in_append, in_filter}
-use Rattle.job_facts.specs.Told.{Told, tell, driver_entry}
+use Rattle.job_facts.specs.Told.{Told}
 use Rattle.job_facts.specs.Foreign.{IsDriving}
-use Rattle.job_facts.specs.Facts.{AreCommits, Hold, knowing}
-use Rattle.job_facts.specs.Laws.{SetAnswered}
+use Rattle.job_facts.specs.Facts.{Hold, knowing}
 use Rattle.job_facts.specs.Driver.{IsHeldSet, Reads, FitsReplace, AllDriving, FitsJobCommit}
 use Rattle.job_facts.proofs.Legal.{some_dest, from_script, given_of}
-use Rattle.job_facts.proofs.Driving.{driving_keeps, reads_drive}
+use Rattle.job_facts.proofs.Driving.{reads_drive}
 use Rattle.job_facts.proofs.Aborting.{taken_in, dropped_in}
 use Rattle.job_facts.proofs.Replies.{set_answered}
 use Rattle.job_facts.proofs.Shows.{begins_front}

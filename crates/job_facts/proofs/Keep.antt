@@ -1,5 +1,5 @@
 -- How the facts are kept where a scene changes: where it leaves the job alone, where things are taken away, where an object or a file is put at a place, and where an upload changes.
-use Rattle.std.proofs.Common.{◌≡◌, ℕ, suc, ◌<◌, ◌≤◌, inl, inr, ◌&&◌, Bool, true, false, cond, List, [], ◌∷◌, length, slice_get, Option, Some, None, refl, sym, ap, subst, ◌∙◌, arith}
+use Rattle.std.proofs.Common.{◌≡◌, ℕ, suc, ◌<◌, ◌≤◌, inl, inr, ◌&&◌, Bool, true, false, cond, List, slice_get, Option, Some, None, refl, sym, ap, subst, ◌∙◌, arith}
 use Rattle.std.specs.FinMap as fin
 use Rattle.std.specs.Option.{option_map}
 use Rattle.s3_types.specs.Store.{Scene, Upload, Files}
@@ -19,7 +19,7 @@ use Rattle.request_frame.specs.Members.{IsIn}
 use Rattle.request_frame.specs.Held.{HasBucket}
 use Rattle.request_frame.proofs.Members.{some_is, none_some, false_true, same_or_not, same_or_other, text_true, nat_here, nat_other}
 use Rattle.job_facts.specs.Told.{Told}
-use Rattle.job_facts.specs.Stores.{at_key, at_place, at_id, at_path, set_at, sets_at, Leaves, Puts, Turns, part_left, end_left}
+use Rattle.job_facts.specs.Stores.{at_key, at_place, at_id, sets_at, Leaves, Puts, Turns, part_left, end_left}
 use Rattle.job_facts.specs.Facts.{IsHeld, IsOwned, Owned, IsRecord, IsOwnPlace, IsSet, Facts}
 use Rattle.job_facts.proofs.Placed.{not_both, record_place, own_place, record_magic, set_magic, one_place, key_file, path_below, magic_set, set_same, set_stood, set_object}
 use Rattle.job_facts.proofs.Legal.{small_task}
@@ -54,7 +54,7 @@ leaves_keep {w = w} {s = s} {u = u} {m = m} j l f =
       records = λ g a h x i e. f.records g a h x i (sym (l.objects _ (record_magic j g a h i)) ∙ e);
       sets = λ t b h e. f.sets t b h (sym (set t h) ∙ e);
       standing = λ c t a h e. let b = f.standing c t a h e in (b.0, set t h ∙ b.1);
-      temporaries = λ g a b d o e. f.temporaries g a b d o (sym (l.files _ (path_below w (TemporaryPlace a.task a.attempt))) ∙ e);
+      temporaries = λ g a b d e. f.temporaries g a b d (sym (l.files _ (path_below w (TemporaryPlace a.task a.attempt))) ∙ e);
       kept = f.kept;
     }
 
@@ -86,7 +86,7 @@ drops_keep {w = w} {s = s} {u = u} {m = m} d free f =
       records = λ g a h x i e. f.records g a h x i (d.objects _ x e);
       sets = λ t b h e. f.sets t b h (set_stood w.committer w s u t b (λ x g. d.objects _ x g) (λ x g. d.files _ x g) e);
       standing = λ c t a h e. let b = f.standing c t a h e in (b.0, free c t h ∙ b.1);
-      temporaries = λ g a b r o e. f.temporaries g a b r o (d.files _ b e);
+      temporaries = λ g a b r e. f.temporaries g a b r (d.files _ b e);
       kept = f.kept;
     }
 
@@ -170,7 +170,7 @@ turn_keep {w = w} {s = s} {u = u} {m = m} {id = id} j t stood owned f =
       records = λ g a h y i e. f.records g a h y i (sym (t.objects _) ∙ e);
       sets = λ n b h e. f.sets n b h (sym (set n) ∙ e);
       standing = λ c n a h e. let b = f.standing c n a h e in (b.0, set n ∙ b.1);
-      temporaries = λ g a b d o e. f.temporaries g a b d o (sym (file _) ∙ e);
+      temporaries = λ g a b d e. f.temporaries g a b d (sym (file _) ∙ e);
       kept = f.kept;
     }
 

@@ -1,8 +1,8 @@
 -- The keys of an attempt's files are keys, also where their names are made unique to the job.
-use Rattle.std.proofs.Common.{◌≡◌, ℕ, ◌+◌, ◌<◌, ◌≤◌, ◌==◌, inl, inr, nat_le, nat_eq, ◌&&◌, ◌||◌, not, Bool, true, false, cond, List, [], ◌∷◌, ◌++◌, length, take, drop, get_or, refl, sym, ap, subst, ◌∙◌, arith, length-append}
+use Rattle.std.proofs.Common.{◌≡◌, ℕ, ◌+◌, ◌<◌, ◌≤◌, ◌==◌, inl, inr, nat_le, nat_eq, ◌&&◌, ◌||◌, Bool, true, false, List, [], ◌∷◌, ◌++◌, length, get_or, refl, sym, ap, subst, ◌∙◌, arith, length-append}
 use Rattle.std.specs.List.{list_all, list_any, join_with_byte}
 use Rattle.std.specs.Str.{IsUtf8, IsAscii, is_utf8}
-use Rattle.std.proofs.lemmas.Bool.{and_parts, or_parts, leb-true, false≢true, eqb-true}
+use Rattle.std.proofs.lemmas.Bool.{and_parts, or_parts, leb-true, false≢true}
 use Rattle.std.proofs.lemmas.Bool.Decides.{nat_tests}
 use Rattle.std.proofs.lemmas.List.{append-nil}
 use Rattle.std.proofs.lemmas.Str.{IsUtf8-from_is_utf8, is_utf8-from_IsUtf8, IsUtf8-from_ascii, IsUtf8-append, IsUtf8-take, IsUtf8-drop, IsCharBoundary-before_ascii, IsCharBoundary-after_ascii}
@@ -24,7 +24,7 @@ use Rattle.job_model.specs.JobScript.{Script}
 use Rattle.job_operations.specs.Outputs.{files}
 use Rattle.job_operations.specs.Records.{file_key}
 use Rattle.request_frame.specs.Members.{IsIn}
-use Rattle.job_facts.proofs.Unique.{Cut, cut_id, unique_parts, id_bytes, some_part, HasFirst}
+use Rattle.job_facts.proofs.Unique.{Cut, cut_id, unique_parts, id_bytes, some_part}
 use Rattle.job_facts.proofs.Legal.{some_dest, from_script, given_of}
 
 -- ---- elements

@@ -1,5 +1,5 @@
 -- How the facts are kept while the scene stays: what an attempt has sent, and what it learns.
-use Rattle.std.proofs.Common.{◌≡◌, ℕ, zero, suc, ◌+◌, ◌<◌, ◌≤◌, ◌⊎◌, inl, inr, nat_eq, Bool, true, false, cond, List, [], ◌∷◌, ◌++◌, map, length, take, slice_get, Option, Some, refl, sym, ap, subst, ◌∙◌, arith, length-append}
+use Rattle.std.proofs.Common.{◌≡◌, ℕ, zero, suc, ◌<◌, ◌≤◌, ◌⊎◌, inl, inr, nat_eq, Bool, true, false, cond, List, [], ◌∷◌, ◌++◌, map, length, take, slice_get, Option, Some, refl, sym, ap, subst, ◌∙◌, arith, length-append}
 use Rattle.std.specs.FinMap as fin
 use Rattle.std.specs.Ordering.{nat_cmp}
 use Rattle.s3_types.specs.Store.{Scene, Upload}
@@ -54,7 +54,7 @@ sends_put {m = m} a f =
       records = f.records;
       sets = f.sets;
       standing = f.standing;
-      temporaries = λ g b bytes d o e. let old = f.temporaries g b bytes d o e in record { has_put = more_true m.put_sent a b old.has_put; are = old.are; text = old.text };
+      temporaries = λ g b bytes d e. let old = f.temporaries g b bytes d e in record { has_put = more_true m.put_sent a b old.has_put; are = old.are; text = old.text };
       kept = f.kept;
     }
 
@@ -80,10 +80,7 @@ sends_undo {m = m} a unsent f =
       records = f.records;
       sets = f.sets;
       standing = f.standing;
-      temporaries = λ g b bytes d o e. elim (same_or_another b a) [
-        | inl is ↦ absurd (false_true o (who_here m.undone a true b is))
-        | inr ne ↦ f.temporaries g b bytes d (sym (who_other m.undone a true b ne) ∙ o) e
-      ];
+      temporaries = f.temporaries;
       kept = λ b e. elim (same_or_another b a) [ inl is ↦ absurd (false_true unsent (ap m.publish_sent (sym is) ∙ e)) | inr ne ↦ who_other m.undone a true b ne ∙ f.kept b e ];
     }
 
@@ -171,7 +168,7 @@ learn_upload_keep {w = w} {minimum = minimum} {s = s} {m = m} a g id mine unsent
       records = λ q b h x i e. let r = f.records q b h x i e in record { written = record { drawn = r.written.drawn; known = more b r.written.drawn r.written.known; key = r.written.key; complete = r.written.complete }; bytes = r.bytes };
       sets = λ t b h e. set_known (known_still m.drawn m.publish_sent a _ unsent) (f.sets t b h e);
       standing = f.standing;
-      temporaries = λ q b bytes d o e. temporary_known (known_still m.drawn m.put_sent a _ unput b) (f.temporaries q b bytes d o e);
+      temporaries = λ q b bytes d e. temporary_known (known_still m.drawn m.put_sent a _ unput b) (f.temporaries q b bytes d e);
       kept = f.kept;
     }
   where
@@ -269,7 +266,7 @@ learn_part_keep {w = w} {minimum = minimum} {s = s} {m = m} j a x g bytes tag kn
       records = λ q b h y i e. let r = f.records q b h y i e in record { written = record { drawn = r.written.drawn; known = kept b h i r.written; key = r.written.key; complete = r.written.complete }; bytes = r.bytes };
       sets = λ t b h e. set_known (known_still m.drawn m.publish_sent a _ unsent) (f.sets t b h e);
       standing = f.standing;
-      temporaries = λ q b y d o e. temporary_known (known_still m.drawn m.put_sent a _ unput b) (f.temporaries q b y d o e);
+      temporaries = λ q b y d e. temporary_known (known_still m.drawn m.put_sent a _ unput b) (f.temporaries q b y d e);
       kept = f.kept;
     }
   where

@@ -8,7 +8,7 @@ use Rattle.s3_types.specs.declared.journal.Outcome.{Outcome}
 use Rattle.s3_types.specs.declared.journal.Entry.{Entry}
 use Rattle.job_model.specs.Attempts.{Who, actor_of}
 use Rattle.job_model.specs.JobScript.{Script}
-use Rattle.job_operations.specs.Knowledge.{Known, learn, knows_from}
+use Rattle.job_operations.specs.Knowledge.{learn, knows_from}
 use Rattle.job_promise.specs.States.{same_actor}
 use Rattle.job_promise.specs.Turns.{by_actor}
 use Rattle.job_promise.specs.Ends.{lists_uploads, has_cleaned}

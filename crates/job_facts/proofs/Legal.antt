@@ -1,5 +1,5 @@
 -- What the bounds of a script give of its attempts' files.
-use Rattle.std.proofs.Common.{◌≡◌, ℕ, ◌<◌, ◌≤◌, ◌^◌, inl, inr, Bool, true, false, cond, is_some, List, [], ◌∷◌, ◌++◌, map, length, Option, Some, None, refl, sym, ap, subst, ◌∙◌, arith}
+use Rattle.std.proofs.Common.{◌≡◌, ℕ, ◌<◌, ◌≤◌, ◌^◌, inl, inr, Bool, true, false, cond, is_some, List, [], ◌∷◌, ◌++◌, length, Option, Some, None, refl, sym, ap, subst, ◌∙◌, arith}
 use Rattle.std.specs.Map.{lookup}
 use Rattle.std.specs.Option.{unwrap_or, option_map}
 use Rattle.std.proofs.lemmas.Bool.{and_parts, leb-true, false≢true}
@@ -8,13 +8,13 @@ use Rattle.s3_types.specs.declared.request.Committer.{Committer}
 use Rattle.s3_types.specs.declared.request.Committer.TheVariants.{Magic, Directory, Partitioned}
 use Rattle.s3_types.specs.declared.request.Mode.{Mode}
 use Rattle.s3_types.specs.Names.{is_job_id}
-use Rattle.magic_paths.specs.Places.{is_open, is_record}
+use Rattle.magic_paths.specs.Places.{is_record}
 use Rattle.job_model.specs.Files.{File, has_path}
 use Rattle.job_model.specs.Attempts.{Who, Declared, same_name}
-use Rattle.job_model.specs.Placed.{path_of, placed, files_of}
+use Rattle.job_model.specs.Placed.{path_of, placed}
 use Rattle.job_model.specs.Legal.{IsLegal, IsGiven, FitsMagic, AreFiles, AreAttempts}
 use Rattle.job_model.specs.JobScript.{Script}
-use Rattle.job_model.proofs.PathBounds.{given_place, placed_open}
+use Rattle.job_model.proofs.PathBounds.{given_place}
 use Rattle.job_operations.specs.Outputs.{files}
 use Rattle.job_promise.specs.Seen.{is_magic}
 use Rattle.request_frame.specs.Members.{IsIn}

@@ -1,10 +1,9 @@
 -- The records and sets that attempts put are within their bounds, so that what reads them gets them back.
-use Rattle.std.proofs.Common.{◌≡◌, ℕ, zero, suc, ◌+◌, ◌<◌, ◌≤◌, ◌^◌, ◌==◌, inl, inr, ◌&&◌, Bool, true, false, cond, List, [], ◌∷◌, ◌++◌, map, length, Option, Some, Ok, refl, sym, ap, subst, ◌∙◌, arith, length-append, eq-eqb}
+use Rattle.std.proofs.Common.{◌≡◌, ℕ, zero, suc, ◌+◌, ◌<◌, ◌≤◌, ◌^◌, inl, inr, ◌&&◌, Bool, true, false, cond, List, [], ◌∷◌, ◌++◌, map, length, Option, Some, Ok, refl, sym, ap, subst, ◌∙◌, arith, length-append, eq-eqb}
 use Rattle.std.specs.List.{list_all, sum, flat_map, AllByRecursion}
 use Rattle.std.specs.Map.{lookup}
 use Rattle.std.specs.Option.{unwrap_or}
-use Rattle.std.specs.Str.{is_utf8}
-use Rattle.std.proofs.lemmas.Bool.{and_parts, le-leb}
+use Rattle.std.proofs.lemmas.Bool.{le-leb}
 use Rattle.std.proofs.lemmas.List.Sums.{sum_by-cons}
 use Rattle.std.proofs.lemmas.Str.{is_utf8-from_IsUtf8}
 use Rattle.std.specs.Int.{to_le_bytes, w32}
@@ -13,10 +12,8 @@ use Rattle.hex.specs.Hex.{IsBytes}
 use Rattle.md5.specs.Md5.{md5, digest_bytes}
 use Rattle.etag.proofs.Digits.{encoded_hex, plain_tag_length}
 use Rattle.serde_json.specs.Written.{compact_text}
-use Rattle.s3_types.specs.Tags.{Spelled, plain_tag, is_plain_tag, is_hex}
-use Rattle.pending_json.specs.Pending.{are_tags, fit}
+use Rattle.s3_types.specs.Tags.{plain_tag, is_plain_tag, is_hex}
 use Rattle.pending_json.specs.Records.{IsPending}
-use Rattle.pending_json.specs.Records as records
 use Rattle.pending_json.specs.Reading as reading
 use Rattle.pending_json.specs.Trees.{pending_tree, set_tree}
 use Rattle.pending_json.proofs.RoundTrip.{pending_text, set_text}
@@ -27,7 +24,7 @@ use Rattle.job_model.specs.Legal.{IsLegal, bytes_of, bytes_in}
 use Rattle.job_model.specs.JobScript.{Script}
 use Rattle.job_operations.specs.Outputs.{files}
 use Rattle.job_model.specs.Known.{Drawn}
-use Rattle.job_operations.specs.Knowledge.{drawn_in, drawn_for}
+use Rattle.job_operations.specs.Knowledge.{drawn_in}
 use Rattle.job_operations.specs.Records.{file_key, file_record, files_set}
 use Rattle.job_operations.specs.Uploading.{file_parts}
 use Rattle.s3_types.specs.Store.{Scene}

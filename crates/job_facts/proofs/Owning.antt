@@ -1,13 +1,11 @@
 -- An attempt names only what is its own, and takes nothing back once it has sent its publishing request.
-use Rattle.std.proofs.Common.{◌≡◌, ℕ, ◌+◌, inl, inr, ◌<◌, Bool, true, false, List, [], ◌∷◌, length, take, Option, Some, None, refl, sym, ap, subst, ◌∙◌, append_assoc, codes, ◌++◌}
+use Rattle.std.proofs.Common.{◌≡◌, ℕ, ◌+◌, inl, inr, true, false, List, [], ◌∷◌, length, Option, Some, None, refl, sym, ap, subst, ◌∙◌, append_assoc, codes, ◌++◌}
 use Rattle.std.specs.Fmt.{decimal}
 use Rattle.s3_types.specs.Pages.{begins}
-use Rattle.s3_types.specs.Answer.{bucket_of}
 use Rattle.s3_types.specs.declared.request.Request.{Request}
-use Rattle.s3_types.specs.declared.request.Request.TheVariants.{PutObject, CreateUpload, UploadPart, AbortUpload, DeleteObjects}
+use Rattle.s3_types.specs.declared.request.Request.TheVariants.{PutObject, CreateUpload, UploadPart, AbortUpload}
 use Rattle.magic_paths.specs.Layout.{magic_prefix, cluster_prefix}
-use Rattle.magic_paths.specs.Places.{Place, MarkerPlace, RecordPlace, SetPlace, TemporaryPlace, StagedSetPlace, key_at}
-use Rattle.magic_paths.proofs.Tails.{begins_behind}
+use Rattle.magic_paths.specs.Places.{MarkerPlace, RecordPlace, TemporaryPlace, StagedSetPlace}
 use Rattle.job_model.specs.Files.{File}
 use Rattle.job_model.specs.Attempts.{Who}
 use Rattle.job_model.specs.Legal.{IsLegal}
@@ -22,13 +20,12 @@ use Rattle.job_operations.specs.TaskCommits.{TaskCommit, Looking, Reading, Publi
 use Rattle.job_operations.specs.TaskCommits as commits
 use Rattle.job_operations.specs.TaskAborts.{TaskAbort, Dropping, Sweeping, Removing, TaskAbortOver, task_abort_asks}
 use Rattle.job_operations.specs.Operations.{Setting, Operation, TheSetup, TheWrite, TheTaskCommit, TheTaskAbort, TheCommit, TheClean, asks}
-use Rattle.job_promise.specs.Seen.{is_magic}
 use Rattle.request_frame.specs.Members.{IsIn}
 use Rattle.request_frame.specs.Frame.{changed_keys, changed_upload, changed_paths}
 use Rattle.request_frame.proofs.Members.{some_is, none_some, false_true}
 use Rattle.job_facts.specs.Told.{Told, known, undoes}
 use Rattle.job_facts.specs.Foreign.{IsOwn}
-use Rattle.job_facts.specs.Facts.{IsAttempt, IsOwnPlace}
+use Rattle.job_facts.specs.Facts.{IsAttempt}
 use Rattle.job_facts.specs.Fits.{Fits, FitsUpload, FitsWrite, FitsCommit, FitsAbort}
 use Rattle.job_facts.proofs.Acting.{write_adds, commit_adds}
 use Rattle.job_facts.proofs.Aborting.{taken_in}

@@ -1,8 +1,6 @@
 -- The requests of an attempt that publish its set keep the facts: the put of the set, and the put and the rename of a temporary file.
-use Rattle.std.proofs.Common.{◌≡◌, ℕ, ◌<◌, ◌≤◌, nat_eq, ◌&&◌, ◌||◌, Bool, true, false, cond, is_some, List, Option, Some, None, refl, sym, ap, subst, ◌∙◌}
+use Rattle.std.proofs.Common.{◌≡◌, ℕ, ◌<◌, nat_eq, ◌&&◌, ◌||◌, Bool, true, false, cond, is_some, List, Option, Some, None, refl, sym, ap, subst, ◌∙◌}
 use Rattle.std.specs.FinMap as fin
-use Rattle.proof_base.specs.Order.{text_eq}
-use Rattle.s3_types.specs.Store.{Scene, Files}
 use Rattle.s3_types.specs.Answer.{answer, apply, renamed, with_files}
 use Rattle.s3_types.specs.Moment.{IsHonestOutcome}
 use Rattle.s3_types.specs.declared.request.Request.{Request}
@@ -11,7 +9,7 @@ use Rattle.s3_types.specs.declared.journal.Outcome.{Outcome}
 use Rattle.s3_types.specs.declared.journal.Outcome.TheVariants.{Answered, Slow, RequestLost, ReplyLost}
 use Rattle.s3_types.specs.declared.object.Object.{Object}
 use Rattle.magic_paths.specs.Layout as layout
-use Rattle.magic_paths.specs.Places.{SetPlace, TemporaryPlace, StagedSetPlace, path_at}
+use Rattle.magic_paths.specs.Places.{SetPlace}
 use Rattle.job_model.specs.Files.{File}
 use Rattle.job_model.specs.Attempts.{Who}
 use Rattle.job_model.specs.Legal.{IsLegal}
@@ -23,8 +21,7 @@ use Rattle.job_operations.specs.TaskCommits.{temporary_path}
 use Rattle.job_promise.specs.Seen.{Seen, see, is_magic, is_staging, last_by}
 use Rattle.request_frame.proofs.Members.{text_true, nat_true, nat_false}
 use Rattle.job_facts.specs.Told.{Told, known, put_who, entry, tell, tell_attempt}
-use Rattle.job_facts.specs.Stores.{at_path}
-use Rattle.job_facts.specs.Facts.{IsAttempt, AreCommits, IsSet, IsTemporary, Facts, Hold}
+use Rattle.job_facts.specs.Facts.{IsAttempt, AreCommits, IsSet, Facts, Hold}
 use Rattle.job_facts.proofs.Whose.{who_here, who_same, or_false, or_true}
 use Rattle.job_facts.proofs.Shapes.{puts}
 use Rattle.job_facts.proofs.Keep.{put_keep}
@@ -176,7 +173,7 @@ module _ (w : Script) (minimum : ℕ) (k : Option ℕ) (s : Seen) (m : Told) (a 
         at : (t : ℕ) → renamed_last (publishes false) t ≡ s.last t
         at t = ap (λ b. cond b (Some a.attempt) (s.last t)) (and_false (nat_eq t a.task))
     rename_by (Some bytes) e f =
-        rename_keep j staging a d bytes (renamed_last (publishes true)) e clean (who_here m.publish_sent a true a refl)
+        rename_keep j staging a d bytes (renamed_last (publishes true)) e (who_here m.publish_sent a true a refl)
         (rw (nat_true a.task a.task refl, publishes_is true) refl) (λ t ne. rw (nat_false t a.task ne) refl) (sends_publish a clean f)
 
     rename_acts : Hold w minimum s m → Facts w minimum (apply s.scene rename) (last_by w s.scene s.last a.task a.attempt rename) has_renamed

@@ -1,24 +1,19 @@
 -- The answers that are due, where the facts hold.
-use Rattle.std.proofs.Common.{◌≡◌, ℕ, suc, ◌+◌, ◌<◌, ◌≤◌, ◌^◌, ◌⊎◌, inl, inr, nat_lt, Bool, true, false, cond, List, [], ◌∷◌, map, length, slice_get, Option, Some, None, Result, Ok, Err, refl, sym, ap, subst, ◌∙◌, arith}
-use Rattle.std.specs.FinMap as fin
+use Rattle.std.proofs.Common.{◌≡◌, ℕ, ◌+◌, ◌<◌, ◌≤◌, ◌^◌, ◌⊎◌, inl, inr, true, false, cond, List, map, length, slice_get, Option, Some, None, Ok, refl, sym, ap, subst, ◌∙◌, arith}
 use Rattle.std.specs.Option.{option_map}
 use Rattle.std.proofs.lemmas.Option.{slice_get_within}
-use Rattle.std.proofs.lemmas.Bool.{false≢true}
 use Rattle.s3_types.specs.Blocks.{named_from}
-use Rattle.s3_types.specs.Store.{Scene, Upload}
-use Rattle.s3_types.specs.Tags.{Spelled, plain_tag, joined_tag}
-use Rattle.s3_types.specs.Multipart.{live, with_key, joined, is_part_number}
+use Rattle.s3_types.specs.Store.{Scene}
+use Rattle.s3_types.specs.Tags.{plain_tag, joined_tag}
+use Rattle.s3_types.specs.Multipart.{live, with_key, joined}
 use Rattle.s3_types.specs.Answer.{answer, found, read_answer, part_answer, complete_answer}
 use Rattle.s3_types.specs.declared.object.Object.{Object}
-use Rattle.s3_types.specs.declared.request.NamedPart.{NamedPart}
-use Rattle.s3_types.specs.declared.request.Request.{Request}
 use Rattle.s3_types.specs.declared.request.Request.TheVariants.{GetObject, UploadPart, CompleteUpload, ClusterGet}
 use Rattle.s3_types.specs.declared.request.Committer.{Committer}
 use Rattle.s3_types.specs.declared.request.Committer.TheVariants.{Magic, Directory, Partitioned}
-use Rattle.s3_types.specs.declared.reply.Reply.{Reply}
-use Rattle.s3_types.specs.declared.reply.Reply.TheVariants.{Object as Found, Part, Completed, Refused, ClusterBytes}
-use Rattle.s3_types.specs.declared.reply.Refusal.TheVariants.{NoSuchKey, NoSuchFile, BadPartNumber}
-use Rattle.magic_paths.specs.Places.{RecordPlace, SetPlace, StagedSetPlace, key_at, path_at}
+use Rattle.s3_types.specs.declared.reply.Reply.TheVariants.{Object as Found, Part, Completed, Refused}
+use Rattle.s3_types.specs.declared.reply.Refusal.TheVariants.{NoSuchKey, BadPartNumber}
+use Rattle.magic_paths.specs.Places.{SetPlace, StagedSetPlace, key_at, path_at}
 use Rattle.pending_json.specs.Reading as reading
 use Rattle.job_model.specs.Files.{File}
 use Rattle.job_model.specs.Attempts.{Who}
@@ -30,12 +25,12 @@ use Rattle.job_operations.specs.Knowledge.{drawn_in}
 use Rattle.job_operations.specs.Records.{file_key, record_key, record_text, files_set}
 use Rattle.job_operations.specs.Uploading.{file_parts}
 use Rattle.job_operations.specs.JobCommits.{set_request, set_read, ok_set}
-use Rattle.job_promise.specs.Seen.{is_magic, is_staging}
+use Rattle.job_promise.specs.Seen.{is_magic}
 use Rattle.request_frame.specs.Members.{IsIn}
-use Rattle.request_frame.proofs.Members.{none_or_some, text_true, nat_true}
+use Rattle.request_frame.proofs.Members.{none_or_some, text_true}
 use Rattle.job_facts.specs.Told.{Told}
 use Rattle.job_facts.specs.Stores.{at_key, at_id, at_path, at_place, sets_at, set_at}
-use Rattle.job_facts.specs.Facts.{IsAttempt, IsHeld, IsWritten, AreCommits, IsSet, Facts, knowing}
+use Rattle.job_facts.specs.Facts.{IsAttempt, IsHeld, IsWritten, IsSet, Facts, knowing}
 use Rattle.job_facts.specs.Laws.{IsSetAnswer, SetAnswered}
 use Rattle.job_facts.proofs.Cut.{parts_few}
 use Rattle.job_facts.proofs.Joined.{held_joined}

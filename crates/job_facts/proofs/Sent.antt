@@ -1,49 +1,44 @@
 -- Each kind of request of an attempt keeps the facts, whatever becomes of it.
-use Rattle.std.proofs.Common.{◌≡◌, ℕ, suc, ◌+◌, ◌<◌, ◌≤◌, ◌⊎◌, inl, inr, nat_eq, ◌&&◌, ◌||◌, Bool, true, false, cond, is_some, List, [], ◌∷◌, map, length, slice_get, Option, Some, None, refl, sym, ap, subst, ◌∙◌, arith}
+use Rattle.std.proofs.Common.{◌≡◌, ℕ, suc, ◌+◌, ◌<◌, ◌⊎◌, inl, inr, nat_eq, ◌&&◌, ◌||◌, Bool, true, false, cond, List, [], length, slice_get, Option, Some, None, refl, sym, ap, subst, ◌∙◌, arith}
 use Rattle.std.specs.FinMap as fin
 use Rattle.std.proofs.lemmas.Option.{slice_get_within}
 use Rattle.proof_base.specs.Order.{text_eq}
 use Rattle.s3_types.specs.Store.{Scene, Upload}
 use Rattle.s3_types.specs.Tags.{Spelled, plain_tag}
 use Rattle.s3_types.specs.Multipart.{with_key, is_part_number, with_part}
-use Rattle.s3_types.specs.Answer.{answer, apply, part_answer, renamed, with_files}
+use Rattle.s3_types.specs.Answer.{answer, apply, part_answer}
 use Rattle.s3_types.specs.Moment.{IsHonestOutcome}
 use Rattle.s3_types.specs.Requests.{only_reads}
 use Rattle.s3_types.specs.declared.request.Request.{Request}
-use Rattle.s3_types.specs.declared.request.Request.TheVariants.{PutObject, GetObject, HeadObject, ListPage, ListParts, ListUploads, CreateUpload, UploadPart, AbortUpload, DeleteObjects, ClusterPut, ClusterRename, ClusterGet, ClusterDelete, ClusterList}
+use Rattle.s3_types.specs.declared.request.Request.TheVariants.{PutObject, GetObject, HeadObject, ListPage, ListParts, ListUploads, CreateUpload, UploadPart, ClusterGet, ClusterList}
 use Rattle.s3_types.specs.declared.reply.Reply.{Reply}
 use Rattle.s3_types.specs.declared.reply.Reply.TheVariants.{Part, Refused}
 use Rattle.s3_types.specs.declared.reply.Refusal.TheVariants.{BadPartNumber}
 use Rattle.s3_types.specs.declared.journal.Outcome.{Outcome}
 use Rattle.s3_types.specs.declared.journal.Outcome.TheVariants.{Answered, Slow, RequestLost, ReplyLost}
-use Rattle.s3_types.specs.declared.object.Object.{Object}
-use Rattle.magic_paths.specs.Layout as layout
-use Rattle.magic_paths.specs.Places.{Place, MarkerPlace, RecordPlace, SetPlace, TemporaryPlace, StagedSetPlace, key_at, path_at}
+use Rattle.magic_paths.specs.Places.{Place, MarkerPlace, RecordPlace, SetPlace, key_at}
 use Rattle.job_model.specs.Files.{File}
 use Rattle.job_model.specs.Attempts.{Who}
 use Rattle.job_model.specs.Legal.{IsLegal}
 use Rattle.job_model.specs.JobScript.{Script}
 use Rattle.job_operations.specs.Outputs.{files}
 use Rattle.job_model.specs.Known.{Drawn, Known}
-use Rattle.job_operations.specs.Knowledge.{learn, learn_upload, learn_part, is_set_key, is_set_path}
-use Rattle.job_operations.specs.Knowledge as knowledge
-use Rattle.job_operations.specs.Records.{file_key, marker_key, record_key, record_text, set_text}
+use Rattle.job_operations.specs.Knowledge.{learn, learn_part, is_set_key}
+use Rattle.job_operations.specs.Records.{file_key, marker_key, record_key, record_text}
 use Rattle.job_operations.specs.Uploading.{file_parts}
-use Rattle.job_operations.specs.TaskCommits.{temporary_path}
-use Rattle.job_promise.specs.Seen.{Seen, see, is_magic, is_staging, is_publishing, last_by}
+use Rattle.job_promise.specs.Seen.{Seen, see, is_magic, is_publishing, last_by}
 use Rattle.request_frame.specs.Members.{IsIn}
-use Rattle.request_frame.proofs.Members.{some_is, none_some, false_true, text_true, text_false, nat_true, nat_false, nat_here}
+use Rattle.request_frame.proofs.Members.{some_is, none_some, false_true, text_false, nat_here}
 use Rattle.job_facts.specs.Told.{Told, known, put_who, undoes, entry, tell, tell_attempt}
-use Rattle.job_facts.specs.Stores.{at_id, at_path, IsKnown, Turns, part_left}
-use Rattle.job_facts.specs.Facts.{IsAttempt, IsWritten, IsRecord, AreCommits, IsSet, IsTemporary, IsOwnPlace, Facts, Hold, knowing}
-use Rattle.job_facts.proofs.Whose.{attempt, who_here, who_same, or_false, or_true}
+use Rattle.job_facts.specs.Stores.{at_id, IsKnown, Turns, part_left}
+use Rattle.job_facts.specs.Facts.{IsWritten, IsRecord, IsOwnPlace, Facts, Hold}
+use Rattle.job_facts.proofs.Whose.{attempt, who_same, or_false}
 use Rattle.job_facts.proofs.Legal.{is_attempt, same_file, small_task}
-use Rattle.job_facts.proofs.Placed.{not_both, own_place, one_place}
-use Rattle.job_facts.proofs.Shapes.{id_before, puts, draws, part_turns, abort_turns, answer_is}
+use Rattle.job_facts.proofs.Placed.{own_place, one_place}
+use Rattle.job_facts.proofs.Shapes.{id_before, puts, draws, part_turns, answer_is}
 use Rattle.job_facts.proofs.Foreign.{stood, foreign_effect, reads_effect}
-use Rattle.job_facts.proofs.Keep.{put_keep, part_keep, abort_keep}
-use Rattle.job_facts.proofs.Learn.{sends_publish, sends_put, sends_undo, learn_upload_keep, learn_part_keep, new_drawn}
-use Rattle.job_facts.proofs.Staged.{stage_keep, rename_keep}
+use Rattle.job_facts.proofs.Keep.{put_keep, part_keep}
+use Rattle.job_facts.proofs.Learn.{learn_upload_keep, learn_part_keep}
 
 -- ---- a request that neither publishes, nor puts a temporary file, nor takes anything away
 

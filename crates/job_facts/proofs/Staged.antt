@@ -1,5 +1,5 @@
 -- How the facts of a staging job are kept where a file of the cluster is put, moved onto a task's set, or taken away.
-use Rattle.std.proofs.Common.{◌≡◌, ℕ, ◌<◌, inl, inr, true, false, List, [], ◌∷◌, Option, Some, None, refl, sym, ap, subst, ◌∙◌}
+use Rattle.std.proofs.Common.{◌≡◌, ℕ, ◌<◌, inl, inr, true, List, Option, Some, None, refl, sym, ap, subst, ◌∙◌}
 use Rattle.std.specs.FinMap as fin
 use Rattle.s3_types.specs.Store.{Scene, Files}
 use Rattle.s3_types.specs.Answer.{with_files}
@@ -8,15 +8,15 @@ use Rattle.job_model.specs.Attempts.{Who}
 use Rattle.job_model.specs.Legal.{IsLegal}
 use Rattle.job_model.specs.JobScript.{Script}
 use Rattle.job_operations.specs.Outputs.{files}
-use Rattle.job_promise.specs.Seen.{is_magic, is_staging}
+use Rattle.job_promise.specs.Seen.{is_staging}
 use Rattle.request_frame.specs.Held.{HasBucket}
 use Rattle.request_frame.proofs.Members.{some_is, none_some, same_or_not, same_or_other, text_here, text_other, text_left, text_gone}
 use Rattle.job_facts.specs.Told.{Told}
 use Rattle.job_facts.specs.Stores.{at_path, sets_at}
-use Rattle.job_facts.specs.Facts.{IsAttempt, IsSet, IsTemporary, Facts}
+use Rattle.job_facts.specs.Facts.{IsAttempt, IsTemporary, Facts}
 use Rattle.job_facts.proofs.Whose.{attempt}
-use Rattle.job_facts.proofs.Keep.{Drops, drops_keep}
-use Rattle.job_facts.proofs.Placed.{not_both, temporary_place, staged_place, one_path, staged_set, set_same}
+use Rattle.job_facts.proofs.Keep.{Drops}
+use Rattle.job_facts.proofs.Placed.{temporary_place, staged_place, one_path, staged_set, set_same}
 
 -- attempts of one temporary place are one
 same_attempt : (a b : Who) → TemporaryPlace b.task b.attempt ≡ TemporaryPlace a.task a.attempt → b ≡ a
@@ -55,12 +55,12 @@ module _ {w : Script} (j : IsLegal w) (staging : is_staging w.committer ≡ true
         records = f.records;
         sets = λ t b h e. f.sets t b h (sym (set t h) ∙ e);
         standing = λ c t b h e. let x = f.standing c t b h e in (x.0, set t h ∙ x.1);
-        temporaries = λ g b x e o h. elim (same_or_other (path_at w.job (TemporaryPlace b.task b.attempt)) mine) [
+        temporaries = λ g b x e h. elim (same_or_other (path_at w.job (TemporaryPlace b.task b.attempt)) mine) [
           | inl is ↦
               let who : b ≡ a = same_attempt a b (one_path j (TemporaryPlace b.task b.attempt) (TemporaryPlace a.task a.attempt) (temporary_place j b e) (temporary_place j a d) is) in
               let same : bytes ≡ x = some_is (sym (text_here s.files mine _ bytes is) ∙ h) in
               subst (λ (v : Who). IsTemporary w minimum (m.put_sent v) (m.drawn v) v x) (sym who) (subst (λ z. IsTemporary w minimum (m.put_sent a) (m.drawn a) a z) same temporary)
-          | inr ne ↦ f.temporaries g b x e o (sym (text_other s.files mine _ bytes ne) ∙ h)
+          | inr ne ↦ f.temporaries g b x e (sym (text_other s.files mine _ bytes ne) ∙ h)
         ];
         kept = f.kept;
       }
@@ -76,11 +76,11 @@ module _ {w : Script} (j : IsLegal w) (staging : is_staging w.committer ≡ true
   moved_other : (m : Files) (bytes p : List ℕ) → (p ≡ mine → ⊥) → (p ≡ target → ⊥) → fin.get (moved m bytes) p ≡ fin.get m p
   moved_other m bytes p nm nt = text_other (fin.remove m mine) target p bytes nt ∙ text_left m mine p nm
 
-  pub rename_keep : {minimum : ℕ} {s : Scene} {last : ℕ → Option ℕ} {m : Told} (bytes : List ℕ) (more : ℕ → Option ℕ) → at_path w s (TemporaryPlace a.task a.attempt) ≡ Some bytes → m.undone a ≡ false → m.publish_sent a ≡ true
+  pub rename_keep : {minimum : ℕ} {s : Scene} {last : ℕ → Option ℕ} {m : Told} (bytes : List ℕ) (more : ℕ → Option ℕ) → at_path w s (TemporaryPlace a.task a.attempt) ≡ Some bytes → m.publish_sent a ≡ true
       → more a.task ≡ Some a.attempt → ((t : ℕ) → (t ≡ a.task → ⊥) → more t ≡ last t) → Facts w minimum s last m → Facts w minimum (with_files s (moved s.files bytes)) more m
-  rename_keep {minimum = minimum} {s = s} {last = last} {m = m} bytes more stood clean sent latest others f =
+  rename_keep {minimum = minimum} {s = s} {last = last} {m = m} bytes more stood sent latest others f =
       let u : Scene = with_files s (moved s.files bytes) in
-      let temporary : IsTemporary w minimum (m.put_sent a) (m.drawn a) a bytes = f.temporaries staging a bytes d clean stood in
+      let temporary : IsTemporary w minimum (m.put_sent a) (m.drawn a) a bytes = f.temporaries staging a bytes d stood in
       let here : sets_at w u a.task ≡ Some bytes = staged_set w.committer w u a.task staging ∙ text_here (fin.remove s.files mine) target target bytes refl in
       let set : (t : ℕ) → t < w.tasks → (t ≡ a.task → ⊥) → sets_at w u t ≡ sets_at w s t = λ t h ne. set_same w.committer w s u t refl (moved_other s.files bytes _ (apart t h) (λ e. ne (same_task t h e))) in
       record {
@@ -111,7 +111,7 @@ module _ {w : Script} (j : IsLegal w) (staging : is_staging w.committer ≡ true
           | inl is ↦ (bytes, ap (sets_at w u) is ∙ here)
           | inr ne ↦ let x = f.standing c t b h (sym (others t ne) ∙ e) in (x.0, set t h ne ∙ x.1)
         ];
-        temporaries = λ g b x e o h. f.temporaries g b x e o (moved_stood b x e h);
+        temporaries = λ g b x e h. f.temporaries g b x e (moved_stood b x e h);
         kept = f.kept;
       }
     where

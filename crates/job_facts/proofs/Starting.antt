@@ -1,12 +1,10 @@
 -- The facts begin where the set-up is done; and what only reads keeps them, whoever sends it.
-use Rattle.std.proofs.Common.{◌≡◌, ℕ, ◌<◌, Bool, true, false, List, Option, Some, None, refl, sym, ap, ◌∙◌}
-use Rattle.std.proofs.lemmas.Bool.{false≢true}
+use Rattle.std.proofs.Common.{◌≡◌, ℕ, ◌<◌, true, List, Option, Some, None, refl, ap}
 use Rattle.std.specs.Option.{option_map}
 use Rattle.s3_types.specs.Store.{Scene, Upload}
 use Rattle.s3_types.specs.Answer.{answer}
 use Rattle.s3_types.specs.Moment.{IsHonestOutcome}
 use Rattle.s3_types.specs.Requests.{only_reads}
-use Rattle.s3_types.specs.Pages.{begins}
 use Rattle.s3_types.specs.declared.request.Actor.{Actor}
 use Rattle.s3_types.specs.declared.request.Actor.TheVariants.{Driver, Attempt, Shell}
 use Rattle.s3_types.specs.declared.request.Committer.{Committer}
@@ -15,15 +13,14 @@ use Rattle.s3_types.specs.declared.journal.Entry.{Entry}
 use Rattle.s3_types.specs.declared.journal.Outcome.{Outcome}
 use Rattle.s3_types.specs.declared.journal.Outcome.TheVariants.{Answered, Slow, RequestLost, ReplyLost}
 use Rattle.s3_types.specs.declared.object.Object.{Object}
-use Rattle.magic_paths.specs.Layout.{magic_prefix, cluster_prefix}
-use Rattle.magic_paths.specs.Places.{SetPlace, TemporaryPlace, StagedSetPlace, key_at, path_at}
+use Rattle.magic_paths.specs.Places.{SetPlace, TemporaryPlace, StagedSetPlace}
 use Rattle.job_model.specs.Legal.{IsLegal}
 use Rattle.job_model.specs.JobScript.{Script}
 use Rattle.job_promise.specs.Seen.{Seen, see, is_magic, is_staging}
 use Rattle.request_frame.specs.Held.{HasBucket}
 use Rattle.request_frame.proofs.Members.{none_some}
 use Rattle.job_facts.specs.Told.{Told, tell, nothing_told}
-use Rattle.job_facts.specs.Stores.{at_key, at_id, at_path, at_place, set_at, sets_at}
+use Rattle.job_facts.specs.Stores.{at_id, at_path, at_place, set_at}
 use Rattle.job_facts.specs.Facts.{Facts, Hold}
 use Rattle.job_facts.specs.Laws.{IsBare}
 use Rattle.job_facts.proofs.Whose.{attempt}
@@ -49,7 +46,7 @@ facts_begin w minimum s last j there least fresh bare none = record {
   records = λ g a f x i e. absurd (none_some (bare.keys g _ (record_magic j g a f i)) e);
   sets = λ t b h e. absurd (no_set w.committer w s t b (λ g. bare.keys g _ (set_magic j t h)) (λ g. bare.paths g _ (path_below w (StagedSetPlace t))) e);
   standing = λ c t a h e. absurd (none_some (none t) e);
-  temporaries = λ g a b d o e. absurd (none_some (bare.paths g _ (path_below w (TemporaryPlace a.task a.attempt))) e);
+  temporaries = λ g a b d e. absurd (none_some (bare.paths g _ (path_below w (TemporaryPlace a.task a.attempt))) e);
   kept = λ a e. refl;
 }
 

@@ -6,8 +6,7 @@ use Rattle.std.specs.Ordering.{eq_by_cmp}
 use Rattle.proof_base.specs.Order.{text_cmp, text_total}
 use Rattle.s3_types.specs.Store.{Content, Scene, Objects}
 use Rattle.s3_types.specs.Pages.{begins}
-use Rattle.s3_types.specs.Answer.{answer, apply, apply_store, apply_at, without, with_objects}
-use Rattle.s3_types.specs.Moment.{IsHonestOutcome}
+use Rattle.s3_types.specs.Answer.{apply, apply_store, apply_at, without, with_objects}
 use Rattle.s3_types.specs.declared.request.Request.{Request}
 use Rattle.s3_types.specs.declared.request.Request.TheVariants.{AbortUpload, DeleteObjects, ClusterDelete}
 use Rattle.s3_types.specs.declared.journal.Outcome.{Outcome}
@@ -22,13 +21,12 @@ use Rattle.job_model.specs.JobScript.{Script}
 use Rattle.job_model.specs.Known.{Drawn}
 use Rattle.job_operations.specs.Knowledge.{learn}
 use Rattle.job_operations.specs.TaskCommits.{attempt_prefix, temporary_path}
-use Rattle.job_promise.specs.Seen.{Seen, see, is_magic, is_staging, is_publishing, last_by}
+use Rattle.job_promise.specs.Seen.{Seen, see, is_publishing, last_by}
 use Rattle.request_frame.specs.Members.{IsIn}
 use Rattle.request_frame.specs.Held.{HasBucket}
 use Rattle.request_frame.proofs.Members.{none_some, false_true, text_left}
 use Rattle.request_frame.proofs.Framed.{with_bucket, frame}
 use Rattle.job_facts.specs.Told.{Told, known, put_who, undoes, entry, tell, tell_attempt}
-use Rattle.job_facts.specs.Stores.{at_key, at_path, sets_at}
 use Rattle.job_facts.specs.Facts.{IsAttempt, Facts, Hold}
 use Rattle.job_facts.proofs.Whose.{who_here, who_same, or_true}
 use Rattle.job_facts.proofs.Shapes.{key_before, key_after, id_before, id_after, bucket_after, abort_turns, with_store}

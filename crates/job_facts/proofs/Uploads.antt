@@ -1,6 +1,5 @@
 -- How a file's upload goes on, of any committer: what it asks keeps the facts, and it comes as far as it says.
-use Rattle.std.proofs.Common.{◌≡◌, ℕ, zero, suc, ◌+◌, ◌-◌, ◌<◌, ◌≤◌, ◌⊎◌, inl, inr, nat_eq, nat_le, ◌&&◌, Bool, true, false, cond, List, [], ◌∷◌, ◌++◌, map, length, drop, slice_get, Option, Some, None, refl, sym, ap, subst, ◌∙◌, arith, length-drop}
-use Rattle.std.specs.FinMap as fin
+use Rattle.std.proofs.Common.{◌≡◌, ℕ, zero, suc, ◌+◌, ◌-◌, ◌<◌, ◌≤◌, ◌⊎◌, inl, inr, true, cond, List, [], ◌∷◌, ◌++◌, map, length, drop, slice_get, Option, Some, None, refl, sym, ap, subst, ◌∙◌, arith, length-drop}
 use Rattle.std.proofs.lemmas.Bool.Decides.{nat_tests}
 use Rattle.s3_types.specs.Store.{Upload}
 use Rattle.s3_types.specs.Tags.{Spelled, plain_tag}
@@ -20,16 +19,16 @@ use Rattle.job_model.specs.Legal.{IsLegal}
 use Rattle.job_model.specs.JobScript.{Script}
 use Rattle.job_operations.specs.Outputs.{files}
 use Rattle.job_model.specs.Known.{Drawn, Known}
-use Rattle.job_operations.specs.Knowledge.{learn, with_part, drawn_last, first_drawn}
+use Rattle.job_operations.specs.Knowledge.{learn, with_part, first_drawn}
 use Rattle.job_operations.specs.Records.{file_key}
 use Rattle.job_operations.specs.Uploading.{Uploading, Creating, Sending, Uploaded, GoesOn, AllSent, IsGone, upload_asks, upload_hears, file_parts, sending, created, sent_part}
 use Rattle.job_promise.specs.Seen.{Seen, see}
 use Rattle.request_frame.specs.Members.{IsIn}
-use Rattle.request_frame.proofs.Members.{some_is, same_or_not, in_map, map_in}
+use Rattle.request_frame.proofs.Members.{in_map, map_in}
 use Rattle.job_facts.specs.Told.{Told, known, entry, tell}
-use Rattle.job_facts.specs.Facts.{IsWritten, ApartFiles, AreCommits, Facts, Hold}
+use Rattle.job_facts.specs.Facts.{IsWritten, AreCommits, Hold}
 use Rattle.job_facts.specs.Fits.{Todo, Begun, AllWritten, IsOpen, FitsUpload}
-use Rattle.job_facts.proofs.Cut.{parts_some, parts_few}
+use Rattle.job_facts.proofs.Cut.{parts_few}
 use Rattle.job_facts.proofs.Legal.{files_apart}
 use Rattle.job_facts.proofs.Placed.{key_file, one_key}
 use Rattle.job_facts.proofs.Learn.{part_other, part_here, part_key, one_more, longer, new_drawn}

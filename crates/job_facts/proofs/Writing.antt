@@ -1,5 +1,5 @@
 -- An attempt's write keeps the facts with each of its requests, whatever becomes of it, and goes on as it should.
-use Rattle.std.proofs.Common.{◌≡◌, ℕ, inl, ◌<◌, ◌||◌, Bool, true, false, List, [], ◌∷◌, length, Option, Some, None, refl, sym, ap, subst, ◌∙◌}
+use Rattle.std.proofs.Common.{◌≡◌, ℕ, inl, ◌||◌, Bool, true, List, [], ◌∷◌, length, Option, Some, None, refl, sym, ap, subst, ◌∙◌}
 use Rattle.std.proofs.lemmas.Bool.{false≢true}
 use Rattle.s3_types.specs.Answer.{answer}
 use Rattle.s3_types.specs.Moment.{IsHonestOutcome}
@@ -7,32 +7,27 @@ use Rattle.s3_types.specs.declared.request.Request.{Request}
 use Rattle.s3_types.specs.declared.request.Request.TheVariants.{PutObject}
 use Rattle.s3_types.specs.declared.request.Committer.{Committer}
 use Rattle.s3_types.specs.declared.request.Committer.TheVariants.{Magic, Directory, Partitioned}
-use Rattle.s3_types.specs.declared.reply.Reply.{Reply}
 use Rattle.s3_types.specs.declared.journal.Outcome.{Outcome}
-use Rattle.s3_types.specs.declared.journal.Outcome.TheVariants.{Answered}
-use Rattle.sendings.specs.Retries.{Retried, Got, WornOut, step}
+use Rattle.sendings.specs.Retries.{Retried, step}
 use Rattle.magic_paths.specs.Places.{Place, MarkerPlace, RecordPlace, SetPlace, key_at}
 use Rattle.job_model.specs.Files.{File}
 use Rattle.job_model.specs.Attempts.{Who}
 use Rattle.job_model.specs.Legal.{IsLegal}
 use Rattle.job_model.specs.JobScript.{Script}
-use Rattle.job_model.specs.declared.ends.TaskEnd.TheVariants as tasks
-use Rattle.job_operations.specs.Outputs.{files}
 use Rattle.job_model.specs.Known.{Drawn, Known}
-use Rattle.job_operations.specs.Knowledge.{learn, is_set_key, first_drawn}
+use Rattle.job_operations.specs.Knowledge.{learn, first_drawn}
 use Rattle.job_operations.specs.Records.{marker_key, record_key, record_text}
 use Rattle.job_operations.specs.Uploading.{Uploading, Creating, Sending, Uploaded, GoesOn, AllSent, IsGone, upload_asks, upload_hears}
-use Rattle.job_operations.specs.Writes.{Write, Uploads, Marking, Recording, WriteOver, writing, write_asks, write_after, write_hears, uploaded}
+use Rattle.job_operations.specs.Writes.{Write, Uploads, Marking, Recording, WriteOver, writing, write_asks, write_after, uploaded}
 use Rattle.job_promise.specs.Seen.{Seen, see, is_magic}
-use Rattle.request_frame.specs.Members.{IsIn}
 use Rattle.request_frame.proofs.Members.{some_is}
-use Rattle.job_facts.specs.Told.{Told, known, undoes, entry, tell, tell_attempt}
+use Rattle.job_facts.specs.Told.{Told, known, entry, tell}
 use Rattle.job_facts.specs.Facts.{IsAttempt, IsOwnPlace, Hold}
 use Rattle.job_facts.specs.Fits.{Todo, Begun, AllWritten, IsOpen, FitsUpload, Wrote, FitsWrite}
 use Rattle.job_facts.proofs.Whose.{or_false}
 use Rattle.job_facts.proofs.Sent.{not_set, marker_keeps, record_keeps}
 use Rattle.job_facts.proofs.Uploads.{FitsUploaded, begun_written, next_todo, todo_none, upload_keeps, upload_goes, upload_flags}
-use Rattle.job_facts.proofs.Going.{known_now, step_so, unlearnt}
+use Rattle.job_facts.proofs.Going.{step_so, unlearnt}
 
 -- a write is all that the magic committer's attempts do before their commit
 wrote_magic : (c : Committer) (w : Script) (minimum : ℕ) (a : Who) (ds : List Drawn) → is_magic c ≡ true → AllWritten w minimum a ds → Wrote c w minimum a ds

@@ -1,7 +1,7 @@
 -- What holds of one job's store, of the cluster and of what its attempts know, from the end of its set-up on, whatever strangers send.
 use Rattle.std.specs.Prelude.{◌≡◌, ℕ, suc, ◌<◌, ◌≤◌, Bool, true, false, List, [], ◌∷◌, length, map, take, slice_get, Option, Some}
 use Rattle.std.specs.FinMap as fin
-use Rattle.s3_types.specs.Store.{Content, Scene, Upload, Parts}
+use Rattle.s3_types.specs.Store.{Scene, Upload, Parts}
 use Rattle.s3_types.specs.Tags.{plain_tag}
 use Rattle.s3_types.specs.Pages.{begins}
 use Rattle.s3_types.specs.declared.object.Object.{Object}
@@ -127,9 +127,9 @@ pub record IsTemporary (w : Script) (minimum : ℕ) (put : Bool) (ds : List Draw
   pub are : AreCommits w minimum ds a (files w a)
   pub text : bytes ≡ set_text w a (files w a) (knowing ds)
 
--- a staging attempt's temporary file is its set, until it takes back what it did
-abbrev pub Temporaries : Script → ℕ → (ClusterPlace → Option (List ℕ)) → (Who → Bool) → (Who → Bool) → (Who → List Drawn) → Type 0
-Temporaries w minimum paths put undone drawn = (a : Who) (bytes : List ℕ) → IsAttempt w a → undone a ≡ false → paths (TemporaryPlace a.task a.attempt) ≡ Some bytes → IsTemporary w minimum (put a) (drawn a) a bytes
+-- a staging attempt's temporary file, where it stands, is its set
+abbrev pub Temporaries : Script → ℕ → (ClusterPlace → Option (List ℕ)) → (Who → Bool) → (Who → List Drawn) → Type 0
+Temporaries w minimum paths put drawn = (a : Who) (bytes : List ℕ) → IsAttempt w a → paths (TemporaryPlace a.task a.attempt) ≡ Some bytes → IsTemporary w minimum (put a) (drawn a) a bytes
 
 -- who has sent its publishing request has sent no abort and no deletion
 abbrev pub Kept : (Who → Bool) → (Who → Bool) → Type 0
@@ -147,7 +147,7 @@ pub record Facts (w : Script) (minimum : ℕ) (s : Scene) (last : ℕ → Option
   pub sets : Sets w minimum (sets_at w s) last m.publish_sent m.drawn
   -- until the driver's abort or clean begins
   pub standing : m.cleaned ≡ false → Standing w (sets_at w s) last
-  pub temporaries : is_staging w.committer ≡ true → Temporaries w minimum (at_path w s) m.put_sent m.undone m.drawn
+  pub temporaries : is_staging w.committer ≡ true → Temporaries w minimum (at_path w s) m.put_sent m.drawn
   pub kept : Kept m.publish_sent m.undone
 
 -- they hold of what is seen and told at a moment
