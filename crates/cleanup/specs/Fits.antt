@@ -1,0 +1,38 @@
+-- The replies that fit a clean, and how it stands.
+use Rattle.std.specs.Prelude.{Bool}
+use Rattle.s3_types.specs.Store.{Scene}
+use Rattle.s3_types.specs.declared.reply.Reply.{Reply}
+use Rattle.job_model.specs.declared.ends.CleanEnd.{CleanEnd}
+use Rattle.job_model.specs.declared.ends.CleanEnd.TheVariants.{Done, StoreFault, NoMemory}
+use Rattle.machine.specs.Standing.{Standing, Fine, Faulted, Broken}
+use Rattle.job_operations.specs.AtWork.{Driving}
+use Rattle.job_operations.specs.Cleanups.{Clean, Walking, Aborting, Sweeping, Naming, Removing, CleanOver}
+use Rattle.sweep.specs.Fitting.{FitsUploads, FitsSweep}
+
+-- the bucket is there, and a page that is not folded has keys alone
+abbrev pub FitsClean : Clean → Reply → Type 0
+FitsClean (Walking found) r = FitsUploads r
+FitsClean (Sweeping s) r = FitsSweep s r
+FitsClean (Aborting u us) r = Unit {0}
+FitsClean Naming r = Unit {0}
+FitsClean (Removing p ps) r = Unit {0}
+FitsClean (CleanOver end) r = Unit {0}
+
+abbrev pub FitsDriving : Driving Clean → Reply → Bool → Type 0
+FitsDriving m r repeated = FitsClean m.operation r
+
+-- a clean goes on among others, and promises nothing of a scene
+abbrev pub never : Driving Clean → Scene → Bool → Type 0
+never m s repeated = ⊥
+
+abbrev pub standing_at : CleanEnd → Standing
+standing_at Done = Fine
+standing_at StoreFault = Faulted
+standing_at NoMemory = Broken
+
+abbrev pub standing_of : Clean → Standing
+standing_of (CleanOver end) = standing_at end
+standing_of _ = Fine
+
+abbrev pub standing : Driving Clean → Standing
+standing m = standing_of m.operation

@@ -1,0 +1,66 @@
+-- A clean as it is kept.
+use Rattle.std.specs.Prelude.{ℕ, ◌+◌, nat_lt, Bool, true, cond, List, [], ◌∷◌, drop, length, Option, Some, None}
+use Rattle.s3_types.specs.declared.request.Committer.{Committer}
+use Rattle.s3_types.specs.declared.request.Committer.TheVariants.{Magic, Directory, Partitioned}
+use Rattle.s3_types.specs.declared.request.Request.{Request}
+use Rattle.s3_types.specs.declared.request.Request.TheVariants.{AbortUpload, ClusterDelete}
+use Rattle.s3_types.specs.declared.request.UploadRef.{UploadRef}
+use Rattle.job_model.specs.declared.ends.CleanEnd.TheVariants as ends
+use Rattle.job_operations.specs.Walks.{Sweep}
+use Rattle.job_operations.specs.Cleanups.{Clean, Walking, Aborting, Sweeping, Naming, CleanOver, removing}
+use Rattle.cleanup.specs.declared.held.Held.{Held}
+use Rattle.cleanup.specs.declared.held.Stage.{Stage}
+use Rattle.cleanup.specs.declared.held.Stage.TheVariants as stages
+
+-- one that aborts these uploads; there are some
+abbrev pub aborting_from : List UploadRef → Clean
+aborting_from [] = CleanOver ends.Done
+aborting_from (u ∷ us) = Aborting u us
+
+-- a clean of a stage, the uploads, the sweep, the paths, and the place among the uploads or the paths
+abbrev pub clean_at : Stage → List UploadRef → Sweep → List (List ℕ) → ℕ → Clean
+clean_at stages.Walking found sweep paths at = Walking found
+clean_at stages.Aborting found sweep paths at = aborting_from (drop at found)
+clean_at stages.Sweeping found sweep paths at = Sweeping sweep
+clean_at stages.Naming found sweep paths at = Naming
+clean_at stages.Removing found sweep paths at = removing (drop at paths)
+clean_at (stages.Over end) found sweep paths at = CleanOver end
+
+abbrev pub clean_of : Held → Clean
+clean_of h = clean_at h.stage h.uploads h.sweep h.paths h.at
+
+-- the place is one of so many uploads or paths
+abbrev pub within : Stage → ℕ → ℕ → ℕ → Bool
+within stages.Walking at uploads paths = true
+within stages.Aborting at uploads paths = nat_lt at uploads
+within stages.Sweeping at uploads paths = true
+within stages.Naming at uploads paths = true
+within stages.Removing at uploads paths = nat_lt at paths
+within (stages.Over end) at uploads paths = true
+
+abbrev pub within_of : Held → Bool
+within_of h = within h.stage h.at (length h.uploads) (length h.paths)
+
+-- the place behind one of so many
+abbrev pub behind : ℕ → ℕ → ℕ
+behind at len = cond (nat_lt at len) (at + 1) len
+
+abbrev pub stage_after : Committer → Stage
+stage_after Magic = stages.Sweeping
+stage_after Directory = stages.Naming
+stage_after Partitioned = stages.Naming
+
+abbrev pub abort_stage : Committer → ℕ → ℕ → Stage
+abort_stage committer at len = cond (nat_lt at len) stages.Aborting (stage_after committer)
+
+abbrev pub remove_stage : ℕ → ℕ → Stage
+remove_stage at len = cond (nat_lt at len) stages.Removing (stages.Over ends.Done)
+
+-- the requests for the first of these
+abbrev pub abort_asks : List ℕ → List UploadRef → Option Request
+abort_asks bucket [] = None
+abort_asks bucket (u ∷ us) = Some (AbortUpload bucket u.key u.upload)
+
+abbrev pub remove_asks : List (List ℕ) → Option Request
+remove_asks [] = None
+remove_asks (p ∷ ps) = Some (ClusterDelete p)

@@ -1,0 +1,28 @@
+-- What a clean has left in a scene.
+use Rattle.std.specs.Prelude.{ℕ, ◌+◌, ◌++◌, length, codes}
+use Rattle.s3_types.specs.Store.{Scene}
+use Rattle.s3_types.specs.declared.request.Committer.{Committer}
+use Rattle.s3_types.specs.declared.request.Committer.TheVariants.{Magic, Directory, Partitioned}
+use Rattle.magic_paths.specs.Layout as layout
+use Rattle.job_model.specs.Jobs.{Job}
+use Rattle.job_operations.specs.AtWork.{Driving}
+use Rattle.job_operations.specs.Walks.{sweep_start}
+use Rattle.job_operations.specs.Cleanups.{Clean, Walking, Aborting, Sweeping, Naming, Removing, CleanOver}
+use Rattle.sweep.specs.Left.{uploads_left, sweep_left, files_left}
+
+-- once the uploads are aborted: the sweep, or the list of the files and each of them
+abbrev pub after_left : Committer → Job → Scene → ℕ
+after_left Magic j s = sweep_left j.dest.bucket (layout.magic_prefix j.dest.key j.job) sweep_start s
+after_left Directory j s = 1 + files_left (layout.cluster_prefix j.job) s
+after_left Partitioned j s = 1 + files_left (layout.cluster_prefix j.job) s
+
+abbrev pub left_at : Job → Clean → Scene → ℕ
+left_at j (Walking found) s = uploads_left j.dest.bucket (j.dest.key ++ codes "/") found s + after_left j.committer j s
+left_at j (Aborting u us) s = (1 + length us) + after_left j.committer j s
+left_at j (Sweeping w) s = sweep_left j.dest.bucket (layout.magic_prefix j.dest.key j.job) w s
+left_at j Naming s = 1 + files_left (layout.cluster_prefix j.job) s
+left_at j (Removing p ps) s = 1 + length ps
+left_at j (CleanOver end) s = 0
+
+abbrev pub clean_left : Driving Clean → Scene → ℕ
+clean_left m s = left_at m.plan m.operation s

@@ -1,0 +1,5 @@
+pub mod Held
+pub mod Fits
+pub mod Left
+pub mod Laws
+pub mod MachineLaws

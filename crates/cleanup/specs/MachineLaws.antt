@@ -1,0 +1,66 @@
+-- A clean is a machine.
+use Rattle.std.specs.Prelude.{◌≡◌, ℕ, List, [], ◌∷◌, Option, Some, None}
+use Rattle.std.proofs.Common.{refl}
+use Rattle.s3_types.specs.declared.request.Committer.{Committer}
+use Rattle.s3_types.specs.declared.request.Committer.TheVariants.{Magic, Directory, Partitioned}
+use Rattle.s3_types.specs.declared.request.Request.{Request}
+use Rattle.s3_types.specs.declared.request.UploadRef.{UploadRef}
+use Rattle.s3_types.specs.declared.reply.Reply.{Reply}
+use Rattle.s3_types.specs.declared.reply.Reply.TheVariants.{ClusterNames}
+use Rattle.machine.specs.Laws.{Laws}
+use Rattle.machine.specs.Standing.{Fine}
+use Rattle.job_model.specs.Jobs.{Job}
+use Rattle.job_operations.specs.AtWork.{job_script, clean_wants, clean_told}
+use Rattle.job_operations.specs.Walks.{Walked, More, Whole, Sweep, walked_uploads, sweep_hears, all_go}
+use Rattle.job_operations.specs.Cleanups.{Clean, Walking, Aborting, Sweeping, Naming, Removing, CleanOver, clean_asks, clean_hears, aborted, aborting, walking, sweeping, removing, naming}
+use Rattle.cleanup.specs.Fits.{FitsDriving, never, standing, standing_of}
+use Rattle.cleanup.specs.Left.{clean_left}
+
+fine_aborted : (c : Committer) → standing_of (aborted c) ≡ Fine
+fine_aborted Magic = refl
+fine_aborted Directory = refl
+fine_aborted Partitioned = refl
+
+fine_aborting : (c : Committer) (us : List UploadRef) → standing_of (aborting c us) ≡ Fine
+fine_aborting c [] = fine_aborted c
+fine_aborting c (u ∷ us) = refl
+
+fine_walking : (c : Committer) (x : Walked UploadRef) → standing_of (walking c x) ≡ Fine
+fine_walking c (More found) = refl
+fine_walking c (Whole found) = fine_aborting c found
+
+fine_sweeping : (o : Option Sweep) → standing_of (sweeping o) ≡ Fine
+fine_sweeping (Some s) = refl
+fine_sweeping None = refl
+
+fine_removing : (ps : List (List ℕ)) → standing_of (removing ps) ≡ Fine
+fine_removing [] = refl
+fine_removing (p ∷ ps) = refl
+
+fine_naming : (r : Reply) → standing_of (naming r) ≡ Fine
+fine_naming (ClusterNames paths) = fine_removing paths
+fine_naming _ = refl
+
+goes_on : (j : Job) (c : Clean) (r : Request) (a : Reply) → clean_asks (job_script j) c ≡ Some r → standing_of (clean_hears (job_script j) c a) ≡ standing_of c
+goes_on j (Walking found) r a e = fine_walking j.committer (walked_uploads found a)
+goes_on j (Aborting u us) r a e = fine_aborting j.committer us
+goes_on j (Sweeping s) r a e = fine_sweeping (sweep_hears all_go s a)
+goes_on j Naming r a e = fine_naming a
+goes_on j (Removing p ps) r a e = fine_removing ps
+goes_on j (CleanOver end) r a e = refl
+
+pub clean_laws : Laws clean_wants clean_told FitsDriving never clean_left standing
+clean_laws = record {
+  fit = λ m s r b e h. absurd h;
+  lost = λ m s b h. h;
+  hidden = λ m s r b e h. h;
+  took = λ m s r b e h. absurd h;
+  gave_up = λ m s r b e h. absurd h;
+  falls = λ m s r b e h. absurd h;
+  falls_worn = λ m s r b e h. absurd h;
+  no_rise = λ m s r b e h. absurd h;
+  stops = λ m. refl;
+  breaks = λ m. refl;
+  faults = λ m r e. refl;
+  goes_on = λ m r a b e h. goes_on m.plan m.operation r a e;
+}

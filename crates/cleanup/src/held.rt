@@ -1,0 +1,211 @@
+ghost use Rattle.std.specs.Prelude.{◌≡◌, drop, IfOk, OnOk, true};
+ghost use Rattle.job_operations.specs.AtWork.{job_script};
+ghost use Rattle.job_operations.specs.Walks.{walked_uploads, sweep_hears, all_go};
+ghost use Rattle.job_operations.specs.Cleanups.{clean_start, clean_asks, clean_hears, walking, aborting, sweeping, naming, removing};
+ghost use Rattle.cleanup.specs.Held.{clean_of, within_of, behind, stage_after, abort_stage, remove_stage};
+ghost use Rattle.cleanup.specs.Fits.{FitsClean};
+
+use crate::requests::{abort_request, names_request, remove_request, sweep_request, walk_request};
+use job_model::{CleanEnd, JobPlan};
+use s3_types::{Committer, Reply, Request, Sequence, Text, TextList, put};
+use std::alloc::{AllocError, Global};
+use sweep::{AllKeys, Sweep, UploadWalk};
+
+/// Where a clean stands.
+#[derive(Clone, Copy, Debug)]
+pub enum Stage {
+    /// It lists live uploads.
+    Walking,
+    /// It aborts the upload at its place.
+    Aborting,
+    /// It empties the job's magic directory.
+    Sweeping,
+    /// It lists the job's files in the cluster.
+    Naming,
+    /// It deletes the file at its place.
+    Removing,
+    Over(CleanEnd),
+}
+
+/// A clean as it goes on: its stage, the uploads, the sweep, the cluster's paths, and the place among the
+/// uploads or the paths.
+#[derive(Drop)]
+pub struct Held {
+    pub stage: Stage,
+    pub uploads: UploadWalk,
+    pub sweep: Sweep,
+    pub paths: TextList,
+    pub at: usize,
+}
+
+/// The same texts, which are shared.
+fn shared_texts(alloc: Global, texts: &[Text]) -> Result<TextList, AllocError>
+    ensures { IfOk result (λ copy. copy ≡ texts.now) }
+{
+    let mut copy = Vec::with_capacity(alloc, texts.len())?;
+    for text in texts {
+        copy.push(text.clone()?)?;
+    }
+    Ok(Sequence::from_vec(copy))
+}
+
+/// The place behind one of so many.
+fn next_place(at: usize, len: usize) -> usize
+    ensures { result ≡ behind at len }
+{
+    if at < len { at + 1 } else { len }
+}
+
+/// What follows the last upload.
+fn after_uploads(committer: Committer) -> Stage
+    ensures { result ≡ stage_after committer }
+{
+    match committer {
+        Committer::Magic => Stage::Sweeping,
+        Committer::Directory => Stage::Naming,
+        Committer::Partitioned => Stage::Naming,
+    }
+}
+
+fn stage_of_uploads(committer: Committer, at: usize, len: usize) -> Stage
+    ensures { result ≡ abort_stage committer at len }
+{
+    if at < len {
+        Stage::Aborting
+    } else {
+        after_uploads(committer)
+    }
+}
+
+fn stage_of_paths(at: usize, len: usize) -> Stage
+    ensures { result ≡ remove_stage at len }
+{
+    if at < len {
+        Stage::Removing
+    } else {
+        Stage::Over(CleanEnd::Done)
+    }
+}
+
+impl Held {
+    /// A clean of which nothing was sent yet. Takes no memory.
+    pub fn new(alloc: Global) -> Held
+        ensures start { clean_of result ≡ clean_start }
+        ensures within { within_of result ≡ true }
+    {
+        Held {
+            stage: Stage::Walking,
+            uploads: UploadWalk::new(alloc),
+            sweep: Sweep::new(alloc),
+            paths: TextList::new(alloc),
+            at: 0,
+        }
+    }
+
+    /// The next request, or None where it is over.
+    pub fn request(&self, alloc: Global, plan: &JobPlan) -> Result<Option<Request>, AllocError>
+        ensures { IfOk result (λ request. request ≡ clean_asks (job_script plan.now) (clean_of self.now)) }
+    {
+        match self.stage {
+            Stage::Walking => walk_request(alloc, &plan.dest, &self.uploads),
+            Stage::Aborting => abort_request(
+                plan.dest.bucket(),
+                self.uploads.found().as_slice(),
+                self.at,
+            ),
+            Stage::Sweeping => sweep_request(alloc, &plan.dest, &plan.job, &self.sweep),
+            Stage::Naming => names_request(alloc, &plan.job),
+            Stage::Removing => remove_request(self.paths.as_slice(), self.at),
+            Stage::Over(_) => Ok(None),
+        }
+    }
+
+    /// Aborts the uploads from this place on, and then goes on.
+    fn abort_from(&mut self, alloc: Global, committer: Committer, at: usize)
+        ensures goes { clean_of self.new ≡ aborting committer (drop at self.old.uploads) }
+        ensures within { within_of self.new ≡ true }
+    {
+        self.stage = stage_of_uploads(committer, at, self.uploads.found().len());
+        self.at = at;
+        put(&mut self.sweep, Sweep::new(alloc));
+    }
+
+    /// Deletes the cluster's files from this place on.
+    fn remove_from(&mut self, at: usize)
+        ensures goes { clean_of self.new ≡ removing (drop at self.old.paths) }
+        ensures within { within_of self.new ≡ true }
+    {
+        self.stage = stage_of_paths(at, self.paths.len());
+        self.at = at;
+    }
+
+    fn hear_uploads(
+        &mut self,
+        alloc: Global,
+        committer: Committer,
+        reply: &Reply,
+    ) -> Result<(), AllocError>
+        requires stage { self.old.stage ≡ Stage.Walking }
+        requires fits { FitsClean (clean_of self.old) reply.now }
+        ensures goes { OnOk result (clean_of self.new ≡ walking committer (walked_uploads self.old.uploads reply.now)) }
+        ensures within { OnOk result (within_of self.new ≡ true) }
+    {
+        if self.uploads.hear(reply)? {
+            return Ok(());
+        }
+        self.abort_from(alloc, committer, 0);
+        Ok(())
+    }
+
+    fn hear_sweep(&mut self, alloc: Global, reply: &Reply) -> Result<(), AllocError>
+        requires stage { self.old.stage ≡ Stage.Sweeping }
+        requires fits { FitsClean (clean_of self.old) reply.now }
+        ensures goes { OnOk result (clean_of self.new ≡ sweeping (sweep_hears all_go self.old.sweep reply.now)) }
+        ensures within { OnOk result (within_of self.new ≡ true) }
+    {
+        if self.sweep.hear(alloc, &AllKeys, reply)? {
+            return Ok(());
+        }
+        self.stage = Stage::Over(CleanEnd::Done);
+        Ok(())
+    }
+
+    fn hear_names(&mut self, alloc: Global, reply: &Reply) -> Result<(), AllocError>
+        requires { self.old.stage ≡ Stage.Naming }
+        ensures goes { OnOk result (clean_of self.new ≡ naming reply.now) }
+        ensures within { OnOk result (within_of self.new ≡ true) }
+    {
+        let Reply::ClusterNames(paths) = reply else {
+            return Ok(());
+        };
+        let paths = shared_texts(alloc, paths.as_slice())?;
+        put(&mut self.paths, paths);
+        self.remove_from(0);
+        Ok(())
+    }
+
+    /// Takes the reply to its present request.
+    pub fn hear(&mut self, alloc: Global, plan: &JobPlan, reply: &Reply) -> Result<(), AllocError>
+        requires there { within_of self.old ≡ true }
+        requires fits { FitsClean (clean_of self.old) reply.now }
+        ensures goes { OnOk result (clean_of self.new ≡ clean_hears (job_script plan.now) (clean_of self.old) reply.now) }
+        ensures within { OnOk result (within_of self.new ≡ true) }
+    {
+        match self.stage {
+            Stage::Walking => self.hear_uploads(alloc, plan.committer, reply),
+            Stage::Aborting => {
+                let at = next_place(self.at, self.uploads.found().len());
+                self.abort_from(alloc, plan.committer, at);
+                Ok(())
+            }
+            Stage::Sweeping => self.hear_sweep(alloc, reply),
+            Stage::Naming => self.hear_names(alloc, reply),
+            Stage::Removing => {
+                let at = next_place(self.at, self.paths.len());
+                self.remove_from(at);
+                Ok(())
+            }
+            Stage::Over(_) => Ok(()),
+        }
+    }
+}
