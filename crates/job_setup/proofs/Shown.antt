@@ -1,0 +1,140 @@
+-- The first file of a destination on a page.
+use Rattle.std.proofs.Common.{◌≡◌, ◌≢◌, ℕ, ◌+◌, ◌-◌, suc, zero, ◌≤◌, ◌==◌, nat_le, not, nat_eq, Bool, true, false, List, [], ◌∷◌, ◌++◌, length, drop, Option, Some, None, option_map, Bor, refl, sym, ap, ◌∙◌, arith}
+use Rattle.std.specs.Prelude.{codes}
+use Rattle.std.specs.List.{slice_get, starts_with, ends_with, list_any}
+use Rattle.std.specs.Option.{MatchOption}
+use Rattle.std.specs.Str.Pattern.{FindsTextPrefix}
+use Rattle.std.proofs.lemmas.Bool.Decides.{Decides-eqb}
+use Rattle.std.proofs.lemmas.Slice.Eq.{starts_is}
+use Rattle.std.proofs.lemmas.Bool.{and_parts}
+use Rattle.proof_base.proofs.Numbers.{at_most_is}
+use Rattle.words.specs.Parts.{parts_of}
+use Rattle.s3_types.specs.declared.reply.PageEntry.{PageEntry}
+use Rattle.s3_types.specs.declared.reply.Reply.{Reply}
+use Rattle.s3_types.specs.declared.reply.Reply.TheVariants.{Page}
+use Rattle.path_keys.specs.Paths.{relative_in}
+use Rattle.job_model.specs.Jobs.{Job}
+use Rattle.job_model.specs.JobScript.{Script}
+use Rattle.job_model.specs.Paths.{is_reserved}
+use Rattle.job_model.specs.Plans.{IsJob}
+use Rattle.job_operations.specs.View.{is_folder}
+use Rattle.job_model.specs.declared.ends.SetupEnd.{SetupEnd}
+use Rattle.job_model.specs.declared.ends.SetupEnd.TheVariants.{Conflict}
+use Rattle.job_operations.specs.Walks.{walked, walked_by, keys_on, Sweep}
+use Rattle.job_operations.specs.Setup.{Clearing, SetupOver, first_shown, shown_path, or_next, checked, checked_by, checked_on}
+use Rattle.job_setup.specs.Files.{path_behind, first_of}
+use Rattle.job_setup.specs.Held.{setup_at}
+use Rattle.job_setup.specs.declared.held.Stage.{Stage}
+use Rattle.job_setup.specs.declared.held.Stage.TheVariants as stages
+
+path_is : (key k : List ℕ) → 1 ≤ length key → path_behind (key ++ codes "/") k ≡ relative_in key k
+path_is [] k h = absurd (omega arith)
+path_is (x ∷ xs) k h = refl
+
+-- by the prefix of a destination with a key
+pub first_is : (w : Script) (ks : List (List ℕ)) → 1 ≤ length w.dest.key → first_of (w.dest.key ++ codes "/") ks ≡ first_shown w ks
+first_is w [] h = refl
+first_is w (k ∷ ks) h =
+    ap (λ p. or_next (shown_path p) (first_of (w.dest.key ++ codes "/") ks)) (path_is w.dest.key k h)
+    ∙ ap (or_next (shown_path (relative_in w.dest.key k))) (first_is w ks h)
+
+-- ---- a path of a folder
+
+folder_got : (p : List ℕ) (n : ℕ) (b : ℕ) → suc n ≡ length p → slice_get p n ≡ Some b → is_folder p ≡ (b == 47)
+folder_got [] n b e h = absurd (omega arith)
+folder_got (x ∷ []) zero b e h = let i : x ≡ b = cc in ap (λ y. y == 47) i
+folder_got (x ∷ []) (suc n) b e h = absurd (omega arith)
+folder_got (x ∷ y ∷ p) zero b e h = absurd (omega arith)
+folder_got (x ∷ y ∷ p) (suc n) b e h = folder_got (y ∷ p) n b (omega arith) h
+
+some_length : (p : List ℕ) (b : ℕ) → slice_get p (length p - 1) ≡ Some b → suc (length p - 1) ≡ length p
+some_length [] b h = absurd (cc)
+some_length (y ∷ ys) b h = omega arith
+
+pub folder_last : (p : List ℕ) (b : ℕ) → Some b ≡ slice_get p (length p - 1) → is_folder p ≡ (b == 47)
+folder_last p b h = folder_got p (length p - 1) b (some_length p b (sym h)) (sym h)
+
+pub folder_none : (p : List ℕ) → None ≡ slice_get p (length p - 1) → is_folder p ≡ true
+folder_none [] h = refl
+folder_none (x ∷ xs) h = absurd (there (x ∷ xs) (length (x ∷ xs) - 1) (omega arith) (sym h))
+  where
+    there : (xs : List ℕ) (n : ℕ) → suc n ≡ length xs → slice_get xs n ≡ None → ⊥
+    there [] n e g = omega arith
+    there (y ∷ ys) zero e g = cc
+    there (y ∷ ys) (suc n) e g = there ys n (omega arith) g
+
+-- ---- the bounds of a destination
+
+pub dest_some : (j : Job) → IsJob j → 1 ≤ length j.dest.key
+dest_some j h =
+    let a = and_parts _ (not (list_any is_reserved (parts_of 47 j.dest.key))) h.dest.below in
+    let b = and_parts _ (not (ends_with nat_eq j.dest.key (13 ∷ []))) a.0 in
+    let c = and_parts (nat_le 1 (length j.dest.key)) (nat_le (length j.dest.key) 400) b.0 in
+    at_most_is 1 (length j.dest.key) c.0
+
+pub dest_most : (j : Job) → IsJob j → length j.dest.key ≤ 400
+dest_most j h =
+    let a = and_parts _ (not (list_any is_reserved (parts_of 47 j.dest.key))) h.dest.below in
+    let b = and_parts _ (not (ends_with nat_eq j.dest.key (13 ∷ []))) a.0 in
+    let c = and_parts (nat_le 1 (length j.dest.key)) (nat_le (length j.dest.key) 400) b.0 in
+    at_most_is (length j.dest.key) 400 c.1
+
+-- ---- a page of keys
+
+shown_is : (w : Script) (ks : List (List ℕ)) (prefix : List ℕ) (o : Option (List ℕ)) → 1 ≤ length w.dest.key → prefix ≡ w.dest.key ++ codes "/" → o ≡ first_of prefix ks → first_shown w ks ≡ o
+shown_is w ks prefix o h p e = sym (e ∙ ap (λ q. first_of q ks) p ∙ first_is w ks h)
+
+pub conflict_is : (w : Script) (keys : List (List ℕ)) (entries : List PageEntry) (more : Bool) (prefix path : List ℕ) → 1 ≤ length w.dest.key → prefix ≡ w.dest.key ++ codes "/" → Some path ≡ first_of prefix (keys_on entries)
+    → checked w keys (Page entries more) ≡ SetupOver (Conflict path)
+conflict_is w keys entries more prefix path h p e = ap (λ o. checked_by o (walked keys (Page entries more))) (shown_is w (keys_on entries) prefix (Some path) h p e)
+
+pub free_is : (w : Script) (keys : List (List ℕ)) (entries : List PageEntry) (more : Bool) (prefix : List ℕ) (b : Bool) (ks : List (List ℕ)) → 1 ≤ length w.dest.key → prefix ≡ w.dest.key ++ codes "/" → None ≡ first_of prefix (keys_on entries)
+    → walked keys (Page entries more) ≡ walked_by b ks → checked w keys (Page entries more) ≡ checked_on (walked_by b ks)
+free_is w keys entries more prefix b ks h p e g = ap (λ o. checked_by o (walked keys (Page entries more))) (shown_is w (keys_on entries) prefix None h p e) ∙ ap checked_on g
+
+none_of : {X : Type 0} (o : Option X) → ((x : X) → o ≡ Some x → ⊥) → o ≡ None
+none_of None h = refl
+none_of (Some x) h = absurd (h x refl)
+
+pub page_conflict : (w : Script) (keys : List (List ℕ)) (r : Reply) (entries es : List PageEntry) (more : Bool) (prefix path : List ℕ) (o : Option (List ℕ))
+    → r ≡ Page entries more → es ≡ entries → 1 ≤ length w.dest.key → prefix ≡ w.dest.key ++ codes "/" → o ≡ first_of prefix (keys_on es) → o ≡ Some path → SetupOver (Conflict path) ≡ checked w keys r
+page_conflict w keys r entries es more prefix path o a b h p e f =
+    sym (ap (checked w keys) a ∙ conflict_is w keys entries more prefix path h p (sym f ∙ e ∙ ap (λ l. first_of prefix (keys_on l)) b))
+
+page_free : (w : Script) (keys : List (List ℕ)) (r : Reply) (entries es : List PageEntry) (more : Bool) (prefix : List ℕ) (o : Option (List ℕ)) (b : Bool) (ks : List (List ℕ))
+    → r ≡ Page entries more → es ≡ entries → 1 ≤ length w.dest.key → prefix ≡ w.dest.key ++ codes "/" → o ≡ first_of prefix (keys_on es) → ((path : List ℕ) → o ≡ Some path → ⊥) → walked keys r ≡ walked_by b ks
+    → checked w keys r ≡ checked_on (walked_by b ks)
+page_free w keys r entries es more prefix o b ks a d h p e f g =
+    ap (checked w keys) a
+    ∙ free_is w keys entries more prefix b ks h p (sym (none_of o f) ∙ e ∙ ap (λ l. first_of prefix (keys_on l)) d) (sym (ap (walked keys) a) ∙ g)
+
+pub page_more : (w : Script) (keys : List (List ℕ)) (r : Reply) (entries es : List PageEntry) (more : Bool) (prefix : List ℕ) (o : Option (List ℕ)) (b : Bool) (ks : List (List ℕ)) (stage : Stage) (sweep : Sweep) (end : SetupEnd)
+    → r ≡ Page entries more → es ≡ entries → 1 ≤ length w.dest.key → prefix ≡ w.dest.key ++ codes "/" → o ≡ first_of prefix (keys_on es) → ((path : List ℕ) → o ≡ Some path → ⊥) → walked keys r ≡ walked_by b ks
+    → b ≡ true → stage ≡ stages.Checking → setup_at stage ks sweep end ≡ checked w keys r
+page_more w keys r entries es more prefix o b ks stage sweep end a d h p e f g t s =
+    ap (λ s. setup_at s ks sweep end) s ∙ sym (page_free w keys r entries es more prefix o b ks a d h p e f g ∙ ap (λ b. checked_on (walked_by b ks)) t)
+
+pub page_whole : (w : Script) (keys : List (List ℕ)) (r : Reply) (entries es : List PageEntry) (more : Bool) (prefix : List ℕ) (o : Option (List ℕ)) (b : Bool) (ks : List (List ℕ))
+    → r ≡ Page entries more → es ≡ entries → 1 ≤ length w.dest.key → prefix ≡ w.dest.key ++ codes "/" → o ≡ first_of prefix (keys_on es) → ((path : List ℕ) → o ≡ Some path → ⊥) → walked keys r ≡ walked_by b ks
+    → b ≡ false → Clearing ≡ checked w keys r
+page_whole w keys r entries es more prefix o b ks a d h p e f g t = sym (page_free w keys r entries es more prefix o b ks a d h p e f g ∙ ap (λ b. checked_on (walked_by b ks)) t)
+
+-- ---- what stands behind a text
+
+drop_front : (front back : List ℕ) → drop (length front) (front ++ back) ≡ back
+drop_front [] back = refl
+drop_front (x ∷ xs) back = drop_front xs back
+
+begins_so : (front text rest : List ℕ) → text ≡ front ++ rest → starts_with nat_eq text front ≡ true
+begins_so front text rest e = (starts_is Decides-eqb text front (starts_with nat_eq text front) refl).1 rest e
+
+begins_not : (front text : List ℕ) → ((rest : List ℕ) → text ≢ front ++ rest) → starts_with nat_eq text front ≡ false
+begins_not front text h = by (starts_with nat_eq text front) refl
+  where
+    by : (b : Bool) → starts_with nat_eq text front ≡ b → b ≡ false
+    by true e = absurd (h (drop (length front) text) ((starts_is Decides-eqb text front (starts_with nat_eq text front) refl).0 e))
+    by false e = refl
+
+pub text_behind : (p s : List ℕ) (r : Option (Bor (List ℕ))) → MatchOption r (FindsTextPrefix p s None) (λ x. (n : ℕ) × FindsTextPrefix p s (Some n) × (x.now ≡ drop n s) × (length x.now + n ≡ length s)) → option_map (λ r. r.now) r ≡ path_behind p s
+text_behind p s None h = rw (begins_not p s h) refl
+text_behind p s (Some x) h = rw (begins_so p s (drop h.0 s) h.1.1) (ap Some (h.2 ∙ ap (λ n. drop n s) h.1.0))

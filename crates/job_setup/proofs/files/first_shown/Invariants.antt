@@ -1,0 +1,8 @@
+use Rattle.std.proofs.Common.{◌≡◌, drop}
+use Rattle.job_operations.specs.Walks.{keys_on}
+use Rattle.job_setup.specs.Files.{first_of}
+use Rattle.job_setup.proofs.files.first_shown.Given as goal
+
+-- the first is behind those that were passed over
+abbrev pub invariant-loop-entry : goal.invariant-loop-entry
+invariant-loop-entry l = first_of l.prefix (keys_on (drop l.entry-index l.entries)) ≡ first_of l.prefix (keys_on l.entries)

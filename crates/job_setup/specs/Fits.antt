@@ -1,0 +1,37 @@
+-- The replies that fit a set-up, and how it stands.
+use Rattle.std.specs.Prelude.{Bool}
+use Rattle.s3_types.specs.Store.{Scene}
+use Rattle.s3_types.specs.declared.reply.Reply.{Reply}
+use Rattle.job_model.specs.declared.ends.SetupEnd.{SetupEnd}
+use Rattle.job_model.specs.declared.ends.SetupEnd.TheVariants.{StoreFault, NoMemory}
+use Rattle.machine.specs.Standing.{Standing, Fine, Faulted, Broken}
+use Rattle.job_operations.specs.AtWork.{Driving}
+use Rattle.job_operations.specs.Setup.{Setup, Heading, Checking, Clearing, Sweeping, SetupOver}
+use Rattle.sweep.specs.Fitting.{FitsPage, FitsSweep}
+
+-- once the destination was looked at the bucket is there, and a page that is not folded has keys alone
+abbrev pub FitsSetup : Setup → Reply → Type 0
+FitsSetup Heading r = Unit {0}
+FitsSetup (Checking keys) r = FitsPage r
+FitsSetup Clearing r = Unit {0}
+FitsSetup (Sweeping s) r = FitsSweep s r
+FitsSetup (SetupOver end) r = Unit {0}
+
+abbrev pub FitsDriving : Driving Setup → Reply → Bool → Type 0
+FitsDriving m r repeated = FitsSetup m.operation r
+
+-- a set-up goes on among others, and promises nothing of a scene
+abbrev pub never : Driving Setup → Scene → Bool → Type 0
+never m s repeated = ⊥
+
+abbrev pub standing_at : SetupEnd → Standing
+standing_at StoreFault = Faulted
+standing_at NoMemory = Broken
+standing_at _ = Fine
+
+abbrev pub standing_of : Setup → Standing
+standing_of (SetupOver end) = standing_at end
+standing_of _ = Fine
+
+abbrev pub standing : Driving Setup → Standing
+standing m = standing_of m.operation

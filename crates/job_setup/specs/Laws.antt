@@ -1,0 +1,9 @@
+-- A set-up among others.
+use Rattle.job_operations.specs.AtWork.{setup_wants, setup_told}
+use Rattle.job_operations.specs.Measures.{FallsAmong}
+use Rattle.job_setup.specs.Fits.{FitsDriving}
+use Rattle.job_setup.specs.Left.{setup_left}
+
+-- one request of another actor raises what is left by at most 2
+abbrev pub SetupsEnd : Type 0
+SetupsEnd = FallsAmong setup_wants setup_told FitsDriving setup_left 2

@@ -1,0 +1,27 @@
+-- What a set-up has left in a scene.
+use Rattle.std.specs.Prelude.{ℕ, ◌+◌, ◌++◌, [], codes}
+use Rattle.s3_types.specs.Store.{Scene}
+use Rattle.s3_types.specs.declared.request.Committer.{Committer}
+use Rattle.s3_types.specs.declared.request.Committer.TheVariants.{Magic, Directory, Partitioned}
+use Rattle.magic_paths.specs.Layout as layout
+use Rattle.job_model.specs.Jobs.{Job}
+use Rattle.job_operations.specs.AtWork.{Driving}
+use Rattle.job_operations.specs.Walks.{sweep_start}
+use Rattle.job_operations.specs.Setup.{Setup, Heading, Checking, Clearing, Sweeping, SetupOver}
+use Rattle.sweep.specs.Left.{walk_left, sweep_left}
+
+-- once the marker is deleted
+abbrev pub cleared_left : Committer → Job → Scene → ℕ
+cleared_left Magic j s = sweep_left j.dest.bucket (layout.magic_prefix j.dest.key j.job) sweep_start s
+cleared_left Directory j s = 0
+cleared_left Partitioned j s = 0
+
+abbrev pub left_at : Job → Setup → Scene → ℕ
+left_at j Heading s = 2 + walk_left j.dest.bucket (j.dest.key ++ codes "/") [] s + cleared_left j.committer j s
+left_at j (Checking keys) s = 1 + walk_left j.dest.bucket (j.dest.key ++ codes "/") keys s + cleared_left j.committer j s
+left_at j Clearing s = 1 + cleared_left j.committer j s
+left_at j (Sweeping w) s = sweep_left j.dest.bucket (layout.magic_prefix j.dest.key j.job) w s
+left_at j (SetupOver end) s = 0
+
+abbrev pub setup_left : Driving Setup → Scene → ℕ
+setup_left m s = left_at m.plan m.operation s

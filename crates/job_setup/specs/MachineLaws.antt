@@ -1,0 +1,72 @@
+-- A set-up is a machine.
+use Rattle.std.specs.Prelude.{◌≡◌, ℕ, Bool, true, false, cond, List, [], Option, Some, None}
+use Rattle.std.proofs.Common.{refl}
+use Rattle.s3_types.specs.declared.request.Committer.{Committer}
+use Rattle.s3_types.specs.declared.request.Committer.TheVariants.{Magic, Directory, Partitioned}
+use Rattle.s3_types.specs.declared.request.Request.{Request}
+use Rattle.s3_types.specs.declared.reply.Reply.{Reply}
+use Rattle.s3_types.specs.declared.reply.Reply.TheVariants.{Head, Page, Refused}
+use Rattle.s3_types.specs.declared.reply.Refusal.TheVariants.{NoSuchBucket}
+use Rattle.machine.specs.Laws.{Laws}
+use Rattle.machine.specs.Standing.{Fine}
+use Rattle.job_model.specs.Jobs.{Job}
+use Rattle.job_model.specs.JobScript.{Script}
+use Rattle.job_operations.specs.AtWork.{job_script, setup_wants, setup_told}
+use Rattle.job_operations.specs.Conflicts.{checks_all}
+use Rattle.job_operations.specs.Walks.{Walked, More, Whole, keys_on, walked, Sweep, sweep_hears, all_go}
+use Rattle.job_operations.specs.Setup.{Setup, Heading, Checking, Clearing, Sweeping, SetupOver, setup_asks, setup_hears, headed, first_shown, checked_on, checked_by, checked, cleared, sweeping}
+use Rattle.job_setup.specs.Fits.{FitsDriving, never, standing, standing_of}
+use Rattle.job_setup.specs.Left.{setup_left}
+
+fine_nothing : (b : Bool) → standing_of (cond b (Checking []) Clearing) ≡ Fine
+fine_nothing true = refl
+fine_nothing false = refl
+
+fine_headed : (w : Script) (r : Reply) → standing_of (headed w r) ≡ Fine
+fine_headed w (Refused NoSuchBucket) = refl
+fine_headed w (Head len header) = refl
+fine_headed w _ = fine_nothing (checks_all w.committer w.mode)
+
+fine_on : (x : Walked (List ℕ)) → standing_of (checked_on x) ≡ Fine
+fine_on (More keys) = refl
+fine_on (Whole keys) = refl
+
+fine_by : (o : Option (List ℕ)) (x : Walked (List ℕ)) → standing_of (checked_by o x) ≡ Fine
+fine_by (Some p) x = refl
+fine_by None x = fine_on x
+
+fine_checked : (w : Script) (keys : List (List ℕ)) (r : Reply) → standing_of (checked w keys r) ≡ Fine
+fine_checked w keys (Page entries more) = fine_by (first_shown w (keys_on entries)) (walked keys (Page entries more))
+fine_checked w keys _ = refl
+
+fine_cleared : (c : Committer) → standing_of (cleared c) ≡ Fine
+fine_cleared Magic = refl
+fine_cleared Directory = refl
+fine_cleared Partitioned = refl
+
+fine_sweeping : (o : Option Sweep) → standing_of (sweeping o) ≡ Fine
+fine_sweeping (Some s) = refl
+fine_sweeping None = refl
+
+goes_on : (j : Job) (c : Setup) (r : Request) (a : Reply) → setup_asks (job_script j) c ≡ Some r → standing_of (setup_hears (job_script j) c a) ≡ standing_of c
+goes_on j Heading r a e = fine_headed (job_script j) a
+goes_on j (Checking keys) r a e = fine_checked (job_script j) keys a
+goes_on j Clearing r a e = fine_cleared j.committer
+goes_on j (Sweeping s) r a e = fine_sweeping (sweep_hears all_go s a)
+goes_on j (SetupOver end) r a e = refl
+
+pub setup_laws : Laws setup_wants setup_told FitsDriving never setup_left standing
+setup_laws = record {
+  fit = λ m s r b e h. absurd h;
+  lost = λ m s b h. h;
+  hidden = λ m s r b e h. h;
+  took = λ m s r b e h. absurd h;
+  gave_up = λ m s r b e h. absurd h;
+  falls = λ m s r b e h. absurd h;
+  falls_worn = λ m s r b e h. absurd h;
+  no_rise = λ m s r b e h. absurd h;
+  stops = λ m. refl;
+  breaks = λ m. refl;
+  faults = λ m r e. refl;
+  goes_on = λ m r a b e h. goes_on m.plan m.operation r a e;
+}

@@ -1,0 +1,83 @@
+ghost use Rattle.std.specs.Prelude.{◌≡◌, nat_eq, codes, drop, length, option_map, Some, None, IfOk, if◌then◌else◌};
+ghost use Rattle.std.specs.List.{starts_with};
+ghost use Rattle.s3_types.specs.Pages.{begins, text_in};
+ghost use Rattle.job_operations.specs.View.{is_folder, is_file_path};
+ghost use Rattle.job_operations.specs.Walks.{keys_on};
+ghost use Rattle.job_setup.specs.Files.{first_of, seen_at};
+
+use s3_types::{PageEntry, Text};
+use std::alloc::{AllocError, Global};
+
+/// Whether a path is empty or ends in `/`.
+fn is_folder(path: &[u8]) -> bool
+    ensures { result ≡ is_folder path.now }
+{
+    match path.last() {
+        Some(last) => *last == b'/',
+        None => true,
+    }
+}
+
+/// Whether a path is below `__magic`.
+fn is_magic(path: &[u8]) -> bool
+    ensures { result ≡ begins (codes "__magic/") path.now }
+{
+    path.starts_with(b"__magic/")
+}
+
+/// Whether a reader of the destination is shown a file at this path.
+fn is_file_path(path: &[u8]) -> bool
+    ensures { result ≡ is_file_path path.now }
+{
+    !is_folder(path) && !is_magic(path) && path != b"_SUCCESS".as_slice()
+}
+
+/// What stands behind a prefix in a text that begins so.
+fn behind<'a>(prefix: &str, text: &'a str) -> Option<&'a str>
+    ensures { option_map (λ r. r.now) result ≡ (if starts_with nat_eq text.now prefix.now then Some (drop (length prefix.now) text.now) else None) }
+{
+    text.strip_prefix(prefix)
+}
+
+/// The text of an entry.
+fn text_of(entry: &PageEntry) -> &Text
+    ensures { result.now ≡ text_in entry.now }
+{
+    match entry {
+        PageEntry::Object { key, .. } => key.as_text(),
+        PageEntry::Prefix(text) => text,
+    }
+}
+
+/// The path below a destination that a text is, where a reader is shown a file there; the destination's prefix
+/// ends in `/`.
+fn shown<'a>(prefix: &str, text: &'a str) -> Option<&'a str>
+    ensures { option_map (λ r. r.now) result ≡ seen_at prefix.now text.now }
+{
+    match behind(prefix, text) {
+        Some(path) => {
+            if is_file_path(path.as_bytes()) {
+                Some(path)
+            } else {
+                None
+            }
+        }
+        None => None,
+    }
+}
+
+/// The first path among the entries at which a reader of the destination is shown a file.
+pub fn first_shown(
+    alloc: Global,
+    prefix: &str,
+    entries: &[PageEntry],
+) -> Result<Option<Text>, AllocError>
+    ensures { IfOk result (λ path. path ≡ first_of prefix.now (keys_on entries.now)) }
+{
+    for entry in entries {
+        if let Some(path) = shown(prefix, text_of(entry).as_str()) {
+            return Ok(Some(Text::copied(alloc, path)?));
+        }
+    }
+    Ok(None)
+}

@@ -1,0 +1,183 @@
+ghost use Rattle.std.specs.Prelude.{◌≡◌, IfOk, OnOk};
+ghost use Rattle.job_operations.specs.AtWork.{job_script};
+ghost use Rattle.job_operations.specs.Conflicts.{checks_all};
+ghost use Rattle.job_operations.specs.Walks.{sweep_hears, all_go};
+ghost use Rattle.job_operations.specs.Setup.{SetupOver, setup_start, setup_asks, setup_hears, headed, checked, cleared, sweeping};
+ghost use Rattle.job_setup.specs.Held.{setup_of, found_nothing, refused};
+ghost use Rattle.job_setup.specs.Fits.{FitsSetup};
+
+use crate::files::first_shown;
+use crate::requests::{clear_request, dest_prefix, head_request, page_request, sweep_request};
+use job_model::{JobPlan, SetupEnd};
+use s3_types::{Committer, Mode, Refusal, Reply, Request, put};
+use std::alloc::{AllocError, Global};
+use sweep::{AllKeys, KeyWalk, Sweep};
+
+/// Where a set-up stands.
+#[derive(Clone, Copy, Debug)]
+pub enum Stage {
+    /// It looks at the destination's own key.
+    Heading,
+    /// It looks for a file of the destination.
+    Checking,
+    /// It deletes the marker of an earlier job.
+    Clearing,
+    /// It empties the job's magic directory.
+    Sweeping,
+    Over,
+}
+
+/// A set-up as it goes on: its stage, the walk, the sweep, and the end once it is over.
+#[derive(Drop)]
+pub struct Held {
+    pub stage: Stage,
+    pub walk: KeyWalk,
+    pub sweep: Sweep,
+    pub end: SetupEnd,
+}
+
+/// Whether the set-up looks for files of the destination.
+fn checks_all(committer: Committer, mode: Mode) -> bool
+    ensures { result ≡ checks_all committer mode }
+{
+    match committer {
+        Committer::Magic => false,
+        Committer::Directory => match mode {
+            Mode::Fail => true,
+            Mode::Append => false,
+            Mode::Replace => false,
+        },
+        Committer::Partitioned => false,
+    }
+}
+
+impl Held {
+    /// A set-up of which nothing was sent yet. Takes no memory.
+    pub fn new(alloc: Global) -> Held
+        ensures { setup_of result ≡ setup_start }
+    {
+        Held {
+            stage: Stage::Heading,
+            walk: KeyWalk::new(alloc),
+            sweep: Sweep::new(alloc),
+            end: SetupEnd::Done,
+        }
+    }
+
+    /// Ends here. Takes no memory.
+    pub fn finish(&mut self, end: SetupEnd)
+        ensures { setup_of self.new ≡ SetupOver end }
+    {
+        put(&mut self.end, end);
+        self.stage = Stage::Over;
+    }
+
+    /// The next request, or None where it is over.
+    pub fn request(&self, alloc: Global, plan: &JobPlan) -> Result<Option<Request>, AllocError>
+        ensures { IfOk result (λ request. request ≡ setup_asks (job_script plan.now) (setup_of self.now)) }
+    {
+        match self.stage {
+            Stage::Heading => head_request(&plan.dest),
+            Stage::Checking => page_request(alloc, &plan.dest, &self.walk),
+            Stage::Clearing => clear_request(alloc, &plan.dest),
+            Stage::Sweeping => sweep_request(alloc, &plan.dest, &plan.job, &self.sweep),
+            Stage::Over => Ok(None),
+        }
+    }
+
+    /// Nothing stands at the destination's own key.
+    fn find_nothing(&mut self, alloc: Global, plan: &JobPlan)
+        ensures { setup_of self.new ≡ found_nothing (job_script plan.now) }
+    {
+        if checks_all(plan.committer, plan.mode) {
+            put(&mut self.walk, KeyWalk::new(alloc));
+            self.stage = Stage::Checking;
+        } else {
+            self.stage = Stage::Clearing;
+        }
+    }
+
+    fn hear_refusal(&mut self, alloc: Global, plan: &JobPlan, refusal: Refusal)
+        ensures { setup_of self.new ≡ refused (job_script plan.now) refusal }
+    {
+        match refusal {
+            Refusal::NoSuchBucket => self.finish(SetupEnd::NoSuchBucket),
+            _ => self.find_nothing(alloc, plan),
+        }
+    }
+
+    fn hear_head(&mut self, alloc: Global, plan: &JobPlan, reply: &Reply)
+        ensures { setup_of self.new ≡ headed (job_script plan.now) reply.now }
+    {
+        match reply {
+            Reply::Refused(refusal) => self.hear_refusal(alloc, plan, *refusal),
+            Reply::Head { .. } => self.finish(SetupEnd::DestIsFile),
+            _ => self.find_nothing(alloc, plan),
+        }
+    }
+
+    fn hear_page(&mut self, alloc: Global, plan: &JobPlan, reply: &Reply) -> Result<(), AllocError>
+        requires stage { self.old.stage ≡ Stage.Checking }
+        requires fits { FitsSetup (setup_of self.old) reply.now }
+        ensures { OnOk result (setup_of self.new ≡ checked (job_script plan.now) self.old.walk reply.now) }
+    {
+        let Reply::Page { entries, .. } = reply else {
+            return Ok(());
+        };
+        let prefix = dest_prefix(alloc, &plan.dest)?;
+        if let Some(path) = first_shown(alloc, prefix.as_str(), entries.as_slice())? {
+            self.finish(SetupEnd::Conflict(path));
+            return Ok(());
+        }
+        if self.walk.hear(reply)? {
+            return Ok(());
+        }
+        self.stage = Stage::Clearing;
+        Ok(())
+    }
+
+    fn clear(&mut self, alloc: Global, committer: Committer)
+        ensures { setup_of self.new ≡ cleared committer }
+    {
+        match committer {
+            Committer::Magic => {
+                put(&mut self.sweep, Sweep::new(alloc));
+                self.stage = Stage::Sweeping;
+            }
+            Committer::Directory => self.finish(SetupEnd::Done),
+            Committer::Partitioned => self.finish(SetupEnd::Done),
+        }
+    }
+
+    fn hear_sweep(&mut self, alloc: Global, reply: &Reply) -> Result<(), AllocError>
+        requires stage { self.old.stage ≡ Stage.Sweeping }
+        requires fits { FitsSetup (setup_of self.old) reply.now }
+        ensures { OnOk result (setup_of self.new ≡ sweeping (sweep_hears all_go self.old.sweep reply.now)) }
+    {
+        if self.sweep.hear(alloc, &AllKeys, reply)? {
+            return Ok(());
+        }
+        self.finish(SetupEnd::Done);
+        Ok(())
+    }
+
+    /// Takes the reply to its present request.
+    pub fn hear(&mut self, alloc: Global, plan: &JobPlan, reply: &Reply) -> Result<(), AllocError>
+        requires { FitsSetup (setup_of self.old) reply.now }
+        ensures { OnOk result (setup_of self.new ≡ setup_hears (job_script plan.now) (setup_of self.old) reply.now) }
+    {
+        match self.stage {
+            Stage::Heading => {
+                self.hear_head(alloc, plan, reply);
+                Ok(())
+            }
+            Stage::Checking => self.hear_page(alloc, plan, reply),
+            Stage::Clearing => {
+                self.clear(alloc, plan.committer);
+                Ok(())
+            }
+            Stage::Sweeping => self.hear_sweep(alloc, reply),
+            Stage::Over => Ok(()),
+        }
+    }
+}
