@@ -1,5 +1,5 @@
 -- entries that are nobody's turn
-use Rattle.std.proofs.Common.{◌≡◌, ◌≤◌, [], ◌∷◌, refl, arith}
+use Rattle.std.proofs.Common.{◌≡◌, ◌≤◌, [], refl, arith}
 use Rattle.job_model.specs.declared.events.Op.TheVariants.{Setup}
 use Rattle.job_model.specs.declared.events.Event.TheVariants.{Do}
 use Rattle.s3_types.specs.declared.request.Actor.TheVariants.{Driver, Attempt}

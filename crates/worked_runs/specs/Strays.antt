@@ -7,7 +7,7 @@ use Rattle.s3_types.specs.declared.reply.Reply.TheVariants.{Stored}
 use Rattle.s3_types.specs.declared.journal.Entry.{Entry}
 use Rattle.job_promise.specs.Follows.{Plays}
 use Rattle.worked_runs.specs.Jobs.{lake, said, worker, hello_tag}
-use Rattle.worked_runs.specs.OneFile.{setting, journal}
+use Rattle.worked_runs.specs.OneFile.{setting}
 use Rattle.worked_runs.specs.OneFinished.{the_ends}
 
 -- a put of the task's set, by this actor in this event
