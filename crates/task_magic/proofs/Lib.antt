@@ -1,0 +1,6 @@
+pub mod Cut
+pub mod Placed
+pub mod Told
+pub mod Falls
+pub mod Steps
+pub mod Whole

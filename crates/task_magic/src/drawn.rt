@@ -1,0 +1,37 @@
+ghost use Rattle.std.specs.Prelude.{◌≡◌, IfOk, slice_get};
+ghost use Rattle.std.specs.Option.{option_copied};
+
+use job_model::{DrawnUpload, Knowledge};
+use s3_types::{Sequence, SizeList, TagList};
+use std::alloc::{AllocError, Global};
+
+/// The upload that was drawn last, if there is one. Takes no memory.
+pub fn last_drawn(known: &Knowledge) -> Option<&DrawnUpload>
+    ensures { option_copied result ≡ slice_get known.now.drawn 0 }
+{
+    known.as_made().last()
+}
+
+/// The tags of an upload's parts.
+pub fn tags_of(alloc: Global, drawn: &DrawnUpload) -> Result<TagList, AllocError>
+    ensures { IfOk result (λ tags. tags ≡ drawn.now.tags) }
+{
+    let mut tags = Sequence::new(alloc);
+    let parts = drawn.parts.as_slice();
+    for part in parts {
+        tags.push(part.tag)?;
+    }
+    Ok(tags)
+}
+
+/// The sizes of an upload's parts in bytes.
+pub fn sizes_of(alloc: Global, drawn: &DrawnUpload) -> Result<SizeList, AllocError>
+    ensures { IfOk result (λ sizes. sizes ≡ drawn.now.sizes) }
+{
+    let mut sizes = Sequence::new(alloc);
+    let parts = drawn.parts.as_slice();
+    for part in parts {
+        sizes.push(part.size)?;
+    }
+    Ok(sizes)
+}

@@ -1,0 +1,9 @@
+ghost use Rattle.job_operations.specs.AtWork.{write_wants, write_told};
+ghost use Rattle.job_operations.specs.Measures.{FallsAmong};
+ghost use Rattle.task_magic.specs.Writing.{write_fits, write_left};
+
+/// What is left of a write of files falls with each answer that fits and with a worn request, and no request of
+/// another actor raises it.
+pub fn writes_end()
+    ensures falls { FallsAmong write_wants write_told write_fits write_left 0 }
+{}

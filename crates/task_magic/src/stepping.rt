@@ -1,0 +1,215 @@
+ghost use Rattle.std.specs.Prelude.{◌≡◌, ℕ, ◌+◌, ◌<◌, Bool, length, true, false, Some, None, IfOk, OnErr, IsSome, slice_get};
+ghost use Rattle.s3_types.specs.declared.reply.Reply.TheVariants.{Upload, Part, Refused};
+ghost use Rattle.s3_types.specs.declared.reply.Refusal.TheVariants.{NoSuchUpload};
+ghost use Rattle.s3_types.specs.Tags.{is_plain_tag};
+ghost use Rattle.sendings.specs.Retries.{Got};
+ghost use Rattle.job_operations.specs.AtWork.{write_wants, write_told};
+ghost use Rattle.task_magic.specs.Writing.{dir_of, is_new, Holds, IsWrite, seen_write, write_fits, upload_in, tag_in, ended_by};
+
+use crate::asking::{ask, ask_behind, ask_part, behind};
+use crate::names::{file_at, target};
+use crate::stage::WriteStage;
+use job_model::{TaskEnd, TaskPlan};
+use path_keys::S3Path;
+use s3_types::{Reply, Request, Tag, let_go};
+use std::alloc::{AllocError, Global};
+
+/// Where a write stands after a step, with what it asks next.
+#[derive(Drop)]
+pub struct Turned {
+    pub place: usize,
+    pub stage: WriteStage,
+    pub end: Option<TaskEnd>,
+    pub asked: Option<Request>,
+}
+
+fn upload_in(reply: &Reply) -> Option<u64>
+    ensures { result ≡ upload_in reply.now }
+{
+    match reply {
+        Reply::Upload(upload) => Some(*upload),
+        _ => None,
+    }
+}
+
+fn tag_in(reply: &Reply) -> Option<Tag>
+    ensures { result ≡ tag_in reply.now }
+{
+    match reply {
+        Reply::Part(tag) => Some(*tag),
+        _ => None,
+    }
+}
+
+/// The end of a write that asks this. Takes no memory.
+fn ended_by(asked: &Option<Request>) -> Option<TaskEnd>
+    ensures { result ≡ ended_by asked.now }
+{
+    match asked {
+        Some(_) => None,
+        None => Some(TaskEnd::Done),
+    }
+}
+
+/// Goes to a stage of a file, or to the end where no file is left.
+pub fn turn(
+    alloc: Global,
+    plan: &TaskPlan,
+    dir: &S3Path,
+    place: usize,
+    stage: WriteStage,
+) -> Result<Turned, AllocError>
+    requires dir { dir.now ≡ dir_of plan.now }
+    requires holds { Holds plan.now place stage }
+    ensures at { IfOk result (λ x. seen_write plan.now x.place x.stage x.end ≡ seen_write plan.now place stage None) }
+    ensures kept { IfOk result (λ x. IsWrite plan.now dir.now x.place x.stage x.end x.asked) }
+{
+    let asked = ask(alloc, plan, dir, place, stage)?;
+    let end = ended_by(&asked);
+    Ok(Turned {
+        place,
+        stage,
+        end,
+        asked,
+    })
+}
+
+/// The upload of the present file is begun.
+fn begin(
+    alloc: Global,
+    plan: &mut TaskPlan,
+    dir: &S3Path,
+    place: usize,
+    upload: u64,
+) -> Result<Turned, AllocError>
+    requires dir { dir.now ≡ dir_of plan.old }
+    requires within { place < length plan.old.files }
+    requires new { is_new upload plan.old.known.drawn ≡ true }
+    ensures told { IfOk result (λ x. (b : Bool) → seen_write plan.new x.place x.stage x.end ≡ write_told (seen_write plan.old place WriteStage.Creating None) (Got (Upload upload) b)) }
+    ensures kept { IfOk result (λ x. IsWrite plan.new dir.now x.place x.stage x.end x.asked) }
+    ensures err { OnErr result (plan.new ≡ plan.old) }
+{
+    let Some((path, bytes)) = file_at(plan, place) else {
+        unreachable!();
+    };
+    let key = target(alloc, plan, path)?;
+    let asked = ask_part(alloc, plan, path, bytes, upload, 0)?;
+    match plan.known.draw(alloc, key, upload) {
+        Ok(()) => Ok(Turned {
+            place,
+            stage: WriteStage::Sending(0),
+            end: None,
+            asked: Some(asked),
+        }),
+        Err(error) => {
+            let_go(asked);
+            Err(error)
+        }
+    }
+}
+
+/// A part of the present file came back.
+fn add_part(
+    alloc: Global,
+    plan: &mut TaskPlan,
+    dir: &S3Path,
+    place: usize,
+    sent: u64,
+    tag: Tag,
+) -> Result<Turned, AllocError>
+    requires dir { dir.now ≡ dir_of plan.old }
+    requires within { place < length plan.old.files }
+    requires holds { Holds plan.old place (WriteStage.Sending sent) }
+    requires plain { is_plain_tag tag ≡ true }
+    ensures told { IfOk result (λ x. (b : Bool) → seen_write plan.new x.place x.stage x.end ≡ write_told (seen_write plan.old place (WriteStage.Sending sent) None) (Got (Part tag) b)) }
+    ensures kept { IfOk result (λ x. IsWrite plan.new dir.now x.place x.stage x.end x.asked) }
+    ensures err { OnErr result (plan.new ≡ plan.old) }
+{
+    let Some((path, bytes)) = file_at(plan, place) else {
+        unreachable!();
+    };
+    let (stage, size) = behind(plan, bytes, sent);
+    let asked = ask_behind(alloc, plan, dir, path, bytes, stage)?;
+    match plan.known.draw_part(tag, size) {
+        Ok(()) => Ok(Turned {
+            place,
+            stage,
+            end: None,
+            asked: Some(asked),
+        }),
+        Err(error) => {
+            let_go(asked);
+            Err(error)
+        }
+    }
+}
+
+/// The upload of the present file is not there.
+fn stop_gone(
+    alloc: Global,
+    plan: &TaskPlan,
+    dir: &S3Path,
+    place: usize,
+    sent: u64,
+) -> Result<Turned, AllocError>
+    requires dir { dir.now ≡ dir_of plan.now }
+    requires within { place < length plan.now.files }
+    requires holds { Holds plan.now place (WriteStage.Sending sent) }
+    ensures told { IfOk result (λ x. (b : Bool) → seen_write plan.now x.place x.stage x.end ≡ write_told (seen_write plan.now place (WriteStage.Sending sent) None) (Got (Refused NoSuchUpload) b)) }
+    ensures kept { IfOk result (λ x. IsWrite plan.now dir.now x.place x.stage x.end x.asked) }
+{
+    let Some((path, _)) = file_at(plan, place) else {
+        unreachable!();
+    };
+    let key = target(alloc, plan, path)?;
+    let name = key.as_text().clone()?;
+    Ok(Turned {
+        place,
+        stage: WriteStage::Sending(sent),
+        end: Some(TaskEnd::Gone(name)),
+        asked: None,
+    })
+}
+
+/// The place of the file behind another. Takes no memory.
+fn next_place(plan: &TaskPlan, place: usize) -> usize
+    requires { place < length plan.now.files }
+    ensures { result ≡ place + 1 }
+{
+    let _files = &plan.files;
+    place + 1
+}
+
+/// Where a reply leads. After want of memory the plan is as before.
+pub fn advance(
+    alloc: Global,
+    plan: &mut TaskPlan,
+    dir: &S3Path,
+    place: usize,
+    stage: WriteStage,
+    reply: &Reply,
+) -> Result<Turned, AllocError>
+    requires dir { dir.now ≡ dir_of plan.old }
+    requires within { place < length plan.old.files }
+    requires holds { Holds plan.old place stage }
+    requires fits { write_fits (seen_write plan.old place stage None) reply.now false }
+    ensures told { IfOk result (λ x. (b : Bool) → seen_write plan.new x.place x.stage x.end ≡ write_told (seen_write plan.old place stage None) (Got reply.now b)) }
+    ensures kept { IfOk result (λ x. IsWrite plan.new dir.now x.place x.stage x.end x.asked) }
+    ensures err { OnErr result (plan.new ≡ plan.old) }
+{
+    match stage {
+        WriteStage::Creating => match upload_in(reply) {
+            Some(upload) => begin(alloc, plan, dir, place, upload),
+            None => unreachable!(),
+        },
+        WriteStage::Sending(sent) => match tag_in(reply) {
+            Some(tag) => add_part(alloc, plan, dir, place, sent, tag),
+            None => stop_gone(alloc, plan, dir, place, sent),
+        },
+        WriteStage::Marking => turn(alloc, plan, dir, place, WriteStage::Recording),
+        WriteStage::Recording => {
+            let next = next_place(plan, place);
+            turn(alloc, plan, dir, next, WriteStage::Creating)
+        }
+    }
+}

@@ -1,0 +1,164 @@
+ghost use Rattle.std.specs.Prelude.{◌≡◌, IfOk, OnOk, OnErr, IsSome};
+ghost use Rattle.std.specs.Option.{option_copied};
+ghost use Rattle.s3_types.specs.declared.request.Committer.TheVariants.{Magic};
+ghost use Rattle.sendings.specs.Retries.{Got, WornOut, OutOfMemory};
+ghost use Rattle.job_operations.specs.AtWork.{task_script, who_of, write_wants, write_told};
+ghost use Rattle.job_operations.specs.Writes.{WriteOver, write_start, write_over};
+ghost use Rattle.task_magic.specs.Writing.{write_fits};
+
+use crate::names::directory;
+use crate::stage::WriteStage;
+use crate::stepping::{Turned, advance, turn};
+use job_model::{TaskEnd, TaskPlan};
+use path_keys::S3Path;
+use s3_types::{Reply, Request, let_go, put};
+use std::alloc::{AllocError, Global};
+use std::marker::Model;
+
+/// A magic attempt's write of its files, in the script's order: each is an upload that is not completed, with
+/// a marker and a record below the attempt's directory. (Hadoop, S3A committer architecture.)
+#[derive(Drop)]
+pub struct WriteFiles {
+    alloc: Global,
+    plan: TaskPlan,
+    dir: S3Path,
+    place: usize,
+    stage: WriteStage,
+    end: Option<TaskEnd>,
+    asked: Option<Request>,
+}
+
+impl Model for WriteFiles {
+    ghost use Rattle.job_operations.specs.AtWork.{Attempting};
+    ghost use Rattle.job_operations.specs.Writes.{Write};
+    ghost use Rattle.task_magic.specs.Writing.{seen_write, IsWrite};
+
+    ghost Value = { Attempting Write };
+
+    ghost view = { λ w. seen_write w.plan w.place w.stage w.end };
+
+    ghost invariant = { λ w. IsWrite w.plan w.dir w.place w.stage w.end w.asked };
+}
+
+impl WriteFiles {
+    /// A write of which nothing was sent yet.
+    pub fn new(alloc: Global, plan: TaskPlan) -> Result<WriteFiles, AllocError>
+        requires { plan.job.committer ≡ Magic }
+        ensures { IfOk result (λ m. m ≡ record { plan = plan; operation = write_start (task_script plan) (who_of plan) }) }
+    {
+        let dir = directory(alloc, &plan)?;
+        match turn(alloc, &plan, &dir, 0, WriteStage::Creating) {
+            Ok(
+                Turned {
+                    place,
+                    stage,
+                    end,
+                    asked,
+                },
+            ) => Ok(WriteFiles {
+                alloc,
+                plan,
+                dir,
+                place,
+                stage,
+                end,
+                asked,
+            }),
+            Err(error) => Err(error),
+        }
+    }
+
+    /// The plan as this write leaves it. Takes no memory.
+    pub fn plan(&self) -> &TaskPlan
+        ensures { result.now ≡ self.now.plan }
+    {
+        &self.plan
+    }
+
+    /// Gives the plan back as this write leaves it. Takes no memory.
+    pub fn into_plan(self) -> TaskPlan
+        ensures { result ≡ self.plan }
+    {
+        let WriteFiles {
+            alloc: _,
+            plan,
+            dir: _,
+            place: _,
+            stage: _,
+            end,
+            asked,
+        } = self;
+        let_go(end);
+        let_go(asked);
+        plan
+    }
+
+    /// How it ended, or None while something is asked. Takes no memory.
+    pub fn end(&self) -> Option<&TaskEnd>
+        ensures { option_copied result ≡ write_over self.now.operation }
+    {
+        self.end.as_ref()
+    }
+
+    /// The present request, or None where nothing more is asked. Takes no memory.
+    pub fn request(&self) -> Option<&Request>
+        ensures { option_copied result ≡ write_wants self.now }
+    {
+        self.asked.as_ref()
+    }
+
+    fn stop(&mut self, end: TaskEnd)
+        ensures { self.new ≡ record { plan = self.old.plan; operation = WriteOver end } }
+    {
+        put(&mut self.asked, None);
+        put(&mut self.end, Some(end));
+    }
+
+    /// Takes the reply to the present request. After want of memory nothing more is asked.
+    pub fn take(&mut self, reply: &Reply, repeated: bool) -> Result<(), AllocError>
+        requires asked { IsSome (write_wants self.old) }
+        requires fits { write_fits self.old reply.now repeated }
+        ensures ok { OnOk result (self.new ≡ write_told self.old (Got reply.now repeated)) }
+        ensures err { OnErr result (self.new ≡ write_told self.old OutOfMemory) }
+    {
+        let _ = repeated;
+        match advance(
+            self.alloc,
+            &mut self.plan,
+            &self.dir,
+            self.place,
+            self.stage,
+            reply,
+        ) {
+            Ok(
+                Turned {
+                    place,
+                    stage,
+                    end,
+                    asked,
+                },
+            ) => {
+                self.place = place;
+                self.stage = stage;
+                put(&mut self.end, end);
+                put(&mut self.asked, asked);
+                Ok(())
+            }
+            Err(error) => {
+                put(&mut self.asked, None);
+                put(&mut self.end, Some(TaskEnd::NoMemory));
+                Err(error)
+            }
+        }
+    }
+
+    /// Takes it that the present request wore out: none of its sendings got an answer.
+    pub fn worn(&mut self) -> Result<(), AllocError>
+        requires { IsSome (write_wants self.old) }
+        ensures ok { OnOk result (self.new ≡ write_told self.old WornOut) }
+        ensures err { OnErr result (self.new ≡ write_told self.old OutOfMemory) }
+    {
+        self.stop(TaskEnd::StoreFault);
+        Ok(())
+    }
+}
