@@ -1,15 +1,16 @@
-ghost use Rattle.std.specs.Prelude.{◌≡◌, IfOk, OnOk, OnErr, IsSome};
+ghost use Rattle.std.specs.Prelude.{◌≡◌, IfOk};
 ghost use Rattle.std.specs.Option.{option_copied};
 ghost use Rattle.s3_types.specs.declared.request.Committer.TheVariants.{Magic};
-ghost use Rattle.sendings.specs.Retries.{Got, WornOut, OutOfMemory};
 ghost use Rattle.job_operations.specs.AtWork.{task_script, who_of, write_wants, write_told};
 ghost use Rattle.job_operations.specs.Writes.{WriteOver, write_start, write_over};
-ghost use Rattle.task_magic.specs.Writing.{write_fits};
+ghost use Rattle.task_magic.specs.Writing.{write_fits, write_left};
+ghost use Rattle.task_magic.specs.WriteLaws.{never_ready, write_standing, write_laws};
 
 use crate::names::directory;
 use crate::stage::WriteStage;
 use crate::stepping::{Turned, advance, turn};
 use job_model::{TaskEnd, TaskPlan};
+use machine::Machine;
 use path_keys::S3Path;
 use s3_types::{Reply, Request, let_go, put};
 use std::alloc::{AllocError, Global};
@@ -100,27 +101,34 @@ impl WriteFiles {
         self.end.as_ref()
     }
 
-    /// The present request, or None where nothing more is asked. Takes no memory.
-    pub fn request(&self) -> Option<&Request>
-        ensures { option_copied result ≡ write_wants self.now }
-    {
-        self.asked.as_ref()
-    }
-
     fn stop(&mut self, end: TaskEnd)
         ensures { self.new ≡ record { plan = self.old.plan; operation = WriteOver end } }
     {
         put(&mut self.asked, None);
         put(&mut self.end, Some(end));
     }
+}
 
-    /// Takes the reply to the present request. After want of memory nothing more is asked.
-    pub fn take(&mut self, reply: &Reply, repeated: bool) -> Result<(), AllocError>
-        requires asked { IsSome (write_wants self.old) }
-        requires fits { write_fits self.old reply.now repeated }
-        ensures ok { OnOk result (self.new ≡ write_told self.old (Got reply.now repeated)) }
-        ensures err { OnErr result (self.new ≡ write_told self.old OutOfMemory) }
-    {
+impl Machine for WriteFiles {
+    ghost wants = { write_wants };
+
+    ghost after = { write_told };
+
+    ghost fits = { write_fits };
+
+    ghost ready = { never_ready };
+
+    ghost left = { write_left };
+
+    ghost standing = { write_standing };
+
+    ghost laws = { write_laws };
+
+    fn request(&self) -> Option<&Request> {
+        self.asked.as_ref()
+    }
+
+    fn take(&mut self, reply: &Reply, repeated: bool) -> Result<(), AllocError> {
         let _ = repeated;
         match advance(
             self.alloc,
@@ -152,12 +160,7 @@ impl WriteFiles {
         }
     }
 
-    /// Takes it that the present request wore out: none of its sendings got an answer.
-    pub fn worn(&mut self) -> Result<(), AllocError>
-        requires { IsSome (write_wants self.old) }
-        ensures ok { OnOk result (self.new ≡ write_told self.old WornOut) }
-        ensures err { OnErr result (self.new ≡ write_told self.old OutOfMemory) }
-    {
+    fn worn(&mut self) -> Result<(), AllocError> {
         self.stop(TaskEnd::StoreFault);
         Ok(())
     }

@@ -1,5 +1,5 @@
 use Rattle.task_magic.proofs.Whole.{open_asked, fits_asked, told_seen, memory_of, stopped}
-use Rattle.task_magic.proofs.write.WriteFiles.take.Goals as goal
+use Rattle.task_magic.proofs.write.WriteFilesMachine.take.Goals as goal
 
 pub advance-requires-clause-within : goal.advance-requires-clause-within
 advance-requires-clause-within c = (open_asked c.self.inside.plan c.self.inside.place c.self.inside.stage c.self.inside.end c.args.self.now c.self.view_is c.self.invariant.within c.requires.asked).1

@@ -1,0 +1,81 @@
+-- The laws of a write as a machine: what is left of it falls, and how it stands.
+use Rattle.std.specs.Prelude.{◌≡◌, ℕ, ◌+◌, ◌<◌, ◌≤◌, Bool, List, [], ◌∷◌, length, Option, Some, None}
+use Rattle.std.proofs.Common.{refl, arith}
+use Rattle.s3_types.specs.Store.{Scene}
+use Rattle.s3_types.specs.Answer.{answer, apply}
+use Rattle.s3_types.specs.declared.request.Request.{Request}
+use Rattle.s3_types.specs.declared.reply.Reply.{Reply}
+use Rattle.s3_types.specs.declared.reply.Reply.TheVariants.{Upload, Part, Refused}
+use Rattle.s3_types.specs.declared.reply.Refusal.TheVariants.{NoSuchUpload}
+use Rattle.sendings.specs.Retries.{Item, Got, WornOut, OutOfMemory}
+use Rattle.machine.specs.Standing.{Standing, Fine, Faulted, Broken}
+use Rattle.machine.specs.Laws.{Laws}
+use Rattle.job_model.specs.Files.{File}
+use Rattle.job_model.specs.Known.{Drawn}
+use Rattle.job_model.specs.Jobs.{Task}
+use Rattle.job_model.specs.JobScript.{Script}
+use Rattle.job_model.specs.declared.ends.TaskEnd.{TaskEnd}
+use Rattle.job_model.specs.declared.ends.TaskEnd.TheVariants as ends
+use Rattle.job_operations.specs.AtWork.{Attempting, task_script, write_wants, write_told}
+use Rattle.job_operations.specs.Uploading.{Uploading, Creating, Sending, sending, file_parts, created, sent_part}
+use Rattle.job_operations.specs.Writes as writes
+use Rattle.job_operations.specs.Writes.{Write, uploaded, writing, write_hears}
+use Rattle.task_magic.specs.Writing.{write_fits, FitsWrite, FitsCreate, FitsPart, write_left}
+
+-- ---- how it stands
+
+abbrev pub standing_of : TaskEnd → Standing
+standing_of ends.StoreFault = Faulted
+standing_of ends.NoMemory = Broken
+standing_of _ = Fine
+
+abbrev pub standing_at : Write → Standing
+standing_at (writes.WriteOver end) = standing_of end
+standing_at _ = Fine
+
+abbrev pub write_standing : Attempting Write → Standing
+write_standing m = standing_at m.operation
+
+-- a committer's machine is not driven alone
+abbrev pub never_ready : Attempting Write → Scene → Bool → Type 0
+never_ready m s repeated = ⊥
+
+sent_fine : (w : Script) (f : File) (fs : List File) (ps : List (List ℕ)) → standing_at (uploaded w f fs (sending ps)) ≡ Fine
+sent_fine w f fs [] = refl
+sent_fine w f fs (p ∷ ps) = refl
+
+begun_fine : (w : Script) (minimum : ℕ) (f : File) (fs : List File) (ds : List Drawn) (r : Reply) → FitsCreate ds r → standing_at (uploaded w f fs (created w minimum f r)) ≡ Fine
+begun_fine w minimum f fs ds (Upload id) h = sent_fine w f fs (file_parts w minimum f)
+begun_fine w minimum f fs ds _ h = absurd h
+
+part_fine : (w : Script) (f : File) (fs : List File) (ps : List (List ℕ)) (r : Reply) → FitsPart r → standing_at (uploaded w f fs (sent_part ps r)) ≡ Fine
+part_fine w f fs ps (Part tag) h = sent_fine w f fs ps
+part_fine w f fs ps (Refused NoSuchUpload) h = refl
+part_fine w f fs ps _ h = absurd h
+
+written_fine : (fs : List File) → standing_at (writing fs) ≡ Fine
+written_fine [] = refl
+written_fine (f ∷ fs) = refl
+
+fine_at : (t : Task) (o : Write) (r : Request) (a : Reply) → write_wants (record { plan = t; operation = o }) ≡ Some r → FitsWrite t.known o a → standing_at (write_hears (task_script t) t.minimum o a) ≡ standing_at o
+fine_at t (writes.Uploads f fs Creating) r a w h = begun_fine (task_script t) t.minimum f fs t.known.drawn a h
+fine_at t (writes.Uploads f fs (Sending p ps)) r a w h = part_fine (task_script t) f fs ps a h
+fine_at t (writes.Marking f fs) r a w h = refl
+fine_at t (writes.Recording f fs) r a w h = written_fine fs
+fine_at t (writes.WriteOver end) r a w h = refl
+
+pub write_laws : Laws write_wants write_told write_fits never_ready write_left write_standing
+write_laws = record {
+  fit = λ m s r b w h. absurd h;
+  lost = λ m s b h. h;
+  hidden = λ m s r b w h. h;
+  took = λ m s r b w h. absurd h;
+  gave_up = λ m s r b w h. absurd h;
+  falls = λ m s r b w h. absurd h;
+  falls_worn = λ m s r b w h. absurd h;
+  no_rise = λ m s r b w h. absurd h;
+  stops = λ m. refl;
+  breaks = λ m. refl;
+  faults = λ m r w. refl;
+  goes_on = λ m r a b w h. fine_at m.plan m.operation r a w h;
+}
