@@ -1,9 +1,9 @@
 -- The blocks that a file is cut into.
-use Rattle.std.proofs.Common.{◌≡◌, ℕ, zero, suc, ◌+◌, ◌-◌, ◌*◌, ◌/◌, ◌<◌, ◌≤◌, ◌^◌, ◌⊎◌, inl, inr, nat_lt, Bool, true, false, cond, List, [], ◌∷◌, ◌++◌, map, length, take, drop, refl, sym, ap, subst, ◌∙◌, arith, length-drop, length-append, add-one}
+use Rattle.std.proofs.Common.{◌≡◌, ℕ, zero, suc, ◌+◌, ◌-◌, ◌*◌, ◌/◌, ◌<◌, ◌≤◌, ◌^◌, ◌⊎◌, inl, inr, nat_lt, Bool, true, false, cond, List, [], ◌∷◌, map, length, take, drop, refl, sym, ap, subst, ◌∙◌, arith, length-drop, length-append, add-one}
 use Rattle.std.specs.List.{sum}
 use Rattle.std.proofs.lemmas.List.{take-append-drop, nil_from_length, drop-drop}
 use Rattle.std.proofs.lemmas.List.Sums.{sum-map, sum_by-cons}
-use Rattle.std.proofs.Math.Nat.{mul-suc, suc-mul, mul_comm, mul-le-mul_right, div-lt_iff_lt-mul}
+use Rattle.std.proofs.Math.Nat.{suc-mul, mul-le-mul_right, div-lt_iff_lt-mul}
 use Rattle.std.proofs.lemmas.Bool.Decides.{nat_tests}
 use Rattle.s3_types.specs.Blocks.{quotient_up, greater, block_of, blocks, parts_of}
 use Rattle.job_model.specs.Files.{File}

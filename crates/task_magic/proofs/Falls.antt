@@ -1,23 +1,20 @@
 -- What is left of a write.
-use Rattle.std.proofs.Common.{◌≡◌, ℕ, ◌+◌, ◌<◌, ◌≤◌, Bool, List, [], ◌∷◌, length, Option, Some, None, refl, sym, ap, subst, ◌∙◌, arith}
-use Rattle.s3_types.specs.Store.{Scene}
-use Rattle.s3_types.specs.Answer.{answer, apply}
+use Rattle.std.proofs.Common.{◌≡◌, ℕ, ◌+◌, ◌<◌, ◌≤◌, Bool, List, [], ◌∷◌, length, Some, arith}
+use Rattle.s3_types.specs.Answer.{answer}
 use Rattle.s3_types.specs.declared.request.Request.{Request}
 use Rattle.s3_types.specs.declared.reply.Reply.{Reply}
 use Rattle.s3_types.specs.declared.reply.Reply.TheVariants.{Upload, Part, Refused}
-use Rattle.s3_types.specs.declared.reply.Refusal.{Refusal}
 use Rattle.s3_types.specs.declared.reply.Refusal.TheVariants.{NoSuchUpload}
-use Rattle.sendings.specs.Retries.{Item, Got, WornOut}
 use Rattle.job_model.specs.Files.{File}
-use Rattle.job_model.specs.Known.{Drawn, Known}
+use Rattle.job_model.specs.Known.{Drawn}
 use Rattle.job_model.specs.Jobs.{Task}
 use Rattle.job_model.specs.JobScript.{Script}
-use Rattle.job_operations.specs.AtWork.{Attempting, task_script, write_wants, write_told}
+use Rattle.job_operations.specs.AtWork.{task_script, write_wants, write_told}
 use Rattle.job_operations.specs.Measures.{FallsAmong}
-use Rattle.job_operations.specs.Uploading.{Uploading, Creating, Sending, sending, file_parts, upload_hears, created, sent_part}
+use Rattle.job_operations.specs.Uploading.{Creating, Sending, sending, file_parts, created, sent_part}
 use Rattle.job_operations.specs.Writes as writes
 use Rattle.job_operations.specs.Writes.{Write, uploaded, writing, write_hears}
-use Rattle.task_magic.specs.Writing.{write_fits, FitsWrite, FitsUpload, FitsCreate, FitsPart, file_left, files_left, upload_left, left_of, write_left}
+use Rattle.task_magic.specs.Writing.{write_fits, FitsWrite, FitsCreate, FitsPart, files_left, left_of, write_left}
 
 sent_left : (w : Script) (minimum : ℕ) (f : File) (fs : List File) (ps : List (List ℕ)) → left_of w minimum (uploaded w f fs (sending ps)) ≤ 2 + length ps + files_left w minimum fs
 sent_left w minimum f fs [] = omega arith

@@ -1,5 +1,5 @@
 -- The paths of an attempt's files as parts of keys.
-use Rattle.std.proofs.Common.{◌≡◌, ◌≢◌, ℕ, zero, suc, ◌+◌, ◌<◌, ◌≤◌, ◌^◌, ◌==◌, ◌&&◌, ◌||◌, not, nat_eq, nat_le, Bool, true, false, cond, List, [], ◌∷◌, ◌++◌, length, slice_get, Option, Some, None, codes, refl, sym, ap, subst, ◌∙◌, inl, inr, arith, length-append, add_assoc}
+use Rattle.std.proofs.Common.{◌≡◌, ℕ, zero, suc, ◌+◌, ◌<◌, ◌≤◌, ◌^◌, ◌==◌, ◌&&◌, ◌||◌, not, nat_eq, nat_le, Bool, true, false, List, [], ◌∷◌, ◌++◌, length, slice_get, Option, Some, None, codes, refl, sym, ap, subst, ◌∙◌, inl, inr, arith, length-append}
 use Rattle.std.specs.List.{list_all, list_any, join_with_byte, ends_with}
 use Rattle.std.proofs.lemmas.Bool.{and_parts, or_parts, leb-true}
 use Rattle.std.proofs.lemmas.Bool.Decides.{nat_tests}
@@ -14,9 +14,9 @@ use Rattle.magic_paths.proofs.Kept.{some_parts}
 use Rattle.proof_base.proofs.Bools.{contrary}
 use Rattle.std.specs.Prelude.{bytes_eq, option_map, IfSome}
 use Rattle.std.proofs.lemmas.Slice.Eq.{bytes_eq-Decides}
-use Rattle.job_model.specs.Files.{File, has_path}
+use Rattle.job_model.specs.Files.{File}
 use Rattle.job_model.specs.Legal.{IsGiven, bytes_of}
-use Rattle.job_model.specs.Paths.{is_dest_key, is_reserved, is_path, is_full, is_hidden, begins_hidden}
+use Rattle.job_model.specs.Paths.{is_dest_key, is_reserved, is_path, is_full, begins_hidden}
 use Rattle.job_model.specs.Placed.{with_id, with_id_last, unique_name}
 use Rattle.job_model.specs.Jobs.{Job, Task}
 use Rattle.job_model.specs.Plans.{IsJob, IsTask, IsPlaced, ArePlaced}

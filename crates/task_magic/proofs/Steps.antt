@@ -1,5 +1,5 @@
 -- The steps of a write, by the parts that its machine keeps.
-use Rattle.std.proofs.Common.{◌≡◌, ℕ, zero, suc, ◌+◌, ◌*◌, ◌<◌, ◌≤◌, nat_lt, nat_le, ◌==◌, ◌⊎◌, Result, Ok, Err, Bool, true, false, cond, List, [], ◌∷◌, ◌++◌, map, length, take, drop, slice_get, Option, Some, None, refl, sym, ap, subst, ◌∙◌, arith, length-take-le, length-drop}
+use Rattle.std.proofs.Common.{◌≡◌, ℕ, zero, suc, ◌+◌, ◌<◌, ◌≤◌, nat_lt, nat_le, ◌==◌, Result, Ok, Err, Bool, true, false, cond, List, [], ◌∷◌, map, length, take, drop, slice_get, Option, Some, None, refl, sym, ap, subst, ◌∙◌, arith, length-take-le, length-drop}
 use Rattle.std.proofs.lemmas.List.{take_all}
 use Rattle.std.proofs.lemmas.Option.{slice_get_within}
 use Rattle.proof_base.proofs.Numbers.{below_is, below_not, below_so, at_most_so}
@@ -13,14 +13,12 @@ use Rattle.s3_types.specs.declared.reply.Reply.TheVariants.{Upload, Part, Refuse
 use Rattle.s3_types.specs.declared.reply.Refusal.TheVariants.{NoSuchUpload}
 use Rattle.s3_types.specs.declared.request.Request.{Request}
 use Rattle.s3_types.specs.declared.request.Request.TheVariants.{CreateUpload, UploadPart, PutObject}
-use Rattle.s3_types.specs.Blocks.{block_of}
 use Rattle.path_keys.specs.Paths.{Path}
-use Rattle.sendings.specs.Retries.{Item, Got, WornOut, OutOfMemory}
+use Rattle.sendings.specs.Retries.{Got}
 use Rattle.job_model.specs.Files.{File}
 use Rattle.job_model.specs.Jobs.{Task}
 use Rattle.job_model.specs.Known.{Drawn, Known, with_last}
 use Rattle.job_model.specs.JobScript.{Script}
-use Rattle.job_model.specs.declared.ends.TaskEnd.{TaskEnd}
 use Rattle.job_model.specs.declared.ends.TaskEnd.TheVariants as ends
 use Rattle.job_operations.specs.AtWork.{Attempting, task_script, who_of, with_known, write_wants, write_told}
 use Rattle.job_operations.specs.Knowledge.{first_drawn, drawn_last}
@@ -29,8 +27,8 @@ use Rattle.job_operations.specs.Writes as writes
 use Rattle.job_operations.specs.Writes.{Write}
 use Rattle.task_magic.specs.declared.stage.WriteStage.{WriteStage}
 use Rattle.task_magic.specs.declared.stage.WriteStage.TheVariants as stage
-use Rattle.task_magic.specs.Writing.{at_parts, at_stage, write_by, seen_write, is_new, HasSent, HoldsAt, Holds, IsWrite, dir_of, IsBehind, next_stage, with_drawn, FitsCreate, FitsPart, write_fits, upload_in, tag_in, ended_by, part_behind, size_of, parts_in, asks_behind}
-use Rattle.task_magic.proofs.Cut.{drop-blocks, length-parts, some_parts, some_size, few_parts, sum_parts}
+use Rattle.task_magic.specs.Writing.{at_parts, at_stage, seen_write, is_new, HasSent, HoldsAt, Holds, IsWrite, dir_of, IsBehind, next_stage, with_drawn, FitsCreate, FitsPart, write_fits, upload_in, tag_in, ended_by, part_behind, size_of, parts_in, asks_behind}
+use Rattle.task_magic.proofs.Cut.{drop-blocks, length-parts, some_parts, few_parts, sum_parts}
 use Rattle.task_magic.proofs.Told.{seen_at, front_is, none_left, created, part_gone, part_sent, with_tag, has_more, take_next, marked, recorded}
 
 -- ---- where nothing is to be shown

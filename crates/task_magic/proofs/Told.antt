@@ -1,5 +1,5 @@
 -- Where replies lead a write, at the file that it is about.
-use Rattle.std.proofs.Common.{◌≡◌, ℕ, zero, suc, ◌+◌, ◌<◌, ◌≤◌, ◌&&◌, ◌||◌, nat_eq, nat_lt, not, Bool, true, false, cond, List, [], ◌∷◌, ◌++◌, map, length, take, drop, slice_get, get_or, Option, Some, None, codes, refl, sym, ap, subst, ◌∙◌, arith, append_assoc, length-append, add-one, lit<}
+use Rattle.std.proofs.Common.{◌≡◌, ℕ, zero, suc, ◌+◌, ◌<◌, ◌≤◌, ◌||◌, nat_eq, nat_lt, not, Bool, true, false, cond, List, [], ◌∷◌, ◌++◌, map, length, take, drop, slice_get, get_or, Some, None, codes, refl, sym, ap, ◌∙◌, arith, append_assoc, length-append, add-one, lit<}
 use Rattle.std.specs.List.{list_all}
 use Rattle.std.specs.Fmt.{decimal}
 use Rattle.std.proofs.lemmas.Bool.{and_parts}
@@ -14,31 +14,28 @@ use Rattle.s3_types.specs.Tags.{Spelled, is_plain_tag}
 use Rattle.s3_types.specs.declared.reply.Reply.{Reply}
 use Rattle.s3_types.specs.declared.reply.Reply.TheVariants.{Upload, Part, Refused}
 use Rattle.s3_types.specs.declared.reply.Refusal.TheVariants.{NoSuchUpload}
-use Rattle.s3_types.specs.declared.request.Request.{Request}
-use Rattle.s3_types.specs.declared.request.Request.TheVariants.{CreateUpload, UploadPart, PutObject}
 use Rattle.path_keys.specs.Paths.{below}
 use Rattle.magic_paths.specs.Layout as layout
 use Rattle.magic_paths.proofs.Tails.{below_is}
 use Rattle.std.specs.Cmp.Lexicographic.{bytes_decides}
-use Rattle.sendings.specs.Retries.{Item, Got, WornOut, OutOfMemory}
+use Rattle.sendings.specs.Retries.{Got}
 use Rattle.job_model.specs.Files.{File}
 use Rattle.job_model.specs.Attempts.{Who, same_name}
 use Rattle.job_model.specs.Placed.{placed}
 use Rattle.job_model.specs.Jobs.{Task}
 use Rattle.job_model.specs.Known.{Drawn, Known, with_last}
 use Rattle.job_model.specs.JobScript.{Script}
-use Rattle.job_model.specs.declared.ends.TaskEnd.{TaskEnd}
 use Rattle.job_model.specs.declared.ends.TaskEnd.TheVariants as ends
-use Rattle.job_operations.specs.AtWork.{Attempting, task_script, who_of, with_known, learned, told, write_wants, write_told}
-use Rattle.job_operations.specs.Knowledge.{with_part, first_drawn, drawn_last, is_set_key}
+use Rattle.job_operations.specs.AtWork.{Attempting, task_script, who_of, with_known, write_told}
+use Rattle.job_operations.specs.Knowledge.{with_part, first_drawn, is_set_key}
 use Rattle.job_operations.specs.Outputs.{files}
-use Rattle.job_operations.specs.Records.{file_key, marker_key, record_key, record_text}
-use Rattle.job_operations.specs.Uploading.{Uploading, Creating, Sending, sending, file_parts}
+use Rattle.job_operations.specs.Records.{file_key}
+use Rattle.job_operations.specs.Uploading.{sending, file_parts}
 use Rattle.job_operations.specs.Writes as writes
 use Rattle.job_operations.specs.Writes.{Write, uploaded, writing}
 use Rattle.task_magic.specs.declared.stage.WriteStage.{WriteStage}
 use Rattle.task_magic.specs.declared.stage.WriteStage.TheVariants as stage
-use Rattle.task_magic.specs.Writing.{at_parts, at_stage, write_by, seen_write, is_new, HasSent, HoldsAt, dir_of, next_stage, with_drawn}
+use Rattle.task_magic.specs.Writing.{at_parts, at_stage, is_new, HasSent, next_stage, with_drawn}
 
 -- a write whose files from here on are to be written
 abbrev pub seen_at : Task → List File → WriteStage → Attempting Write

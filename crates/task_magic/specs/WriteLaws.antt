@@ -1,13 +1,11 @@
 -- The laws of a write as a machine: what is left of it falls, and how it stands.
-use Rattle.std.specs.Prelude.{◌≡◌, ℕ, ◌+◌, ◌<◌, ◌≤◌, Bool, List, [], ◌∷◌, length, Option, Some, None}
-use Rattle.std.proofs.Common.{refl, arith}
+use Rattle.std.specs.Prelude.{◌≡◌, ℕ, Bool, List, [], ◌∷◌, Some}
+use Rattle.std.proofs.Common.{refl}
 use Rattle.s3_types.specs.Store.{Scene}
-use Rattle.s3_types.specs.Answer.{answer, apply}
 use Rattle.s3_types.specs.declared.request.Request.{Request}
 use Rattle.s3_types.specs.declared.reply.Reply.{Reply}
 use Rattle.s3_types.specs.declared.reply.Reply.TheVariants.{Upload, Part, Refused}
 use Rattle.s3_types.specs.declared.reply.Refusal.TheVariants.{NoSuchUpload}
-use Rattle.sendings.specs.Retries.{Item, Got, WornOut, OutOfMemory}
 use Rattle.machine.specs.Standing.{Standing, Fine, Faulted, Broken}
 use Rattle.machine.specs.Laws.{Laws}
 use Rattle.job_model.specs.Files.{File}
@@ -17,7 +15,7 @@ use Rattle.job_model.specs.JobScript.{Script}
 use Rattle.job_model.specs.declared.ends.TaskEnd.{TaskEnd}
 use Rattle.job_model.specs.declared.ends.TaskEnd.TheVariants as ends
 use Rattle.job_operations.specs.AtWork.{Attempting, task_script, write_wants, write_told}
-use Rattle.job_operations.specs.Uploading.{Uploading, Creating, Sending, sending, file_parts, created, sent_part}
+use Rattle.job_operations.specs.Uploading.{Creating, Sending, sending, file_parts, created, sent_part}
 use Rattle.job_operations.specs.Writes as writes
 use Rattle.job_operations.specs.Writes.{Write, uploaded, writing, write_hears}
 use Rattle.task_magic.specs.Writing.{write_fits, FitsWrite, FitsCreate, FitsPart, write_left}

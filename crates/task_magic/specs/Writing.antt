@@ -1,5 +1,5 @@
 -- A write of a magic attempt's files, by how many files are whole and how far the next has come.
-use Rattle.std.specs.Prelude.{◌≡◌, ℕ, ◌+◌, ◌*◌, ◌<◌, ◌≤◌, not, nat_eq, nat_lt, cond, Bool, true, false, List, [], ◌∷◌, length, map, take, drop, Option, Some, None}
+use Rattle.std.specs.Prelude.{◌≡◌, ℕ, ◌+◌, ◌*◌, ◌<◌, ◌≤◌, not, nat_eq, nat_lt, cond, Bool, true, List, [], ◌∷◌, length, map, take, drop, Option, Some, None}
 use Rattle.std.specs.List.{list_all}
 use Rattle.s3_types.specs.Store.{Scene}
 use Rattle.s3_types.specs.Tags.{Spelled, is_plain_tag}

@@ -1,4 +1,4 @@
-use Rattle.std.proofs.Common.{◌≡◌, ◌∙◌, ap, Some}
+use Rattle.std.proofs.Common.{◌∙◌, ap, Some}
 use Rattle.s3_types.specs.declared.request.Request.{Request}
 use Rattle.task_magic.proofs.Steps.{nothing_asked, sending_behind, recording_sent, creating_asked, sending_asked, marking_asked, recording_asked}
 use Rattle.task_magic.proofs.asking.ask.Goals as goal

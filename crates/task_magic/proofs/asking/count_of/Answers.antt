@@ -1,4 +1,4 @@
-use Rattle.std.proofs.Common.{◌≡◌, ap, length, List, ℕ}
+use Rattle.std.proofs.Common.{ap, length, List, ℕ}
 use Rattle.task_magic.proofs.Cut.{count_made, count_fits}
 use Rattle.task_magic.proofs.asking.count_of.Goals as goal
 

@@ -1,4 +1,4 @@
-use Rattle.std.proofs.Common.{◌≡◌, ◌∙◌, ap, slice_get}
+use Rattle.std.proofs.Common.{◌∙◌, ap, slice_get}
 use Rattle.serde_json.specs.Written.{compact_text}
 use Rattle.pending_json.specs.Trees.{pending_tree}
 use Rattle.pending_json.specs.Pending.{Pending}

@@ -1,4 +1,4 @@
-use Rattle.std.proofs.Common.{◌≡◌, ◌∙◌, ap}
+use Rattle.std.proofs.Common.{◌∙◌, ap}
 use Rattle.job_model.specs.Jobs.{Task}
 use Rattle.task_magic.proofs.Placed.{file_found}
 use Rattle.task_magic.proofs.names.file_at.Goals as goal

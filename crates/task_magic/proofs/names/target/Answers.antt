@@ -1,4 +1,4 @@
-use Rattle.std.proofs.Common.{◌≡◌, ◌∙◌, ap}
+use Rattle.std.proofs.Common.{◌∙◌, ap}
 use Rattle.task_magic.proofs.Placed.{named_elements, named_short}
 use Rattle.job_model.specs.Jobs.{Task}
 use Rattle.task_magic.proofs.names.target.Goals as goal

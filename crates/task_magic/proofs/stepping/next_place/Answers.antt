@@ -1,4 +1,4 @@
-use Rattle.std.proofs.Common.{◌≡◌, ap, length, arith}
+use Rattle.std.proofs.Common.{ap, length, arith}
 use Rattle.job_model.specs.Jobs.{Task}
 use Rattle.task_magic.proofs.stepping.next_place.Goals as goal
 

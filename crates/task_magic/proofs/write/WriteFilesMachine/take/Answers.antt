@@ -1,4 +1,4 @@
-use Rattle.task_magic.proofs.Whole.{open_asked, fits_asked, told_seen, memory_of, stopped}
+use Rattle.task_magic.proofs.Whole.{open_asked, fits_asked}
 use Rattle.task_magic.proofs.write.WriteFilesMachine.take.Goals as goal
 
 pub advance-requires-clause-within : goal.advance-requires-clause-within
