@@ -1,0 +1,51 @@
+-- what follows a key and a `/`
+use Rattle.std.proofs.Common.{◌≡◌, ℕ, ◌+◌, ◌<◌, nat_eq, refl, ap, sym, subst, ◌∙◌, Bool, true, false, cond, arith, List, [], ◌∷◌, ◌++◌, length, take, drop, Option, Some, None, append_assoc}
+use Rattle.std.specs.Prelude.{MatchOption, option_map}
+use Rattle.std.proofs.Common.{Bor}
+use Rattle.std.specs.Str.Pattern.{StripsPrefix, FindsTextPrefix, LacksTextAt}
+use Rattle.std.specs.List.{starts_with}
+use Rattle.std.specs.Cmp.Lexicographic.{bytes_decides}
+use Rattle.std.proofs.lemmas.List.{take-append-drop}
+use Rattle.std.proofs.Math.Seq.{take-append_seam, drop-append_seam}
+use Rattle.proof_base.specs.Order.{text_eq}
+use Rattle.path_keys.specs.Paths.{below, relative_in}
+
+cut_yes : (pre rest : List ℕ) → cond (starts_with nat_eq (pre ++ rest) pre) (Some (drop (length pre) (pre ++ rest))) None ≡ Some rest
+cut_yes pre rest =
+    let same : starts_with nat_eq (pre ++ rest) pre ≡ true = (bytes_decides pre (take (length pre) (pre ++ rest))).1 (sym (take-append_seam pre rest)) in
+    ap (λ b. cond b (Some (drop (length pre) (pre ++ rest))) (let n : Option (List ℕ) = None in n)) same ∙ ap Some (drop-append_seam pre rest)
+
+cut_no : (pre text : List ℕ) (b : Bool) → starts_with nat_eq text pre ≡ b → ((rest : List ℕ) → text ≡ pre ++ rest → ⊥) → cond b (Some (drop (length pre) text)) None ≡ None
+cut_no pre text true e h =
+    let same : pre ≡ take (length pre) text = (bytes_decides pre (take (length pre) text)).0 e in
+    absurd (h (drop (length pre) text) (sym (take-append-drop (length pre) text) ∙ ap (λ v. v ++ drop (length pre) text) (sym same)))
+cut_no pre text false e h = refl
+
+pub relative_some : (key text rest : List ℕ) → 0 < length key → text ≡ key ++ 47 ∷ rest → relative_in key text ≡ Some rest
+relative_some [] text rest h e = absurd (omega arith)
+relative_some (x ∷ xs) text rest h e =
+    let pre : List ℕ = (x ∷ xs) ++ 47 ∷ [] in
+    let whole : pre ++ rest ≡ text = append_assoc (x ∷ xs) (47 ∷ []) rest ∙ sym e in
+    let P : List ℕ → Type 0 = λ v. relative_in (x ∷ xs) v ≡ Some rest in
+    subst P whole (cut_yes pre rest)
+
+pub relative_none : (key text : List ℕ) → 0 < length key → ((rest : List ℕ) → text ≡ key ++ 47 ∷ rest → ⊥) → relative_in key text ≡ None
+relative_none [] text h absent = absurd (omega arith)
+relative_none (x ∷ xs) text h absent = cut_no ((x ∷ xs) ++ 47 ∷ []) text (starts_with nat_eq text ((x ∷ xs) ++ 47 ∷ [])) refl (λ rest e. absent rest (e ∙ append_assoc (x ∷ xs) (47 ∷ []) rest))
+
+cancel : (key a b : List ℕ) → key ++ a ≡ key ++ b → a ≡ b
+cancel key a b e = sym (drop-append_seam key a) ∙ ap (drop (length key)) e ∙ drop-append_seam key b
+
+-- what is left of a text without a key at its front, and then without a `/`
+pub behind_front : (key text rest : List ℕ) → 0 < length key → StripsPrefix (FindsTextPrefix key) text rest → (o : Option (Bor (List ℕ))) → MatchOption o (FindsTextPrefix (47 ∷ []) rest None) (λ x. StripsPrefix (FindsTextPrefix (47 ∷ [])) rest x.now)
+    → option_map (λ (r : Bor (List ℕ)). r.now) o ≡ relative_in key text
+behind_front key text rest h front None lacks =
+    let whole : text ≡ key ++ rest = front.1.1 ∙ ap (λ v. key ++ v) (sym front.2) in
+    sym (relative_none key text h (λ r e. lacks r (cancel key rest (47 ∷ r) (sym whole ∙ e))))
+behind_front key text rest h front (Some x) cut =
+    let whole : text ≡ key ++ rest = front.1.1 ∙ ap (λ v. key ++ v) (sym front.2) in
+    let slash : rest ≡ 47 ∷ x.now = cut.1.1 ∙ ap (λ v. 47 ∷ v) (sym cut.2) in
+    sym (relative_some key text x.now h (whole ∙ ap (λ v. key ++ v) slash))
+
+pub behind_none : (key text : List ℕ) → 0 < length key → LacksTextAt key text 0 → None ≡ relative_in key text
+behind_none key text h lacks = sym (relative_none key text h (λ r e. lacks (47 ∷ r) e))

@@ -1,0 +1,252 @@
+-- what the picks of the sets that were read write
+use Rattle.std.proofs.Common.{◌≡◌, ℕ, zero, suc, ◌+◌, ◌<◌, ◌≤◌, ◌⊎◌, inl, inr, refl, ap, sym, subst, ◌∙◌, Bool, true, false, cond, ◌&&◌, nat_eq, arith, List, [], ◌∷◌, ◌++◌, map, length, slice_get, take, drop, Option, Some, None, is_some}
+use Rattle.std.specs.Prelude.{Result, Ok, Err, IfOk}
+use Rattle.std.specs.BTreeSet.{insert_key}
+use Rattle.std.proofs.Math.ListN.{drop_of_length-le}
+use Rattle.std.specs.List.{flat_map}
+use Rattle.std.specs.Map.{lookup}
+use Rattle.std.specs.Option.{unwrap_or, option_map}
+use Rattle.std.specs.Cmp.Lexicographic.{bytes_decides}
+use Rattle.std.proofs.lemmas.Bool.Decides.{nat_tests}
+use Rattle.std.proofs.lemmas.List.{map-append}
+use Rattle.std.proofs.lemmas.Grind.{flat_map-append}
+use Rattle.proof_base.specs.Order.{text_cmp, text_eq}
+use Rattle.path_keys.specs.Paths.{Path}
+use Rattle.pending_json.specs.Pending.{Pending}
+use Rattle.pending_json.specs.declared.records.PendingSet.{PendingSet}
+use Rattle.job_model.specs.Files.{File, has_path}
+use Rattle.job_model.specs.Attempts.{Who, Declared, same_name}
+use Rattle.job_model.specs.Placed.{placed}
+use Rattle.job_model.specs.Jobs.{Job}
+use Rattle.job_operations.specs.Outputs.{Picks, files_picked, files, wanted_below, wanted, writes, ordered}
+use Rattle.job_operations.specs.JobCommits.{Sets, picks_of, all_commits, Marking, commit_asks}
+use Rattle.job_operations.specs.LaneTable.{In}
+use Rattle.job_operations.specs.Records.{mark_text}
+use Rattle.serde_json.specs.Written.{compact_text}
+use Rattle.pending_json.specs.Trees.{success_tree}
+use Rattle.pending_json.specs.declared.records.SuccessMark.{SuccessMark}
+use Rattle.job_operations.specs.AtWork.{declared_of, read_script}
+use Rattle.job_operations.proofs.Members.{in_left, in_right, in_append, in_map, map_in, some_is, none_some, false_true}
+use Rattle.commit_parts.specs.Relatives.{relative_of, paths_below}
+use Rattle.commit_parts.specs.Places.{places_from}
+use Rattle.commit_parts.specs.declared.places.Place.{Place}
+use Rattle.commit_parts.proofs.Placing.{places_length}
+use Rattle.commit_parts.proofs.Undoing.{drop_nth}
+use Rattle.magic_paths.specs.Layout as layout
+use Rattle.s3_types.specs.declared.request.Request.{Request}
+use Rattle.s3_types.specs.declared.request.Request.TheVariants.{GetObject, PutObject}
+use Rattle.job_operations.specs.Lanes.{nth}
+use Rattle.commit_parts.specs.ReadSets.{IsSetOf}
+use Rattle.commit_parts.specs.ReadSets.{AreRead, HasAll}
+use Rattle.commit_parts.specs.Clashes.{Item, items_from}
+
+-- an upload's file, whose bytes are not told
+abbrev pub file_of : Path → Pending → File
+file_of dest c = (relative_of dest c.destination, [])
+
+-- ---- the files of a pick
+
+abbrev TasksFrom : ℕ → Sets → Type 0
+TasksFrom n sets = (t : ℕ) (s : PendingSet) → slice_get sets t ≡ Some s → s.task ≡ n + t
+
+same_of : (a b c d : ℕ) → a ≡ b → c ≡ d → nat_eq a b && nat_eq c d ≡ true
+same_of a b c d e f = grind (arith, nat_tests)
+
+other_of : (a b : ℕ) (c : Bool) → b < a → nat_eq a b && c ≡ false
+other_of a b c h = grind (arith, nat_tests)
+
+if_true : {X : Type 0} (b : Bool) (x y : X) → b ≡ true → cond b x y ≡ x
+if_true true x y e = refl
+if_true false x y e = absurd (cc)
+
+if_false : {X : Type 0} (b : Bool) (x y : X) → b ≡ false → cond b x y ≡ y
+if_false true x y e = absurd (cc)
+if_false false x y e = refl
+
+lookup_here : {K X : Type 0} (test : K → Bool) (k : K) (x : X) (es : List (K × X)) → test k ≡ true → lookup test ((k, x) ∷ es) ≡ Some x
+lookup_here test k x es e = if_true (test k) (Some x) (lookup test es) e
+
+lookup_later : {K X : Type 0} (test : K → Bool) (k : K) (x : X) (es : List (K × X)) → test k ≡ false → lookup test ((k, x) ∷ es) ≡ lookup test es
+lookup_later test k x es e = if_false (test k) (Some x) (lookup test es) e
+
+abbrev who : ℕ → ℕ → Who
+who t a = record { task = t; attempt = a }
+
+found_at : (dest : Path) (n : ℕ) (sets : Sets) (t : ℕ) (s : PendingSet) → TasksFrom n sets → slice_get sets t ≡ Some s
+    → lookup (same_name (who (n + t) s.attempt)) (map (declared_of dest) sets) ≡ Some (map (file_of dest) s.commits)
+found_at dest n [] t s h e = absurd (cc)
+found_at dest n (x ∷ xs) zero s h e =
+    let i : x ≡ s = some_is e in
+    let k : x.task ≡ n + 0 = h zero x refl in
+    lookup_here (same_name (who (n + 0) s.attempt)) (who x.task x.attempt) (map (file_of dest) x.commits) (map (declared_of dest) xs) (same_of (n + 0) x.task s.attempt x.attempt (sym k) (ap (λ (v : PendingSet). v.attempt) (sym i))) ∙ ap (λ (v : PendingSet). Some (map (file_of dest) v.commits)) i
+found_at dest n (x ∷ xs) (suc t) s h e =
+    let k : x.task ≡ n + 0 = h zero x refl in
+    let later : (i : ℕ) (v : PendingSet) → slice_get xs i ≡ Some v → v.task ≡ n + 1 + i = λ i v g. (let m : v.task ≡ n + suc i = h (suc i) v g in omega arith) in
+    let r = found_at dest (n + 1) xs t s later e in
+    let P : ℕ → Type 0 = λ m. lookup (same_name (who m s.attempt)) (map (declared_of dest) xs) ≡ Some (map (file_of dest) s.commits) in
+    let q : n + 1 + t ≡ n + suc t = omega arith in
+    lookup_later (same_name (who (n + suc t) s.attempt)) (who x.task x.attempt) (map (file_of dest) x.commits) (map (declared_of dest) xs) (other_of (n + suc t) x.task (nat_eq s.attempt x.attempt) (omega arith)) ∙ subst P q r
+
+same_files : (fs : List File) → map (λ f. (f.0, f.1)) fs ≡ fs
+same_files [] = refl
+same_files (f ∷ fs) = ap (λ v. f ∷ v) (same_files fs)
+
+tasks_of : (j : Job) (sets : Sets) → AreRead j sets → TasksFrom 0 sets
+tasks_of j sets each = λ t s e. (let k : s.task ≡ t = (each t s e).task in omega arith)
+
+-- a pick's files are those of its set
+pub files_at : (j : Job) (sets : Sets) (t : ℕ) (s : PendingSet) → AreRead j sets → slice_get sets t ≡ Some s → files_picked (read_script j sets) t (picks_of sets t) ≡ map (file_of j.dest) s.commits
+files_at j sets t s each e =
+    let F : Option PendingSet → Type 0 = λ o. files_picked (read_script j sets) t (option_map (λ v. v.attempt) o) ≡ map (file_of j.dest) s.commits in
+    let L : Option (List File) → Type 0 = λ o. unwrap_or (option_map (placed false j.job) o) [] ≡ map (file_of j.dest) s.commits in
+    let P : ℕ → Type 0 = λ m. lookup (same_name (who m s.attempt)) (map (declared_of j.dest) sets) ≡ Some (map (file_of j.dest) s.commits) in
+    let z : 0 + t ≡ t = omega arith in
+    subst F (sym e) (subst L (sym (subst P z (found_at j.dest 0 sets t s (tasks_of j sets each) e))) (same_files (map (file_of j.dest) s.commits)))
+
+-- ---- all files
+
+take_more : (sets : Sets) (n : ℕ) (s : PendingSet) → slice_get sets n ≡ Some s → take (suc n) sets ≡ take n sets ++ s ∷ []
+take_more [] n s e = absurd (cc)
+take_more (x ∷ xs) zero s e = ap (λ (v : PendingSet). v ∷ []) (some_is e)
+take_more (x ∷ xs) (suc n) s e = ap (λ v. x ∷ v) (take_more xs n s e)
+
+get_at : (sets : Sets) (n : ℕ) → n < length sets → (s : PendingSet) × (slice_get sets n ≡ Some s)
+get_at [] n h = absurd (omega arith)
+get_at (x ∷ xs) zero h = (x, refl)
+get_at (x ∷ xs) (suc n) h = get_at xs n (omega arith)
+
+take_all : (sets : Sets) → take (length sets) sets ≡ sets
+take_all [] = refl
+take_all (x ∷ xs) = ap (λ v. x ∷ v) (take_all xs)
+
+abbrev files_in : Path → PendingSet → List File
+files_in dest s = map (file_of dest) s.commits
+
+nil_end : (fs : List File) → fs ++ [] ≡ fs
+nil_end [] = refl
+nil_end (f ∷ fs) = ap (λ v. f ∷ v) (nil_end fs)
+
+wanted_of : (j : Job) (sets : Sets) (n : ℕ) → AreRead j sets → n ≤ length sets → wanted_below (read_script j sets) (picks_of sets) n ≡ flat_map (files_in j.dest) (take n sets)
+wanted_of j sets zero each h = refl
+wanted_of j sets (suc n) each h =
+    let r = get_at sets n (omega arith) in
+    let a = files_at j sets n r.0 each r.1 in
+    let b = wanted_of j sets n each (omega arith) in
+    let c : flat_map (files_in j.dest) (take n sets ++ r.0 ∷ []) ≡ flat_map (files_in j.dest) (take n sets) ++ (files_in j.dest r.0 ++ []) = flat_map-append (files_in j.dest) (take n sets) (r.0 ∷ []) in
+    ap (λ v. v ++ files_picked (read_script j sets) n (picks_of sets n)) b
+    ∙ ap (λ v. flat_map (files_in j.dest) (take n sets) ++ v) (a ∙ sym (nil_end (files_in j.dest r.0)))
+    ∙ sym c
+    ∙ ap (flat_map (files_in j.dest)) (sym (take_more sets n r.0 r.1))
+
+paths_in : (dest : Path) (cs : List Pending) → map (λ f. f.0) (map (file_of dest) cs) ≡ map (λ c. relative_of dest c.destination) cs
+paths_in dest [] = refl
+paths_in dest (c ∷ cs) = ap (λ v. relative_of dest c.destination ∷ v) (paths_in dest cs)
+
+paths_all : (dest : Path) (sets : Sets) → map (λ f. f.0) (flat_map (files_in dest) sets) ≡ map (λ c. relative_of dest c.destination) (all_commits sets)
+paths_all dest [] = refl
+paths_all dest (s ∷ ss) =
+    map-append (λ (f : File). f.0) (files_in dest s) (flat_map (files_in dest) ss)
+    ∙ ap (λ v. v ++ map (λ f. f.0) (flat_map (files_in dest) ss)) (paths_in dest s.commits)
+    ∙ ap (λ v. map (λ c. relative_of dest c.destination) s.commits ++ v) (paths_all dest ss)
+    ∙ sym (map-append (λ (c : Pending). relative_of dest c.destination) s.commits (all_commits ss))
+
+-- the paths that are wanted are those of the uploads
+pub wanted_are : (j : Job) (sets : Sets) → AreRead j sets → length sets ≡ j.tasks → map (λ f. f.0) (wanted (read_script j sets) (picks_of sets)) ≡ map (λ c. relative_of j.dest c.destination) (all_commits sets)
+wanted_are j sets each all =
+    let h : j.tasks ≤ length sets = omega arith in
+    ap (map (λ f. f.0)) (wanted_of j sets j.tasks each h ∙ ap (λ n. flat_map (files_in j.dest) (take n sets)) (sym all) ∙ ap (flat_map (files_in j.dest)) (take_all sets)) ∙ paths_all j.dest sets
+
+-- ---- who writes what
+
+pub has_in : (dest : Path) (cs : List Pending) (p : List ℕ) → has_path (map (file_of dest) cs) p ≡ true → (c : Pending) × In c cs × (relative_of dest c.destination ≡ p)
+has_in dest [] p h = absurd (cc)
+has_in dest (c ∷ cs) p h = by (text_eq p (relative_of dest c.destination)) refl h (has_in dest cs p)
+  where
+    by : (b : Bool) → text_eq p (relative_of dest c.destination) ≡ b → is_some (cond b (Some (let e : List ℕ = [] in e)) (lookup (text_eq p) (map (file_of dest) cs))) ≡ true → (has_path (map (file_of dest) cs) p ≡ true → (d : Pending) × In d cs × (relative_of dest d.destination ≡ p)) → (d : Pending) × In d (c ∷ cs) × (relative_of dest d.destination ≡ p)
+    by true e h later = (c, inl refl, sym ((bytes_decides p (relative_of dest c.destination)).0 e))
+    by false e h later = let r = later h in (r.0, inr r.1, r.2)
+
+pub in_has : (dest : Path) (cs : List Pending) (c : Pending) → In c cs → has_path (map (file_of dest) cs) (relative_of dest c.destination) ≡ true
+in_has dest [] c i = absurd i
+in_has dest (d ∷ cs) c (inl e) =
+    let P : Pending → Type 0 = λ v. has_path (map (file_of dest) (d ∷ cs)) (relative_of dest v.destination) ≡ true in
+    subst P e (ap is_some (if_true (text_eq (relative_of dest d.destination) (relative_of dest d.destination)) (Some (let e : List ℕ = [] in e)) (lookup (text_eq (relative_of dest d.destination)) (map (file_of dest) cs)) ((bytes_decides (relative_of dest d.destination) (relative_of dest d.destination)).1 refl)))
+in_has dest (d ∷ cs) c (inr i) = by (text_eq (relative_of dest c.destination) (relative_of dest d.destination)) (in_has dest cs c i)
+  where
+    by : (b : Bool) → has_path (map (file_of dest) cs) (relative_of dest c.destination) ≡ true → is_some (cond b (Some (let e : List ℕ = [] in e)) (lookup (text_eq (relative_of dest c.destination)) (map (file_of dest) cs))) ≡ true
+    by true h = refl
+    by false h = h
+
+-- the uploads with the tasks of their sets
+pub item_at : (n : ℕ) (sets : Sets) (k : List ℕ) (t : ℕ) → In (let i : Item = (k, t) in i) (items_from n sets) → (i : ℕ) × (s : PendingSet) × (c : Pending) × (t ≡ n + i) × (slice_get sets i ≡ Some s) × In c s.commits × (c.destination ≡ k)
+item_at n [] k t h = absurd h
+item_at n (s ∷ ss) k t h = elim (in_append (let i : Item = (k, t) in i) (map (λ c. (c.destination, n)) s.commits) (items_from (n + 1) ss) h) [
+  | inl a ↦
+      let r = in_map {X = Pending} {Y = Item} (λ c. (c.destination, n)) s.commits (k, t) a in
+      let e : n ≡ t = ap (λ (i : Item). i.1) r.2 in
+      (0, s, r.0, (omega arith), refl, r.1, ap (λ (i : Item). i.0) r.2)
+  | inr b ↦
+      let r = item_at (n + 1) ss k t b in
+      let e : t ≡ n + 1 + r.0 = r.3 in
+      (suc r.0, r.1, r.2, (omega arith), r.4, r.5, r.6)
+]
+
+pub at_item : (n : ℕ) (sets : Sets) (i : ℕ) (s : PendingSet) (c : Pending) → slice_get sets i ≡ Some s → In c s.commits → In (let x : Item = (c.destination, n + i) in x) (items_from n sets)
+at_item n [] i s c e m = absurd (cc)
+at_item n (x ∷ xs) zero s c e m =
+    let S : PendingSet → Type 0 = λ v. In c v.commits in
+    let z : n ≡ n + 0 = omega arith in
+    let P : ℕ → Type 0 = λ t. In (let y : Item = (c.destination, t) in y) (items_from n (x ∷ xs)) in
+    subst P z (in_left (c.destination, n) (map (λ c. (c.destination, n)) x.commits) (items_from (n + 1) xs) (map_in {X = Pending} {Y = Item} (λ c. (c.destination, n)) x.commits c (subst S (sym (some_is e)) m)))
+at_item n (x ∷ xs) (suc i) s c e m =
+    let z : n + 1 + i ≡ n + suc i = omega arith in
+    let P : ℕ → Type 0 = λ t. In (let y : Item = (c.destination, t) in y) (items_from n (x ∷ xs)) in
+    subst P z (in_right (c.destination, n + 1 + i) (map (λ c. (c.destination, n)) x.commits) (items_from (n + 1) xs) (at_item (n + 1) xs i s c e m))
+
+-- the marker's text, of these files
+pub mark_is : (j : Job) (sets : Sets) (files : List (List ℕ)) → AreRead j sets → length sets ≡ j.tasks → files ≡ ordered (map (λ c. relative_of j.dest c.destination) (all_commits sets))
+    → compact_text (success_tree (record { job = j.job; committer = j.committer; files = files; stamp = j.stamp })) ≡ mark_text (read_script j sets) (picks_of sets)
+mark_is j sets files each all e = ap (λ v. compact_text (success_tree (let m : SuccessMark = record { job = j.job; committer = j.committer; files = v; stamp = j.stamp } in m))) (e ∙ ap ordered (sym (wanted_are j sets each all)))
+
+-- ---- the marker's paths, from the last upload on
+
+paths_none : (dest : Path) (all : List Pending) (n : ℕ) → n ≡ length all → [] ≡ ordered (paths_below dest (drop n all))
+paths_none dest all n e = ap (λ v. ordered (paths_below dest v)) (sym (drop_of_length-le all {i = n} (omega arith)))
+
+pub paths_begin : (dest : Path) (sets : Sets) (places : List Place) (keys : List (List ℕ)) → places ≡ places_from 0 sets → keys ≡ [] → keys ≡ ordered (paths_below dest (drop (length places) (all_commits sets)))
+paths_begin dest sets places keys e f = f ∙ paths_none dest (all_commits sets) (length places) (ap length e ∙ places_length 0 sets)
+
+pub path_within : (sets : Sets) (places : List Place) (n : ℕ) → places ≡ places_from 0 sets → n < length places → n < length (all_commits sets)
+path_within sets places n e h = let f : length places ≡ length (all_commits sets) = ap length e ∙ places_length 0 sets in omega arith
+
+pub paths_more : (dest : Path) (sets : Sets) (n m : ℕ) (keys new : List (List ℕ)) (path d : List ℕ) (u : Pending) → n < length (all_commits sets) → m ≡ n + 1 → keys ≡ ordered (paths_below dest (drop m (all_commits sets))) → new ≡ insert_key text_cmp keys path → path ≡ relative_of dest d → d ≡ u.destination → u ≡ nth (all_commits sets) n
+    → new ≡ ordered (paths_below dest (drop n (all_commits sets)))
+paths_more dest sets n m keys new path d u h i k e p q r =
+    let all = all_commits sets in
+    let P : Pending → Type 0 = λ v. new ≡ insert_key text_cmp keys (relative_of dest v.destination) in
+    let one : new ≡ insert_key text_cmp keys (relative_of dest (nth all n).destination) = subst P r (e ∙ ap (insert_key text_cmp keys) (p ∙ ap (relative_of dest) q)) in
+    one
+    ∙ ap (λ v. insert_key text_cmp v (relative_of dest (nth all n).destination)) (k ∙ ap (λ x. ordered (paths_below dest (drop x all))) i)
+    ∙ ap (λ v. ordered (paths_below dest v)) (sym (drop_nth all n h))
+
+-- ---- requests that are made
+
+pub get_asked : {E : Type 0} (r : Result Request E) (b c k l : List ℕ) → IfOk r (λ q. q ≡ GetObject b k) → b ≡ c → k ≡ l → IfOk r (λ q. q ≡ GetObject c l)
+get_asked r b c k l h e f =
+    let B : List ℕ → Type 0 = λ v. IfOk r (λ q. q ≡ GetObject v k) in
+    let K : List ℕ → Type 0 = λ v. IfOk r (λ q. q ≡ GetObject c v) in
+    subst K f (subst B e h)
+
+if_more : {T E : Type 0} (r : Result T E) (P Q : T → Type 0) → ((x : T) → P x → Q x) → IfOk r P → IfOk r Q
+if_more (Ok x) P Q f h = f x h
+if_more (Err e) P Q f h = h
+
+pub mark_put : {E : Type 0} (r : Result Request E) (j : Job) (sets : Sets) (places : List Place) (bucket key bytes job : List ℕ) (files keys : List (List ℕ)) → IfOk r (λ q. q ≡ PutObject bucket key bytes None) → bucket ≡ j.dest.bucket → key ≡ layout.success_key j.dest.key
+    → bytes ≡ compact_text (success_tree (record { job = job; committer = j.committer; files = files; stamp = j.stamp })) → job ≡ j.job → files ≡ keys → keys ≡ ordered (paths_below j.dest (all_commits sets)) → HasAll j sets places → IfOk r (λ q. Some q ≡ commit_asks (read_script j sets) (Marking sets 0))
+mark_put r j sets places bucket key bytes job files keys h b k t o f g all =
+    let text : bytes ≡ mark_text (read_script j sets) (picks_of sets) =
+    t
+    ∙ ap (λ v. compact_text (success_tree (let m : SuccessMark = record { job = v; committer = j.committer; files = files; stamp = j.stamp } in m))) o
+    ∙ mark_is j sets files all.each all.all (f ∙ g) in
+    if_more r (λ q. q ≡ PutObject bucket key bytes None) (λ q. Some q ≡ commit_asks (read_script j sets) (Marking sets 0))
+    (λ q e. ap Some (e ∙ ap (λ v. PutObject v key bytes None) b ∙ ap (λ v. PutObject j.dest.bucket v bytes None) k ∙ ap (λ v. PutObject j.dest.bucket (layout.success_key j.dest.key) v None) text)) h

@@ -1,0 +1,313 @@
+-- the search for a key that two tasks write, upload by upload
+use Rattle.std.proofs.Common.{◌≡◌, ℕ, ◌<◌, ◌≤◌, ◌⊎◌, inl, inr, refl, ap, sym, subst, ◌∙◌, Bool, true, false, cond, arith, List, [], ◌∷◌, ◌++◌, map, not, ◌||◌, nat_eq, zero, suc, ◌+◌, length, take, get_or, append_assoc, Option, Some, None}
+use Rattle.std.specs.Prelude.{Result, Ok, Err, OnOk}
+use Rattle.std.specs.BTreeMap.{BTreeMap, get, Updates, is_at}
+use Rattle.std.specs.FinMap.{nat_cmp-IsAntisymmetric, slice_cmp-IsAntisymmetric}
+use Rattle.std.proofs.lemmas.Bool.Decides.{nat_tests}
+use Rattle.std.proofs.lemmas.List.{map-append}
+use Rattle.std.proofs.lemmas.Option.{slice_get_within}
+use Rattle.std.specs.Ordering.{is_lt, is_eq, ordering_reverse}
+use Rattle.pending_json.specs.Pending.{Pending}
+use Rattle.pending_json.specs.declared.records.PendingSet.{PendingSet}
+use Rattle.commit_parts.proofs.ReadFiles.{item_at}
+use Rattle.std.specs.declared.cmp.Ordering.{Ordering}
+use Rattle.std.specs.declared.cmp.Ordering.TheVariants.{Less, Equal, Greater}
+use Rattle.std.specs.Cmp.Lexicographic.{bytes_decides}
+use Rattle.proof_base.specs.Order.{text_cmp, text_eq, text_total}
+use Rattle.proof_base.proofs.Bools.{contrary}
+use Rattle.proof_base.proofs.Less.{irrefl, lt_trans}
+use Rattle.job_operations.specs.LaneTable.{In}
+use Rattle.job_operations.proofs.Members.{in_left, in_push, in_last, in_append, in_map, false_true}
+use Rattle.commit_parts.specs.Clashes.{Item, items_from, IsClash, NoClash, IsBest, IsOwner, Finds, is_better, clash_of}
+use Rattle.commit_parts.specs.declared.sharing.Clash.{Clash}
+
+either : (b : Bool) → (b ≡ true) ⊎ (b ≡ false)
+either true = inl refl
+either false = inr refl
+
+pub same_or_not : (p q : List ℕ) → (p ≡ q) ⊎ (p ≡ q → ⊥)
+same_or_not p q = elim (either (text_eq p q)) [ inl e ↦ inl ((bytes_decides p q).0 e) | inr e ↦ inr (λ h. false_true e ((bytes_decides p q).1 h)) ]
+
+below : (a b : ℕ) → a ≤ b → (a ≡ b) ⊎ (a < b)
+below a b h = grind arith
+
+key_is : {k l : List ℕ} {t u : ℕ} → (let i : Item = (k, t) in i) ≡ (l, u) → k ≡ l
+key_is e = ap (λ (i : Item). i.0) e
+
+task_is : {k l : List ℕ} {t u : ℕ} → (let i : Item = (k, t) in i) ≡ (l, u) → t ≡ u
+task_is e = ap (λ (i : Item). i.1) e
+
+-- ---- the owners
+
+-- an upload of another key changes no owner
+other_owner : (items : List Item) (q k : List ℕ) (x : ℕ) (o : Option ℕ) → (q ≡ k → ⊥) → IsOwner items k o → IsOwner (items ++ (q, x) ∷ []) k o
+other_owner items q k x None ne h = λ v i. elim (in_push (k, v) items (q, x) i) [ inl j ↦ h v j | inr e ↦ ne (key_is e) ]
+other_owner items q k x (Some t) ne h = (in_left (k, t) items ((q, x) ∷ []) h.0, λ v i. elim (in_push (k, v) items (q, x) i) [ inl j ↦ h.1 v j | inr e ↦ absurd (ne (key_is e)) ])
+
+-- the first upload of a key
+first_owner : (items : List Item) (q : List ℕ) (x : ℕ) → IsOwner items q None → IsOwner (items ++ (q, x) ∷ []) q (Some x)
+first_owner items q x h = (in_last items (q, x), λ v i. elim (in_push (q, v) items (q, x) i) [ inl j ↦ absurd (h v j) | inr e ↦ let f : x ≡ v = task_is e in omega arith ])
+
+-- a later one
+later_owner : (items : List Item) (q : List ℕ) (x f : ℕ) → f ≤ x → IsOwner items q (Some f) → IsOwner (items ++ (q, x) ∷ []) q (Some f)
+later_owner items q x f le h = (in_left (q, f) items ((q, x) ∷ []) h.0, λ v i. elim (in_push (q, v) items (q, x) i) [ inl j ↦ h.1 v j | inr e ↦ let g : x ≡ v = task_is e in omega arith ])
+
+-- ---- what was found
+
+-- the first upload of a key
+best_new : (items : List Item) (q : List ℕ) (x : ℕ) (best : Option Clash) → IsOwner items q None → IsBest items best → IsBest (items ++ (q, x) ∷ []) best
+best_new items q x None none h = λ k v y less i j.
+    elim (in_push (k, v) items (q, x) i) [
+      | inl a ↦ elim (in_push (k, y) items (q, x) j) [ inl b ↦ h k v y less a b | inr e ↦ let P : List ℕ → Type 0 = λ l. In (l, v) items in none v (subst P (sym (key_is e)) a) ]
+      | inr e ↦ elim (in_push (k, y) items (q, x) j) [
+        | inl b ↦ let P : List ℕ → Type 0 = λ l. In (l, y) items in none y (subst P (sym (key_is e)) b)
+        | inr f ↦ let g : x ≡ v = task_is e in let l : x ≡ y = task_is f in absurd (omega arith)
+      ]
+    ]
+best_new items q x (Some c) none h = record {
+  order = h.order;
+  first = in_left (c.key, c.first) items ((q, x) ∷ []) h.first;
+  second = in_left (c.key, c.second) items ((q, x) ∷ []) h.second;
+  least_tasks = λ v less i. elim (in_push (c.key, v) items (q, x) i) [ inl j ↦ h.least_tasks v less j | inr e ↦ let P : List ℕ → Type 0 = λ l. In (l, c.first) items in absurd (none c.first (subst P (sym (key_is e)) h.first)) ];
+  least_key = λ k v y less i j. elim (in_push (k, v) items (q, x) i) [
+    | inl a ↦ elim (in_push (k, y) items (q, x) j) [ inl b ↦ h.least_key k v y less a b | inr e ↦ let P : List ℕ → Type 0 = λ l. In (l, v) items in absurd (none v (subst P (sym (key_is e)) a)) ]
+    | inr e ↦ elim (in_push (k, y) items (q, x) j) [
+      | inl b ↦ let P : List ℕ → Type 0 = λ l. In (l, y) items in absurd (none y (subst P (sym (key_is e)) b))
+      | inr f ↦ let g : x ≡ v = task_is e in let l : x ≡ y = task_is f in absurd (omega arith)
+    ]
+  ];
+}
+
+-- the same upload once more
+again_in : (items : List Item) (i j : Item) → In j items → In i (items ++ j ∷ []) → In i items
+again_in items i j h m = elim (in_push i items j m) [ inl a ↦ a | inr e ↦ let P : Item → Type 0 = λ l. In l items in subst P e h ]
+
+best_same : (items : List Item) (q : List ℕ) (x : ℕ) (best : Option Clash) → In (q, x) items → IsBest items best → IsBest (items ++ (q, x) ∷ []) best
+best_same items q x None at h = λ k v y less i j. h k v y less (again_in items (k, v) (q, x) at i) (again_in items (k, y) (q, x) at j)
+best_same items q x (Some c) at h = record {
+  order = h.order;
+  first = in_left (c.key, c.first) items ((q, x) ∷ []) h.first;
+  second = in_left (c.key, c.second) items ((q, x) ∷ []) h.second;
+  least_tasks = λ v less i. h.least_tasks v less (again_in items (c.key, v) (q, x) at i);
+  least_key = λ k v y less i j. h.least_key k v y less (again_in items (k, v) (q, x) at i) (again_in items (k, y) (q, x) at j);
+}
+
+-- a key that is no better than the one that was found
+best_kept : (items : List Item) (q : List ℕ) (x : ℕ) (c : Clash) → ((k : List ℕ) (v : ℕ) → In (k, v) items → v ≤ x) → is_lt (text_cmp q c.key) ≡ false → IsBest items (Some c) → IsBest (items ++ (q, x) ∷ []) (Some c)
+best_kept items q x c most not h = record {
+  order = h.order;
+  first = in_left (c.key, c.first) items ((q, x) ∷ []) h.first;
+  second = in_left (c.key, c.second) items ((q, x) ∷ []) h.second;
+  least_tasks = λ v less i. elim (in_push (c.key, v) items (q, x) i) [ inl j ↦ h.least_tasks v less j | inr e ↦ let f : x ≡ v = task_is e in let m : c.second ≤ x = most c.key c.second h.second in absurd (omega arith) ];
+  least_key = λ k v y less i j.
+      let P : List ℕ → Type 0 = λ l. is_lt (text_cmp l c.key) ≡ false in
+      elim (in_push (k, v) items (q, x) i) [
+        | inl a ↦ elim (in_push (k, y) items (q, x) j) [ inl b ↦ h.least_key k v y less a b | inr e ↦ subst P (key_is e) not ]
+        | inr e ↦ subst P (key_is e) not
+      ];
+}
+
+-- what clashes among these comes no sooner than a better key
+old_later : (items : List Item) (q k : List ℕ) (v y : ℕ) (best : Option Clash) → is_better q best ≡ true → IsBest items best → v < y → In (k, v) items → In (k, y) items → is_lt (text_cmp k q) ≡ false
+old_later items q k v y None better h less a b = absurd (h k v y less a b)
+old_later items q k v y (Some c) better h less a b = contrary (is_lt (text_cmp k q)) (λ e. sym (h.least_key k v y less a b) ∙ lt_trans text_total k q c.key e better)
+
+no_older : (items : List Item) (q : List ℕ) (f v : ℕ) (best : Option Clash) → is_better q best ≡ true → IsBest items best → f < v → In (q, f) items → In (q, v) items → ⊥
+no_older items q f v None better h less a b = h q f v less a b
+no_older items q f v (Some c) better h less a b = false_true (h.least_key q f v less a b) better
+
+-- a better key
+best_better : (items : List Item) (q : List ℕ) (x f : ℕ) (best : Option Clash) → ((k : List ℕ) (v : ℕ) → In (k, v) items → v ≤ x) → (f ≡ x → ⊥) → IsOwner items q (Some f) → is_better q best ≡ true → IsBest items best
+    → IsBest (items ++ (q, x) ∷ []) (Some (record { key = q; first = f; second = x }))
+best_better items q x f best most ne owner better h =
+    let le : f ≤ x = most q f owner.0 in
+    let less_x : f < x = elim (below f x le) [ inl e ↦ absurd (ne e) | inr l ↦ l ] in
+    record {
+      order = less_x;
+      first = in_left (q, f) items ((q, x) ∷ []) owner.0;
+      second = in_last items (q, x);
+      least_tasks = λ v less i. elim (in_push (q, v) items (q, x) i) [
+        | inl j ↦ elim (below f v (owner.1 v j)) [ inl e ↦ sym e | inr l ↦ absurd (no_older items q f v best better h l owner.0 j) ]
+        | inr e ↦ let g : x ≡ v = task_is e in absurd (omega arith)
+      ];
+      least_key = λ k v y less i j.
+          let P : List ℕ → Type 0 = λ l. is_lt (text_cmp l q) ≡ false in
+          elim (in_push (k, v) items (q, x) i) [
+            | inl a ↦ elim (in_push (k, y) items (q, x) j) [ inl b ↦ old_later items q k v y best better h less a b | inr e ↦ subst P (key_is e) (irrefl text_total q) ]
+            | inr e ↦ subst P (key_is e) (irrefl text_total q)
+          ];
+    }
+
+-- ---- one more upload
+
+abbrev AtMost : List Item → ℕ → Type 0
+AtMost items x = (k : List ℕ) (v : ℕ) → In (k, v) items → v ≤ x
+
+-- of a new key
+pub finds_new : (items : List Item) (q : List ℕ) (x : ℕ) (owner owner' : List ℕ → Option ℕ) (best : Option Clash) → owner q ≡ None → owner' q ≡ Some x → ((k : List ℕ) → (q ≡ k → ⊥) → owner' k ≡ owner k)
+    → Finds items owner best → Finds (items ++ (q, x) ∷ []) owner' best
+finds_new items q x owner owner' best none some others f =
+    let N : Option ℕ → Type 0 = λ o. IsOwner items q o in
+    let n = subst N none (f.owners q) in
+    record {
+      owners = λ k. elim (same_or_not q k) [
+        | inl e ↦ let P : List ℕ → Type 0 = λ l. IsOwner (items ++ (q, x) ∷ []) l (owner' l) in let S : Option ℕ → Type 0 = λ o. IsOwner (items ++ (q, x) ∷ []) q o in subst P e (subst S (sym some) (first_owner items q x n))
+        | inr ne ↦ let S : Option ℕ → Type 0 = λ o. IsOwner (items ++ (q, x) ∷ []) k o in subst S (sym (others k ne)) (other_owner items q k x (owner k) ne (f.owners k))
+      ];
+      best = best_new items q x best n f.best;
+    }
+
+same_owners : (items : List Item) (q : List ℕ) (x f : ℕ) (owner : List ℕ → Option ℕ) → owner q ≡ Some f → f ≤ x → ((k : List ℕ) → IsOwner items k (owner k)) → (k : List ℕ) → IsOwner (items ++ (q, x) ∷ []) k (owner k)
+same_owners items q x f owner some le h k = elim (same_or_not q k) [
+  | inl e ↦
+      let P : List ℕ → Type 0 = λ l. IsOwner (items ++ (q, x) ∷ []) l (owner l) in
+      let S : Option ℕ → Type 0 = λ o. IsOwner (items ++ (q, x) ∷ []) q o in
+      let N : Option ℕ → Type 0 = λ o. IsOwner items q o in
+      subst P e (subst S (sym some) (later_owner items q x f le (subst N some (h q))))
+  | inr ne ↦ other_owner items q k x (owner k) ne (h k)
+]
+
+owner_in : (items : List Item) (q : List ℕ) (f : ℕ) (owner : List ℕ → Option ℕ) → owner q ≡ Some f → ((k : List ℕ) → IsOwner items k (owner k)) → IsOwner items q (Some f)
+owner_in items q f owner some h = let N : Option ℕ → Type 0 = λ o. IsOwner items q o in subst N some (h q)
+
+-- of the same task once more
+pub finds_same : (items : List Item) (q : List ℕ) (x : ℕ) (owner : List ℕ → Option ℕ) (best : Option Clash) → owner q ≡ Some x → Finds items owner best → Finds (items ++ (q, x) ∷ []) owner best
+finds_same items q x owner best some f = record { owners = same_owners items q x x owner some (omega arith) f.owners; best = best_same items q x best (owner_in items q x owner some f.owners).0 f.best }
+
+-- of a key that is no better
+pub finds_kept : (items : List Item) (q : List ℕ) (x f : ℕ) (owner : List ℕ → Option ℕ) (best : Option Clash) → owner q ≡ Some f → AtMost items x → is_better q best ≡ false → Finds items owner best → Finds (items ++ (q, x) ∷ []) owner best
+finds_kept items q x f owner None some most not s = absurd (false_true not refl)
+finds_kept items q x f owner (Some c) some most not s = record { owners = same_owners items q x f owner some (most q f (owner_in items q f owner some s.owners).0) s.owners; best = best_kept items q x c most not s.best }
+
+-- of a better key that another task writes
+pub finds_better : (items : List Item) (q : List ℕ) (x f : ℕ) (owner : List ℕ → Option ℕ) (best : Option Clash) → owner q ≡ Some f → AtMost items x → (f ≡ x → ⊥) → is_better q best ≡ true → Finds items owner best
+    → Finds (items ++ (q, x) ∷ []) owner (Some (record { key = q; first = f; second = x }))
+finds_better items q x f owner best some most ne better s =
+    let o = owner_in items q f owner some s.owners in
+    record { owners = same_owners items q x f owner some (most q f o.0) s.owners; best = best_better items q x f best most ne o better s.best }
+
+-- before any
+pub finds_none : (owner : List ℕ → Option ℕ) → ((k : List ℕ) → owner k ≡ None) → Finds [] owner None
+finds_none owner none = record { owners = λ k. let N : Option ℕ → Type 0 = λ o. IsOwner [] k o in subst N (sym (none k)) (λ v i. i); best = λ k v y less i j. i }
+
+-- ---- what calls leave
+
+eq_is : (a b : ℕ) → nat_eq a b ≡ true → a ≡ b
+eq_is a b h = grind (arith, nat_tests)
+
+same_eq : (a b : ℕ) → a ≡ b → nat_eq a b ≡ true
+same_eq a b e = grind (arith, nat_tests)
+
+eq_not : (a b : ℕ) → nat_eq a b ≡ false → a ≡ b → ⊥
+eq_not a b h e = false_true h (same_eq a b e)
+
+finds_by : (items : List Item) (q : List ℕ) (x f : ℕ) (owner : List ℕ → Option ℕ) (best : Option Clash) (b c : Bool) → nat_eq f x ≡ b → is_better q best ≡ c → owner q ≡ Some f → AtMost items x → Finds items owner best
+    → Finds (items ++ (q, x) ∷ []) owner (cond (b || not c) best (Some (record { key = q; first = f; second = x })))
+finds_by items q x f owner best true c e g some most s = finds_same items q x owner best (some ∙ ap Some (eq_is f x e)) s
+finds_by items q x f owner best false false e g some most s = finds_kept items q x f owner best some most g s
+finds_by items q x f owner best false true e g some most s = finds_better items q x f owner best some most (eq_not f x e) g s
+
+-- of a key with an owner
+pub finds_other : (items : List Item) (q : List ℕ) (x f : ℕ) (owner owner' : List ℕ → Option ℕ) (best best' : Option Clash) → owner q ≡ Some f → owner' ≡ owner → best' ≡ clash_of q f x best → AtMost items x → Finds items owner best → Finds (items ++ (q, x) ∷ []) owner' best'
+finds_other items q x f owner owner' best best' some same e most s =
+    let B : Option Clash → Type 0 = λ v. Finds (items ++ (q, x) ∷ []) owner v in
+    let O : (List ℕ → Option ℕ) → Type 0 = λ v. Finds (items ++ (q, x) ∷ []) v best' in
+    subst O (sym same) (subst B (sym e) (finds_by items q x f owner best (nat_eq f x) (is_better q best) refl refl some most s))
+
+self_by : (o : Ordering) → o ≡ ordering_reverse o → is_eq o ≡ true
+self_by Less e = absurd (cc)
+self_by Equal e = refl
+self_by Greater e = absurd (cc)
+
+at_self : (q : List ℕ) → is_at (text_cmp q) q ≡ true
+at_self q = self_by (text_cmp q q) (text_total.antisymm q q)
+
+at_other : (q k : List ℕ) → (q ≡ k → ⊥) → is_at (text_cmp q) k ≡ false
+at_other q k ne = by (text_cmp q k) refl
+  where
+    by : (o : Ordering) → text_cmp q k ≡ o → is_eq o ≡ false
+    by Less e = refl
+    by Equal e = absurd (ne (slice_cmp-IsAntisymmetric nat_cmp-IsAntisymmetric q k e))
+    by Greater e = refl
+
+-- of a new key
+pub finds_first : (items : List Item) (q : List ℕ) (x : ℕ) (m n : BTreeMap (List ℕ) ℕ) (best best' : Option Clash) → get text_cmp m q ≡ None → Updates text_cmp m n q (Some x) → best' ≡ best → Finds items (get text_cmp m) best → Finds (items ++ (q, x) ∷ []) (get text_cmp n) best'
+finds_first items q x m n best best' none up e s =
+    let B : Option Clash → Type 0 = λ v. Finds (items ++ (q, x) ∷ []) (get text_cmp n) v in
+    subst B (sym e) (finds_new items q x (get text_cmp m) (get text_cmp n) best none
+    (up.0 q ∙ ap (λ b. cond b (Some x) (get text_cmp m q)) (at_self q))
+    (λ k ne. up.0 k ∙ ap (λ b. cond b (Some x) (get text_cmp m k)) (at_other q k ne)) s)
+
+pub on_ok : {T E A B : Type 0} (r : Result T E) → (A → B) → OnOk r A → OnOk r B
+on_ok (Ok x) f h = f h
+on_ok (Err e) f h = h
+
+-- ---- all uploads of a task
+
+most_of : (items : List Item) (t : ℕ) (cs : List Pending) → AtMost items t → AtMost (items ++ map (λ c. (c.destination, t)) cs) t
+most_of items t cs most k v i = elim (in_append (let x : Item = (k, v) in x) items (map (λ c. (c.destination, t)) cs) i) [
+  | inl a ↦ most k v a
+  | inr b ↦ let r = in_map {X = Pending} {Y = Item} (λ c. (c.destination, t)) cs (k, v) b in let e : t ≡ v = ap (λ (x : Item). x.1) r.2 in omega arith
+]
+
+take_next : (cs : List Pending) (i : ℕ) (c : Pending) → i < length cs → c ≡ get_or cs i c → take (suc i) cs ≡ take i cs ++ c ∷ []
+take_next [] i c h e = absurd (omega arith)
+take_next (x ∷ xs) zero c h e = ap (λ (v : Pending). v ∷ []) (sym e)
+take_next (x ∷ xs) (suc i) c h e = ap (λ v. x ∷ v) (take_next xs i c (omega arith) e)
+
+pub adds_one : (items : List Item) (cs : List Pending) (i j t : ℕ) (c : Pending) (k : List ℕ) (owner owner' : List ℕ → Option ℕ) (best best' : Option Clash) → i < length cs → j ≡ suc i → c ≡ get_or cs i c → k ≡ c.destination
+    → ((all : List Item) → AtMost all t → Finds all owner best → Finds (all ++ (k, t) ∷ []) owner' best') → AtMost items t → Finds (items ++ map (λ c. (c.destination, t)) (take i cs)) owner best → Finds (items ++ map (λ c. (c.destination, t)) (take j cs)) owner' best'
+adds_one items cs i j t c k owner owner' best best' h s at key step most f =
+    let F : List Item → Type 0 = λ v. Finds v owner' best' in
+    let g : Pending → Item = λ c. (c.destination, t) in
+    let K : List ℕ → Type 0 = λ v. Finds ((items ++ map g (take i cs)) ++ (v, t) ∷ []) owner' best' in
+    let N : ℕ → Type 0 = λ n. Finds (items ++ map g (take n cs)) owner' best' in
+    let whole : (items ++ map g (take i cs)) ++ g c ∷ [] ≡ items ++ map g (take (suc i) cs) = append_assoc items (map g (take i cs)) (g c ∷ []) ∙ ap (λ v. items ++ v) (sym (ap (map g) (take_next cs i c h at) ∙ map-append g (take i cs) (c ∷ []))) in
+    subst N (sym s) (subst F whole (subst K key (step (items ++ map g (take i cs)) (most_of items t (take i cs) most) f)))
+
+-- ---- all sets
+
+none_more : (xs : List Item) → xs ++ [] ≡ xs
+none_more [] = refl
+none_more (x ∷ xs) = ap (λ v. x ∷ v) (none_more xs)
+
+plus_none : (t : ℕ) → t ≡ t + 0
+plus_none t = omega arith
+
+items_more : (t : ℕ) (ss : List PendingSet) (s : PendingSet) → items_from t (ss ++ s ∷ []) ≡ items_from t ss ++ map (λ c. (c.destination, t + length ss)) s.commits
+items_more t [] s = none_more (map (λ c. (c.destination, t)) s.commits) ∙ ap (λ n. map (λ (c : Pending). let i : Item = (c.destination, n) in i) s.commits) (plus_none t)
+items_more t (x ∷ xs) s =
+    ap (λ v. map (λ c. (c.destination, t)) x.commits ++ v) (items_more (t + 1) xs s ∙ ap (λ n. items_from (t + 1) xs ++ map (λ (c : Pending). let i : Item = (c.destination, n) in i) s.commits) (plus_next t (length xs)))
+    ∙ sym (append_assoc (map (λ c. (c.destination, t)) x.commits) (items_from (t + 1) xs) (map (λ c. (c.destination, t + suc (length xs))) s.commits))
+  where
+    plus_next : (t n : ℕ) → t + 1 + n ≡ t + suc n
+    plus_next t n = omega arith
+
+set_next : (ss : List PendingSet) (i : ℕ) (s : PendingSet) → i < length ss → s ≡ get_or ss i s → take (suc i) ss ≡ take i ss ++ s ∷ []
+set_next [] i s h e = absurd (omega arith)
+set_next (x ∷ xs) zero s h e = ap (λ (v : PendingSet). v ∷ []) (sym e)
+set_next (x ∷ xs) (suc i) s h e = ap (λ v. x ∷ v) (set_next xs i s (omega arith) e)
+
+take_length : (ss : List PendingSet) (i : ℕ) → i < length ss → length (take i ss) ≡ i
+take_length [] i h = absurd (omega arith)
+take_length (x ∷ xs) zero h = refl
+take_length (x ∷ xs) (suc i) h = ap suc (take_length xs i (omega arith))
+
+items_below : (ss : List PendingSet) (n : ℕ) → length ss ≡ n → AtMost (items_from 0 ss) n
+items_below ss n e k v i =
+    let r = item_at 0 ss k v i in
+    let same : v ≡ 0 + r.0 = r.3 in
+    let low : r.0 < length ss = slice_get_within ss r.0 r.1 r.4 in
+    omega arith
+
+pub adds_set : (ss : List PendingSet) (i j : ℕ) (s : PendingSet) (cs : List Pending) (owner owner' : List ℕ → Option ℕ) (best best' : Option Clash) → i < length ss → j ≡ suc i → s ≡ get_or ss i s → cs ≡ s.commits
+    → ((all : List Item) → AtMost all i → Finds all owner best → Finds (all ++ map (λ c. (c.destination, i)) cs) owner' best') → Finds (items_from 0 (take i ss)) owner best → Finds (items_from 0 (take j ss)) owner' best'
+adds_set ss i j s cs owner owner' best best' h g at e step f =
+    let N : ℕ → Type 0 = λ n. Finds (items_from 0 (take n ss)) owner' best' in
+    let F : List Item → Type 0 = λ v. Finds v owner' best' in
+    let C : List Pending → Type 0 = λ v. Finds (items_from 0 (take i ss) ++ map (λ c. (c.destination, i)) v) owner' best' in
+    let len : length (take i ss) ≡ i = take_length ss i h in
+    let z : i ≡ 0 + length (take i ss) = omega arith in
+    let T : ℕ → Type 0 = λ n. Finds (items_from 0 (take i ss) ++ map (λ c. (c.destination, n)) s.commits) owner' best' in
+    let whole : items_from 0 (take i ss) ++ map (λ c. (c.destination, 0 + length (take i ss))) s.commits ≡ items_from 0 (take (suc i) ss) = sym (ap (items_from 0) (set_next ss i s h at) ∙ items_more 0 (take i ss) s) in
+    subst N (sym g) (subst F whole (subst T z (subst C e (step (items_from 0 (take i ss)) (items_below (take i ss) i len) f))))

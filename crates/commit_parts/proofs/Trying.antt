@@ -1,0 +1,15 @@
+-- members by their numbers
+use Rattle.std.proofs.Common.{◌≡◌, ℕ, zero, suc, ◌<◌, ◌&&◌, ◌||◌, nat_eq, nat_lt, refl, ap, inl, inr, arith, List, [], ◌∷◌, length, get_or}
+use Rattle.std.specs.List.{list_any}
+use Rattle.job_operations.specs.Lanes.{Turn, is_tried}
+use Rattle.job_operations.specs.LaneTable.{In}
+
+pub tried_any : (xs : List Turn) (n : ℕ) → list_any (λ (x : Turn). nat_eq n x.number && nat_lt 0 x.missed) xs ≡ is_tried xs n
+tried_any [] n = refl
+tried_any (x ∷ xs) n = ap (λ b. (nat_eq n x.number && nat_lt 0 x.missed) || b) (tried_any xs n)
+
+-- a number of a list is a member
+pub in_at : (xs : List ℕ) (i d : ℕ) → i < length xs → In (get_or xs i d) xs
+in_at [] i d h = absurd (omega arith)
+in_at (x ∷ xs) zero d h = inl refl
+in_at (x ∷ xs) (suc i) d h = inr (in_at xs i d (omega arith))

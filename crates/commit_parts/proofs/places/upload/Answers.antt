@@ -1,0 +1,15 @@
+use Rattle.std.proofs.Common.{◌≡◌}
+use Rattle.commit_parts.proofs.Placing.{place_within, set_within, upload_within, upload_is}
+use Rattle.commit_parts.proofs.places.upload.Goals as goal
+
+pub place_at-place-requires : goal.place_at-place-requires
+place_at-place-requires c = place_within c.args.sets.now c.args.places.now c.args.number c.requires.places c.requires.within
+
+pub set_at-requires : goal.set_at-requires
+set_at-requires c = set_within c.args.sets.now c.args.places.now c.args.number c.place_at-place.result c.requires.places c.requires.within c.place_at-place.ensures
+
+pub upload_in-requires : goal.upload_in-requires
+upload_in-requires c = upload_within c.args.sets.now c.args.places.now c.args.number c.place_at-place.result c.set_at.result.now c.requires.places c.requires.within c.place_at-place.ensures c.set_at.ensures
+
+pub returns : goal.returns
+returns c = upload_is c.args.sets.now c.args.places.now c.args.number c.place_at-place.result c.set_at.result.now c.upload_in.result.now c.requires.places c.requires.within c.place_at-place.ensures c.set_at.ensures c.upload_in.ensures

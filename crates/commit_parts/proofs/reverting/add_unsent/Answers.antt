@@ -1,0 +1,24 @@
+use Rattle.std.proofs.Common.{◌≡◌, ◌+◌, ◌-◌, ◌<◌, ◌≤◌, ◌||◌, nat_eq, arith, ap, ◌∙◌}
+use Rattle.job_operations.specs.Lanes.{is_tried, is_in}
+use Rattle.commit_parts.proofs.Undoing.{unsent_begin, unsent_turn, unsent_below, unsent_end}
+use Rattle.commit_parts.proofs.reverting.add_unsent.Goals as goal
+
+pub loop-n-init : goal.loop-n-init
+loop-n-init c = (omega arith, unsent_begin c.args.total c.args.worn c.args.lanes.now.turns c.args.lanes.now.finished c.args.list.now, λ w. w)
+
+pub loop-n-preserved : goal.loop-n-preserved
+loop-n-preserved c =
+    let most : c.loop-n.n ≤ c.args.total = c.loop-n.invariant.0 in
+    let low : c.loop-n.n - 1 < c.args.total = omega arith in
+    let next : c.loop-n.n ≡ c.loop-n.n - 1 + 1 = omega arith in
+    let sent : c.is_sent-sent.result ≡ (nat_eq (c.loop-n.n - 1) c.args.worn || (is_tried c.args.lanes.now.turns (c.loop-n.n - 1) || is_in c.args.lanes.now.finished (c.loop-n.n - 1))) = c.is_sent-sent.ensures ∙ ap (λ b. nat_eq (c.loop-n.n - 1) c.args.worn || (is_tried c.args.lanes.now.turns (c.loop-n.n - 1) || b)) (c.requires (c.loop-n.n - 1)) in (
+      omega arith,
+      unsent_turn c.args.total c.args.worn c.args.lanes.now.turns c.args.lanes.now.finished (c.loop-n.n - 1) c.loop-n.n c.args.list.now c.loop-n.list c.add_if_unsent.new.list c.is_sent-sent.result low next sent c.in_ok-add_if_unsent.ensures c.loop-n.invariant.1,
+      λ w. unsent_below c.args.total (c.loop-n.n - 1) c.loop-n.list c.add_if_unsent.new.list c.is_sent-sent.result low c.in_ok-add_if_unsent.ensures (c.loop-n.invariant.2 w),
+    )
+
+pub returns-clause-adds : goal.returns-clause-adds
+returns-clause-adds c = unsent_end c.args.total c.args.worn c.args.lanes.now.turns c.args.lanes.now.finished c.loop-n.n c.args.list.now c.loop-n.list (omega arith) c.loop-n.invariant.1
+
+pub returns-clause-within : goal.returns-clause-within
+returns-clause-within c = c.loop-n.invariant.2

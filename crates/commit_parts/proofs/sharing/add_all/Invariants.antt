@@ -1,0 +1,9 @@
+use Rattle.std.proofs.Common.{ℕ, List, ◌++◌, ◌≤◌, map, take}
+use Rattle.std.specs.BTreeMap.{get}
+use Rattle.proof_base.specs.Order.{text_cmp}
+use Rattle.job_operations.specs.LaneTable.{In}
+use Rattle.commit_parts.specs.Clashes.{Item, Finds}
+use Rattle.commit_parts.proofs.sharing.add_all.Given as goal
+
+abbrev pub invariant-loop-upload : goal.invariant-loop-upload
+invariant-loop-upload l = (items : List Item) → ((k : List ℕ) (v : ℕ) → In (k, v) items → v ≤ l.task) → Finds items (get text_cmp l.initial.search.owners) l.initial.search.best → Finds (items ++ map (λ c. (c.destination, l.task)) (take l.upload-index l.uploads)) (get text_cmp l.search.owners) l.search.best

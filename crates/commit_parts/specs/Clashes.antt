@@ -1,0 +1,49 @@
+-- Two tasks that write one key, among uploads with the tasks that they are of.
+use Rattle.std.specs.Prelude.{◌≡◌, ℕ, ◌+◌, ◌<◌, ◌≤◌, nat_eq, ◌||◌, not, cond, Bool, true, false, List, [], ◌∷◌, ◌++◌, map, Option, Some, None}
+use Rattle.std.specs.Ordering.{is_lt}
+use Rattle.proof_base.specs.Order.{text_cmp}
+use Rattle.pending_json.specs.declared.records.PendingSet.{PendingSet}
+use Rattle.job_operations.specs.LaneTable.{In}
+use Rattle.commit_parts.specs.declared.sharing.Clash.{Clash}
+
+-- a key and the task that writes it
+abbrev pub Item : Type 0
+Item = List ℕ × ℕ
+
+-- the keys of the uploads of these sets, of which the first is of this task
+abbrev pub items_from : ℕ → List PendingSet → List Item
+items_from t [] = []
+items_from t (s ∷ ss) = map (λ c. (c.destination, t)) s.commits ++ items_from (t + 1) ss
+
+-- the least key that two tasks write, with the two least tasks that do
+pub record IsClash (items : List Item) (k : List ℕ) (t u : ℕ) : Type 0 where
+  pub order : t < u
+  pub first : In (k, t) items
+  pub second : In (k, u) items
+  pub least_tasks : (v : ℕ) → v < u → In (k, v) items → v ≡ t
+  pub least_key : (q : List ℕ) (v x : ℕ) → v < x → In (q, v) items → In (q, x) items → is_lt (text_cmp q k) ≡ false
+
+abbrev pub NoClash : List Item → Type 0
+NoClash items = (q : List ℕ) (v x : ℕ) → v < x → In (q, v) items → In (q, x) items → ⊥
+
+abbrev pub IsBest : List Item → Option Clash → Type 0
+IsBest items None = NoClash items
+IsBest items (Some c) = IsClash items c.key c.first c.second
+
+-- the least task that writes a key
+abbrev pub IsOwner : List Item → List ℕ → Option ℕ → Type 0
+IsOwner items k None = (v : ℕ) → In (k, v) items → ⊥
+IsOwner items k (Some t) = In (k, t) items × ((v : ℕ) → In (k, v) items → t ≤ v)
+
+-- a search among these
+pub record Finds (items : List Item) (owner : List ℕ → Option ℕ) (clash : Option Clash) : Type 0 where
+  pub owners : (k : List ℕ) → IsOwner items k (owner k)
+  pub best : IsBest items clash
+
+abbrev pub is_better : List ℕ → Option Clash → Bool
+is_better k None = true
+is_better k (Some c) = is_lt (text_cmp k c.key)
+
+-- what is found with one more upload of a key that this task is the first to write
+abbrev pub clash_of : List ℕ → ℕ → ℕ → Option Clash → Option Clash
+clash_of k t u best = cond (nat_eq t u || not (is_better k best)) best (Some (record { key = k; first = t; second = u }))

@@ -1,0 +1,168 @@
+ghost use Rattle.std.specs.Prelude.{◌≡◌, ◌+◌, ◌<◌, ◌^◌, [], ◌∷◌, ◌++◌, drop, reverse, ◌&&◌, nat_eq, nat_lt, IfOk, OnOk};
+ghost use Rattle.std.specs.List.{list_any};
+ghost use Rattle.job_operations.specs.Lanes.{fresh_turn, again, first_turns, dealt, is_tried};
+ghost use Rattle.commit_parts.specs.Tables.{first_of, listed, next_turn};
+
+use std::alloc::{AllocError, Global};
+use std::collections::VecDeque;
+use std::marker::Model;
+
+/// A lane's turn: the number of its least upload that is not answered, how many sendings of its completion
+/// got no answer, and whether one of these was lost.
+#[derive(Clone, Copy)]
+pub struct LaneTurn {
+    number: usize,
+    missed: u32,
+    lost: bool,
+}
+
+impl Model for LaneTurn {
+    ghost use Rattle.job_operations.specs.Lanes.{Turn};
+
+    ghost Value = { Turn };
+
+    ghost view = { λ t. record { number = t.number; missed = t.missed; lost = t.lost } };
+
+    ghost inverse = { λ t. record { number = t.number; missed = t.missed; lost = t.lost } };
+}
+
+impl LaneTurn {
+    /// The first turn of an upload.
+    pub fn fresh(number: usize) -> LaneTurn
+        ensures { result ≡ fresh_turn number }
+    {
+        LaneTurn {
+            number,
+            missed: 0,
+            lost: false,
+        }
+    }
+
+    /// The next turn of the same upload, a sending of which got no answer.
+    pub fn again(self, lost: bool) -> LaneTurn
+        requires { self.missed + 1 < 2 ^ 32 }
+        ensures { result ≡ again self lost }
+    {
+        LaneTurn {
+            number: self.number,
+            missed: self.missed + 1,
+            lost: self.lost || lost,
+        }
+    }
+
+    pub fn number(self) -> usize
+        ensures { result ≡ self.number }
+    {
+        self.number
+    }
+
+    pub fn missed(self) -> u32
+        ensures { result ≡ self.missed }
+    {
+        self.missed
+    }
+}
+
+/// The first turn of the upload that comes behind this one in its lane, where there is one.
+pub fn next_turn(lanes: u32, total: usize, number: usize) -> Option<LaneTurn>
+    ensures { result ≡ next_turn lanes total number }
+{
+    let lanes = lanes as usize;
+    if lanes < total.saturating_sub(number) {
+        Some(LaneTurn::fresh(number + lanes))
+    } else {
+        None
+    }
+}
+
+/// The lanes that have uploads to complete, in the order of their turns, and the numbers of the uploads
+/// that are done, in the order of their completion.
+#[derive(Drop)]
+pub struct Lanes {
+    turns: VecDeque<LaneTurn>,
+    finished: Vec<usize>,
+}
+
+impl Model for Lanes {
+    ghost use Rattle.std.specs.Prelude.{reverse};
+    ghost use Rattle.commit_parts.specs.Tables.{LaneTable};
+
+    ghost Value = { LaneTable };
+
+    ghost view = { λ l. record { turns = l.turns.items; finished = reverse l.finished.items } };
+}
+
+/// The first turns of so many lanes.
+fn first_turns(alloc: Global, count: usize) -> Result<VecDeque<LaneTurn>, AllocError>
+    ensures { IfOk result (λ turns. turns.items ≡ first_turns count) }
+{
+    let mut turns = VecDeque::new(alloc);
+    for n in 0..count {
+        turns.push_back(LaneTurn::fresh(n))?;
+    }
+    Ok(turns)
+}
+
+impl Lanes {
+    /// So many uploads, dealt to so many lanes.
+    pub fn dealt(alloc: Global, lanes: u32, total: usize) -> Result<Lanes, AllocError>
+        ensures { IfOk result (λ l. l ≡ record { turns = dealt lanes total; finished = [] }) }
+    {
+        let turns = first_turns(alloc, total.min(lanes as usize))?;
+        Ok(Lanes {
+            turns,
+            finished: Vec::new(alloc),
+        })
+    }
+
+    /// The turn that is next. Takes no memory.
+    pub fn first(&self) -> Option<LaneTurn>
+        ensures { result ≡ first_of self.now.turns }
+    {
+        match self.turns.front() {
+            Some(turn) => Some(*turn),
+            None => None,
+        }
+    }
+
+    /// The lane in turn goes behind the others with this turn, or out.
+    pub fn go_on(&mut self, next: Option<LaneTurn>) -> Result<(), AllocError>
+        ensures { OnOk result (self.new ≡ record { turns = drop 1 self.old.turns ++ listed next; finished = self.old.finished }) }
+    {
+        self.turns.pop_front();
+        if let Some(turn) = next {
+            self.turns.push_back(turn)?;
+        }
+        Ok(())
+    }
+
+    /// The completion of an upload was answered.
+    pub fn finish(&mut self, number: usize) -> Result<(), AllocError>
+        ensures { OnOk result (self.new ≡ record { turns = self.old.turns; finished = number ∷ self.old.finished }) }
+    {
+        self.finished.push(number)?;
+        Ok(())
+    }
+
+    fn some_tried(&self, number: usize) -> bool
+        ensures { result ≡ list_any (λ turn. nat_eq number turn.number && nat_lt 0 turn.missed) self.now.turns }
+    {
+        self.turns
+            .iter()
+            .any(|turn| number == turn.number && 0 < turn.missed)
+    }
+
+    /// Whether an upload is in turn, and its completion was sent. Takes no memory.
+    pub fn is_tried(&self, number: usize) -> bool
+        ensures { result ≡ is_tried self.now.turns number }
+    {
+        self.some_tried(number)
+    }
+
+    /// The numbers of the uploads that are done, in the order of their completion. Takes no memory.
+    pub fn finished(&self) -> &[usize]
+        ensures { reverse result.now ≡ self.now.finished }
+    {
+        self.finished.as_slice()
+    }
+}

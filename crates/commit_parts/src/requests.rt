@@ -1,0 +1,60 @@
+ghost use Rattle.std.specs.Prelude.{◌≡◌, ◌≤◌, IfOk, length};
+ghost use Rattle.s3_types.specs.Blocks.{named_from};
+ghost use Rattle.s3_types.specs.declared.request.Committer.TheVariants.{Magic};
+ghost use Rattle.job_operations.specs.Lanes.{completion, abort, deletion};
+ghost use Rattle.job_operations.specs.JobCommits.{set_request};
+ghost use Rattle.job_operations.specs.AtWork.{job_script};
+
+use job_model::JobPlan;
+use magic_paths::set_key;
+use pending_json::PendingUpload;
+use s3_types::{NamedPart, PartList, Request, Sequence, Tag};
+use std::alloc::{AllocError, Global};
+
+/// The read of a task's set.
+pub fn set_request(alloc: Global, plan: &JobPlan, task: u32) -> Result<Request, AllocError>
+    ensures { IfOk result (λ request. request ≡ set_request Magic (job_script plan.now) task) }
+{
+    let key = set_key(alloc, &plan.dest, &plan.job, task)?;
+    Request::get_object(plan.dest.bucket(), &key)
+}
+
+/// The tags as a completion names them.
+fn named(alloc: Global, tags: &[Tag]) -> Result<PartList, AllocError>
+    requires { length tags.now ≤ 10000 }
+    ensures { IfOk result (λ parts. parts ≡ named_from 1 tags.now) }
+{
+    let mut parts = Sequence::new(alloc);
+    let mut number = 1;
+    for tag in tags {
+        parts.push(NamedPart { number, tag: *tag })?;
+        number += 1;
+    }
+    Ok(parts)
+}
+
+/// The completion of an upload.
+pub fn completion(alloc: Global, upload: &PendingUpload) -> Result<Request, AllocError>
+    ensures { IfOk result (λ request. request ≡ completion upload.now) }
+{
+    let parts = named(alloc, upload.tags().as_slice())?;
+    Ok(Request::CompleteUpload {
+        bucket: upload.bucket().clone()?,
+        key: upload.destination().clone()?,
+        upload: upload.upload(),
+        parts,
+    })
+}
+
+pub fn abort(upload: &PendingUpload) -> Result<Request, AllocError>
+    ensures { IfOk result (λ request. request ≡ abort upload.now) }
+{
+    Request::abort_upload(upload.bucket(), upload.destination(), upload.upload())
+}
+
+/// The deletion of an upload's key.
+pub fn deletion(upload: &PendingUpload) -> Result<Request, AllocError>
+    ensures { IfOk result (λ request. request ≡ deletion upload.now) }
+{
+    Request::delete_object(upload.bucket(), upload.destination())
+}

@@ -1,0 +1,111 @@
+ghost use Rattle.std.specs.Prelude.{◌≡◌, ℕ, List, ◌++◌, ◌∷◌, [], ◌<◌, ◌≤◌, ◌^◌, map, length, Some, IfOk, OnOk};
+ghost use Rattle.std.specs.BTreeMap.{get as found, Updates};
+ghost use Rattle.proof_base.specs.Order.{text_cmp};
+ghost use Rattle.job_operations.specs.LaneTable.{In};
+ghost use Rattle.commit_parts.specs.Clashes.{Item, items_from, IsBest, is_better, clash_of, Finds};
+
+use pending_json::{PendingSet, PendingUpload};
+use s3_types::{Key, put};
+use std::alloc::{AllocError, Global};
+use std::cmp::Ordering;
+use std::collections::BTreeMap;
+
+/// A key that two tasks write.
+#[derive(Drop)]
+pub struct Clash {
+    pub key: Key,
+    pub first: u32,
+    pub second: u32,
+}
+
+/// The least task that writes each key, and the least key that two tasks write.
+#[derive(Drop)]
+pub struct Search {
+    owners: BTreeMap<Key, u32>,
+    best: Option<Clash>,
+}
+
+/// Whether a key comes before the one that is found already.
+fn is_better(key: &Key, best: &Option<Clash>) -> bool
+    ensures { result ≡ is_better key.now best.now }
+{
+    match best {
+        Some(clash) => key.cmp(&clash.key) == Ordering::Less,
+        None => true,
+    }
+}
+
+/// One more upload of a new key.
+fn add_owner(search: &mut Search, key: &Key, task: u32) -> Result<(), AllocError>
+    ensures owners { OnOk result (Updates text_cmp search.old.owners search.new.owners key.now (Some task)) }
+    ensures best { search.new.best ≡ search.old.best }
+{
+    search.owners.insert(key.clone()?, task)?;
+    Ok(())
+}
+
+/// One more upload of a key that this task is the first to write.
+fn add_clash(search: &mut Search, key: &Key, first: u32, task: u32) -> Result<(), AllocError>
+    ensures owners { search.new.owners ≡ search.old.owners }
+    ensures best { OnOk result (search.new.best ≡ clash_of key.now first task search.old.best) }
+{
+    if first == task || !is_better(key, &search.best) {
+        return Ok(());
+    }
+    let key = key.clone()?;
+    put(
+        &mut search.best,
+        Some(Clash {
+            key,
+            first,
+            second: task,
+        }),
+    );
+    Ok(())
+}
+
+fn owner_of(search: &Search, key: &Key) -> Option<u32>
+    ensures { result ≡ found text_cmp search.now.owners key.now }
+{
+    match search.owners.get(key) {
+        Some(owner) => Some(*owner),
+        None => None,
+    }
+}
+
+/// One more upload, of a task that is none before those of the uploads so far.
+fn add(search: &mut Search, key: &Key, task: u32) -> Result<(), AllocError>
+    ensures { OnOk result ((items : List Item) → ((k : List ℕ) (v : ℕ) → In (k, v) items → v ≤ task) → Finds items (found text_cmp search.old.owners) search.old.best → Finds (items ++ (key.now, task) ∷ []) (found text_cmp search.new.owners) search.new.best) }
+{
+    match owner_of(search, key) {
+        None => add_owner(search, key, task),
+        Some(first) => add_clash(search, key, first, task),
+    }
+}
+
+/// The uploads of one more task.
+fn add_all(search: &mut Search, uploads: &[PendingUpload], task: u32) -> Result<(), AllocError>
+    ensures { OnOk result ((items : List Item) → ((k : List ℕ) (v : ℕ) → In (k, v) items → v ≤ task) → Finds items (found text_cmp search.old.owners) search.old.best → Finds (items ++ map (λ c. (c.destination, task)) uploads.now) (found text_cmp search.new.owners) search.new.best) }
+{
+    for upload in uploads {
+        add(search, upload.destination(), task)?;
+    }
+    Ok(())
+}
+
+/// The least key that two tasks write, with the two least tasks that do, or None where no two write one
+/// key. In time n log n for n uploads.
+pub fn shared(alloc: Global, sets: &[PendingSet]) -> Result<Option<Clash>, AllocError>
+    requires { length sets.now < 2 ^ 32 }
+    ensures { IfOk result (λ best. IsBest (items_from 0 sets.now) best) }
+{
+    let mut search = Search {
+        owners: BTreeMap::new(alloc),
+        best: None,
+    };
+    for (n, set) in sets.iter().enumerate() {
+        add_all(&mut search, set.commits.as_slice(), n as u32)?;
+    }
+    let Search { owners: _, best } = search;
+    Ok(best)
+}

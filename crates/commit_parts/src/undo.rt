@@ -1,0 +1,65 @@
+ghost use Rattle.std.specs.Prelude.{◌≡◌, [], ◌∷◌, drop, OnOk};
+ghost use Rattle.commit_parts.specs.Tables.{first_of};
+
+use std::alloc::{AllocError, Global};
+use std::marker::Model;
+
+/// A request that takes something back, by the number of its upload.
+#[derive(Clone, Copy)]
+pub enum Undo {
+    /// Aborts the upload.
+    Abort(usize),
+    /// Deletes its key.
+    Delete(usize),
+}
+
+/// Requests that take things back, the next one first.
+#[derive(Drop)]
+pub struct UndoList {
+    held: Vec<Undo>,
+}
+
+impl Model for UndoList {
+    ghost use Rattle.std.specs.Prelude.{List, reverse};
+    ghost use Rattle.commit_parts.specs.declared.undo.Undo.{Undo};
+
+    ghost Value = { List Undo };
+
+    ghost view = { λ u. reverse u.held.items };
+}
+
+impl UndoList {
+    /// Nothing. Takes no memory.
+    pub fn new(alloc: Global) -> UndoList
+        ensures { result ≡ [] }
+    {
+        UndoList {
+            held: Vec::new(alloc),
+        }
+    }
+
+    /// Adds one before the others.
+    pub fn add(&mut self, undo: Undo) -> Result<(), AllocError>
+        ensures { OnOk result (self.new ≡ undo ∷ self.old) }
+    {
+        self.held.push(undo)?;
+        Ok(())
+    }
+
+    /// The next one. Takes no memory.
+    pub fn first(&self) -> Option<Undo>
+        ensures { result ≡ first_of self.now }
+    {
+        match self.held.as_slice().last() {
+            Some(undo) => Some(*undo),
+            None => None,
+        }
+    }
+
+    /// Drops the next one, if there is one. Takes no memory.
+    pub fn drop_first(&mut self)
+        ensures { self.new ≡ drop 1 self.old }
+    {
+        self.held.pop();
+    }
+}
