@@ -30,3 +30,5 @@ pub mod Replies
 pub mod JobCommitting
 pub mod Beside
 pub mod Learnt
+pub mod Emptying
+pub mod SettingUp

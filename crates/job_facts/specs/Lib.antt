@@ -4,4 +4,6 @@ pub mod Facts
 pub mod Foreign
 pub mod Fits
 pub mod Driver
+pub mod Emptying
 pub mod Laws
+pub mod SetupLaws

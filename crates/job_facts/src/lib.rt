@@ -3,6 +3,12 @@
 #![tactic(auto)]
 
 ghost use Rattle.job_facts.specs.Laws.{AnswersFit, AttemptBegins, AttemptGoes, AttemptNames, CleanGoes, CommitGoes, DrivingKeeps, FactsBegin, ForeignKeeps, ReadsKeep, ToldIsSaid};
+ghost use Rattle.job_facts.specs.SetupLaws.{SetupGoes};
+
+/// The driver's set-up, which ends where the facts begin.
+pub fn setups()
+    ensures goes { SetupGoes }
+{}
 
 /// What is told of a journal, where the facts begin, and requests that change nothing.
 pub fn beginning()

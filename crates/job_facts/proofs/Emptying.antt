@@ -1,0 +1,207 @@
+-- A sweep of the job's magic directory leaves nothing there, where none but the driver changes it.
+use Rattle.std.proofs.Common.{◌≡◌, ℕ, zero, suc, ◌≤◌, ◌⊎◌, inl, inr, nat_lt, Bool, true, false, cond, List, [], ◌∷◌, ◌++◌, take, drop, length, Option, Some, None, refl, sym, ap, subst, ◌∙◌, arith, codes}
+use Rattle.std.specs.FinMap as fin
+use Rattle.std.specs.List.{filter}
+use Rattle.std.specs.Ordering.{is_lt, eq_by_cmp}
+use Rattle.std.proofs.lemmas.Bool.{le-ltb, false≢true}
+use Rattle.proof_base.specs.Order.{text_cmp, text_total, text_ties}
+use Rattle.s3_types.specs.Store.{Content, Objects, Scene}
+use Rattle.s3_types.specs.Pages.{begins, listed}
+use Rattle.s3_types.specs.Answer.{answer, apply, apply_store, apply_at, with_objects, without}
+use Rattle.s3_types.specs.Moment.{effect}
+use Rattle.s3_types.specs.declared.limits.TheConstants.{MOST_ENTRIES}
+use Rattle.s3_types.specs.declared.object.Object.{Object}
+use Rattle.s3_types.specs.declared.request.Request.{Request}
+use Rattle.s3_types.specs.declared.request.Request.TheVariants.{DeleteObjects}
+use Rattle.s3_types.specs.declared.reply.Reply.{Reply}
+use Rattle.s3_types.specs.declared.reply.Reply.TheVariants.{Page}
+use Rattle.s3_types.specs.declared.reply.PageEntry.{PageEntry}
+use Rattle.s3_types.specs.declared.journal.Outcome.{Outcome}
+use Rattle.s3_types.specs.declared.journal.Outcome.TheVariants.{Answered, Slow, RequestLost, ReplyLost}
+use Rattle.s3_types.specs.Requests.{only_reads}
+use Rattle.magic_paths.specs.Layout.{magic_prefix}
+use Rattle.job_model.specs.JobScript.{Script}
+use Rattle.job_operations.specs.Walks.{Sweep, Listing, Deleting, walked, walked_by, keys_on, last_of, page_after, deleting, swept, sweep_asks, sweep_hears, all_go}
+use Rattle.request_frame.specs.Members.{IsIn, last_from}
+use Rattle.request_frame.specs.Held.{HasBucket}
+use Rattle.request_frame.proofs.Members.{none_some, text_true, in_append, in_front, in_back, in_filter, filter_in}
+use Rattle.request_frame.proofs.Framed.{with_bucket, frame}
+use Rattle.request_frame.proofs.Flat.{page_begins, page_covers, page_all, last_append}
+use Rattle.request_frame.proofs.Reading.{reads_nothing}
+use Rattle.job_facts.specs.Stores.{at_key}
+use Rattle.job_facts.specs.Driver.{AllMagic, FitsSweep}
+use Rattle.job_facts.specs.Emptying.{OnlyThese, TheseOrBehind, Empties}
+use Rattle.job_facts.proofs.Shapes.{key_before, key_after, answer_is}
+use Rattle.job_facts.proofs.Aborting.{dropped_in}
+use Rattle.job_facts.proofs.Undone.{stood_before}
+
+-- ---- scenes
+
+pub still_there : (w : Script) (s : Scene) (r : Request) (o : Outcome) → HasBucket s.content w.dest.bucket → HasBucket (effect s r o).content w.dest.bucket
+still_there w s r (Answered x) h = (frame s w.dest.bucket r h).there h.0 h.1
+still_there w s r Slow h = h
+still_there w s r RequestLost h = h
+still_there w s r ReplyLost h = (frame s w.dest.bucket r h).there h.0 h.1
+
+pub reads_same : (s : Scene) (r : Request) (o : Outcome) → only_reads r ≡ true → effect s r o ≡ s
+reads_same s r (Answered x) h = reads_nothing s r h
+reads_same s r Slow h = refl
+reads_same s r RequestLost h = refl
+reads_same s r ReplyLost h = reads_nothing s r h
+
+-- ---- keys that are deleted
+
+gone_still : (o : Objects) (ks : List (List ℕ)) (k : List ℕ) → fin.get o k ≡ None → fin.get (without o ks) k ≡ None
+gone_still o [] k e = e
+gone_still o (q ∷ ks) k e = gone_still (fin.remove o q) ks k (fin.get-remove text_total o q k ∙ by (eq_by_cmp text_cmp k q))
+  where
+    by : (b : Bool) → cond b None (fin.get o k) ≡ None
+    by true = refl
+    by false = e
+
+deleted_gone : (o : Objects) (ks : List (List ℕ)) (k : List ℕ) → IsIn k ks → fin.get (without o ks) k ≡ None
+deleted_gone o [] k i = absurd i
+deleted_gone o (q ∷ ks) k (inl e) = gone_still (fin.remove o q) ks k (fin.get-remove text_total o q k ∙ ap (λ b. cond b None (fin.get o k)) (sym (text_ties k q) ∙ text_true k q e))
+deleted_gone o (q ∷ ks) k (inr i) = deleted_gone (fin.remove o q) ks k i
+
+pub split_in : {X : Type 0} (n : ℕ) (ks : List X) (k : X) → IsIn k ks → IsIn k (take n ks) ⊎ IsIn k (drop n ks)
+split_in zero ks k i = inr i
+split_in (suc n) [] k i = absurd i
+split_in (suc n) (q ∷ ks) k (inl e) = inl (inl e)
+split_in (suc n) (q ∷ ks) k (inr i) = elim (split_in n ks k i) [ inl h ↦ inl (inr h) | inr h ↦ inr h ]
+
+taken_few : (n : ℕ) (ks : List (List ℕ)) → length (take n ks) ≤ n
+taken_few zero ks = omega arith
+taken_few (suc n) [] = omega arith
+taken_few (suc n) (k ∷ ks) = let old = taken_few n ks in omega arith
+
+-- ---- the last of the keys, from the empty text on
+
+last_so : (keys : List (List ℕ)) → last_of keys ≡ last_from [] keys
+last_so [] = refl
+last_so (k ∷ keys) = behind k keys
+  where
+    behind : (k : List ℕ) (keys : List (List ℕ)) → last_of (k ∷ keys) ≡ last_from k keys
+    behind k [] = refl
+    behind k (q ∷ keys) = behind q keys
+
+magic_some : (p r k : List ℕ) → begins (p ++ (codes "/__magic/job-" ++ r)) k ≡ true → is_lt (text_cmp [] k) ≡ true
+magic_some [] r [] h = absurd (false≢true h)
+magic_some (x ∷ p) r [] h = absurd (false≢true h)
+magic_some p r (x ∷ k) h = refl
+
+-- as it begins
+pub sweep_begins : (w : Script) (c : Content) → Empties w c (Listing [])
+sweep_begins w c k x h e = inr (magic_some w.dest.key _ k h)
+
+-- a sweep that goes on, or is done
+abbrev pub Emptied : Script → Content → Option Sweep → Type 0
+Emptied w c None = OnlyThese w c []
+Emptied w c (Some t) = FitsSweep w t × Empties w c t
+
+deletes_on : (w : Script) (c : Content) (keys : List (List ℕ)) → AllMagic w keys → OnlyThese w c keys → Emptied w c (deleting keys)
+deletes_on w c [] all h = h
+deletes_on w c (k ∷ ks) all h = (all, h)
+
+module _ (w : Script) (s : Scene) (there : HasBucket s.content w.dest.bucket) where
+  -- ---- a page
+
+  module _ (keys : List (List ℕ)) (all : AllMagic w keys) (cover : TheseOrBehind w s.content keys) where
+    abbrev rest : List PageEntry
+    rest = listed (magic_prefix w.dest.key w.job) false (last_of keys) there.0.objects
+
+    abbrev more_keys : List (List ℕ)
+    more_keys = keys ++ keys_on (take 1000 rest)
+
+    here : (k : List ℕ) (x : Object) → at_key w s.content k ≡ Some x → fin.get there.0.objects k ≡ Some x
+    here k x e = sym (key_before w s there.0 there.1 k) ∙ e
+
+    last_more : last_of more_keys ≡ last_from (last_of keys) (keys_on (take 1000 rest))
+    last_more = last_so more_keys ∙ last_append [] keys (keys_on (take 1000 rest)) ∙ ap (λ t. last_from t (keys_on (take 1000 rest))) (sym (last_so keys))
+
+    cover_more : TheseOrBehind w s.content more_keys
+    cover_more k x h e = elim (cover k x h e) [
+      | inl i ↦ inl (in_front k keys (keys_on (take 1000 rest)) i)
+      | inr l ↦ elim (page_covers 1000 (magic_prefix w.dest.key w.job) (last_of keys) k there.0.objects x (here k x e) h l) [
+        | inl i ↦ inl (in_back k keys (keys_on (take 1000 rest)) i)
+        | inr g ↦ inr (ap (λ t. is_lt (text_cmp t k)) last_more ∙ g)
+      ]
+    ]
+
+    cover_all : nat_lt 1000 (length rest) ≡ false → OnlyThese w s.content more_keys
+    cover_all few k x h e = elim (cover k x h e) [
+      | inl i ↦ in_front k keys (keys_on (take 1000 rest)) i
+      | inr l ↦ in_back k keys (keys_on (take 1000 rest)) (page_all 1000 (magic_prefix w.dest.key w.job) (last_of keys) k there.0.objects x few (here k x e) h l)
+    ]
+
+    all_more : AllMagic w more_keys
+    all_more k i = elim (in_append k keys (keys_on (take 1000 rest)) i) [
+      | inl h ↦ all k h
+      | inr h ↦ (page_begins 1000 (magic_prefix w.dest.key w.job) (last_of keys) k there.0.objects h).0
+    ]
+
+    paged : (more : Bool) → nat_lt 1000 (length rest) ≡ more → Emptied w s.content (swept all_go (walked_by more more_keys))
+    paged true e = (all_more, cover_more)
+    paged false e = deletes_on w s.content (filter all_go more_keys) (λ k i. all_more k (in_filter all_go k more_keys i).0) (λ k x h g. filter_in all_go k more_keys (cover_all e k x h g) refl)
+
+    pub page_empties : (x : Reply) → x ≡ answer s (page_after w.dest.bucket (magic_prefix w.dest.key w.job) keys) → Emptied w s.content (swept all_go (walked keys x))
+    page_empties x e =
+        let q = page_after w.dest.bucket (magic_prefix w.dest.key w.job) keys in
+        let due : answer s q ≡ Page (take 1000 rest) (nat_lt 1000 (length rest)) = answer_is w s there.0 there.1 q refl in
+        subst (λ y. Emptied w s.content (swept all_go (walked keys y))) (sym (e ∙ due)) (paged (nat_lt 1000 (length rest)) refl)
+
+  -- ---- a batch
+
+  module _ (keys : List (List ℕ)) (all : AllMagic w keys) (cover : OnlyThese w s.content keys) where
+    abbrev first : List (List ℕ)
+    first = take 1000 keys
+
+    abbrev batch : Request
+    batch = DeleteObjects w.dest.bucket first
+
+    batch_is : apply_store s.content batch ≡ with_bucket s.content w.dest.bucket (with_objects there.0 (without there.0.objects first)) s.content.next
+    batch_is =
+        ap (λ o. apply_at o s.content batch) there.1
+        ∙ ap (λ b. with_bucket s.content w.dest.bucket (with_objects there.0 (cond b there.0.objects (without there.0.objects first))) s.content.next) (le-ltb MOST_ENTRIES (length first) (taken_few 1000 keys))
+
+    left_at : (k : List ℕ) → at_key w (apply s batch).content k ≡ fin.get (without there.0.objects first) k
+    left_at k = ap (λ c. at_key w c k) batch_is ∙ key_after w s there.0 there.1 (with_objects there.0 (without there.0.objects first)) s.content.next k
+
+    stood_at : (k : List ℕ) (x : Object) → at_key w (apply s batch).content k ≡ Some x → at_key w s.content k ≡ Some x
+    stood_at k x e = key_before w s there.0 there.1 k ∙ stood_before there.0.objects first k x (sym (left_at k) ∙ e)
+
+    cover_left : OnlyThese w (apply s batch).content (drop 1000 keys)
+    cover_left k x h e = elim (split_in 1000 keys k (cover k x h (stood_at k x e))) [
+      | inl i ↦ absurd (none_some (left_at k ∙ deleted_gone there.0.objects first k i) e)
+      | inr i ↦ i
+    ]
+
+    batch_empties : Emptied w (apply s batch).content (deleting (drop 1000 keys))
+    batch_empties = deletes_on w (apply s batch).content (drop 1000 keys) (λ k i. all k (dropped_in 1000 keys k i)) cover_left
+
+    batch_still : OnlyThese w (apply s batch).content keys
+    batch_still k x h e = cover k x h (stood_at k x e)
+
+  -- ---- both
+
+  abbrev asked : Sweep → Request
+  asked t = sweep_asks w.dest.bucket (magic_prefix w.dest.key w.job) t
+
+  -- after its answer
+  pub sweep_empties : (t : Sweep) → FitsSweep w t → Empties w s.content t → (x : Reply) → x ≡ answer s (asked t) → Emptied w (apply s (asked t)).content (sweep_hears all_go t x)
+  sweep_empties (Listing keys) all h x e =
+      subst (λ (u : Scene). Emptied w u.content (swept all_go (walked keys x))) (sym (reads_nothing s (page_after w.dest.bucket (magic_prefix w.dest.key w.job) keys) refl)) (page_empties keys all h x e)
+  sweep_empties (Deleting q qs) all h x e = batch_empties (q ∷ qs) all h
+
+  -- as it is, also where its request took effect
+  pub sweep_still : (t : Sweep) → FitsSweep w t → Empties w s.content t → (o : Outcome) → Empties w (effect s (asked t) o).content t
+  sweep_still (Listing keys) all h o = subst (λ (u : Scene). Empties w u.content (Listing keys)) (sym (reads_same s (page_after w.dest.bucket (magic_prefix w.dest.key w.job) keys) o refl)) h
+  sweep_still (Deleting q qs) all h (Answered x) = batch_still (q ∷ qs) all h
+  sweep_still (Deleting q qs) all h Slow = h
+  sweep_still (Deleting q qs) all h RequestLost = h
+  sweep_still (Deleting q qs) all h ReplyLost = batch_still (q ∷ qs) all h
+
+-- the same keys below the directory
+pub sweep_same : (w : Script) (c d : Content) (t : Sweep) → ((k : List ℕ) → begins (magic_prefix w.dest.key w.job) k ≡ true → at_key w d k ≡ at_key w c k) → Empties w c t → Empties w d t
+sweep_same w c d (Listing keys) same h = λ k x b e. h k x b (sym (same k b) ∙ e)
+sweep_same w c d (Deleting q qs) same h = λ k x b e. h k x b (sym (same k b) ∙ e)

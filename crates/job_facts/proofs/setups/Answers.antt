@@ -1,0 +1,13 @@
+use Rattle.job_facts.proofs.SettingUp.{setup_goes, setup_alone, setup_beside, setup_done}
+use Rattle.job_facts.proofs.setups.Goals as goal
+
+pub returns : goal.returns
+returns c = record {
+  goes = record {
+    begins = λ w s. tt;
+    goes = λ w s retries t h r e o. setup_goes w s retries t.spare t.repeated t.operation h r e o;
+    alone = setup_alone;
+    beside = setup_beside;
+    done = setup_done;
+  };
+}

@@ -1,0 +1,43 @@
+-- The laws of the driver's set-up.
+use Rattle.std.specs.Prelude.{◌≡◌, ℕ, true, false, List, Some}
+use Rattle.s3_types.specs.Store.{Scene}
+use Rattle.s3_types.specs.Pages.{begins}
+use Rattle.s3_types.specs.Answer.{answer}
+use Rattle.s3_types.specs.Moment.{effect, IsHonestOutcome}
+use Rattle.s3_types.specs.declared.request.Request.{Request}
+use Rattle.s3_types.specs.declared.journal.Outcome.{Outcome}
+use Rattle.sendings.specs.Retries.{Retried, step}
+use Rattle.magic_paths.specs.Layout.{magic_prefix, success_key}
+use Rattle.job_model.specs.Attempts.{Who}
+use Rattle.job_model.specs.Legal.{IsLegal}
+use Rattle.job_model.specs.JobScript.{Script}
+use Rattle.job_model.specs.Known.{Drawn}
+use Rattle.job_model.specs.declared.ends.SetupEnd.TheVariants as ends
+use Rattle.job_operations.specs.View.{view}
+use Rattle.job_operations.specs.Setup.{Setup, SetupOver, setup_start, setup_asks, setup_after}
+use Rattle.job_promise.specs.Scope.{NoClusterFile}
+use Rattle.job_promise.specs.Headline.{Same}
+use Rattle.job_promise.specs.Seen.{is_staging}
+use Rattle.request_frame.specs.Held.{HasBucket}
+use Rattle.job_facts.specs.Stores.{at_key, at_id}
+use Rattle.job_facts.specs.Foreign.{IsForeign}
+use Rattle.job_facts.specs.Emptying.{SetsUp}
+use Rattle.job_facts.specs.Laws.{IsBare}
+
+-- of the job's bucket and of the cluster nothing changes from one scene to another but the job's magic directory and the marker of a committed job: no file that a reader is shown, no live upload, no cluster file
+pub record ClearsAlone (w : Script) (s t : Scene) : Type 0 where
+  pub shows : Same (view w.dest t.content) (view w.dest s.content)
+  pub keys : (k : List ℕ) → begins (magic_prefix w.dest.key w.job) k ≡ false → (k ≡ success_key w.dest.key → ⊥) → at_key w t.content k ≡ at_key w s.content k
+  pub uploads : (id : ℕ) → at_id w t.content id ≡ at_id w s.content id
+  pub files : t.files ≡ s.files
+
+-- a set-up, for every committer and conflict mode
+pub record SetupGoes : Type 0 where
+  pub begins : (w : Script) (s : Scene) → SetsUp w s.content setup_start
+  pub goes : (w : Script) (s : Scene) (retries : ℕ) (t : Retried Setup) → SetsUp w s.content t.operation → (r : Request) → setup_asks w t.operation ≡ Some r → (o : Outcome) → IsHonestOutcome o (answer s r)
+      → SetsUp w (effect s r o).content (step retries (setup_after w) t o).operation
+  pub alone : (w : Script) → IsLegal w → (s : Scene) (t : Setup) → SetsUp w s.content t → (r : Request) → setup_asks w t ≡ Some r → (o : Outcome) → ClearsAlone w s (effect s r o)
+  -- what a stranger sends leaves it as it is
+  pub beside : (w : Script) (drawn : Who → List Drawn) (s : Scene) (t : Setup) → SetsUp w s.content t → (r : Request) → IsForeign w drawn r → (o : Outcome) → SetsUp w (effect s r o).content t
+  -- where it ends Done the job's facts can begin; of the staging committers it is for the cluster to have no file of the job, of which a set-up sends nothing
+  pub done : (w : Script) (s : Scene) → SetsUp w s.content (SetupOver ends.Done) → (is_staging w.committer ≡ true → NoClusterFile w s) → HasBucket s.content w.dest.bucket × IsBare w s
