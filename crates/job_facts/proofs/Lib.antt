@@ -32,3 +32,5 @@ pub mod Beside
 pub mod Learnt
 pub mod Emptying
 pub mod SettingUp
+pub mod Live
+pub mod Clearing

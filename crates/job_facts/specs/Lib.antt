@@ -7,3 +7,4 @@ pub mod Driver
 pub mod Emptying
 pub mod Laws
 pub mod SetupLaws
+pub mod Clearing

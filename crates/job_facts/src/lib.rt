@@ -4,6 +4,7 @@
 
 ghost use Rattle.job_facts.specs.Laws.{AnswersFit, AttemptBegins, AttemptGoes, AttemptNames, CleanGoes, CommitGoes, DrivingKeeps, FactsBegin, ForeignKeeps, ReadsKeep, ToldIsSaid};
 ghost use Rattle.job_facts.specs.SetupLaws.{SetupGoes};
+ghost use Rattle.job_facts.specs.Clearing.{CleanClears};
 
 /// The driver's set-up, which ends where the facts begin.
 pub fn setups()
@@ -34,6 +35,11 @@ pub fn driver()
     ensures keep { DrivingKeeps }
     ensures commit { CommitGoes }
     ensures clean { CleanGoes }
+{}
+
+/// What the driver's abort or clean of the job leaves where nobody else sends.
+pub fn cleans()
+    ensures clears { CleanClears }
 {}
 
 /// The answers that are due.

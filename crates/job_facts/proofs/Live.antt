@@ -1,0 +1,101 @@
+-- A walk over live uploads finds each of them.
+use Rattle.std.proofs.Common.{◌≡◌, ℕ, zero, suc, ◌⊎◌, inl, inr, nat_lt, Bool, true, false, cond, List, [], ◌∷◌, ◌++◌, map, take, length, Option, Some, refl, sym, ap, subst, ◌∙◌}
+use Rattle.std.specs.FinMap as fin
+use Rattle.std.specs.FinMap.Entries.{find}
+use Rattle.std.specs.Cmp.{IsTotalOrder, nat_cmp_total}
+use Rattle.std.specs.List.{filter, AllByRecursion}
+use Rattle.std.specs.List.Sorted.{IsStrictlySortedBy}
+use Rattle.std.specs.Ordering.{eq_by_cmp, is_eq, is_lt, nat_cmp, ordering_then}
+use Rattle.std.specs.declared.cmp.Ordering.{Ordering}
+use Rattle.std.specs.declared.cmp.Ordering.TheVariants.{Less, Equal}
+use Rattle.std.proofs.lemmas.Bool.{ltb-false}
+use Rattle.std.proofs.lemmas.Cmp.{then_total, on_total}
+use Rattle.std.proofs.lemmas.List.{take_all}
+use Rattle.std.proofs.lemmas.List.Kept.{IsStrictlySortedBy-filter}
+use Rattle.std.proofs.lemmas.Map.Keys.{sorted_head, sorted_tail}
+use Rattle.std.proofs.lemmas.Map.Lookups.{CmpEqualImpliesEq, exact_pairs, exact_bytes, exact_unsigned}
+use Rattle.proof_base.specs.Order.{text_cmp, text_total, text_ties}
+use Rattle.proof_base.proofs.Tree.{tied, map_sorted}
+use Rattle.s3_types.specs.Store.{Upload, Uploads}
+use Rattle.s3_types.specs.Pages.{begins}
+use Rattle.s3_types.specs.Multipart.{ref_cmp, ref_of, refs, is_behind, listed}
+use Rattle.s3_types.specs.declared.request.UploadRef.{UploadRef}
+use Rattle.job_operations.specs.Walks.{last_ref}
+use Rattle.request_frame.specs.Members.{IsIn}
+use Rattle.request_frame.proofs.Members.{some_is, none_some, nat_true, ties, text_true, map_in, filter_in}
+use Rattle.job_facts.specs.Clearing.{ref_at}
+
+refs_total : IsTotalOrder ref_cmp
+refs_total = then_total (on_total (λ r. r.key) text_total) (on_total (λ r. r.upload) nat_cmp_total)
+
+exact_refs : CmpEqualImpliesEq ref_cmp
+exact_refs a b h = ap (λ (p : List ℕ × ℕ). record { key = p.0; upload = p.1 }) (exact_pairs text_cmp nat_cmp exact_bytes exact_unsigned (a.key, a.upload) (b.key, b.upload) h)
+
+module _ {K X : Type 0} (R : K → K → Ordering) where
+  pub find_in : ((a b : K) → R a b ≡ Equal → a ≡ b) → (es : List (K × X)) (k : K) (x : X) → find R k es ≡ Some x → IsIn (k, x) es
+  find_in exact [] k x e = absurd (none_some refl e)
+  find_in exact (p ∷ es) k x e = by (eq_by_cmp R k p.0) refl (find_in exact es k x)
+    where
+      by : (b : Bool) → eq_by_cmp R k p.0 ≡ b → (find R k es ≡ Some x → IsIn (k, x) es) → IsIn (k, x) (p ∷ es)
+      by true h old =
+          let same : k ≡ p.0 = exact k p.0 (tied _ h) in
+          let value : p.1 ≡ x = some_is (sym (ap (λ b. cond b (Some p.1) (find R k es)) h) ∙ e) in
+          inl (ap (λ q. (q, x)) same ∙ ap (λ v. (p.0, v)) (sym value))
+      by false h old = inr (old (sym (ap (λ b. cond b (Some p.1) (find R k es)) h) ∙ e))
+
+  in_find : (es : List (K × X)) (k : K) (x : X) → eq_by_cmp R k k ≡ true → IsIn (k, x) es → (y : X) × (find R k es ≡ Some y)
+  in_find [] k x same i = absurd i
+  in_find (p ∷ es) k x same (inl e) = (p.1, ap (λ b. cond b (Some p.1) (find R k es)) (ap (λ (q : K × X). eq_by_cmp R k q.0) (sym e) ∙ same))
+  in_find (p ∷ es) k x same (inr i) = by (eq_by_cmp R k p.0) (in_find es k x same i)
+    where
+      by : (b : Bool) → (y : X) × (find R k es ≡ Some y) → (y : X) × (cond b (Some p.1) (find R k es) ≡ Some y)
+      by true old = (p.1, refl)
+      by false old = old
+
+ref_self : (r : UploadRef) → eq_by_cmp ref_cmp r r ≡ true
+ref_self r =
+    let a : text_cmp r.key r.key ≡ Equal = tied _ (sym (text_ties r.key r.key) ∙ text_true r.key r.key refl) in
+    let b : nat_cmp r.upload r.upload ≡ Equal = tied _ (ties r.upload r.upload ∙ nat_true r.upload r.upload refl) in
+    ap (λ t. is_eq (ordering_then t (nat_cmp r.upload r.upload))) a ∙ ap is_eq b
+
+-- each live upload behind the last one, of a key that begins so, is listed
+live_listed : (p : List ℕ) (l : Option UploadRef) (m : Uploads) (id : ℕ) (x : Upload) → fin.get m id ≡ Some x → begins p x.key ≡ true → is_behind l (ref_at id x) ≡ true → IsIn (ref_at id x) (listed p l m)
+live_listed p l m id x e h g =
+    let r : UploadRef = ref_at id x in
+    let a = find_in nat_cmp fin.nat_cmp-IsAntisymmetric (fin.entries m) id x (sym (fin.get-entries m id) ∙ e) in
+    let b = map_in ref_of (id, x) (fin.entries m) a in
+    let d = in_find ref_cmp (map ref_of (fin.entries m)) r tt (ref_self r) b in
+    let at : fin.get (refs m) r ≡ Some d.0 = fin.get-from_entries refs_total (map ref_of (fin.entries m)) r ∙ d.1 in
+    let i = find_in ref_cmp exact_refs (fin.entries (refs m)) r d.0 (sym (fin.get-entries (refs m) r) ∙ at) in
+    let all = map_in (λ (q : UploadRef × Unit {0}). q.0) (r, d.0) (fin.entries (refs m)) i in
+    filter_in (λ r. begins p r.key) r (filter (is_behind l) (map (λ q. q.0) (fin.entries (refs m)))) (filter_in (is_behind l) r (map (λ q. q.0) (fin.entries (refs m))) all g) h
+
+listed_sorted : (p : List ℕ) (l : Option UploadRef) (m : Uploads) → IsStrictlySortedBy ref_cmp (listed p l m)
+listed_sorted p l m =
+    IsStrictlySortedBy-filter ref_cmp (λ r. begins p r.key) (filter (is_behind l) (map (λ q. q.0) (fin.entries (refs m))))
+    (IsStrictlySortedBy-filter ref_cmp (is_behind l) (map (λ q. q.0) (fin.entries (refs m))) (map_sorted ref_cmp (refs m)))
+
+above_all : (k : UploadRef) (rs : List UploadRef) (r : UploadRef) → AllByRecursion (λ q. ref_cmp k q ≡ Less) rs → IsIn r rs → is_behind (Some k) r ≡ true
+above_all k [] r a i = absurd i
+above_all k (q ∷ rs) r a (inl e) = ap (λ x. is_lt (ref_cmp k x)) e ∙ ap is_lt a.0
+above_all k (q ∷ rs) r a (inr i) = above_all k rs r a.1 i
+
+-- one of uploads that rise is among the first n or behind the last of these
+take_or : (n : ℕ) (rs : List UploadRef) (l : Option UploadRef) (r : UploadRef) → IsStrictlySortedBy ref_cmp rs → is_behind l r ≡ true → IsIn r rs → IsIn r (take n rs) ⊎ (is_behind (last_ref l (take n rs)) r ≡ true)
+take_or zero rs l r s h i = inr h
+take_or (suc n) [] l r s h i = absurd i
+take_or (suc n) (q ∷ rs) l r s h (inl e) = inl (inl e)
+take_or (suc n) (q ∷ rs) l r s h (inr i) = elim (take_or n rs (Some q) r (sorted_tail ref_cmp q rs s) (above_all q rs r (sorted_head ref_cmp q rs s) i) i) [ inl g ↦ inl (inr g) | inr g ↦ inr g ]
+
+pub last_more : (l : Option UploadRef) (rs more : List UploadRef) → last_ref l (rs ++ more) ≡ last_ref (last_ref l rs) more
+last_more l [] more = refl
+last_more l (r ∷ rs) more = last_more (Some r) rs more
+
+module _ (p : List ℕ) (l : Option UploadRef) (m : Uploads) (id : ℕ) (x : Upload) (e : fin.get m id ≡ Some x) (h : begins p x.key ≡ true) (g : is_behind l (ref_at id x) ≡ true) where
+  -- a live upload behind the last one is on the page, or behind its last
+  pub page_covers : (n : ℕ) → IsIn (ref_at id x) (take n (listed p l m)) ⊎ (is_behind (last_ref l (take n (listed p l m))) (ref_at id x) ≡ true)
+  page_covers n = take_or n (listed p l m) l (ref_at id x) (listed_sorted p l m) g (live_listed p l m id x e h g)
+
+  -- and on the page, where no more remain
+  pub page_all : (n : ℕ) → nat_lt n (length (listed p l m)) ≡ false → IsIn (ref_at id x) (take n (listed p l m))
+  page_all n few = subst (IsIn (ref_at id x)) (sym (take_all n (listed p l m) (ltb-false n (length (listed p l m)) few))) (live_listed p l m id x e h g)
