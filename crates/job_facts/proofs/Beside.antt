@@ -117,13 +117,13 @@ module _ (g : Setting) (m : Told) (a : Who) (op : Operation) (fits : Fits g.scri
   abbrev now : Told
   now = tell_attempt g.script m a r o
 
-  still_sent : (b : Who) → m.publish_sent b ≡ true → now.publish_sent b ≡ true
+  pub still_sent : (b : Who) → m.publish_sent b ≡ true → now.publish_sent b ≡ true
   still_sent b h = elim (same_or_another b a) [
     | inl is ↦ who_here m.publish_sent a (learn g.script a (known m a) r o).publish_sent b is ∙ learn_sent g.script a (known m a) r o (ap m.publish_sent (sym is) ∙ h)
     | inr ne ↦ who_other m.publish_sent a (learn g.script a (known m a) r o).publish_sent b ne ∙ h
   ]
 
-  still_known : (b : Who) → m.publish_sent b ≡ true → m.drawn b ≡ now.drawn b
+  pub still_known : (b : Who) → m.publish_sent b ≡ true → m.drawn b ≡ now.drawn b
   still_known b h = elim (same_or_another b a) [
     | inl is ↦ sym (who_here m.drawn a (learn g.script a (known m a) r o).drawn b is ∙ frozen_by op fits e (ap m.publish_sent (sym is) ∙ h) ∙ ap m.drawn (sym is))
     | inr ne ↦ sym (who_other m.drawn a (learn g.script a (known m a) r o).drawn b ne)

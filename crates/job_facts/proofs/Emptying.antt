@@ -77,7 +77,7 @@ taken_few (suc n) (k ∷ ks) = let old = taken_few n ks in omega arith
 
 -- ---- the last of the keys, from the empty text on
 
-last_so : (keys : List (List ℕ)) → last_of keys ≡ last_from [] keys
+pub last_so : (keys : List (List ℕ)) → last_of keys ≡ last_from [] keys
 last_so [] = refl
 last_so (k ∷ keys) = behind k keys
   where
@@ -85,7 +85,7 @@ last_so (k ∷ keys) = behind k keys
     behind k [] = refl
     behind k (q ∷ keys) = behind q keys
 
-magic_some : (p r k : List ℕ) → begins (p ++ (codes "/__magic/job-" ++ r)) k ≡ true → is_lt (text_cmp [] k) ≡ true
+pub magic_some : (p r k : List ℕ) → begins (p ++ (codes "/__magic/job-" ++ r)) k ≡ true → is_lt (text_cmp [] k) ≡ true
 magic_some [] r [] h = absurd (false≢true h)
 magic_some (x ∷ p) r [] h = absurd (false≢true h)
 magic_some p r (x ∷ k) h = refl

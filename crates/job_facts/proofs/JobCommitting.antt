@@ -132,7 +132,7 @@ module _ {w : Script} (j : IsLegal w) where
   aborts_drive [] = tt
   aborts_drive (p ∷ ps) = (abort_drives p, aborts_drive ps)
 
-  chosen_in : (test : ℕ → Bool) (n : ℕ) (ps : List Pending) (p : Pending) → IsIn p (chosen test n ps) → IsIn p ps
+  pub chosen_in : (test : ℕ → Bool) (n : ℕ) (ps : List Pending) (p : Pending) → IsIn p (chosen test n ps) → IsIn p ps
   chosen_in test n [] p i = absurd i
   chosen_in test n (q ∷ ps) p i = by (test n) i (chosen_in test (n + 1) ps p)
     where
@@ -161,7 +161,7 @@ module _ {w : Script} (j : IsLegal w) where
 
   -- ---- the sets that the driver holds
 
-  in_sets : (sets : Sets) (p : Pending) → IsIn p (all_commits sets) → (t : ℕ) × ((s : PendingSet) × (slice_get sets t ≡ Some s) × IsIn p s.commits)
+  pub in_sets : (sets : Sets) (p : Pending) → IsIn p (all_commits sets) → (t : ℕ) × ((s : PendingSet) × (slice_get sets t ≡ Some s) × IsIn p s.commits)
   in_sets [] p i = absurd i
   in_sets (s ∷ sets) p i = elim (in_append p s.commits (all_commits sets) i) [
     | inl here ↦ (zero, (s, refl, here))

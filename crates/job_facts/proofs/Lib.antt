@@ -34,3 +34,4 @@ pub mod Emptying
 pub mod SettingUp
 pub mod Live
 pub mod Clearing
+pub mod Closing

@@ -104,7 +104,7 @@ module _ (w : Script) (minimum : ℕ) (a : Who) where
 
   -- ---- a part came back
 
-  drop_more : (xs : List (List ℕ)) (n : ℕ) (y : List ℕ) (ys : List (List ℕ)) → y ∷ ys ≡ drop n xs → (suc n ≤ length xs) × (ys ≡ drop (suc n) xs) × (slice_get xs n ≡ Some y)
+  pub drop_more : (xs : List (List ℕ)) (n : ℕ) (y : List ℕ) (ys : List (List ℕ)) → y ∷ ys ≡ drop n xs → (suc n ≤ length xs) × (ys ≡ drop (suc n) xs) × (slice_get xs n ≡ Some y)
   drop_more [] zero y ys e = absurd cc
   drop_more [] (suc n) y ys e = absurd cc
   drop_more (x ∷ xs) zero y ys e = (omega arith, cc, cc)

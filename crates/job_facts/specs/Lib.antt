@@ -8,3 +8,5 @@ pub mod Emptying
 pub mod Laws
 pub mod SetupLaws
 pub mod Clearing
+pub mod Standing
+pub mod StandingLaws

@@ -5,6 +5,7 @@
 ghost use Rattle.job_facts.specs.Laws.{AnswersFit, AttemptBegins, AttemptGoes, AttemptNames, CleanGoes, CommitGoes, DrivingKeeps, FactsBegin, ForeignKeeps, ReadsKeep, ToldIsSaid};
 ghost use Rattle.job_facts.specs.SetupLaws.{SetupGoes};
 ghost use Rattle.job_facts.specs.Clearing.{CleanClears};
+ghost use Rattle.job_facts.specs.StandingLaws.{DriverCloses};
 
 /// The driver's set-up, which ends where the facts begin.
 pub fn setups()
@@ -35,6 +36,11 @@ pub fn driver()
     ensures keep { DrivingKeeps }
     ensures commit { CommitGoes }
     ensures clean { CleanGoes }
+{}
+
+/// What stands until the driver's abort or clean of the job begins.
+pub fn standing()
+    ensures closes { DriverCloses }
 {}
 
 /// What the driver's abort or clean of the job leaves where nobody else sends.

@@ -1,0 +1,101 @@
+-- Until the driver's abort or clean of the job begins, what an attempt has written stands, and the driver ends no upload that may still be sent to: so no write or commit finds its own gone.
+use Rattle.std.specs.Prelude.{◌≡◌, ℕ, ◌⊎◌, Bool, true, false, List, [], ◌∷◌, Option, Some}
+use Rattle.std.specs.Ordering.{is_lt}
+use Rattle.proof_base.specs.Order.{text_cmp}
+use Rattle.s3_types.specs.declared.object.Object.{Object}
+use Rattle.s3_types.specs.declared.request.Request.{Request}
+use Rattle.magic_paths.specs.Places.{TemporaryPlace}
+use Rattle.job_model.specs.Files.{File}
+use Rattle.job_model.specs.Attempts.{Who}
+use Rattle.job_model.specs.JobScript.{Script}
+use Rattle.job_model.specs.Known.{Drawn}
+use Rattle.job_model.specs.declared.ends.TaskEnd.{TaskEnd}
+use Rattle.job_model.specs.declared.ends.TaskEnd.TheVariants as tasks
+use Rattle.job_operations.specs.Outputs.{files}
+use Rattle.job_operations.specs.Records.{record_key}
+use Rattle.job_operations.specs.Walks.{last_of}
+use Rattle.job_operations.specs.Writes.{Write, Marking, Recording, WriteOver}
+use Rattle.job_operations.specs.Writes as writes
+use Rattle.job_operations.specs.TaskCommits.{TaskCommit, Looking, Reading, Publishing, Checking, Storing, Renaming, TaskCommitOver}
+use Rattle.job_operations.specs.TaskCommits as commits
+use Rattle.job_operations.specs.JobCommits.{Commit, Fetching, Replacing, Completing, Marking as MarkingJob, Reverting, CommitOver}
+use Rattle.job_operations.specs.Operations.{Operation, TheSetup, TheWrite, TheTaskCommit, TheTaskAbort, TheCommit, TheClean}
+use Rattle.job_promise.specs.Seen.{Seen, is_magic}
+use Rattle.request_frame.specs.Members.{IsIn}
+use Rattle.job_facts.specs.Told.{Told, ends}
+use Rattle.job_facts.specs.Stores.{at_key, at_path}
+
+-- ---- what the driver ends
+
+-- an upload that an attempt knows which has sent its publishing request
+abbrev pub IsSent : (Who → Bool) → (Who → List Drawn) → ℕ → Type 0
+IsSent sent drawn id = (a : Who) × (d : Drawn) × IsIn d (drawn a) × (d.upload ≡ id) × (sent a ≡ true)
+
+-- each upload that the driver has ended is so, until it cleans up
+abbrev pub Closed : Told → Type 0
+Closed m = m.cleaned ≡ false → (id : ℕ) → m.ended id ≡ true → IsSent m.publish_sent m.drawn id
+
+abbrev pub EndsSent : (Who → Bool) → (Who → List Drawn) → List Request → Type 0
+EndsSent sent drawn [] = Unit {0}
+EndsSent sent drawn (r ∷ rs) = ((id : ℕ) → ends r id ≡ true → IsSent sent drawn id) × EndsSent sent drawn rs
+
+-- what is left of a revert ends only such uploads
+abbrev pub Reverts : (Who → Bool) → (Who → List Drawn) → Commit → Type 0
+Reverts sent drawn (Fetching sets n) = Unit {0}
+Reverts sent drawn (Replacing sets p ps s n) = Unit {0}
+Reverts sent drawn (Completing sets x xs finished) = Unit {0}
+Reverts sent drawn (MarkingJob sets n) = Unit {0}
+Reverts sent drawn (Reverting r rs n) = EndsSent sent drawn (r ∷ rs)
+Reverts sent drawn (CommitOver end) = Unit {0}
+
+-- ---- what an attempt has written
+
+-- the record of a file stands
+abbrev pub HasRecord : Script → Seen → Who → File → Type 0
+HasRecord w s a f = (x : Object) × (at_key w s.scene.content (record_key w a f) ≡ Some x)
+
+-- and so do those of its files but these
+abbrev pub HasRecords : Script → Seen → Who → List File → Type 0
+HasRecords w s a left = (f : File) → IsIn f (files w a) → IsIn f left ⊎ HasRecord w s a f
+
+-- its temporary file stands
+abbrev pub HasTemporary : Script → Seen → Who → Type 0
+HasTemporary w s a = (bytes : List ℕ) × (at_path w s.scene (TemporaryPlace a.task a.attempt) ≡ Some bytes)
+
+-- a task has a last publisher
+abbrev pub HasPublished : Seen → ℕ → Type 0
+HasPublished s t = (n : ℕ) × (s.last t ≡ Some n)
+
+-- its records are among the keys that were listed, or behind the last of them
+abbrev pub Listed : Script → Who → List (List ℕ) → Type 0
+Listed w a keys = (f : File) → IsIn f (files w a) → IsIn (record_key w a f) keys ⊎ (is_lt (text_cmp (last_of keys) (record_key w a f)) ≡ true)
+
+abbrev pub NotGone : TaskEnd → Type 0
+NotGone (tasks.Gone name) = ⊥
+NotGone _ = Unit {0}
+
+abbrev pub WriteStands : Script → Seen → Who → Write → Type 0
+WriteStands w s a (writes.Uploads f fs u) = HasRecords w s a (f ∷ fs)
+WriteStands w s a (Marking f fs) = HasRecords w s a (f ∷ fs)
+WriteStands w s a (Recording f fs) = HasRecords w s a (f ∷ fs)
+WriteStands w s a (WriteOver end) = NotGone end × (end ≡ tasks.Done → is_magic w.committer ≡ true → HasRecords w s a [])
+
+-- by whether a sending of the present request was lost
+abbrev pub CommitStands : Script → Seen → Who → Bool → TaskCommit → Type 0
+CommitStands w s a repeated (Looking keys) = HasRecords w s a [] × Listed w a keys
+CommitStands w s a repeated (Reading cs f fs) = HasRecords w s a [] × ((g : File) → IsIn g (f ∷ fs) → IsIn g (files w a))
+CommitStands w s a repeated (Publishing cs) = Unit {0}
+CommitStands w s a repeated (Checking d ds) = Unit {0}
+CommitStands w s a repeated (commits.Uploads f fs u) = Unit {0}
+CommitStands w s a repeated Storing = Unit {0}
+-- the rename is yet to take effect, or it has, and its reply was lost
+CommitStands w s a repeated Renaming = HasTemporary w s a ⊎ ((repeated ≡ true) × HasPublished s a.task)
+CommitStands w s a repeated (TaskCommitOver end) = NotGone end × (end ≡ tasks.Done → HasPublished s a.task)
+
+abbrev pub Stands : Script → Seen → Who → Operation → Type 0
+Stands w s a (TheSetup t) = Unit {0}
+Stands w s a (TheWrite t) = WriteStands w s a t.operation
+Stands w s a (TheTaskCommit t) = CommitStands w s a t.repeated t.operation
+Stands w s a (TheTaskAbort t) = Unit {0}
+Stands w s a (TheCommit c) = Unit {0}
+Stands w s a (TheClean t) = Unit {0}
