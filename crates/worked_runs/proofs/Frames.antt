@@ -93,7 +93,7 @@ pub ours_all : (os : List (List ℕ × Object)) (b : Book) (es : List Entry) →
 ours_all os b [] h = refl
 ours_all os b (e ∷ es) h = rw (h.0.ours) (ours_all os (effect_on b e.request e.outcome) es h.1)
 
-ours_some : (es : List Entry) (m : ℕ) → are_ours es ≡ true → are_ours (take m es) ≡ true
+pub ours_some : (es : List Entry) (m : ℕ) → are_ours es ≡ true → are_ours (take m es) ≡ true
 ours_some es zero h = refl
 ours_some [] (suc m) h = refl
 ours_some (e ∷ es) (suc m) h = let p = and_parts (is_ours e.request) _ h in rw p.0 (ours_some es m p.1)

@@ -14,3 +14,7 @@ mod OnePlays
 mod OneEnds
 mod LostMarks
 mod StrayEntries
+mod Kept
+mod SharedPaths
+mod LostSets
+mod FourFileRuns

@@ -31,7 +31,7 @@ abbrev pub is_at : Option (List ℕ) → List ℕ → Bool
 is_at None b = false
 is_at (Some c) b = text_eq c b
 
-same_text : (x y : List ℕ) → text_eq x y ≡ true → x ≡ y
+pub same_text : (x y : List ℕ) → text_eq x y ≡ true → x ≡ y
 same_text x y h = text_exact x y (tied _ (sym (text_ties x y) ∙ h))
 
 at_is : (o : Option (List ℕ)) (b : List ℕ) → is_at o b ≡ true → o ≡ Some b

@@ -9,3 +9,7 @@ pub mod RefusedEnds
 pub mod OneFinished
 pub mod LostMark
 pub mod Strays
+pub mod Runs
+pub mod SharedPath
+pub mod LostSet
+pub mod FourFiles

@@ -6,6 +6,9 @@ ghost use Rattle.worked_runs.specs.Decisions.{DecidesSo, RestartsSo};
 ghost use Rattle.worked_runs.specs.OneFile.{OneFileRuns, OneFileSeen};
 ghost use Rattle.worked_runs.specs.OneFinished.{OneFileFinished};
 ghost use Rattle.worked_runs.specs.LostMark.{LostMark};
+ghost use Rattle.worked_runs.specs.SharedPath.{SharedPath};
+ghost use Rattle.worked_runs.specs.LostSet.{LostSet};
+ghost use Rattle.worked_runs.specs.FourFiles.{FourFiles};
 ghost use Rattle.worked_runs.specs.Lanes.{LanesRun};
 ghost use Rattle.worked_runs.specs.Refused.{Misshown, MisshownRuns};
 ghost use Rattle.worked_runs.specs.RefusedEnds.{Misended};
@@ -56,4 +59,19 @@ pub fn lost_mark()
 /// Entries that are nobody's turn.
 pub fn strays()
     ensures { StraysAreRefused }
+{}
+
+/// Two tasks that write one path, of the magic committer.
+pub fn shared_path()
+    ensures { SharedPath }
+{}
+
+/// One attempt with one file, where the replies to the put of its set are lost.
+pub fn lost_set()
+    ensures { LostSet }
+{}
+
+/// One attempt with four files, where the driver is killed in its commit.
+pub fn four_files()
+    ensures { FourFiles }
 {}

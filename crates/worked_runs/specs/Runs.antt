@@ -1,0 +1,90 @@
+-- What attempts and the driver of a job send for files of `hello`, and what whole runs of them keep.
+use Rattle.std.specs.Prelude.{◌≡◌, ℕ, false, List, [], ◌∷◌, ◌++◌, Option, Some, None, codes}
+use Rattle.std.specs.FinMap as fin
+use Rattle.serde_json.specs.Written.{compact_text}
+use Rattle.s3_types.specs.Moment.{IsHonest}
+use Rattle.s3_types.specs.Store.{Content, Upload as Live}
+use Rattle.s3_types.specs.Tags.{plain_tag}
+use Rattle.s3_types.specs.declared.request.Actor.{Actor}
+use Rattle.s3_types.specs.declared.request.Actor.TheVariants.{Driver}
+use Rattle.s3_types.specs.declared.request.Request.TheVariants.{PutObject, GetObject, ListPage, CreateUpload, UploadPart}
+use Rattle.s3_types.specs.declared.reply.Reply.TheVariants.{Stored, Object, Page, Upload, Part}
+use Rattle.s3_types.specs.declared.reply.PageEntry.{PageEntry}
+use Rattle.s3_types.specs.declared.journal.Entry.{Entry}
+use Rattle.pending_json.specs.Pending.{Pending}
+use Rattle.pending_json.specs.Trees.{pending_tree, set_tree}
+use Rattle.pending_json.specs.declared.records.PendingSet.{PendingSet}
+use Rattle.job_model.specs.JobScript.{Script}
+use Rattle.job_model.specs.declared.events.Op.{Op}
+use Rattle.job_model.specs.declared.ends.OpEnd.{OpEnd}
+use Rattle.job_operations.specs.Operations.{Setting}
+use Rattle.job_promise.specs.Headline.{Always}
+use Rattle.job_promise.specs.Entries.{ZeroRename, OutsideStays}
+use Rattle.job_promise.specs.Follows.{OpFollows, op_over}
+use Rattle.job_promise.specs.Turns.{until, by_actor}
+use Rattle.worked_runs.specs.Jobs.{lake, said, hello_tag}
+use Rattle.worked_runs.specs.OneFile.{doing}
+
+-- ---- requests
+
+-- the pending upload of a task's attempt for a file, and the set of these
+abbrev pub upload : ℕ → ℕ → List ℕ → ℕ → Pending
+upload task attempt path id = record { task = task; attempt = attempt; bucket = lake; destination = codes "out/" ++ path; upload = id; length = 5; tags = hello_tag ∷ []; sizes = Some (5 ∷ []) }
+
+abbrev pub set_of : ℕ → ℕ → List Pending → PendingSet
+set_of task attempt uploads = record { job = codes "j1"; task = task; attempt = attempt; commits = uploads }
+
+-- that upload in the store, with its one part
+abbrev pub held : List ℕ → Live
+held path = record { key = codes "out/" ++ path; parts = fin.insert fin.empty 1 (codes "hello") }
+
+-- a put of a text, and a read of it
+abbrev pub puts : ℕ → Actor → List ℕ → List ℕ → Entry
+puts k a key text = said k a (PutObject lake key text None) (Stored (plain_tag text))
+
+abbrev pub reads : ℕ → Actor → List ℕ → List ℕ → Entry
+reads k a key text = said k a (GetObject lake key) (Object text None)
+
+abbrev pub lists : ℕ → Actor → List ℕ → List PageEntry → Entry
+lists k a prefix found = said k a (ListPage lake prefix false [] 1000) (Page found false)
+
+-- a file's upload, its part, its marker and its record, below the attempt's directory
+abbrev pub writes : ℕ → Actor → List ℕ → List ℕ → Pending → List Entry
+writes k a directory path u =
+    said k a (CreateUpload lake u.destination) (Upload u.upload)
+    ∷ said k a (UploadPart lake u.destination u.upload 1 (codes "hello")) (Part hello_tag)
+    ∷ said k a (PutObject lake (directory ++ path) [] (Some 5)) (Stored (plain_tag []))
+    ∷ puts k a (directory ++ path ++ codes ".pending") (compact_text (pending_tree u))
+    ∷ []
+
+abbrev pub reads_record : ℕ → Actor → List ℕ → List ℕ → Pending → Entry
+reads_record k a directory path u = reads k a (directory ++ path ++ codes ".pending") (compact_text (pending_tree u))
+
+abbrev pub puts_set : ℕ → Actor → List ℕ → PendingSet → Entry
+puts_set k a key s = puts k a key (compact_text (set_tree s))
+
+abbrev pub reads_set : ℕ → List ℕ → PendingSet → Entry
+reads_set k key s = reads k Driver key (compact_text (set_tree s))
+
+-- ---- runs
+
+abbrev pub setting : Script → Setting
+setting w = record { script = w; minimum = 5242880 }
+
+-- the actor's entries up to its event are what its operation asks
+abbrev pub Follows : Script → List Entry → Actor → Op → ℕ → Option ℕ → Type 0
+Follows w journal a op k missing = OpFollows (setting w) a (doing op k missing) (by_actor a (until k journal))
+
+-- and they lead to this end
+abbrev pub Goes : Script → List Entry → Actor → Op → ℕ → Option ℕ → OpEnd → Type 0
+Goes w journal a op k missing end = Follows w journal a op k missing × (op_over (setting w) a (doing op k missing) (by_actor a (until k journal)) ≡ Some end)
+
+-- What is kept of a run whose commit is this event.
+pub record Keeps (w : Script) (commit : Option ℕ) (opening : Content) (journal : List Entry) : Type 0 where
+  -- at each moment a reader is shown what he may rely on
+  pub always : Always w commit opening journal
+  -- each answer is the one that was due
+  pub honest : IsHonest opening journal
+  -- nothing is copied, the driver sends no data, and only it shows files
+  pub zero_rename : ZeroRename w opening journal
+  pub outside : OutsideStays w opening journal
