@@ -1,10 +1,12 @@
 -- What whole runs over a store as lists keep and show, by tests that compute.
-use Rattle.std.proofs.Common.{◌≡◌, ℕ, zero, suc, Bool, true, false, ◌&&◌, List, [], ◌∷◌, take, Option, refl, ap, ◌∙◌}
-use Rattle.std.specs.Ordering.{nat_cmp}
+use Rattle.std.proofs.Common.{◌≡◌, ℕ, zero, suc, Bool, true, false, cond, ◌&&◌, List, [], ◌∷◌, take, Option, Some, refl, sym, ap, subst, ◌∙◌}
+use Rattle.std.specs.List.{list_all}
+use Rattle.std.specs.Ordering.{nat_cmp, eq_by_cmp}
 use Rattle.std.specs.Option.{option_map}
 use Rattle.std.specs.FinMap.Entries.{find}
 use Rattle.std.proofs.lemmas.Bool.{and_parts, false≢true}
 use Rattle.proof_base.specs.Order.{text_cmp, text_eq}
+use Rattle.proof_base.proofs.Tree.{tied}
 use Rattle.s3_types.specs.Moment.{moment}
 use Rattle.s3_types.specs.declared.object.Object.{Object}
 use Rattle.s3_types.specs.declared.journal.Entry.{Entry}
@@ -13,7 +15,7 @@ use Rattle.job_operations.specs.View.{view, object_at}
 use Rattle.job_promise.specs.Scope.{upload_at, upload_in}
 use Rattle.worked_runs.specs.Jobs.{lake}
 use Rattle.worked_runs.specs.Runs.{Keeps}
-use Rattle.worked_runs.proofs.Books.{Book, content_of, at_bucket, upload_of, upload_found}
+use Rattle.worked_runs.proofs.Books.{Book, content_of, text_exact, at_bucket, upload_of, upload_found}
 use Rattle.worked_runs.proofs.Checks.{dest, visible, views, objects_at, are_ours, without_files, effect_on, book_after, moment_is}
 use Rattle.worked_runs.proofs.Sights.{opens}
 use Rattle.worked_runs.proofs.Owed.{AllGood, always, same_text}
@@ -72,3 +74,12 @@ draft_at b es m id h =
 pub object_then : (b : Book) (es : List Entry) (m : ℕ) (k : List ℕ) → are_ours es ≡ true
     → object_at (moment (content_of (without_files b)) es m).content lake k ≡ find text_cmp k (book_after (without_files b) (take m es)).objects
 object_then b es m k h = ap (λ s. object_at s.content lake k) (moment_is b es m (ours_some es m h)) ∙ objects_at (book_after (without_files b) (take m es)) k
+
+-- a test that holds of each key holds of one that is found
+pub key_found : (test : List ℕ → Bool) (es : List (List ℕ × Object)) → list_all (λ e. test e.0) es ≡ true → (k : List ℕ) (o : Object) → find text_cmp k es ≡ Some o → test k ≡ true
+key_found test [] h k o e = absurd (cc)
+key_found test (f ∷ fs) h k o e = let a = and_parts (test f.0) _ h in by (eq_by_cmp text_cmp k f.0) refl a.0 (key_found test fs a.1 k o) e
+  where
+    by : (c : Bool) → eq_by_cmp text_cmp k f.0 ≡ c → test f.0 ≡ true → (find text_cmp k fs ≡ Some o → test k ≡ true) → cond c (Some f.1) (find text_cmp k fs) ≡ Some o → test k ≡ true
+    by true g t r x = subst (λ q. test q ≡ true) (sym (text_exact k f.0 (tied _ g))) t
+    by false g t r x = r x

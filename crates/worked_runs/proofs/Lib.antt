@@ -18,3 +18,5 @@ mod Kept
 mod SharedPaths
 mod LostSets
 mod FourFileRuns
+mod TwoAttemptRuns
+mod TakenRuns

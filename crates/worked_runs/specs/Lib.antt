@@ -13,3 +13,5 @@ pub mod Runs
 pub mod SharedPath
 pub mod LostSet
 pub mod FourFiles
+pub mod TwoAttempts
+pub mod Taken

@@ -9,6 +9,8 @@ ghost use Rattle.worked_runs.specs.LostMark.{LostMark};
 ghost use Rattle.worked_runs.specs.SharedPath.{SharedPath};
 ghost use Rattle.worked_runs.specs.LostSet.{LostSet};
 ghost use Rattle.worked_runs.specs.FourFiles.{FourFiles};
+ghost use Rattle.worked_runs.specs.TwoAttempts.{TwoAttempts};
+ghost use Rattle.worked_runs.specs.Taken.{Taken};
 ghost use Rattle.worked_runs.specs.Lanes.{LanesRun};
 ghost use Rattle.worked_runs.specs.Refused.{Misshown, MisshownRuns};
 ghost use Rattle.worked_runs.specs.RefusedEnds.{Misended};
@@ -74,4 +76,14 @@ pub fn lost_set()
 /// One attempt with four files, where the driver is killed in its commit.
 pub fn four_files()
     ensures { FourFiles }
+{}
+
+/// Two attempts of one task that commit one after the other, and a clean.
+pub fn two_attempts()
+    ensures { TwoAttempts }
+{}
+
+/// A staging attempt whose partition has a file already, in the mode fail.
+pub fn taken()
+    ensures { Taken }
 {}

@@ -1,0 +1,152 @@
+-- The run of one task with two attempts that commit one after the other: the job's commit picks the later one, and a clean leaves nothing behind.
+use Rattle.std.specs.Prelude.{◌≡◌, ℕ, true, false, List, [], ◌∷◌, ◌++◌, length, Some, None, codes}
+use Rattle.serde_json.specs.Written.{compact_text}
+use Rattle.s3_types.specs.Moment.{moment}
+use Rattle.s3_types.specs.declared.request.Actor.{Actor}
+use Rattle.s3_types.specs.declared.request.Actor.TheVariants.{Driver, Attempt}
+use Rattle.s3_types.specs.declared.request.Request.TheVariants.{DeleteObjects, AbortUpload, ListUploads}
+use Rattle.s3_types.specs.declared.reply.Reply.TheVariants.{Deleted, Aborted, Uploads}
+use Rattle.s3_types.specs.declared.request.Committer.TheVariants.{Magic}
+use Rattle.s3_types.specs.declared.request.Mode.TheVariants.{Append}
+use Rattle.s3_types.specs.declared.reply.PageEntry.TheVariants.{Object as Listed}
+use Rattle.s3_types.specs.declared.journal.Entry.{Entry}
+use Rattle.sendings.specs.Worn.{first_worn}
+use Rattle.pending_json.specs.Pending.{Pending}
+use Rattle.pending_json.specs.Trees.{success_tree}
+use Rattle.pending_json.specs.declared.records.PendingSet.{PendingSet}
+use Rattle.pending_json.specs.declared.records.SuccessMark.{SuccessMark}
+use Rattle.job_model.specs.JobScript.{Script}
+use Rattle.job_model.specs.declared.events.Op.TheVariants.{Setup, Write, Commit, Clean}
+use Rattle.job_model.specs.declared.events.Event.TheVariants.{Do}
+use Rattle.job_model.specs.declared.ends.Pick.{Pick}
+use Rattle.job_model.specs.declared.ends.SetupEnd.TheVariants as setups
+use Rattle.job_model.specs.declared.ends.TaskEnd.TheVariants as tasks
+use Rattle.job_model.specs.declared.ends.CommitEnd.TheVariants as commits
+use Rattle.job_model.specs.declared.ends.CleanEnd.TheVariants as cleans
+use Rattle.job_model.specs.declared.ends.OpEnd.TheVariants as ends
+use Rattle.job_model.specs.declared.ends.EventEnd.{EventEnd}
+use Rattle.job_model.specs.declared.ends.EventEnd.TheVariants.{Ended}
+use Rattle.job_operations.specs.View.{view, object_at}
+use Rattle.job_promise.specs.Ends.{commit_due}
+use Rattle.job_promise.specs.Promise.{all_picks}
+use Rattle.job_promise.specs.Scope.{NothingLeft}
+use Rattle.job_promise.specs.Seen.{Seen, seen}
+use Rattle.job_promise.specs.States.{verdict}
+use Rattle.job_promise.specs.Turns.{by_actor, since, until}
+use Rattle.worked_runs.specs.Jobs.{lake, job, attempt, worker, said}
+use Rattle.worked_runs.specs.OneFile.{opening, setup_entries}
+use Rattle.worked_runs.specs.RefusedEnds.{completes}
+use Rattle.worked_runs.specs.Runs.{upload, set_of, writes, lists, reads_record, puts, puts_set, reads_set, Goes, Keeps}
+
+abbrev pub other : Actor
+other = Attempt 0 1
+
+abbrev pub script : Script
+script = job Magic Append 1 3 1
+    (attempt 0 0 ((codes "p", codes "hello") ∷ []) ∷ attempt 0 1 ((codes "p", codes "hello") ∷ []) ∷ [])
+    (Do Driver Setup ∷ Do worker Write ∷ Do worker Commit ∷ Do other Write ∷ Do other Commit ∷ Do Driver Commit ∷ Do Driver Clean ∷ [])
+
+abbrev pub first_directory : List ℕ
+first_directory = codes "out/__magic/job-j1/tasks/0_0/__base/"
+
+abbrev pub second_directory : List ℕ
+second_directory = codes "out/__magic/job-j1/tasks/0_1/__base/"
+
+abbrev pub set_key : List ℕ
+set_key = codes "out/__magic/job-j1/sets/task_0.pendingset"
+
+abbrev pub first_upload : Pending
+first_upload = upload 0 0 (codes "p") 1
+
+abbrev pub second_upload : Pending
+second_upload = upload 0 1 (codes "p") 2
+
+abbrev pub first_set : PendingSet
+first_set = set_of 0 0 (first_upload ∷ [])
+
+abbrev pub second_set : PendingSet
+second_set = set_of 0 1 (second_upload ∷ [])
+
+abbrev pub the_mark : SuccessMark
+the_mark = record { job = codes "j1"; committer = Magic; files = codes "p" ∷ []; stamp = None }
+
+-- an attempt lists its directory, reads its record and puts the task's set
+abbrev pub commits_task : ℕ → Actor → List ℕ → Pending → PendingSet → List Entry
+commits_task k a directory u s =
+    lists k a directory (Listed (directory ++ codes "p") 0 ∷ Listed (directory ++ codes "p.pending") 168 ∷ [])
+    ∷ reads_record k a directory (codes "p") u
+    ∷ puts_set k a set_key s
+    ∷ []
+
+abbrev pub commit_entries : List Entry
+commit_entries =
+    reads_set 6 set_key second_set
+    ∷ completes 6 (codes "out/p") 2
+    ∷ puts 6 Driver (codes "out/_SUCCESS") (compact_text (success_tree the_mark))
+    ∷ []
+
+-- the clean aborts the first attempt's upload and empties the job's magic directory
+abbrev pub clean_entries : List Entry
+clean_entries =
+    said 7 Driver (ListUploads lake (codes "out/") None 1000) (Uploads (record { key = codes "out/p"; upload = 1 } ∷ []) false)
+    ∷ said 7 Driver (AbortUpload lake (codes "out/p") 1) Aborted
+    ∷ lists 7 Driver (codes "out/__magic/job-j1/") (
+    Listed set_key 246
+    ∷ Listed (first_directory ++ codes "p") 0
+    ∷ Listed (first_directory ++ codes "p.pending") 168
+    ∷ Listed (second_directory ++ codes "p") 0
+    ∷ Listed (second_directory ++ codes "p.pending") 168
+    ∷ [])
+    ∷ said 7 Driver (DeleteObjects lake (set_key ∷ (first_directory ++ codes "p") ∷ (first_directory ++ codes "p.pending") ∷ (second_directory ++ codes "p") ∷ (second_directory ++ codes "p.pending") ∷ [])) Deleted
+    ∷ []
+
+abbrev pub journal : List Entry
+journal =
+    setup_entries
+    ++ writes 2 worker first_directory (codes "p") first_upload
+    ++ commits_task 3 worker first_directory first_upload first_set
+    ++ writes 4 other second_directory (codes "p") second_upload
+    ++ commits_task 5 other second_directory second_upload second_set
+    ++ commit_entries
+    ++ clean_entries
+
+abbrev pub done_task : EventEnd
+done_task = Ended (ends.Task tasks.Done)
+
+abbrev pub the_ends : List EventEnd
+the_ends = Ended (ends.Setup setups.Done) ∷ done_task ∷ done_task ∷ done_task ∷ done_task ∷ Ended (ends.Commit commits.Committed) ∷ Ended (ends.Clean cleans.Done) ∷ []
+
+abbrev pub the_picks : List Pick
+the_picks = record { task = 0; attempt = 1 } ∷ []
+
+-- what is seen after the first m entries
+abbrev pub at : ℕ → Seen
+at m = seen script (Some 6) opening journal m
+
+pub record TwoAttempts : Type 0 where
+  pub sent : length journal ≡ 24
+  pub keeps : Keeps script (Some 6) opening journal
+  pub setup : Goes script journal Driver Setup 1 (Some 0) (ends.Setup setups.Done)
+  pub first_write : Goes script journal worker Write 2 (Some 0) (ends.Task tasks.Done)
+  pub first_task : Goes script journal worker Commit 3 (Some 0) (ends.Task tasks.Done)
+  pub second_write : Goes script journal other Write 4 None (ends.Task tasks.Done)
+  pub second_task : Goes script journal other Commit 5 None (ends.Task tasks.Done)
+  pub commit : Goes script journal Driver Commit 6 None (ends.Commit commits.Committed)
+  pub clean : Goes script journal Driver Clean 7 None (ends.Clean cleans.Done)
+  -- the second attempt's set replaces that of the first
+  pub first_published : (at 10).last 0 ≡ Some 0
+  pub second_published : (at 17).last 0 ≡ Some 1
+  -- the commit begins with the read of the set, and picks the attempt that published last
+  pub not_begun : (at 17).begun ≡ false
+  pub begun : (at 18).begun ≡ true
+  pub picked : (at 18).picks 0 ≡ Some 1
+  pub picks : all_picks script opening journal the_ends ≡ the_picks
+  -- the marker is put by its last entry, and its end is the one that is due
+  pub unmarked : (at 19).put_mark ≡ false
+  pub marked : (at 20).put_mark ≡ true
+  pub due : commit_due script (at 20).picks None (first_worn 3 (since 6 (by_actor Driver (until 6 journal)))) ≡ commits.Committed
+  -- no live upload is left, and no key in the job's magic directory; the file and the marker stand
+  pub nothing_left : NothingLeft Magic script (moment opening journal 24)
+  pub shown : view script.dest (moment opening journal 24).content (codes "p") ≡ Some (codes "hello")
+  pub stands : object_at (moment opening journal 24).content lake (codes "out/_SUCCESS") ≡ Some (record { bytes = compact_text (success_tree the_mark); header = None })
+  pub verdict : verdict script the_ends ≡ 0
