@@ -1,5 +1,5 @@
 -- A run that is killed between its completions.
-use Rattle.std.proofs.Common.{◌≡◌, ℕ, ◌^◌, ◌<◌, true, List, [], ◌∷◌, ◌++◌, Some, None, Ok, refl, subst, ◌∙◌, inl, inr, codes, lit<}
+use Rattle.std.proofs.Common.{◌≡◌, ℕ, ◌^◌, ◌<◌, true, List, [], ◌∷◌, ◌++◌, Some, None, Ok, refl, sym, ap, subst, ◌∙◌, inl, inr, codes, lit<}
 use Rattle.std.specs.Fmt.{digits}
 use Rattle.json.specs.Print.{escape_byte}
 use Rattle.serde_json.specs.Written.{compact_text}
@@ -13,7 +13,7 @@ use Rattle.job_operations.specs.View.{view, object_at}
 use Rattle.job_promise.specs.Scope.{upload_at}
 use Rattle.worked_runs.specs.Jobs.{lake}
 use Rattle.worked_runs.specs.FourFiles.{script, of_file, the_set, journal, FourFiles}
-use Rattle.worked_runs.specs.Runs.{held, Keeps}
+use Rattle.worked_runs.specs.Runs.{hello, held, Keeps}
 use Rattle.worked_runs.proofs.OneSet.{key_by, set_by, pending_by}
 use Rattle.worked_runs.proofs.Sights.{opens}
 use Rattle.worked_runs.proofs.Owed.{AllGood}
@@ -24,207 +24,98 @@ use Rattle.worked_runs.proofs.Tagged.{hello_is}
 
 goes_well : AllGood script (Some 4) [] (opens empty_book) journal
 unfolding digits
-goes_well = (
-  (refl, tt),
+goes_well =   ((refl, tt),
   refl,
-  (
-    (refl, tt),
-    refl,
-    (
-      (refl, tt),
-      refl,
-      (
-        (refl, tt),
-        refl,
-        (
-          (refl, tt),
-          refl,
-          (
-            (refl, tt),
-            refl,
-            (
-              (refl, tt),
-              refl,
-              (
-                (refl, tt),
-                refl,
-                (
-                  (refl, tt),
-                  refl,
-                  (
-                    (refl, tt),
-                    refl,
-                    (
-                      (refl, tt),
-                      refl,
-                      (
-                        (refl, tt),
-                        refl,
-                        (
-                          (refl, tt),
-                          refl,
-                          (
-                            (refl, tt),
-                            refl,
-                            (
-                              (refl, tt),
-                              refl,
-                              (
-                                (refl, tt),
-                                refl,
-                                (
-                                  (refl, tt),
-                                  refl,
-                                  (
-                                    (refl, tt),
-                                    refl,
-                                    (
-                                      (refl, tt),
-                                      refl,
-                                      (
-                                        (refl, tt),
-                                        refl,
-                                        (
-                                          (refl, tt),
-                                          refl,
-                                          (
-                                            (refl, tt),
-                                            refl,
-                                            (
-                                              (refl, tt),
-                                              refl,
-                                              (
-                                                (refl, tt),
-                                                refl,
-                                                (
-                                                  (refl, tt),
-                                                  refl,
-                                                  (
-                                                    (refl, tt),
-                                                    refl,
-                                                    (
-                                                      ((refl, refl), tt),
-                                                      refl,
-                                                      (
-                                                        ((rw hello_is refl, refl), tt),
-                                                        refl,
-                                                        ((rw hello_is (rw hello_is refl), refl), tt),
-                                                      ),
-                                                    ),
-                                                  ),
-                                                ),
-                                              ),
-                                            ),
-                                          ),
-                                        ),
-                                      ),
-                                    ),
-                                  ),
-                                ),
-                              ),
-                            ),
-                          ),
-                        ),
-                      ),
-                    ),
-                  ),
-                ),
-              ),
-            ),
-          ),
-        ),
-      ),
-    ),
-  ),
-)
+  ((refl, tt),
+  refl,
+  ((refl, tt),
+  refl,
+  ((refl, tt),
+  refl,
+  ((refl, tt),
+  refl,
+  ((refl, tt),
+  refl,
+  ((refl, tt),
+  refl,
+  ((refl, tt),
+  refl,
+  ((refl, tt),
+  refl,
+  ((refl, tt),
+  refl,
+  ((refl, tt),
+  refl,
+  ((refl, tt),
+  refl,
+  ((refl, tt),
+  refl,
+  ((refl, tt),
+  refl,
+  ((refl, tt),
+  refl,
+  ((refl, tt),
+  refl,
+  ((refl, tt),
+  refl,
+  ((refl, tt),
+  refl,
+  ((refl, tt),
+  refl,
+  ((refl, tt),
+  refl,
+  ((refl, tt),
+  refl,
+  ((refl, tt),
+  refl,
+  ((refl, tt),
+  refl,
+  ((refl, tt),
+  refl,
+  ((refl, tt),
+  refl,
+  ((refl, tt),
+  refl,
+  (((refl, refl), tt),
+  refl,
+  (((rw hello_is refl, refl), tt),
+  refl,
+  ((rw hello_is (rw hello_is refl), refl), tt)
+  ))))))))))))))))))))))))))))
 
 steps : Steps [] empty_book journal
 unfolding digits escape_byte
-steps = (
-  record { ours = refl; order = record { objects = tt; uploads = tt; refs = tt; files = tt }; honest = refl; inside = record { objects = refl; uploads = refl }; uncopied = refl; no_data = λ e. refl; shows = inl refl },
-  (
-    record { ours = refl; order = record { objects = tt; uploads = tt; refs = tt; files = tt }; honest = refl; inside = record { objects = refl; uploads = refl }; uncopied = refl; no_data = λ e. refl; shows = inl refl },
-    (
-      record { ours = refl; order = record { objects = tt; uploads = tt; refs = tt; files = tt }; honest = refl; inside = record { objects = refl; uploads = refl }; uncopied = refl; no_data = λ e. refl; shows = inl refl },
-      (
-        record { ours = refl; order = record { objects = tt; uploads = tt; refs = tt; files = tt }; honest = refl; inside = record { objects = refl; uploads = refl }; uncopied = refl; no_data = λ e. absurd (cc); shows = inl refl },
-        (
-          record { ours = refl; order = record { objects = tt; uploads = tt; refs = tt; files = tt }; honest = rw hello_is refl; inside = record { objects = refl; uploads = refl }; uncopied = refl; no_data = λ e. absurd (cc); shows = inl refl },
-          (
-            record { ours = refl; order = record { objects = tt; uploads = tt; refs = tt; files = tt }; honest = refl; inside = record { objects = refl; uploads = refl }; uncopied = refl; no_data = λ e. absurd (cc); shows = inl refl },
-            (
-              record { ours = refl; order = record { objects = tt; uploads = tt; refs = tt; files = tt }; honest = refl; inside = record { objects = refl; uploads = refl }; uncopied = refl; no_data = λ e. absurd (cc); shows = inl refl },
-              (
-                record { ours = refl; order = record { objects = tt; uploads = tt; refs = tt; files = tt }; honest = refl; inside = record { objects = refl; uploads = refl }; uncopied = refl; no_data = λ e. absurd (cc); shows = inl refl },
-                (
-                  record { ours = refl; order = record { objects = tt; uploads = tt; refs = tt; files = tt }; honest = rw hello_is refl; inside = record { objects = refl; uploads = refl }; uncopied = refl; no_data = λ e. absurd (cc); shows = inl refl },
-                  (
-                    record { ours = refl; order = record { objects = tt; uploads = tt; refs = tt; files = tt }; honest = refl; inside = record { objects = refl; uploads = refl }; uncopied = refl; no_data = λ e. absurd (cc); shows = inl refl },
-                    (
-                      record { ours = refl; order = record { objects = tt; uploads = tt; refs = tt; files = tt }; honest = refl; inside = record { objects = refl; uploads = refl }; uncopied = refl; no_data = λ e. absurd (cc); shows = inl refl },
-                      (
-                        record { ours = refl; order = record { objects = tt; uploads = tt; refs = tt; files = tt }; honest = refl; inside = record { objects = refl; uploads = refl }; uncopied = refl; no_data = λ e. absurd (cc); shows = inl refl },
-                        (
-                          record { ours = refl; order = record { objects = tt; uploads = tt; refs = tt; files = tt }; honest = rw hello_is refl; inside = record { objects = refl; uploads = refl }; uncopied = refl; no_data = λ e. absurd (cc); shows = inl refl },
-                          (
-                            record { ours = refl; order = record { objects = tt; uploads = tt; refs = tt; files = tt }; honest = refl; inside = record { objects = refl; uploads = refl }; uncopied = refl; no_data = λ e. absurd (cc); shows = inl refl },
-                            (
-                              record { ours = refl; order = record { objects = tt; uploads = tt; refs = tt; files = tt }; honest = refl; inside = record { objects = refl; uploads = refl }; uncopied = refl; no_data = λ e. absurd (cc); shows = inl refl },
-                              (
-                                record { ours = refl; order = record { objects = tt; uploads = tt; refs = tt; files = tt }; honest = refl; inside = record { objects = refl; uploads = refl }; uncopied = refl; no_data = λ e. absurd (cc); shows = inl refl },
-                                (
-                                  record { ours = refl; order = record { objects = tt; uploads = tt; refs = tt; files = tt }; honest = rw hello_is refl; inside = record { objects = refl; uploads = refl }; uncopied = refl; no_data = λ e. absurd (cc); shows = inl refl },
-                                  (
-                                    record { ours = refl; order = record { objects = tt; uploads = tt; refs = tt; files = tt }; honest = refl; inside = record { objects = refl; uploads = refl }; uncopied = refl; no_data = λ e. absurd (cc); shows = inl refl },
-                                    (
-                                      record { ours = refl; order = record { objects = tt; uploads = tt; refs = tt; files = tt }; honest = refl; inside = record { objects = refl; uploads = refl }; uncopied = refl; no_data = λ e. absurd (cc); shows = inl refl },
-                                      (
-                                        record { ours = refl; order = record { objects = tt; uploads = tt; refs = tt; files = tt }; honest = refl; inside = record { objects = refl; uploads = refl }; uncopied = refl; no_data = λ e. absurd (cc); shows = inl refl },
-                                        (
-                                          record { ours = refl; order = record { objects = tt; uploads = tt; refs = tt; files = tt }; honest = refl; inside = record { objects = refl; uploads = refl }; uncopied = refl; no_data = λ e. absurd (cc); shows = inl refl },
-                                          (
-                                            record { ours = refl; order = record { objects = tt; uploads = tt; refs = tt; files = tt }; honest = refl; inside = record { objects = refl; uploads = refl }; uncopied = refl; no_data = λ e. absurd (cc); shows = inl refl },
-                                            (
-                                              record { ours = refl; order = record { objects = tt; uploads = tt; refs = tt; files = tt }; honest = refl; inside = record { objects = refl; uploads = refl }; uncopied = refl; no_data = λ e. absurd (cc); shows = inl refl },
-                                              (
-                                                record { ours = refl; order = record { objects = tt; uploads = tt; refs = tt; files = tt }; honest = refl; inside = record { objects = refl; uploads = refl }; uncopied = refl; no_data = λ e. absurd (cc); shows = inl refl },
-                                                (
-                                                  record { ours = refl; order = record { objects = tt; uploads = tt; refs = tt; files = tt }; honest = refl; inside = record { objects = refl; uploads = refl }; uncopied = refl; no_data = λ e. absurd (cc); shows = inl refl },
-                                                  (
-                                                    record { ours = refl; order = record { objects = tt; uploads = tt; refs = tt; files = tt }; honest = refl; inside = record { objects = refl; uploads = refl }; uncopied = refl; no_data = λ e. refl; shows = inl refl },
-                                                    (
-                                                      record { ours = refl; order = record { objects = tt; uploads = tt; refs = tt; files = tt }; honest = rw hello_is refl; inside = record { objects = refl; uploads = refl }; uncopied = refl; no_data = λ e. refl; shows = inr (refl, refl, refl) },
-                                                      (
-                                                        record { ours = refl; order = record { objects = rw hello_is tt; uploads = rw hello_is tt; refs = rw hello_is tt; files = tt }; honest = rw hello_is (rw hello_is refl); inside = record { objects = rw hello_is refl; uploads = rw hello_is refl }; uncopied = refl; no_data = λ e. refl; shows = inr (refl, refl, refl) },
-                                                        record { objects = rw hello_is (rw hello_is refl); uploads = rw hello_is (rw hello_is refl) },
-                                                      ),
-                                                    ),
-                                                  ),
-                                                ),
-                                              ),
-                                            ),
-                                          ),
-                                        ),
-                                      ),
-                                    ),
-                                  ),
-                                ),
-                              ),
-                            ),
-                          ),
-                        ),
-                      ),
-                    ),
-                  ),
-                ),
-              ),
-            ),
-          ),
-        ),
-      ),
-    ),
-  ),
-)
+steps =   (record { ours = refl; order = record { objects = tt; uploads = tt; refs = tt; files = tt }; honest = refl; inside = record { objects = refl; uploads = refl }; uncopied = refl; no_data = λ e. refl; shows = inl refl },
+  (record { ours = refl; order = record { objects = tt; uploads = tt; refs = tt; files = tt }; honest = refl; inside = record { objects = refl; uploads = refl }; uncopied = refl; no_data = λ e. refl; shows = inl refl },
+  (record { ours = refl; order = record { objects = tt; uploads = tt; refs = tt; files = tt }; honest = refl; inside = record { objects = refl; uploads = refl }; uncopied = refl; no_data = λ e. refl; shows = inl refl },
+  (record { ours = refl; order = record { objects = tt; uploads = tt; refs = tt; files = tt }; honest = refl; inside = record { objects = refl; uploads = refl }; uncopied = refl; no_data = λ e. absurd (cc); shows = inl refl },
+  (record { ours = refl; order = record { objects = tt; uploads = tt; refs = tt; files = tt }; honest = rw hello_is refl; inside = record { objects = refl; uploads = refl }; uncopied = refl; no_data = λ e. absurd (cc); shows = inl refl },
+  (record { ours = refl; order = record { objects = tt; uploads = tt; refs = tt; files = tt }; honest = refl; inside = record { objects = refl; uploads = refl }; uncopied = refl; no_data = λ e. absurd (cc); shows = inl refl },
+  (record { ours = refl; order = record { objects = tt; uploads = tt; refs = tt; files = tt }; honest = refl; inside = record { objects = refl; uploads = refl }; uncopied = refl; no_data = λ e. absurd (cc); shows = inl refl },
+  (record { ours = refl; order = record { objects = tt; uploads = tt; refs = tt; files = tt }; honest = refl; inside = record { objects = refl; uploads = refl }; uncopied = refl; no_data = λ e. absurd (cc); shows = inl refl },
+  (record { ours = refl; order = record { objects = tt; uploads = tt; refs = tt; files = tt }; honest = rw hello_is refl; inside = record { objects = refl; uploads = refl }; uncopied = refl; no_data = λ e. absurd (cc); shows = inl refl },
+  (record { ours = refl; order = record { objects = tt; uploads = tt; refs = tt; files = tt }; honest = refl; inside = record { objects = refl; uploads = refl }; uncopied = refl; no_data = λ e. absurd (cc); shows = inl refl },
+  (record { ours = refl; order = record { objects = tt; uploads = tt; refs = tt; files = tt }; honest = refl; inside = record { objects = refl; uploads = refl }; uncopied = refl; no_data = λ e. absurd (cc); shows = inl refl },
+  (record { ours = refl; order = record { objects = tt; uploads = tt; refs = tt; files = tt }; honest = refl; inside = record { objects = refl; uploads = refl }; uncopied = refl; no_data = λ e. absurd (cc); shows = inl refl },
+  (record { ours = refl; order = record { objects = tt; uploads = tt; refs = tt; files = tt }; honest = rw hello_is refl; inside = record { objects = refl; uploads = refl }; uncopied = refl; no_data = λ e. absurd (cc); shows = inl refl },
+  (record { ours = refl; order = record { objects = tt; uploads = tt; refs = tt; files = tt }; honest = refl; inside = record { objects = refl; uploads = refl }; uncopied = refl; no_data = λ e. absurd (cc); shows = inl refl },
+  (record { ours = refl; order = record { objects = tt; uploads = tt; refs = tt; files = tt }; honest = refl; inside = record { objects = refl; uploads = refl }; uncopied = refl; no_data = λ e. absurd (cc); shows = inl refl },
+  (record { ours = refl; order = record { objects = tt; uploads = tt; refs = tt; files = tt }; honest = refl; inside = record { objects = refl; uploads = refl }; uncopied = refl; no_data = λ e. absurd (cc); shows = inl refl },
+  (record { ours = refl; order = record { objects = tt; uploads = tt; refs = tt; files = tt }; honest = rw hello_is refl; inside = record { objects = refl; uploads = refl }; uncopied = refl; no_data = λ e. absurd (cc); shows = inl refl },
+  (record { ours = refl; order = record { objects = tt; uploads = tt; refs = tt; files = tt }; honest = refl; inside = record { objects = refl; uploads = refl }; uncopied = refl; no_data = λ e. absurd (cc); shows = inl refl },
+  (record { ours = refl; order = record { objects = tt; uploads = tt; refs = tt; files = tt }; honest = refl; inside = record { objects = refl; uploads = refl }; uncopied = refl; no_data = λ e. absurd (cc); shows = inl refl },
+  (record { ours = refl; order = record { objects = tt; uploads = tt; refs = tt; files = tt }; honest = refl; inside = record { objects = refl; uploads = refl }; uncopied = refl; no_data = λ e. absurd (cc); shows = inl refl },
+  (record { ours = refl; order = record { objects = tt; uploads = tt; refs = tt; files = tt }; honest = refl; inside = record { objects = refl; uploads = refl }; uncopied = refl; no_data = λ e. absurd (cc); shows = inl refl },
+  (record { ours = refl; order = record { objects = tt; uploads = tt; refs = tt; files = tt }; honest = refl; inside = record { objects = refl; uploads = refl }; uncopied = refl; no_data = λ e. absurd (cc); shows = inl refl },
+  (record { ours = refl; order = record { objects = tt; uploads = tt; refs = tt; files = tt }; honest = refl; inside = record { objects = refl; uploads = refl }; uncopied = refl; no_data = λ e. absurd (cc); shows = inl refl },
+  (record { ours = refl; order = record { objects = tt; uploads = tt; refs = tt; files = tt }; honest = refl; inside = record { objects = refl; uploads = refl }; uncopied = refl; no_data = λ e. absurd (cc); shows = inl refl },
+  (record { ours = refl; order = record { objects = tt; uploads = tt; refs = tt; files = tt }; honest = refl; inside = record { objects = refl; uploads = refl }; uncopied = refl; no_data = λ e. absurd (cc); shows = inl refl },
+  (record { ours = refl; order = record { objects = tt; uploads = tt; refs = tt; files = tt }; honest = refl; inside = record { objects = refl; uploads = refl }; uncopied = refl; no_data = λ e. refl; shows = inl refl },
+  (record { ours = refl; order = record { objects = tt; uploads = tt; refs = tt; files = tt }; honest = rw hello_is refl; inside = record { objects = refl; uploads = refl }; uncopied = refl; no_data = λ e. refl; shows = inr (refl, refl, refl) },
+  (record { ours = refl; order = record { objects = rw hello_is tt; uploads = rw hello_is tt; refs = rw hello_is tt; files = tt }; honest = rw hello_is (rw hello_is refl); inside = record { objects = rw hello_is refl; uploads = rw hello_is refl }; uncopied = refl; no_data = λ e. refl; shows = inr (refl, refl, refl) },
+  record { objects = rw hello_is (rw hello_is refl); uploads = rw hello_is (rw hello_is refl) }
+  ))))))))))))))))))))))))))))
+
 
 path_a : is_key_path (codes "out/a") ≡ true
 unfolding parts_from
@@ -243,7 +134,7 @@ unfolding parts_from
 path_d = refl
 
 by_path : (path : List ℕ) (id : ℕ) → id < 2 ^ 64 → is_key (codes "out/" ++ path) ≡ true → IsPending (of_file path id)
-by_path path id i k = pending_by 0 0 path id (lit< tt) (lit< tt) i k
+by_path path id i k = pending_by hello 0 0 path id refl (lit< tt) (lit< tt) i k
 
 set_is_read : set_of (compact_text (set_tree the_set)) ≡ Ok the_set
 set_is_read = set_by 0 0 (of_file (codes "a") 1 ∷ of_file (codes "b") 2 ∷ of_file (codes "c") 3 ∷ of_file (codes "d") 4 ∷ []) (lit< tt) (lit< tt) (
@@ -260,9 +151,9 @@ four_files = record {
   sent = refl;
   event = refl;
   keeps = subst (λ c. Keeps script (Some 4) c journal) opening_is (kept_by script refl (Some 4) [] empty_book journal goes_well steps);
-  setup = ((refl, (refl, (refl, tt))), refl);
-  write = ((refl, (refl, (refl, (refl, (refl, (refl, (refl, (refl, (refl, (refl, (refl, (refl, (refl, (refl, (refl, (refl, tt)))))))))))))))), refl);
-  task = ((refl, (refl, (refl, (refl, (refl, (refl, tt)))))), refl);
+  setup = record { event = refl; may = refl; doing = refl; follows = (refl, (refl, (refl, tt))); over = refl; has_ended = refl };
+  write = record { event = refl; may = refl; doing = refl; follows = (refl, (refl, (refl, (refl, (refl, (refl, (refl, (refl, (refl, (refl, (refl, (refl, (refl, (refl, (refl, (refl, tt)))))))))))))))); over = refl; has_ended = refl };
+  task = record { event = refl; may = refl; doing = refl; follows = (refl, (refl, (refl, (refl, (refl, (refl, tt)))))); over = refl; has_ended = refl };
   commit = rw set_is_read (refl, (refl, (refl, tt)));
   unended = rw set_is_read refl;
   not_begun = refl;

@@ -11,11 +11,11 @@ use Rattle.serde_json.specs.Written.{compact_text}
 use Rattle.s3_types.specs.Names.{is_key_path, is_key}
 use Rattle.pending_json.specs.Trees.{set_tree}
 use Rattle.pending_json.specs.Records.{IsPending, IsSet}
-use Rattle.pending_json.specs.Pending.{Pending}
+use Rattle.pending_json.specs.Pending.{Pending, are_tags}
 use Rattle.pending_json.specs.Reading.{set_of as read}
 use Rattle.pending_json.proofs.RoundTrip.{set_text}
 use Rattle.worked_runs.specs.OneFile.{the_record, the_set}
-use Rattle.worked_runs.specs.Runs.{upload, set_of}
+use Rattle.worked_runs.specs.Runs.{Text, upload, set_of}
 
 small_byte : (b : ℕ) → nat_lt b 128 ≡ true → b < 128
 small_byte b h = grind (arith, nat_tests)
@@ -50,5 +50,5 @@ set_is_read = set_text the_set is_set
 pub set_by : (task attempt : ℕ) (us : List Pending) → task < 2 ^ 32 → attempt < 2 ^ 32 → AllByRecursion IsPending us → read (compact_text (set_tree (set_of task attempt us))) ≡ Ok (set_of task attempt us)
 set_by task attempt us t a h = set_text (set_of task attempt us) (record { job = small_utf8 (codes "j1") refl; task = t; attempt = a; commits = h })
 
-pub pending_by : (task attempt : ℕ) (path : List ℕ) (id : ℕ) → task < 2 ^ 32 → attempt < 2 ^ 32 → id < 2 ^ 64 → is_key (codes "out/" ++ path) ≡ true → IsPending (upload task attempt path id)
-pending_by task attempt path id t a i k = record { task = t; attempt = a; bucket = refl; destination = k; upload = i; length = lit< tt; tags = refl; sizes = refl }
+pub pending_by : (text : Text) (task attempt : ℕ) (path : List ℕ) (id : ℕ) → are_tags (text.tag ∷ []) ≡ true → task < 2 ^ 32 → attempt < 2 ^ 32 → id < 2 ^ 64 → is_key (codes "out/" ++ path) ≡ true → IsPending (upload text task attempt path id)
+pending_by text task attempt path id g t a i k = record { task = t; attempt = a; bucket = refl; destination = k; upload = i; length = lit< tt; tags = g; sizes = refl }

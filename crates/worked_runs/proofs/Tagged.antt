@@ -5,6 +5,7 @@ use Rattle.hex.specs.Hex.{encode_lower, encode_with}
 use Rattle.md5.specs.Md5.{md5, initial_hash, round, rounds, step_fn, step_constants, step_shifts, word_place, compress, add_state, block_words, hash_after, digest_bytes, padded_message}
 use Rattle.s3_types.specs.Tags.{Spelled, plain_tag}
 use Rattle.worked_runs.specs.Jobs.{hello_tag}
+use Rattle.worked_runs.specs.TwoAttempts.{world}
 
 -- ---- a digest, step by step: as `md5` says it, but that each step is worked out once
 
@@ -48,3 +49,7 @@ tag_is m = ap (λ h. record { digits = encode_lower (digest_bytes h 4); parts = 
 pub hello_is : plain_tag (codes "hello") ≡ hello_tag
 unfolding digest_bytes block_words encode_with
 hello_is = tag_is (codes "hello") ∙ refl
+
+pub world_is : plain_tag (codes "world") ≡ world.tag
+unfolding digest_bytes block_words encode_with
+world_is = tag_is (codes "world") ∙ refl

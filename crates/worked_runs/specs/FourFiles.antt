@@ -27,7 +27,7 @@ use Rattle.job_promise.specs.Turns.{by_actor}
 use Rattle.worked_runs.specs.Jobs.{lake, job, attempt, worker}
 use Rattle.worked_runs.specs.OneFile.{opening, setup_entries, doing}
 use Rattle.worked_runs.specs.RefusedEnds.{completes}
-use Rattle.worked_runs.specs.Runs.{upload, set_of, held, writes, lists, reads_record, puts_set, reads_set, setting, Goes, Keeps}
+use Rattle.worked_runs.specs.Runs.{hello, upload, set_of, held, writes, lists, reads_record, puts_set, reads_set, setting, Goes, Keeps}
 
 abbrev pub script : Script
 script = job Magic Append 1 3 1
@@ -42,7 +42,7 @@ set_key = codes "out/__magic/job-j1/sets/task_0.pendingset"
 
 -- the upload of a file
 abbrev pub of_file : List ℕ → ℕ → Pending
-of_file path id = upload 0 0 path id
+of_file path id = upload hello 0 0 path id
 
 abbrev pub the_set : PendingSet
 the_set = set_of 0 0 (of_file (codes "a") 1 ∷ of_file (codes "b") 2 ∷ of_file (codes "c") 3 ∷ of_file (codes "d") 4 ∷ [])
@@ -55,10 +55,10 @@ listed path others = Listed (directory ++ path) 0 ∷ Listed (directory ++ path 
 abbrev pub journal : List Entry
 journal =
     setup_entries
-    ++ writes 2 worker directory (codes "a") (of_file (codes "a") 1)
-    ++ writes 2 worker directory (codes "b") (of_file (codes "b") 2)
-    ++ writes 2 worker directory (codes "c") (of_file (codes "c") 3)
-    ++ writes 2 worker directory (codes "d") (of_file (codes "d") 4)
+    ++ writes hello 2 worker directory (codes "a") (of_file (codes "a") 1)
+    ++ writes hello 2 worker directory (codes "b") (of_file (codes "b") 2)
+    ++ writes hello 2 worker directory (codes "c") (of_file (codes "c") 3)
+    ++ writes hello 2 worker directory (codes "d") (of_file (codes "d") 4)
     ++ lists 3 worker directory (listed (codes "a") (listed (codes "b") (listed (codes "c") (listed (codes "d") []))))
     ∷ reads_record 3 worker directory (codes "a") (of_file (codes "a") 1)
     ∷ reads_record 3 worker directory (codes "b") (of_file (codes "b") 2)
@@ -81,9 +81,9 @@ pub record FourFiles : Type 0 where
   pub sent : length journal ≡ 28
   pub event : commit_event script the_ends ≡ Some 4
   pub keeps : Keeps script (Some 4) opening journal
-  pub setup : Goes script journal Driver Setup 1 (Some 0) (ends.Setup setups.Done)
-  pub write : Goes script journal worker Write 2 (Some 0) (ends.Task tasks.Done)
-  pub task : Goes script journal worker Commit 3 (Some 0) (ends.Task tasks.Done)
+  pub setup : Goes script the_ends journal Driver Setup 1 (Some 0) (ends.Setup setups.Done)
+  pub write : Goes script the_ends journal worker Write 2 (Some 0) (ends.Task tasks.Done)
+  pub task : Goes script the_ends journal worker Commit 3 (Some 0) (ends.Task tasks.Done)
   -- the commit follows as far as it went, and is not over
   pub commit : OpFollows (setting script) Driver (doing Commit 4 None) (by_actor Driver journal)
   pub unended : op_over (setting script) Driver (doing Commit 4 None) (by_actor Driver journal) ≡ None

@@ -25,7 +25,7 @@ use Rattle.job_operations.specs.View.{view, object_at}
 use Rattle.job_promise.specs.Ends.{commit_due}
 use Rattle.job_promise.specs.Scope.{upload_at}
 use Rattle.job_promise.specs.Seen.{Seen, seen}
-use Rattle.job_promise.specs.States.{verdict}
+use Rattle.job_promise.specs.States.{commit_event, verdict}
 use Rattle.job_promise.specs.Turns.{by_actor, since}
 use Rattle.worked_runs.specs.Jobs.{lake, worker, entry}
 use Rattle.worked_runs.specs.OneFile as one
@@ -69,19 +69,20 @@ at m = seen script (Some 5) opening journal m
 
 pub record LostSet : Type 0 where
   pub sent : length journal ≡ 11
+  pub event : commit_event script the_ends ≡ Some 5
   pub keeps : Keeps script (Some 5) opening journal
-  pub setup : Goes script journal Driver Setup 1 (Some 0) (ends.Setup setups.Done)
-  pub write : Goes script journal worker Write 2 (Some 0) (ends.Task tasks.Done)
+  pub setup : Goes script the_ends journal Driver Setup 1 (Some 0) (ends.Setup setups.Done)
+  pub write : Goes script the_ends journal worker Write 2 (Some 0) (ends.Task tasks.Done)
   -- the put wears out with its second sending
-  pub task : Goes script journal worker Commit 3 (Some 0) (ends.Task tasks.StoreFault)
+  pub task : Goes script the_ends journal worker Commit 3 (Some 0) (ends.Task tasks.StoreFault)
   pub worn : first_worn 1 (since 3 (by_actor worker journal)) ≡ Some set_put
   -- the set was published all the same, so the abort keeps it, without a request
   pub published : (at 10).last 0 ≡ Some 0
-  pub abort : Goes script journal worker Abort 4 (Some 0) (ends.Task tasks.Kept)
+  pub abort : Goes script the_ends journal worker Abort 4 (Some 0) (ends.Task tasks.Kept)
   pub stands : object_at (moment opening journal 11).content lake (codes "out/__magic/job-j1/sets/task_0.pendingset") ≡ Some (record { bytes = compact_text (set_tree the_set); header = None })
   pub live : upload_at (moment opening journal 11).content lake 1 ≡ Some (held (codes "part-00000"))
   -- the task was not reported, so the job's commit misses it, without a request, and its end is the one that is due
-  pub commit : Goes script journal Driver Commit 5 (Some 0) (ends.Commit (commits.Missing 0))
+  pub commit : Goes script the_ends journal Driver Commit 5 (Some 0) (ends.Commit (commits.Missing 0))
   pub not_begun : (at 11).begun ≡ false
   pub unpicked : (at 11).picks 0 ≡ None
   pub due : commit_due script (at 11).picks (Some 0) (first_worn 1 (since 5 (by_actor Driver journal))) ≡ commits.Missing 0

@@ -1,10 +1,10 @@
--- What attempts and the driver of a job send for files of `hello`, and what whole runs of them keep.
-use Rattle.std.specs.Prelude.{◌≡◌, ℕ, false, List, [], ◌∷◌, ◌++◌, Option, Some, None, codes}
+-- What attempts and the driver of a job send for files of five bytes, and what whole runs of them keep.
+use Rattle.std.specs.Prelude.{◌≡◌, ℕ, ◌-◌, false, List, [], ◌∷◌, ◌++◌, take, slice_get, Option, Some, None, codes}
 use Rattle.std.specs.FinMap as fin
 use Rattle.serde_json.specs.Written.{compact_text}
 use Rattle.s3_types.specs.Moment.{IsHonest}
 use Rattle.s3_types.specs.Store.{Content, Upload as Live}
-use Rattle.s3_types.specs.Tags.{plain_tag}
+use Rattle.s3_types.specs.Tags.{Spelled, plain_tag, joined_tag}
 use Rattle.s3_types.specs.declared.request.Actor.{Actor}
 use Rattle.s3_types.specs.declared.request.Actor.TheVariants.{Driver}
 use Rattle.s3_types.specs.declared.request.Request.TheVariants.{PutObject, GetObject, ListPage, CreateUpload, UploadPart}
@@ -16,20 +16,32 @@ use Rattle.pending_json.specs.Trees.{pending_tree, set_tree}
 use Rattle.pending_json.specs.declared.records.PendingSet.{PendingSet}
 use Rattle.job_model.specs.JobScript.{Script}
 use Rattle.job_model.specs.declared.events.Op.{Op}
+use Rattle.job_model.specs.declared.events.Event.TheVariants.{Do}
 use Rattle.job_model.specs.declared.ends.OpEnd.{OpEnd}
+use Rattle.job_model.specs.declared.ends.EventEnd.{EventEnd}
+use Rattle.job_model.specs.declared.ends.EventEnd.TheVariants.{Ended}
 use Rattle.job_operations.specs.Operations.{Setting}
 use Rattle.job_promise.specs.Headline.{Always}
 use Rattle.job_promise.specs.Entries.{ZeroRename, OutsideStays}
 use Rattle.job_promise.specs.Follows.{OpFollows, op_over}
+use Rattle.job_promise.specs.States.{past, refusal}
 use Rattle.job_promise.specs.Turns.{until, by_actor}
 use Rattle.worked_runs.specs.Jobs.{lake, said, hello_tag}
-use Rattle.worked_runs.specs.OneFile.{doing}
+use Rattle.worked_runs.specs.OneFile.{doing as begun_so}
 
 -- ---- requests
 
+-- a text of five bytes with its tag
+pub record Text : Type 0 where
+  pub bytes : List ℕ
+  pub tag : Spelled
+
+abbrev pub hello : Text
+hello = record { bytes = codes "hello"; tag = hello_tag }
+
 -- the pending upload of a task's attempt for a file, and the set of these
-abbrev pub upload : ℕ → ℕ → List ℕ → ℕ → Pending
-upload task attempt path id = record { task = task; attempt = attempt; bucket = lake; destination = codes "out/" ++ path; upload = id; length = 5; tags = hello_tag ∷ []; sizes = Some (5 ∷ []) }
+abbrev pub upload : Text → ℕ → ℕ → List ℕ → ℕ → Pending
+upload text task attempt path id = record { task = task; attempt = attempt; bucket = lake; destination = codes "out/" ++ path; upload = id; length = 5; tags = text.tag ∷ []; sizes = Some (5 ∷ []) }
 
 abbrev pub set_of : ℕ → ℕ → List Pending → PendingSet
 set_of task attempt uploads = record { job = codes "j1"; task = task; attempt = attempt; commits = uploads }
@@ -49,10 +61,10 @@ abbrev pub lists : ℕ → Actor → List ℕ → List PageEntry → Entry
 lists k a prefix found = said k a (ListPage lake prefix false [] 1000) (Page found false)
 
 -- a file's upload, its part, its marker and its record, below the attempt's directory
-abbrev pub writes : ℕ → Actor → List ℕ → List ℕ → Pending → List Entry
-writes k a directory path u =
+abbrev pub writes : Text → ℕ → Actor → List ℕ → List ℕ → Pending → List Entry
+writes text k a directory path u =
     said k a (CreateUpload lake u.destination) (Upload u.upload)
-    ∷ said k a (UploadPart lake u.destination u.upload 1 (codes "hello")) (Part hello_tag)
+    ∷ said k a (UploadPart lake u.destination u.upload 1 text.bytes) (Part text.tag)
     ∷ said k a (PutObject lake (directory ++ path) [] (Some 5)) (Stored (plain_tag []))
     ∷ puts k a (directory ++ path ++ codes ".pending") (compact_text (pending_tree u))
     ∷ []
@@ -71,13 +83,15 @@ reads_set k key s = reads k Driver key (compact_text (set_tree s))
 abbrev pub setting : Script → Setting
 setting w = record { script = w; minimum = 5242880 }
 
--- the actor's entries up to its event are what its operation asks
-abbrev pub Follows : Script → List Entry → Actor → Op → ℕ → Option ℕ → Type 0
-Follows w journal a op k missing = OpFollows (setting w) a (doing op k missing) (by_actor a (until k journal))
-
--- and they lead to this end
-abbrev pub Goes : Script → List Entry → Actor → Op → ℕ → Option ℕ → OpEnd → Type 0
-Goes w journal a op k missing end = Follows w journal a op k missing × (op_over (setting w) a (doing op k missing) (by_actor a (until k journal)) ≡ Some end)
+-- Event k, where the events had these ends: it has the actor do a whole operation, as it may, with this task missing then.
+-- The actor's entries up to there are what the operation asks, they lead to this end, and the event has it.
+pub record Goes (w : Script) (xs : List EventEnd) (journal : List Entry) (a : Actor) (op : Op) (k : ℕ) (missing : Option ℕ) (end : OpEnd) : Type 0 where
+  pub event : slice_get w.events (k - 1) ≡ Some (Do a op)
+  pub may : refusal (past w (take (k - 1) xs)).state (Do a op) ≡ None
+  pub doing : (past w (take k xs)).doing a ≡ Some (begun_so op k missing)
+  pub follows : OpFollows (setting w) a (begun_so op k missing) (by_actor a (until k journal))
+  pub over : op_over (setting w) a (begun_so op k missing) (by_actor a (until k journal)) ≡ Some end
+  pub has_ended : slice_get xs (k - 1) ≡ Some (Ended end)
 
 -- What is kept of a run whose commit is this event.
 pub record Keeps (w : Script) (commit : Option ℕ) (opening : Content) (journal : List Entry) : Type 0 where

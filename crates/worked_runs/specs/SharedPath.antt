@@ -23,11 +23,11 @@ use Rattle.job_operations.specs.View.{view}
 use Rattle.job_promise.specs.Ends.{commit_due}
 use Rattle.job_promise.specs.Scope.{upload_at}
 use Rattle.job_promise.specs.Seen.{Seen, seen}
-use Rattle.job_promise.specs.States.{verdict}
+use Rattle.job_promise.specs.States.{commit_event, verdict}
 use Rattle.job_promise.specs.Turns.{by_actor, since}
 use Rattle.worked_runs.specs.Jobs.{lake, job, attempt, worker}
 use Rattle.worked_runs.specs.OneFile.{opening, setup_entries}
-use Rattle.worked_runs.specs.Runs.{upload, set_of, held, writes, lists, reads_record, puts_set, reads_set, Goes, Keeps}
+use Rattle.worked_runs.specs.Runs.{hello, upload, set_of, held, writes, lists, reads_record, puts_set, reads_set, Goes, Keeps}
 
 abbrev pub other : Actor
 other = Attempt 1 0
@@ -44,10 +44,10 @@ abbrev pub second_directory : List ℕ
 second_directory = codes "out/__magic/job-j1/tasks/1_0/__base/"
 
 abbrev pub first_upload : Pending
-first_upload = upload 0 0 (codes "p") 1
+first_upload = upload hello 0 0 (codes "p") 1
 
 abbrev pub second_upload : Pending
-second_upload = upload 1 0 (codes "p") 2
+second_upload = upload hello 1 0 (codes "p") 2
 
 abbrev pub first_set : PendingSet
 first_set = set_of 0 0 (first_upload ∷ [])
@@ -67,8 +67,8 @@ commits_task k a directory u key s =
 abbrev pub journal : List Entry
 journal =
     setup_entries
-    ++ writes 2 worker first_directory (codes "p") first_upload
-    ++ writes 3 other second_directory (codes "p") second_upload
+    ++ writes hello 2 worker first_directory (codes "p") first_upload
+    ++ writes hello 3 other second_directory (codes "p") second_upload
     ++ commits_task 4 worker first_directory first_upload (codes "out/__magic/job-j1/sets/task_0.pendingset") first_set
     ++ commits_task 5 other second_directory second_upload (codes "out/__magic/job-j1/sets/task_1.pendingset") second_set
     ++ reads_set 6 (codes "out/__magic/job-j1/sets/task_0.pendingset") first_set
@@ -87,13 +87,14 @@ at m = seen script (Some 6) opening journal m
 
 pub record SharedPath : Type 0 where
   pub sent : length journal ≡ 19
+  pub event : commit_event script the_ends ≡ Some 6
   pub keeps : Keeps script (Some 6) opening journal
-  pub setup : Goes script journal Driver Setup 1 (Some 0) (ends.Setup setups.Done)
-  pub first_write : Goes script journal worker Write 2 (Some 0) (ends.Task tasks.Done)
-  pub second_write : Goes script journal other Write 3 (Some 0) (ends.Task tasks.Done)
-  pub first_task : Goes script journal worker Commit 4 (Some 0) (ends.Task tasks.Done)
-  pub second_task : Goes script journal other Commit 5 (Some 1) (ends.Task tasks.Done)
-  pub commit : Goes script journal Driver Commit 6 None (ends.Commit (commits.SamePath (codes "p") 0 1))
+  pub setup : Goes script the_ends journal Driver Setup 1 (Some 0) (ends.Setup setups.Done)
+  pub first_write : Goes script the_ends journal worker Write 2 (Some 0) (ends.Task tasks.Done)
+  pub second_write : Goes script the_ends journal other Write 3 (Some 0) (ends.Task tasks.Done)
+  pub first_task : Goes script the_ends journal worker Commit 4 (Some 0) (ends.Task tasks.Done)
+  pub second_task : Goes script the_ends journal other Commit 5 (Some 1) (ends.Task tasks.Done)
+  pub commit : Goes script the_ends journal Driver Commit 6 None (ends.Commit (commits.SamePath (codes "p") 0 1))
   -- the commit begins with the read of the first set, and has picked both tasks with that of the second
   pub not_begun : (at 17).begun ≡ false
   pub begun : (at 18).begun ≡ true

@@ -26,7 +26,7 @@ use Rattle.job_operations.specs.View.{view}
 use Rattle.job_promise.specs.Ends.{commit_due}
 use Rattle.job_promise.specs.Headline.{Same}
 use Rattle.job_promise.specs.Seen.{Seen, seen}
-use Rattle.job_promise.specs.States.{verdict}
+use Rattle.job_promise.specs.States.{commit_event, verdict}
 use Rattle.job_promise.specs.Turns.{by_actor, since}
 use Rattle.worked_runs.specs.Jobs.{lake, job, attempt, worker, said}
 use Rattle.worked_runs.specs.Runs.{Goes, Keeps}
@@ -63,14 +63,15 @@ at m = seen script (Some 5) opening journal m
 
 pub record Taken : Type 0 where
   pub sent : length journal ≡ 3
+  pub event : commit_event script the_ends ≡ Some 5
   pub keeps : Keeps script (Some 5) opening journal
-  pub setup : Goes script journal Driver Setup 1 (Some 0) (ends.Setup setups.Done)
-  pub write : Goes script journal worker Write 2 (Some 0) (ends.Task tasks.Done)
-  pub task : Goes script journal worker Commit 3 (Some 0) (ends.Task (tasks.Conflict (codes "d=1")))
+  pub setup : Goes script the_ends journal Driver Setup 1 (Some 0) (ends.Setup setups.Done)
+  pub write : Goes script the_ends journal worker Write 2 (Some 0) (ends.Task tasks.Done)
+  pub task : Goes script the_ends journal worker Commit 3 (Some 0) (ends.Task (tasks.Conflict (codes "d=1")))
   -- the attempt has nothing to abort, and does not keep anything
-  pub abort : Goes script journal worker Abort 4 (Some 0) (ends.Task tasks.Done)
+  pub abort : Goes script the_ends journal worker Abort 4 (Some 0) (ends.Task tasks.Done)
   -- the job's commit misses the task, and its end is the one that is due
-  pub commit : Goes script journal Driver Commit 5 (Some 0) (ends.Commit (commits.Missing 0))
+  pub commit : Goes script the_ends journal Driver Commit 5 (Some 0) (ends.Commit (commits.Missing 0))
   pub unpublished : (at 3).last 0 ≡ None
   pub not_begun : (at 3).begun ≡ false
   pub due : commit_due script (at 3).picks (Some 0) (first_worn 3 (since 5 (by_actor Driver journal))) ≡ commits.Missing 0

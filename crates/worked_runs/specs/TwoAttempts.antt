@@ -1,11 +1,12 @@
--- The run of one task with two attempts that commit one after the other: the job's commit picks the later one, and a clean leaves nothing behind.
+-- The run of one task with two attempts that commit one after the other: the job's commit picks and shows the later one, and a clean leaves nothing behind.
 use Rattle.std.specs.Prelude.{◌≡◌, ℕ, true, false, List, [], ◌∷◌, ◌++◌, length, Some, None, codes}
 use Rattle.serde_json.specs.Written.{compact_text}
 use Rattle.s3_types.specs.Moment.{moment}
+use Rattle.s3_types.specs.Tags.{joined_tag}
 use Rattle.s3_types.specs.declared.request.Actor.{Actor}
 use Rattle.s3_types.specs.declared.request.Actor.TheVariants.{Driver, Attempt}
-use Rattle.s3_types.specs.declared.request.Request.TheVariants.{DeleteObjects, AbortUpload, ListUploads}
-use Rattle.s3_types.specs.declared.reply.Reply.TheVariants.{Deleted, Aborted, Uploads}
+use Rattle.s3_types.specs.declared.request.Request.TheVariants.{DeleteObjects, CompleteUpload, AbortUpload, ListUploads}
+use Rattle.s3_types.specs.declared.reply.Reply.TheVariants.{Deleted, Completed, Aborted, Uploads}
 use Rattle.s3_types.specs.declared.request.Committer.TheVariants.{Magic}
 use Rattle.s3_types.specs.declared.request.Mode.TheVariants.{Append}
 use Rattle.s3_types.specs.declared.reply.PageEntry.TheVariants.{Object as Listed}
@@ -31,19 +32,21 @@ use Rattle.job_promise.specs.Ends.{commit_due}
 use Rattle.job_promise.specs.Promise.{all_picks}
 use Rattle.job_promise.specs.Scope.{NothingLeft}
 use Rattle.job_promise.specs.Seen.{Seen, seen}
-use Rattle.job_promise.specs.States.{verdict}
+use Rattle.job_promise.specs.States.{commit_event, verdict}
 use Rattle.job_promise.specs.Turns.{by_actor, since, until}
 use Rattle.worked_runs.specs.Jobs.{lake, job, attempt, worker, said}
 use Rattle.worked_runs.specs.OneFile.{opening, setup_entries}
-use Rattle.worked_runs.specs.RefusedEnds.{completes}
-use Rattle.worked_runs.specs.Runs.{upload, set_of, writes, lists, reads_record, puts, puts_set, reads_set, Goes, Keeps}
+use Rattle.worked_runs.specs.Runs.{Text, hello, upload, set_of, writes, lists, reads_record, puts, puts_set, reads_set, Goes, Keeps}
+
+abbrev pub world : Text
+world = record { bytes = codes "world"; tag = record { digits = codes "7d793037a0760186574b0282f2f435e7"; parts = 0 } }
 
 abbrev pub other : Actor
 other = Attempt 0 1
 
 abbrev pub script : Script
 script = job Magic Append 1 3 1
-    (attempt 0 0 ((codes "p", codes "hello") ∷ []) ∷ attempt 0 1 ((codes "p", codes "hello") ∷ []) ∷ [])
+    (attempt 0 0 ((codes "p", codes "hello") ∷ []) ∷ attempt 0 1 ((codes "p", codes "world") ∷ []) ∷ [])
     (Do Driver Setup ∷ Do worker Write ∷ Do worker Commit ∷ Do other Write ∷ Do other Commit ∷ Do Driver Commit ∷ Do Driver Clean ∷ [])
 
 abbrev pub first_directory : List ℕ
@@ -56,10 +59,10 @@ abbrev pub set_key : List ℕ
 set_key = codes "out/__magic/job-j1/sets/task_0.pendingset"
 
 abbrev pub first_upload : Pending
-first_upload = upload 0 0 (codes "p") 1
+first_upload = upload hello 0 0 (codes "p") 1
 
 abbrev pub second_upload : Pending
-second_upload = upload 0 1 (codes "p") 2
+second_upload = upload world 0 1 (codes "p") 2
 
 abbrev pub first_set : PendingSet
 first_set = set_of 0 0 (first_upload ∷ [])
@@ -81,7 +84,7 @@ commits_task k a directory u s =
 abbrev pub commit_entries : List Entry
 commit_entries =
     reads_set 6 set_key second_set
-    ∷ completes 6 (codes "out/p") 2
+    ∷ said 6 Driver (CompleteUpload lake (codes "out/p") 2 (record { number = 1; tag = world.tag } ∷ [])) (Completed (joined_tag (world.tag ∷ [])))
     ∷ puts 6 Driver (codes "out/_SUCCESS") (compact_text (success_tree the_mark))
     ∷ []
 
@@ -103,9 +106,9 @@ clean_entries =
 abbrev pub journal : List Entry
 journal =
     setup_entries
-    ++ writes 2 worker first_directory (codes "p") first_upload
+    ++ writes hello 2 worker first_directory (codes "p") first_upload
     ++ commits_task 3 worker first_directory first_upload first_set
-    ++ writes 4 other second_directory (codes "p") second_upload
+    ++ writes world 4 other second_directory (codes "p") second_upload
     ++ commits_task 5 other second_directory second_upload second_set
     ++ commit_entries
     ++ clean_entries
@@ -125,14 +128,15 @@ at m = seen script (Some 6) opening journal m
 
 pub record TwoAttempts : Type 0 where
   pub sent : length journal ≡ 24
+  pub event : commit_event script the_ends ≡ Some 6
   pub keeps : Keeps script (Some 6) opening journal
-  pub setup : Goes script journal Driver Setup 1 (Some 0) (ends.Setup setups.Done)
-  pub first_write : Goes script journal worker Write 2 (Some 0) (ends.Task tasks.Done)
-  pub first_task : Goes script journal worker Commit 3 (Some 0) (ends.Task tasks.Done)
-  pub second_write : Goes script journal other Write 4 None (ends.Task tasks.Done)
-  pub second_task : Goes script journal other Commit 5 None (ends.Task tasks.Done)
-  pub commit : Goes script journal Driver Commit 6 None (ends.Commit commits.Committed)
-  pub clean : Goes script journal Driver Clean 7 None (ends.Clean cleans.Done)
+  pub setup : Goes script the_ends journal Driver Setup 1 (Some 0) (ends.Setup setups.Done)
+  pub first_write : Goes script the_ends journal worker Write 2 (Some 0) (ends.Task tasks.Done)
+  pub first_task : Goes script the_ends journal worker Commit 3 (Some 0) (ends.Task tasks.Done)
+  pub second_write : Goes script the_ends journal other Write 4 None (ends.Task tasks.Done)
+  pub second_task : Goes script the_ends journal other Commit 5 None (ends.Task tasks.Done)
+  pub commit : Goes script the_ends journal Driver Commit 6 None (ends.Commit commits.Committed)
+  pub clean : Goes script the_ends journal Driver Clean 7 None (ends.Clean cleans.Done)
   -- the second attempt's set replaces that of the first
   pub first_published : (at 10).last 0 ≡ Some 0
   pub second_published : (at 17).last 0 ≡ Some 1
@@ -147,6 +151,6 @@ pub record TwoAttempts : Type 0 where
   pub due : commit_due script (at 20).picks None (first_worn 3 (since 6 (by_actor Driver (until 6 journal)))) ≡ commits.Committed
   -- no live upload is left, and no key in the job's magic directory; the file and the marker stand
   pub nothing_left : NothingLeft Magic script (moment opening journal 24)
-  pub shown : view script.dest (moment opening journal 24).content (codes "p") ≡ Some (codes "hello")
+  pub shown : view script.dest (moment opening journal 24).content (codes "p") ≡ Some (codes "world")
   pub stands : object_at (moment opening journal 24).content lake (codes "out/_SUCCESS") ≡ Some (record { bytes = compact_text (success_tree the_mark); header = None })
   pub verdict : verdict script the_ends ≡ 0
