@@ -1,5 +1,5 @@
 -- A run that is killed between its completions.
-use Rattle.std.proofs.Common.{◌≡◌, ℕ, ◌^◌, ◌<◌, true, List, [], ◌∷◌, ◌++◌, Some, None, Ok, refl, sym, ap, subst, ◌∙◌, inl, inr, codes, lit<}
+use Rattle.std.proofs.Common.{◌≡◌, ℕ, ◌^◌, ◌<◌, true, List, [], ◌∷◌, ◌++◌, Some, None, Ok, refl, subst, ◌∙◌, inl, inr, codes, lit<}
 use Rattle.std.specs.Fmt.{digits}
 use Rattle.json.specs.Print.{escape_byte}
 use Rattle.serde_json.specs.Written.{compact_text}
@@ -24,98 +24,207 @@ use Rattle.worked_runs.proofs.Tagged.{hello_is}
 
 goes_well : AllGood script (Some 4) [] (opens empty_book) journal
 unfolding digits
-goes_well =   ((refl, tt),
+goes_well = (
+  (refl, tt),
   refl,
-  ((refl, tt),
-  refl,
-  ((refl, tt),
-  refl,
-  ((refl, tt),
-  refl,
-  ((refl, tt),
-  refl,
-  ((refl, tt),
-  refl,
-  ((refl, tt),
-  refl,
-  ((refl, tt),
-  refl,
-  ((refl, tt),
-  refl,
-  ((refl, tt),
-  refl,
-  ((refl, tt),
-  refl,
-  ((refl, tt),
-  refl,
-  ((refl, tt),
-  refl,
-  ((refl, tt),
-  refl,
-  ((refl, tt),
-  refl,
-  ((refl, tt),
-  refl,
-  ((refl, tt),
-  refl,
-  ((refl, tt),
-  refl,
-  ((refl, tt),
-  refl,
-  ((refl, tt),
-  refl,
-  ((refl, tt),
-  refl,
-  ((refl, tt),
-  refl,
-  ((refl, tt),
-  refl,
-  ((refl, tt),
-  refl,
-  ((refl, tt),
-  refl,
-  ((refl, tt),
-  refl,
-  (((refl, refl), tt),
-  refl,
-  (((rw hello_is refl, refl), tt),
-  refl,
-  ((rw hello_is (rw hello_is refl), refl), tt)
-  ))))))))))))))))))))))))))))
+  (
+    (refl, tt),
+    refl,
+    (
+      (refl, tt),
+      refl,
+      (
+        (refl, tt),
+        refl,
+        (
+          (refl, tt),
+          refl,
+          (
+            (refl, tt),
+            refl,
+            (
+              (refl, tt),
+              refl,
+              (
+                (refl, tt),
+                refl,
+                (
+                  (refl, tt),
+                  refl,
+                  (
+                    (refl, tt),
+                    refl,
+                    (
+                      (refl, tt),
+                      refl,
+                      (
+                        (refl, tt),
+                        refl,
+                        (
+                          (refl, tt),
+                          refl,
+                          (
+                            (refl, tt),
+                            refl,
+                            (
+                              (refl, tt),
+                              refl,
+                              (
+                                (refl, tt),
+                                refl,
+                                (
+                                  (refl, tt),
+                                  refl,
+                                  (
+                                    (refl, tt),
+                                    refl,
+                                    (
+                                      (refl, tt),
+                                      refl,
+                                      (
+                                        (refl, tt),
+                                        refl,
+                                        (
+                                          (refl, tt),
+                                          refl,
+                                          (
+                                            (refl, tt),
+                                            refl,
+                                            (
+                                              (refl, tt),
+                                              refl,
+                                              (
+                                                (refl, tt),
+                                                refl,
+                                                (
+                                                  (refl, tt),
+                                                  refl,
+                                                  (
+                                                    (refl, tt),
+                                                    refl,
+                                                    (
+                                                      ((refl, refl), tt),
+                                                      refl,
+                                                      (
+                                                        ((rw hello_is refl, refl), tt),
+                                                        refl,
+                                                        ((rw hello_is (rw hello_is refl), refl), tt),
+                                                      ),
+                                                    ),
+                                                  ),
+                                                ),
+                                              ),
+                                            ),
+                                          ),
+                                        ),
+                                      ),
+                                    ),
+                                  ),
+                                ),
+                              ),
+                            ),
+                          ),
+                        ),
+                      ),
+                    ),
+                  ),
+                ),
+              ),
+            ),
+          ),
+        ),
+      ),
+    ),
+  ),
+)
 
 steps : Steps [] empty_book journal
 unfolding digits escape_byte
-steps =   (record { ours = refl; order = record { objects = tt; uploads = tt; refs = tt; files = tt }; honest = refl; inside = record { objects = refl; uploads = refl }; uncopied = refl; no_data = λ e. refl; shows = inl refl },
-  (record { ours = refl; order = record { objects = tt; uploads = tt; refs = tt; files = tt }; honest = refl; inside = record { objects = refl; uploads = refl }; uncopied = refl; no_data = λ e. refl; shows = inl refl },
-  (record { ours = refl; order = record { objects = tt; uploads = tt; refs = tt; files = tt }; honest = refl; inside = record { objects = refl; uploads = refl }; uncopied = refl; no_data = λ e. refl; shows = inl refl },
-  (record { ours = refl; order = record { objects = tt; uploads = tt; refs = tt; files = tt }; honest = refl; inside = record { objects = refl; uploads = refl }; uncopied = refl; no_data = λ e. absurd (cc); shows = inl refl },
-  (record { ours = refl; order = record { objects = tt; uploads = tt; refs = tt; files = tt }; honest = rw hello_is refl; inside = record { objects = refl; uploads = refl }; uncopied = refl; no_data = λ e. absurd (cc); shows = inl refl },
-  (record { ours = refl; order = record { objects = tt; uploads = tt; refs = tt; files = tt }; honest = refl; inside = record { objects = refl; uploads = refl }; uncopied = refl; no_data = λ e. absurd (cc); shows = inl refl },
-  (record { ours = refl; order = record { objects = tt; uploads = tt; refs = tt; files = tt }; honest = refl; inside = record { objects = refl; uploads = refl }; uncopied = refl; no_data = λ e. absurd (cc); shows = inl refl },
-  (record { ours = refl; order = record { objects = tt; uploads = tt; refs = tt; files = tt }; honest = refl; inside = record { objects = refl; uploads = refl }; uncopied = refl; no_data = λ e. absurd (cc); shows = inl refl },
-  (record { ours = refl; order = record { objects = tt; uploads = tt; refs = tt; files = tt }; honest = rw hello_is refl; inside = record { objects = refl; uploads = refl }; uncopied = refl; no_data = λ e. absurd (cc); shows = inl refl },
-  (record { ours = refl; order = record { objects = tt; uploads = tt; refs = tt; files = tt }; honest = refl; inside = record { objects = refl; uploads = refl }; uncopied = refl; no_data = λ e. absurd (cc); shows = inl refl },
-  (record { ours = refl; order = record { objects = tt; uploads = tt; refs = tt; files = tt }; honest = refl; inside = record { objects = refl; uploads = refl }; uncopied = refl; no_data = λ e. absurd (cc); shows = inl refl },
-  (record { ours = refl; order = record { objects = tt; uploads = tt; refs = tt; files = tt }; honest = refl; inside = record { objects = refl; uploads = refl }; uncopied = refl; no_data = λ e. absurd (cc); shows = inl refl },
-  (record { ours = refl; order = record { objects = tt; uploads = tt; refs = tt; files = tt }; honest = rw hello_is refl; inside = record { objects = refl; uploads = refl }; uncopied = refl; no_data = λ e. absurd (cc); shows = inl refl },
-  (record { ours = refl; order = record { objects = tt; uploads = tt; refs = tt; files = tt }; honest = refl; inside = record { objects = refl; uploads = refl }; uncopied = refl; no_data = λ e. absurd (cc); shows = inl refl },
-  (record { ours = refl; order = record { objects = tt; uploads = tt; refs = tt; files = tt }; honest = refl; inside = record { objects = refl; uploads = refl }; uncopied = refl; no_data = λ e. absurd (cc); shows = inl refl },
-  (record { ours = refl; order = record { objects = tt; uploads = tt; refs = tt; files = tt }; honest = refl; inside = record { objects = refl; uploads = refl }; uncopied = refl; no_data = λ e. absurd (cc); shows = inl refl },
-  (record { ours = refl; order = record { objects = tt; uploads = tt; refs = tt; files = tt }; honest = rw hello_is refl; inside = record { objects = refl; uploads = refl }; uncopied = refl; no_data = λ e. absurd (cc); shows = inl refl },
-  (record { ours = refl; order = record { objects = tt; uploads = tt; refs = tt; files = tt }; honest = refl; inside = record { objects = refl; uploads = refl }; uncopied = refl; no_data = λ e. absurd (cc); shows = inl refl },
-  (record { ours = refl; order = record { objects = tt; uploads = tt; refs = tt; files = tt }; honest = refl; inside = record { objects = refl; uploads = refl }; uncopied = refl; no_data = λ e. absurd (cc); shows = inl refl },
-  (record { ours = refl; order = record { objects = tt; uploads = tt; refs = tt; files = tt }; honest = refl; inside = record { objects = refl; uploads = refl }; uncopied = refl; no_data = λ e. absurd (cc); shows = inl refl },
-  (record { ours = refl; order = record { objects = tt; uploads = tt; refs = tt; files = tt }; honest = refl; inside = record { objects = refl; uploads = refl }; uncopied = refl; no_data = λ e. absurd (cc); shows = inl refl },
-  (record { ours = refl; order = record { objects = tt; uploads = tt; refs = tt; files = tt }; honest = refl; inside = record { objects = refl; uploads = refl }; uncopied = refl; no_data = λ e. absurd (cc); shows = inl refl },
-  (record { ours = refl; order = record { objects = tt; uploads = tt; refs = tt; files = tt }; honest = refl; inside = record { objects = refl; uploads = refl }; uncopied = refl; no_data = λ e. absurd (cc); shows = inl refl },
-  (record { ours = refl; order = record { objects = tt; uploads = tt; refs = tt; files = tt }; honest = refl; inside = record { objects = refl; uploads = refl }; uncopied = refl; no_data = λ e. absurd (cc); shows = inl refl },
-  (record { ours = refl; order = record { objects = tt; uploads = tt; refs = tt; files = tt }; honest = refl; inside = record { objects = refl; uploads = refl }; uncopied = refl; no_data = λ e. absurd (cc); shows = inl refl },
-  (record { ours = refl; order = record { objects = tt; uploads = tt; refs = tt; files = tt }; honest = refl; inside = record { objects = refl; uploads = refl }; uncopied = refl; no_data = λ e. refl; shows = inl refl },
-  (record { ours = refl; order = record { objects = tt; uploads = tt; refs = tt; files = tt }; honest = rw hello_is refl; inside = record { objects = refl; uploads = refl }; uncopied = refl; no_data = λ e. refl; shows = inr (refl, refl, refl) },
-  (record { ours = refl; order = record { objects = rw hello_is tt; uploads = rw hello_is tt; refs = rw hello_is tt; files = tt }; honest = rw hello_is (rw hello_is refl); inside = record { objects = rw hello_is refl; uploads = rw hello_is refl }; uncopied = refl; no_data = λ e. refl; shows = inr (refl, refl, refl) },
-  record { objects = rw hello_is (rw hello_is refl); uploads = rw hello_is (rw hello_is refl) }
-  ))))))))))))))))))))))))))))
-
+steps = (
+  record { ours = refl; order = record { objects = tt; uploads = tt; refs = tt; files = tt }; honest = refl; inside = record { objects = refl; uploads = refl }; uncopied = refl; no_data = λ e. refl; shows = inl refl },
+  (
+    record { ours = refl; order = record { objects = tt; uploads = tt; refs = tt; files = tt }; honest = refl; inside = record { objects = refl; uploads = refl }; uncopied = refl; no_data = λ e. refl; shows = inl refl },
+    (
+      record { ours = refl; order = record { objects = tt; uploads = tt; refs = tt; files = tt }; honest = refl; inside = record { objects = refl; uploads = refl }; uncopied = refl; no_data = λ e. refl; shows = inl refl },
+      (
+        record { ours = refl; order = record { objects = tt; uploads = tt; refs = tt; files = tt }; honest = refl; inside = record { objects = refl; uploads = refl }; uncopied = refl; no_data = λ e. absurd (cc); shows = inl refl },
+        (
+          record { ours = refl; order = record { objects = tt; uploads = tt; refs = tt; files = tt }; honest = rw hello_is refl; inside = record { objects = refl; uploads = refl }; uncopied = refl; no_data = λ e. absurd (cc); shows = inl refl },
+          (
+            record { ours = refl; order = record { objects = tt; uploads = tt; refs = tt; files = tt }; honest = refl; inside = record { objects = refl; uploads = refl }; uncopied = refl; no_data = λ e. absurd (cc); shows = inl refl },
+            (
+              record { ours = refl; order = record { objects = tt; uploads = tt; refs = tt; files = tt }; honest = refl; inside = record { objects = refl; uploads = refl }; uncopied = refl; no_data = λ e. absurd (cc); shows = inl refl },
+              (
+                record { ours = refl; order = record { objects = tt; uploads = tt; refs = tt; files = tt }; honest = refl; inside = record { objects = refl; uploads = refl }; uncopied = refl; no_data = λ e. absurd (cc); shows = inl refl },
+                (
+                  record { ours = refl; order = record { objects = tt; uploads = tt; refs = tt; files = tt }; honest = rw hello_is refl; inside = record { objects = refl; uploads = refl }; uncopied = refl; no_data = λ e. absurd (cc); shows = inl refl },
+                  (
+                    record { ours = refl; order = record { objects = tt; uploads = tt; refs = tt; files = tt }; honest = refl; inside = record { objects = refl; uploads = refl }; uncopied = refl; no_data = λ e. absurd (cc); shows = inl refl },
+                    (
+                      record { ours = refl; order = record { objects = tt; uploads = tt; refs = tt; files = tt }; honest = refl; inside = record { objects = refl; uploads = refl }; uncopied = refl; no_data = λ e. absurd (cc); shows = inl refl },
+                      (
+                        record { ours = refl; order = record { objects = tt; uploads = tt; refs = tt; files = tt }; honest = refl; inside = record { objects = refl; uploads = refl }; uncopied = refl; no_data = λ e. absurd (cc); shows = inl refl },
+                        (
+                          record { ours = refl; order = record { objects = tt; uploads = tt; refs = tt; files = tt }; honest = rw hello_is refl; inside = record { objects = refl; uploads = refl }; uncopied = refl; no_data = λ e. absurd (cc); shows = inl refl },
+                          (
+                            record { ours = refl; order = record { objects = tt; uploads = tt; refs = tt; files = tt }; honest = refl; inside = record { objects = refl; uploads = refl }; uncopied = refl; no_data = λ e. absurd (cc); shows = inl refl },
+                            (
+                              record { ours = refl; order = record { objects = tt; uploads = tt; refs = tt; files = tt }; honest = refl; inside = record { objects = refl; uploads = refl }; uncopied = refl; no_data = λ e. absurd (cc); shows = inl refl },
+                              (
+                                record { ours = refl; order = record { objects = tt; uploads = tt; refs = tt; files = tt }; honest = refl; inside = record { objects = refl; uploads = refl }; uncopied = refl; no_data = λ e. absurd (cc); shows = inl refl },
+                                (
+                                  record { ours = refl; order = record { objects = tt; uploads = tt; refs = tt; files = tt }; honest = rw hello_is refl; inside = record { objects = refl; uploads = refl }; uncopied = refl; no_data = λ e. absurd (cc); shows = inl refl },
+                                  (
+                                    record { ours = refl; order = record { objects = tt; uploads = tt; refs = tt; files = tt }; honest = refl; inside = record { objects = refl; uploads = refl }; uncopied = refl; no_data = λ e. absurd (cc); shows = inl refl },
+                                    (
+                                      record { ours = refl; order = record { objects = tt; uploads = tt; refs = tt; files = tt }; honest = refl; inside = record { objects = refl; uploads = refl }; uncopied = refl; no_data = λ e. absurd (cc); shows = inl refl },
+                                      (
+                                        record { ours = refl; order = record { objects = tt; uploads = tt; refs = tt; files = tt }; honest = refl; inside = record { objects = refl; uploads = refl }; uncopied = refl; no_data = λ e. absurd (cc); shows = inl refl },
+                                        (
+                                          record { ours = refl; order = record { objects = tt; uploads = tt; refs = tt; files = tt }; honest = refl; inside = record { objects = refl; uploads = refl }; uncopied = refl; no_data = λ e. absurd (cc); shows = inl refl },
+                                          (
+                                            record { ours = refl; order = record { objects = tt; uploads = tt; refs = tt; files = tt }; honest = refl; inside = record { objects = refl; uploads = refl }; uncopied = refl; no_data = λ e. absurd (cc); shows = inl refl },
+                                            (
+                                              record { ours = refl; order = record { objects = tt; uploads = tt; refs = tt; files = tt }; honest = refl; inside = record { objects = refl; uploads = refl }; uncopied = refl; no_data = λ e. absurd (cc); shows = inl refl },
+                                              (
+                                                record { ours = refl; order = record { objects = tt; uploads = tt; refs = tt; files = tt }; honest = refl; inside = record { objects = refl; uploads = refl }; uncopied = refl; no_data = λ e. absurd (cc); shows = inl refl },
+                                                (
+                                                  record { ours = refl; order = record { objects = tt; uploads = tt; refs = tt; files = tt }; honest = refl; inside = record { objects = refl; uploads = refl }; uncopied = refl; no_data = λ e. absurd (cc); shows = inl refl },
+                                                  (
+                                                    record { ours = refl; order = record { objects = tt; uploads = tt; refs = tt; files = tt }; honest = refl; inside = record { objects = refl; uploads = refl }; uncopied = refl; no_data = λ e. refl; shows = inl refl },
+                                                    (
+                                                      record { ours = refl; order = record { objects = tt; uploads = tt; refs = tt; files = tt }; honest = rw hello_is refl; inside = record { objects = refl; uploads = refl }; uncopied = refl; no_data = λ e. refl; shows = inr (refl, refl, refl) },
+                                                      (
+                                                        record { ours = refl; order = record { objects = rw hello_is tt; uploads = rw hello_is tt; refs = rw hello_is tt; files = tt }; honest = rw hello_is (rw hello_is refl); inside = record { objects = rw hello_is refl; uploads = rw hello_is refl }; uncopied = refl; no_data = λ e. refl; shows = inr (refl, refl, refl) },
+                                                        record { objects = rw hello_is (rw hello_is refl); uploads = rw hello_is (rw hello_is refl) },
+                                                      ),
+                                                    ),
+                                                  ),
+                                                ),
+                                              ),
+                                            ),
+                                          ),
+                                        ),
+                                      ),
+                                    ),
+                                  ),
+                                ),
+                              ),
+                            ),
+                          ),
+                        ),
+                      ),
+                    ),
+                  ),
+                ),
+              ),
+            ),
+          ),
+        ),
+      ),
+    ),
+  ),
+)
 
 path_a : is_key_path (codes "out/a") ≡ true
 unfolding parts_from
@@ -150,10 +259,14 @@ unfolding digits escape_byte
 four_files = record {
   sent = refl;
   event = refl;
-  keeps = subst (λ c. Keeps script (Some 4) c journal) opening_is (kept_by script refl (Some 4) [] empty_book journal goes_well steps);
-  setup = record { event = refl; may = refl; doing = refl; follows = (refl, (refl, (refl, tt))); over = refl; has_ended = refl };
-  write = record { event = refl; may = refl; doing = refl; follows = (refl, (refl, (refl, (refl, (refl, (refl, (refl, (refl, (refl, (refl, (refl, (refl, (refl, (refl, (refl, (refl, tt)))))))))))))))); over = refl; has_ended = refl };
-  task = record { event = refl; may = refl; doing = refl; follows = (refl, (refl, (refl, (refl, (refl, (refl, tt)))))); over = refl; has_ended = refl };
+  keeps = subst (λ c. Keeps script (Some 4) c journal) opening_is (kept_by script refl [] refl (Some 4) [] empty_book journal goes_well steps refl);
+  setup = record { event = refl; may = refl; doing = refl; turns = (refl, (refl, (refl, tt))); follows = (refl, (refl, (refl, tt))); over = refl; has_ended = refl };
+  write = record { event = refl; may = refl; doing = refl; turns = (refl, (refl, (refl, (refl, (refl, (refl, (refl, (refl, (refl, (refl, (refl, (refl, (refl, (refl, (refl, (refl, tt)))))))))))))))); follows = (refl, (refl, (refl, (refl, (refl, (refl, (refl, (refl, (refl, (refl, (refl, (refl, (refl, (refl, (refl, (refl, tt)))))))))))))))); over = refl; has_ended = refl };
+  task = record { event = refl; may = refl; doing = refl; turns = (refl, (refl, (refl, (refl, (refl, (refl, tt)))))); follows = (refl, (refl, (refl, (refl, (refl, (refl, tt)))))); over = refl; has_ended = refl };
+  start = refl;
+  step = ((refl, (refl, (refl, tt))), refl);
+  dies = refl;
+  doing = refl;
   commit = rw set_is_read (refl, (refl, (refl, tt)));
   unended = rw set_is_read refl;
   not_begun = refl;

@@ -1,13 +1,19 @@
 -- What whole runs over a store as lists keep and show, by tests that compute.
-use Rattle.std.proofs.Common.{◌≡◌, ℕ, zero, suc, Bool, true, false, cond, ◌&&◌, List, [], ◌∷◌, take, Option, Some, refl, sym, ap, subst, ◌∙◌}
+use Rattle.std.proofs.Common.{◌≡◌, ℕ, zero, suc, ◌+◌, Bool, true, false, cond, ◌&&◌, List, [], ◌∷◌, take, Option, Some, refl, sym, ap, subst, ◌∙◌}
 use Rattle.std.specs.List.{list_all}
 use Rattle.std.specs.Ordering.{nat_cmp, eq_by_cmp}
 use Rattle.std.specs.Option.{option_map}
+use Rattle.std.specs.Cmp.{nat_cmp_total}
+use Rattle.std.specs.FinMap.{from_entries, get-from_entries}
 use Rattle.std.specs.FinMap.Entries.{find}
 use Rattle.std.proofs.lemmas.Bool.{and_parts, false≢true}
 use Rattle.proof_base.specs.Order.{text_cmp, text_eq}
 use Rattle.proof_base.proofs.Tree.{tied}
+use Rattle.s3_types.specs.Fates.{fate_or, fate_at}
+use Rattle.s3_types.specs.Foretold.{AreForetold, fate_of}
 use Rattle.s3_types.specs.Moment.{moment}
+use Rattle.s3_types.specs.declared.fates.Fate.{Fate}
+use Rattle.s3_types.specs.declared.fates.Fate.TheVariants.{Answer, Slow, Before, After}
 use Rattle.s3_types.specs.declared.object.Object.{Object}
 use Rattle.s3_types.specs.declared.journal.Entry.{Entry}
 use Rattle.job_model.specs.JobScript.{Script}
@@ -21,9 +27,43 @@ use Rattle.worked_runs.proofs.Sights.{opens}
 use Rattle.worked_runs.proofs.Owed.{AllGood, always, same_text}
 use Rattle.worked_runs.proofs.Frames.{Steps, ours_some, honest, zero_rename, outside_stays}
 
-pub kept_by : (w : Script) → w.dest ≡ dest → (k : Option ℕ) (os : List (List ℕ × Object)) (b : Book) (es : List Entry)
-    → AllGood w k (visible b.objects) (opens (without_files b)) es → Steps os (without_files b) es → Keeps w k (content_of (without_files b)) es
-kept_by w to k os b es g s = record { always = always w to k b es g; honest = honest os b es s; zero_rename = zero_rename w to os b es s; outside = outside_stays w to os b es s }
+-- ---- fates
+
+abbrev same_fate : Fate → Fate → Bool
+same_fate Answer Answer = true
+same_fate Slow Slow = true
+same_fate Before Before = true
+same_fate After After = true
+same_fate _ _ = false
+
+fate_is : (f g : Fate) → same_fate f g ≡ true → f ≡ g
+fate_is Answer Answer h = refl
+fate_is Slow Slow h = refl
+fate_is Before Before h = refl
+fate_is After After h = refl
+fate_is _ _ h = absurd (false≢true h)
+
+-- these entries, from the n-th sending on, have the fates that are named
+abbrev pub have_fates : List (ℕ × Fate) → ℕ → List Entry → Bool
+have_fates fs n [] = true
+have_fates fs n (e ∷ es) = same_fate (fate_of e.outcome) (fate_or (find nat_cmp n fs)) && have_fates fs (n + 1) es
+
+pub fated : (fs : List (ℕ × Fate)) (n : ℕ) (es : List Entry) → have_fates fs n es ≡ true → AreForetold (λ m. Some (fate_at (from_entries fs) m)) n es
+fated fs n [] h = tt
+fated fs n (e ∷ es) h =
+    let p = and_parts (same_fate (fate_of e.outcome) (fate_or (find nat_cmp n fs))) _ h in
+    (fate_is (fate_of e.outcome) (fate_or (find nat_cmp n fs)) p.0 ∙ ap fate_or (sym (get-from_entries nat_cmp_total fs n)), fated fs (n + 1) es p.1)
+
+-- ---- what is kept
+
+pub kept_by : (w : Script) → w.dest ≡ dest → (fs : List (ℕ × Fate)) → w.fates ≡ from_entries fs → (k : Option ℕ) (os : List (List ℕ × Object)) (b : Book) (es : List Entry)
+    → AllGood w k (visible b.objects) (opens (without_files b)) es → Steps os (without_files b) es → have_fates fs 1 es ≡ true → Keeps w k (content_of (without_files b)) es
+kept_by w to fs named k os b es g s f = record {
+  always = always w to k b es g;
+  sent = record { honest = honest os b es s; fated = subst (λ m. AreForetold (λ n. Some (fate_at m n)) 1 es) (sym named) (fated fs 1 es f) };
+  zero_rename = zero_rename w to os b es s;
+  outside = outside_stays w to os b es s;
+}
 
 -- ---- what is shown at each moment
 

@@ -1,22 +1,15 @@
 -- The operations of the run of one attempt with one file end as is due, and the run is finished.
-use Rattle.std.proofs.Common.{◌≡◌, ◌⊎◌, ℕ, zero, suc, ◌+◌, Bool, true, not, ◌&&◌, List, [], ◌∷◌, length, take, Option, Some, None, is_some, refl, sym, ap, subst, ◌∙◌, codes, inr, arith}
+use Rattle.std.proofs.Common.{◌≡◌, ◌⊎◌, ℕ, zero, suc, ◌+◌, Bool, true, ◌&&◌, List, [], ◌∷◌, length, take, Option, Some, None, is_some, refl, sym, ap, subst, ◌∙◌, codes, inr, arith}
 use Rattle.std.specs.Fmt.{digits}
 use Rattle.json.specs.Print.{escape_byte}
-use Rattle.std.specs.List.{list_all, slice_get}
+use Rattle.std.specs.List.{slice_get}
 use Rattle.std.specs.Prelude.{IsSome}
-use Rattle.std.proofs.lemmas.Bool.{and_parts}
-use Rattle.std.specs.FinMap as fin
-use Rattle.std.specs.FinMap.{gets}
 use Rattle.std.specs.FinMap.Entries.{find}
 use Rattle.proof_base.specs.Order.{text_cmp}
-use Rattle.s3_types.specs.Fates.{fate_at}
-use Rattle.s3_types.specs.Foretold.{AreForetold, fate_of}
-use Rattle.s3_types.specs.Moment.{moment, is_unanswered}
+use Rattle.s3_types.specs.Moment.{moment}
 use Rattle.s3_types.specs.declared.request.Actor.{Actor}
 use Rattle.s3_types.specs.declared.request.Actor.TheVariants.{Driver, Attempt}
 use Rattle.s3_types.specs.declared.request.Request.{Request}
-use Rattle.s3_types.specs.declared.journal.Outcome.{Outcome}
-use Rattle.s3_types.specs.declared.journal.Outcome.TheVariants.{Answered, Slow, RequestLost, ReplyLost}
 use Rattle.s3_types.specs.declared.journal.Entry.{Entry}
 use Rattle.sendings.specs.Worn.{WornFirst, first_worn}
 use Rattle.sendings.proofs.First.{computed, none_sent}
@@ -47,6 +40,7 @@ use Rattle.worked_runs.proofs.Books.{content_of, at_bucket}
 use Rattle.worked_runs.proofs.Checks.{objects_at}
 use Rattle.worked_runs.proofs.Sights.{Saw, opens, saw_all, sees}
 use Rattle.worked_runs.proofs.Refusals.{empty_book, opening_is, opens_is}
+use Rattle.worked_runs.proofs.Kept.{fated}
 use Rattle.worked_runs.proofs.Tagged.{hello_is}
 use Rattle.worked_runs.proofs.OneMoments.{always_kept, is_honest, no_rename, nothing_outside}
 use Rattle.worked_runs.proofs.OnePlays.{same_some, setup_doing, write_doing, task_doing, commit_doing, plays}
@@ -227,16 +221,6 @@ commits_end (suc (suc (suc (suc j)))) d e es h = no_event j Driver d (ends.Commi
 
 -- ---- the promise
 
-fated : (n : ℕ) (es : List Entry) → list_all (λ e. not (is_unanswered e.outcome)) es ≡ true → AreForetold (λ m. Some (fate_at fin.empty m)) n es
-fated n [] h = tt
-fated n (e ∷ es) h = let p = and_parts (not (is_unanswered e.outcome)) _ h in (by e.outcome p.0, fated (n + 1) es p.1)
-  where
-    by : (o : Outcome) → not (is_unanswered o) ≡ true → fate_of o ≡ fate_at fin.empty n
-    by (Answered r) k = simp gets refl
-    by Slow k = absurd (cc)
-    by RequestLost k = absurd (cc)
-    by ReplyLost k = absurd (cc)
-
 picked : all_picks script opening journal the_ends ≡ the_picks
 unfolding digits
 picked = refl
@@ -259,7 +243,7 @@ pub one_finished : OneFileFinished
 one_finished = record {
   finished = record {
     promised = promised;
-    sent = record { honest = is_honest; fated = fated 1 journal refl };
+    sent = record { honest = is_honest; fated = fated [] 1 journal refl };
     events = refl;
     picks = λ h. sym picked;
   };

@@ -1,9 +1,9 @@
 -- The run of two tasks that write one path.
-use Rattle.std.proofs.Common.{◌≡◌, ℕ, Bool, true, ◌&&◌, List, [], ◌∷◌, take, Option, Some, None, Ok, refl, sym, ap, subst, ◌∙◌, inl, codes, lit<}
+use Rattle.std.proofs.Common.{◌≡◌, true, [], ◌∷◌, Some, None, Ok, refl, subst, inl, codes, lit<}
 use Rattle.std.specs.Fmt.{digits}
 use Rattle.json.specs.Print.{escape_byte}
 use Rattle.serde_json.specs.Written.{compact_text}
-use Rattle.s3_types.specs.Moment.{moment, IsHonest}
+use Rattle.s3_types.specs.Moment.{moment}
 use Rattle.words.specs.Parts.{parts_from}
 use Rattle.s3_types.specs.Names.{is_key_path, is_key}
 use Rattle.pending_json.specs.Trees.{set_tree}
@@ -11,7 +11,6 @@ use Rattle.pending_json.specs.Reading.{set_of}
 use Rattle.job_operations.specs.View.{view}
 use Rattle.job_promise.specs.Scope.{upload_at}
 use Rattle.worked_runs.specs.Jobs.{lake}
-use Rattle.worked_runs.specs.OneFile.{opening}
 use Rattle.worked_runs.specs.SharedPath.{script, journal, first_upload, second_upload, first_set, second_set, SharedPath}
 use Rattle.worked_runs.specs.Runs.{hello, held, Keeps}
 use Rattle.worked_runs.proofs.OneSet.{key_by, set_by, pending_by}
@@ -24,70 +23,144 @@ use Rattle.worked_runs.proofs.Tagged.{hello_is}
 
 goes_well : AllGood script (Some 6) [] (opens empty_book) journal
 unfolding digits
-goes_well =   ((refl, tt),
+goes_well = (
+  (refl, tt),
   refl,
-  ((refl, tt),
-  refl,
-  ((refl, tt),
-  refl,
-  ((refl, tt),
-  refl,
-  ((refl, tt),
-  refl,
-  ((refl, tt),
-  refl,
-  ((refl, tt),
-  refl,
-  ((refl, tt),
-  refl,
-  ((refl, tt),
-  refl,
-  ((refl, tt),
-  refl,
-  ((refl, tt),
-  refl,
-  ((refl, tt),
-  refl,
-  ((refl, tt),
-  refl,
-  ((refl, tt),
-  refl,
-  ((refl, tt),
-  refl,
-  ((refl, tt),
-  refl,
-  ((refl, tt),
-  refl,
-  ((refl, tt),
-  refl,
-  ((refl, tt),
-  refl,
-  (refl, tt)
-  )))))))))))))))))))
+  (
+    (refl, tt),
+    refl,
+    (
+      (refl, tt),
+      refl,
+      (
+        (refl, tt),
+        refl,
+        (
+          (refl, tt),
+          refl,
+          (
+            (refl, tt),
+            refl,
+            (
+              (refl, tt),
+              refl,
+              (
+                (refl, tt),
+                refl,
+                (
+                  (refl, tt),
+                  refl,
+                  (
+                    (refl, tt),
+                    refl,
+                    (
+                      (refl, tt),
+                      refl,
+                      (
+                        (refl, tt),
+                        refl,
+                        (
+                          (refl, tt),
+                          refl,
+                          (
+                            (refl, tt),
+                            refl,
+                            (
+                              (refl, tt),
+                              refl,
+                              (
+                                (refl, tt),
+                                refl,
+                                (
+                                  (refl, tt),
+                                  refl,
+                                  (
+                                    (refl, tt),
+                                    refl,
+                                    (
+                                      (refl, tt),
+                                      refl,
+                                      (refl, tt),
+                                    ),
+                                  ),
+                                ),
+                              ),
+                            ),
+                          ),
+                        ),
+                      ),
+                    ),
+                  ),
+                ),
+              ),
+            ),
+          ),
+        ),
+      ),
+    ),
+  ),
+)
 
 steps : Steps [] empty_book journal
 unfolding digits escape_byte
-steps =   (record { ours = refl; order = record { objects = tt; uploads = tt; refs = tt; files = tt }; honest = refl; inside = record { objects = refl; uploads = refl }; uncopied = refl; no_data = λ e. refl; shows = inl refl },
-  (record { ours = refl; order = record { objects = tt; uploads = tt; refs = tt; files = tt }; honest = refl; inside = record { objects = refl; uploads = refl }; uncopied = refl; no_data = λ e. refl; shows = inl refl },
-  (record { ours = refl; order = record { objects = tt; uploads = tt; refs = tt; files = tt }; honest = refl; inside = record { objects = refl; uploads = refl }; uncopied = refl; no_data = λ e. refl; shows = inl refl },
-  (record { ours = refl; order = record { objects = tt; uploads = tt; refs = tt; files = tt }; honest = refl; inside = record { objects = refl; uploads = refl }; uncopied = refl; no_data = λ e. absurd (cc); shows = inl refl },
-  (record { ours = refl; order = record { objects = tt; uploads = tt; refs = tt; files = tt }; honest = rw hello_is refl; inside = record { objects = refl; uploads = refl }; uncopied = refl; no_data = λ e. absurd (cc); shows = inl refl },
-  (record { ours = refl; order = record { objects = tt; uploads = tt; refs = tt; files = tt }; honest = refl; inside = record { objects = refl; uploads = refl }; uncopied = refl; no_data = λ e. absurd (cc); shows = inl refl },
-  (record { ours = refl; order = record { objects = tt; uploads = tt; refs = tt; files = tt }; honest = refl; inside = record { objects = refl; uploads = refl }; uncopied = refl; no_data = λ e. absurd (cc); shows = inl refl },
-  (record { ours = refl; order = record { objects = tt; uploads = tt; refs = tt; files = tt }; honest = refl; inside = record { objects = refl; uploads = refl }; uncopied = refl; no_data = λ e. absurd (cc); shows = inl refl },
-  (record { ours = refl; order = record { objects = tt; uploads = tt; refs = tt; files = tt }; honest = rw hello_is refl; inside = record { objects = refl; uploads = refl }; uncopied = refl; no_data = λ e. absurd (cc); shows = inl refl },
-  (record { ours = refl; order = record { objects = tt; uploads = tt; refs = tt; files = tt }; honest = refl; inside = record { objects = refl; uploads = refl }; uncopied = refl; no_data = λ e. absurd (cc); shows = inl refl },
-  (record { ours = refl; order = record { objects = tt; uploads = tt; refs = tt; files = tt }; honest = refl; inside = record { objects = refl; uploads = refl }; uncopied = refl; no_data = λ e. absurd (cc); shows = inl refl },
-  (record { ours = refl; order = record { objects = tt; uploads = tt; refs = tt; files = tt }; honest = refl; inside = record { objects = refl; uploads = refl }; uncopied = refl; no_data = λ e. absurd (cc); shows = inl refl },
-  (record { ours = refl; order = record { objects = tt; uploads = tt; refs = tt; files = tt }; honest = refl; inside = record { objects = refl; uploads = refl }; uncopied = refl; no_data = λ e. absurd (cc); shows = inl refl },
-  (record { ours = refl; order = record { objects = tt; uploads = tt; refs = tt; files = tt }; honest = refl; inside = record { objects = refl; uploads = refl }; uncopied = refl; no_data = λ e. absurd (cc); shows = inl refl },
-  (record { ours = refl; order = record { objects = tt; uploads = tt; refs = tt; files = tt }; honest = refl; inside = record { objects = refl; uploads = refl }; uncopied = refl; no_data = λ e. absurd (cc); shows = inl refl },
-  (record { ours = refl; order = record { objects = tt; uploads = tt; refs = tt; files = tt }; honest = refl; inside = record { objects = refl; uploads = refl }; uncopied = refl; no_data = λ e. absurd (cc); shows = inl refl },
-  (record { ours = refl; order = record { objects = tt; uploads = tt; refs = tt; files = tt }; honest = refl; inside = record { objects = refl; uploads = refl }; uncopied = refl; no_data = λ e. absurd (cc); shows = inl refl },
-  (record { ours = refl; order = record { objects = tt; uploads = tt; refs = tt; files = tt }; honest = refl; inside = record { objects = refl; uploads = refl }; uncopied = refl; no_data = λ e. refl; shows = inl refl },
-  (record { ours = refl; order = record { objects = tt; uploads = tt; refs = tt; files = tt }; honest = refl; inside = record { objects = refl; uploads = refl }; uncopied = refl; no_data = λ e. refl; shows = inl refl },
-  record { objects = refl; uploads = refl }
-  )))))))))))))))))))
+steps = (
+  record { ours = refl; order = record { objects = tt; uploads = tt; refs = tt; files = tt }; honest = refl; inside = record { objects = refl; uploads = refl }; uncopied = refl; no_data = λ e. refl; shows = inl refl },
+  (
+    record { ours = refl; order = record { objects = tt; uploads = tt; refs = tt; files = tt }; honest = refl; inside = record { objects = refl; uploads = refl }; uncopied = refl; no_data = λ e. refl; shows = inl refl },
+    (
+      record { ours = refl; order = record { objects = tt; uploads = tt; refs = tt; files = tt }; honest = refl; inside = record { objects = refl; uploads = refl }; uncopied = refl; no_data = λ e. refl; shows = inl refl },
+      (
+        record { ours = refl; order = record { objects = tt; uploads = tt; refs = tt; files = tt }; honest = refl; inside = record { objects = refl; uploads = refl }; uncopied = refl; no_data = λ e. absurd (cc); shows = inl refl },
+        (
+          record { ours = refl; order = record { objects = tt; uploads = tt; refs = tt; files = tt }; honest = rw hello_is refl; inside = record { objects = refl; uploads = refl }; uncopied = refl; no_data = λ e. absurd (cc); shows = inl refl },
+          (
+            record { ours = refl; order = record { objects = tt; uploads = tt; refs = tt; files = tt }; honest = refl; inside = record { objects = refl; uploads = refl }; uncopied = refl; no_data = λ e. absurd (cc); shows = inl refl },
+            (
+              record { ours = refl; order = record { objects = tt; uploads = tt; refs = tt; files = tt }; honest = refl; inside = record { objects = refl; uploads = refl }; uncopied = refl; no_data = λ e. absurd (cc); shows = inl refl },
+              (
+                record { ours = refl; order = record { objects = tt; uploads = tt; refs = tt; files = tt }; honest = refl; inside = record { objects = refl; uploads = refl }; uncopied = refl; no_data = λ e. absurd (cc); shows = inl refl },
+                (
+                  record { ours = refl; order = record { objects = tt; uploads = tt; refs = tt; files = tt }; honest = rw hello_is refl; inside = record { objects = refl; uploads = refl }; uncopied = refl; no_data = λ e. absurd (cc); shows = inl refl },
+                  (
+                    record { ours = refl; order = record { objects = tt; uploads = tt; refs = tt; files = tt }; honest = refl; inside = record { objects = refl; uploads = refl }; uncopied = refl; no_data = λ e. absurd (cc); shows = inl refl },
+                    (
+                      record { ours = refl; order = record { objects = tt; uploads = tt; refs = tt; files = tt }; honest = refl; inside = record { objects = refl; uploads = refl }; uncopied = refl; no_data = λ e. absurd (cc); shows = inl refl },
+                      (
+                        record { ours = refl; order = record { objects = tt; uploads = tt; refs = tt; files = tt }; honest = refl; inside = record { objects = refl; uploads = refl }; uncopied = refl; no_data = λ e. absurd (cc); shows = inl refl },
+                        (
+                          record { ours = refl; order = record { objects = tt; uploads = tt; refs = tt; files = tt }; honest = refl; inside = record { objects = refl; uploads = refl }; uncopied = refl; no_data = λ e. absurd (cc); shows = inl refl },
+                          (
+                            record { ours = refl; order = record { objects = tt; uploads = tt; refs = tt; files = tt }; honest = refl; inside = record { objects = refl; uploads = refl }; uncopied = refl; no_data = λ e. absurd (cc); shows = inl refl },
+                            (
+                              record { ours = refl; order = record { objects = tt; uploads = tt; refs = tt; files = tt }; honest = refl; inside = record { objects = refl; uploads = refl }; uncopied = refl; no_data = λ e. absurd (cc); shows = inl refl },
+                              (
+                                record { ours = refl; order = record { objects = tt; uploads = tt; refs = tt; files = tt }; honest = refl; inside = record { objects = refl; uploads = refl }; uncopied = refl; no_data = λ e. absurd (cc); shows = inl refl },
+                                (
+                                  record { ours = refl; order = record { objects = tt; uploads = tt; refs = tt; files = tt }; honest = refl; inside = record { objects = refl; uploads = refl }; uncopied = refl; no_data = λ e. absurd (cc); shows = inl refl },
+                                  (
+                                    record { ours = refl; order = record { objects = tt; uploads = tt; refs = tt; files = tt }; honest = refl; inside = record { objects = refl; uploads = refl }; uncopied = refl; no_data = λ e. refl; shows = inl refl },
+                                    (
+                                      record { ours = refl; order = record { objects = tt; uploads = tt; refs = tt; files = tt }; honest = refl; inside = record { objects = refl; uploads = refl }; uncopied = refl; no_data = λ e. refl; shows = inl refl },
+                                      record { objects = refl; uploads = refl },
+                                    ),
+                                  ),
+                                ),
+                              ),
+                            ),
+                          ),
+                        ),
+                      ),
+                    ),
+                  ),
+                ),
+              ),
+            ),
+          ),
+        ),
+      ),
+    ),
+  ),
+)
 
 path : is_key_path (codes "out/p") ≡ true
 unfolding parts_from
@@ -107,13 +180,13 @@ unfolding digits escape_byte
 shared_path = record {
   sent = refl;
   event = refl;
-  keeps = subst (λ c. Keeps script (Some 6) c journal) opening_is (kept_by script refl (Some 6) [] empty_book journal goes_well steps);
-  setup = record { event = refl; may = refl; doing = refl; follows = (refl, (refl, (refl, tt))); over = refl; has_ended = refl };
-  first_write = record { event = refl; may = refl; doing = refl; follows = (refl, (refl, (refl, (refl, tt)))); over = refl; has_ended = refl };
-  second_write = record { event = refl; may = refl; doing = refl; follows = (refl, (refl, (refl, (refl, tt)))); over = refl; has_ended = refl };
-  first_task = record { event = refl; may = refl; doing = refl; follows = (refl, (refl, (refl, tt))); over = refl; has_ended = refl };
-  second_task = record { event = refl; may = refl; doing = refl; follows = (refl, (refl, (refl, tt))); over = refl; has_ended = refl };
-  commit = record { event = refl; may = refl; doing = refl; follows = rw first_is_read (refl, (refl, tt)); over = rw first_is_read (rw second_is_read refl); has_ended = refl };
+  keeps = subst (λ c. Keeps script (Some 6) c journal) opening_is (kept_by script refl [] refl (Some 6) [] empty_book journal goes_well steps refl);
+  setup = record { event = refl; may = refl; doing = refl; turns = (refl, (refl, (refl, tt))); follows = (refl, (refl, (refl, tt))); over = refl; has_ended = refl };
+  first_write = record { event = refl; may = refl; doing = refl; turns = (refl, (refl, (refl, (refl, tt)))); follows = (refl, (refl, (refl, (refl, tt)))); over = refl; has_ended = refl };
+  second_write = record { event = refl; may = refl; doing = refl; turns = (refl, (refl, (refl, (refl, tt)))); follows = (refl, (refl, (refl, (refl, tt)))); over = refl; has_ended = refl };
+  first_task = record { event = refl; may = refl; doing = refl; turns = (refl, (refl, (refl, tt))); follows = (refl, (refl, (refl, tt))); over = refl; has_ended = refl };
+  second_task = record { event = refl; may = refl; doing = refl; turns = (refl, (refl, (refl, tt))); follows = (refl, (refl, (refl, tt))); over = refl; has_ended = refl };
+  commit = record { event = refl; may = refl; doing = refl; turns = (refl, (refl, tt)); follows = rw first_is_read (refl, (refl, tt)); over = rw first_is_read (rw second_is_read refl); has_ended = refl };
   not_begun = refl;
   begun = refl;
   first_pick = refl;

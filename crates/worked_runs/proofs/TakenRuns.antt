@@ -1,5 +1,5 @@
 -- A run whose partition has a file already.
-use Rattle.std.proofs.Common.{◌≡◌, ℕ, List, [], ◌∷◌, Some, None, refl, sym, subst, ◌∙◌, inl, codes}
+use Rattle.std.proofs.Common.{◌≡◌, ℕ, [], ◌∷◌, Some, refl, sym, subst, ◌∙◌, inl, codes}
 use Rattle.std.specs.Fmt.{digits}
 use Rattle.s3_types.specs.Moment.{moment}
 use Rattle.job_operations.specs.View.{view}
@@ -21,21 +21,31 @@ unfolding content_of objects_of uploads_of
 opening_is = refl
 
 goes_well : AllGood script (Some 5) (visible book.objects) (opens book) journal
-goes_well =   ((refl, tt),
+goes_well = (
+  (refl, tt),
   refl,
-  ((refl, tt),
-  refl,
-  ((refl, tt),
-  refl,
-  (refl, tt)
-  )))
+  (
+    (refl, tt),
+    refl,
+    (
+      (refl, tt),
+      refl,
+      (refl, tt),
+    ),
+  ),
+)
 
 steps : Steps [] book journal
-steps =   (record { ours = refl; order = record { objects = tt; uploads = tt; refs = tt; files = tt }; honest = refl; inside = record { objects = refl; uploads = refl }; uncopied = refl; no_data = λ e. refl; shows = inl refl },
-  (record { ours = refl; order = record { objects = tt; uploads = tt; refs = tt; files = tt }; honest = refl; inside = record { objects = refl; uploads = refl }; uncopied = refl; no_data = λ e. refl; shows = inl refl },
-  (record { ours = refl; order = record { objects = tt; uploads = tt; refs = tt; files = tt }; honest = refl; inside = record { objects = refl; uploads = refl }; uncopied = refl; no_data = λ e. absurd (cc); shows = inl refl },
-  record { objects = refl; uploads = refl }
-  )))
+steps = (
+  record { ours = refl; order = record { objects = tt; uploads = tt; refs = tt; files = tt }; honest = refl; inside = record { objects = refl; uploads = refl }; uncopied = refl; no_data = λ e. refl; shows = inl refl },
+  (
+    record { ours = refl; order = record { objects = tt; uploads = tt; refs = tt; files = tt }; honest = refl; inside = record { objects = refl; uploads = refl }; uncopied = refl; no_data = λ e. refl; shows = inl refl },
+    (
+      record { ours = refl; order = record { objects = tt; uploads = tt; refs = tt; files = tt }; honest = refl; inside = record { objects = refl; uploads = refl }; uncopied = refl; no_data = λ e. absurd (cc); shows = inl refl },
+      record { objects = refl; uploads = refl },
+    ),
+  ),
+)
 
 shows : (m : ℕ) → Same (view script.dest (moment (content_of book) journal m).content) (view script.dest (content_of book))
 shows m p = shows_as book (visible book.objects) journal refl refl m p ∙ sym (views book p)
@@ -45,12 +55,12 @@ unfolding digits
 taken = record {
   sent = refl;
   event = refl;
-  keeps = subst (λ c. Keeps script (Some 5) c journal) opening_is (kept_by script refl (Some 5) [] book journal goes_well steps);
-  setup = record { event = refl; may = refl; doing = refl; follows = (refl, (refl, tt)); over = refl; has_ended = refl };
-  write = record { event = refl; may = refl; doing = refl; follows = tt; over = refl; has_ended = refl };
-  task = record { event = refl; may = refl; doing = refl; follows = (refl, tt); over = refl; has_ended = refl };
-  abort = record { event = refl; may = refl; doing = refl; follows = tt; over = refl; has_ended = refl };
-  commit = record { event = refl; may = refl; doing = refl; follows = tt; over = refl; has_ended = refl };
+  keeps = subst (λ c. Keeps script (Some 5) c journal) opening_is (kept_by script refl [] refl (Some 5) [] book journal goes_well steps refl);
+  setup = record { event = refl; may = refl; doing = refl; turns = (refl, (refl, tt)); follows = (refl, (refl, tt)); over = refl; has_ended = refl };
+  write = record { event = refl; may = refl; doing = refl; turns = tt; follows = tt; over = refl; has_ended = refl };
+  task = record { event = refl; may = refl; doing = refl; turns = (refl, tt); follows = (refl, tt); over = refl; has_ended = refl };
+  abort = record { event = refl; may = refl; doing = refl; turns = tt; follows = tt; over = refl; has_ended = refl };
+  commit = record { event = refl; may = refl; doing = refl; turns = tt; follows = tt; over = refl; has_ended = refl };
   unpublished = refl;
   not_begun = refl;
   due = refl;

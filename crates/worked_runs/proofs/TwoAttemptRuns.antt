@@ -1,22 +1,20 @@
 -- A run of two attempts of one task, and its clean.
-use Rattle.std.proofs.Common.{◌≡◌, ℕ, Bool, true, false, not, List, [], ◌∷◌, Option, Some, None, Ok, refl, sym, ap, subst, ◌∙◌, inl, inr, codes, lit<}
+use Rattle.std.proofs.Common.{◌≡◌, Bool, true, false, not, [], ◌∷◌, Option, Some, None, Ok, refl, sym, subst, ◌∙◌, inl, inr, codes, lit<}
 use Rattle.std.specs.Fmt.{digits}
 use Rattle.json.specs.Print.{escape_byte}
 use Rattle.serde_json.specs.Written.{compact_text}
 use Rattle.std.specs.List.{list_all}
 use Rattle.words.specs.Parts.{parts_from}
 use Rattle.s3_types.specs.Moment.{moment}
-use Rattle.s3_types.specs.Names.{is_key_path, is_key}
+use Rattle.s3_types.specs.Names.{is_key_path}
 use Rattle.s3_types.specs.Pages.{begins}
 use Rattle.s3_types.specs.Store.{Upload}
-use Rattle.s3_types.specs.declared.object.Object.{Object}
 use Rattle.s3_types.specs.declared.request.Committer.TheVariants.{Magic}
 use Rattle.pending_json.specs.Trees.{set_tree, success_tree}
 use Rattle.pending_json.specs.Reading.{set_of}
 use Rattle.job_operations.specs.View.{view, object_at}
 use Rattle.job_promise.specs.Scope.{NothingLeft, NoneLive, NoMagicKey}
 use Rattle.worked_runs.specs.Jobs.{lake}
-use Rattle.worked_runs.specs.OneFile.{opening}
 use Rattle.worked_runs.specs.TwoAttempts.{world, script, second_upload, second_set, the_mark, journal, TwoAttempts}
 use Rattle.worked_runs.specs.Runs.{Keeps}
 use Rattle.worked_runs.proofs.OneSet.{key_by, set_by, pending_by}
@@ -31,85 +29,179 @@ use Rattle.worked_runs.proofs.Tagged.{hello_is, world_is}
 
 goes_well : AllGood script (Some 6) [] (opens empty_book) journal
 unfolding digits
-goes_well =   ((refl, tt),
+goes_well = (
+  (refl, tt),
   refl,
-  ((refl, tt),
-  refl,
-  ((refl, tt),
-  refl,
-  ((refl, tt),
-  refl,
-  ((refl, tt),
-  refl,
-  ((refl, tt),
-  refl,
-  ((refl, tt),
-  refl,
-  ((refl, tt),
-  refl,
-  ((refl, tt),
-  refl,
-  ((refl, tt),
-  refl,
-  ((refl, tt),
-  refl,
-  ((refl, tt),
-  refl,
-  ((refl, tt),
-  refl,
-  ((refl, tt),
-  refl,
-  ((refl, tt),
-  refl,
-  ((refl, tt),
-  refl,
-  ((refl, tt),
-  refl,
-  ((refl, tt),
-  refl,
-  (((refl, refl), tt),
-  refl,
-  (((rw world_is refl, refl), tt),
-  refl,
-  (rw world_is ((refl, refl), (refl, refl, refl, refl)),
-  refl,
-  (rw world_is ((refl, refl), (refl, refl, refl, refl)),
-  refl,
-  (rw world_is ((refl, refl), (refl, refl, refl, refl)),
-  refl,
-  (rw world_is ((refl, refl), (refl, refl, refl, refl)),
-  refl,
-  rw world_is ((refl, refl), (refl, refl, refl, refl))
-  ))))))))))))))))))))))))
+  (
+    (refl, tt),
+    refl,
+    (
+      (refl, tt),
+      refl,
+      (
+        (refl, tt),
+        refl,
+        (
+          (refl, tt),
+          refl,
+          (
+            (refl, tt),
+            refl,
+            (
+              (refl, tt),
+              refl,
+              (
+                (refl, tt),
+                refl,
+                (
+                  (refl, tt),
+                  refl,
+                  (
+                    (refl, tt),
+                    refl,
+                    (
+                      (refl, tt),
+                      refl,
+                      (
+                        (refl, tt),
+                        refl,
+                        (
+                          (refl, tt),
+                          refl,
+                          (
+                            (refl, tt),
+                            refl,
+                            (
+                              (refl, tt),
+                              refl,
+                              (
+                                (refl, tt),
+                                refl,
+                                (
+                                  (refl, tt),
+                                  refl,
+                                  (
+                                    (refl, tt),
+                                    refl,
+                                    (
+                                      ((refl, refl), tt),
+                                      refl,
+                                      (
+                                        ((rw world_is refl, refl), tt),
+                                        refl,
+                                        (
+                                          rw world_is ((refl, refl), (refl, refl, refl, refl)),
+                                          refl,
+                                          (
+                                            rw world_is ((refl, refl), (refl, refl, refl, refl)),
+                                            refl,
+                                            (
+                                              rw world_is ((refl, refl), (refl, refl, refl, refl)),
+                                              refl,
+                                              (
+                                                rw world_is ((refl, refl), (refl, refl, refl, refl)),
+                                                refl,
+                                                rw world_is ((refl, refl), (refl, refl, refl, refl)),
+                                              ),
+                                            ),
+                                          ),
+                                        ),
+                                      ),
+                                    ),
+                                  ),
+                                ),
+                              ),
+                            ),
+                          ),
+                        ),
+                      ),
+                    ),
+                  ),
+                ),
+              ),
+            ),
+          ),
+        ),
+      ),
+    ),
+  ),
+)
 
 steps : Steps [] empty_book journal
 unfolding digits escape_byte
-steps =   (record { ours = refl; order = record { objects = tt; uploads = tt; refs = tt; files = tt }; honest = refl; inside = record { objects = refl; uploads = refl }; uncopied = refl; no_data = λ e. refl; shows = inl refl },
-  (record { ours = refl; order = record { objects = tt; uploads = tt; refs = tt; files = tt }; honest = refl; inside = record { objects = refl; uploads = refl }; uncopied = refl; no_data = λ e. refl; shows = inl refl },
-  (record { ours = refl; order = record { objects = tt; uploads = tt; refs = tt; files = tt }; honest = refl; inside = record { objects = refl; uploads = refl }; uncopied = refl; no_data = λ e. refl; shows = inl refl },
-  (record { ours = refl; order = record { objects = tt; uploads = tt; refs = tt; files = tt }; honest = refl; inside = record { objects = refl; uploads = refl }; uncopied = refl; no_data = λ e. absurd (cc); shows = inl refl },
-  (record { ours = refl; order = record { objects = tt; uploads = tt; refs = tt; files = tt }; honest = rw hello_is refl; inside = record { objects = refl; uploads = refl }; uncopied = refl; no_data = λ e. absurd (cc); shows = inl refl },
-  (record { ours = refl; order = record { objects = tt; uploads = tt; refs = tt; files = tt }; honest = refl; inside = record { objects = refl; uploads = refl }; uncopied = refl; no_data = λ e. absurd (cc); shows = inl refl },
-  (record { ours = refl; order = record { objects = tt; uploads = tt; refs = tt; files = tt }; honest = refl; inside = record { objects = refl; uploads = refl }; uncopied = refl; no_data = λ e. absurd (cc); shows = inl refl },
-  (record { ours = refl; order = record { objects = tt; uploads = tt; refs = tt; files = tt }; honest = refl; inside = record { objects = refl; uploads = refl }; uncopied = refl; no_data = λ e. absurd (cc); shows = inl refl },
-  (record { ours = refl; order = record { objects = tt; uploads = tt; refs = tt; files = tt }; honest = refl; inside = record { objects = refl; uploads = refl }; uncopied = refl; no_data = λ e. absurd (cc); shows = inl refl },
-  (record { ours = refl; order = record { objects = tt; uploads = tt; refs = tt; files = tt }; honest = refl; inside = record { objects = refl; uploads = refl }; uncopied = refl; no_data = λ e. absurd (cc); shows = inl refl },
-  (record { ours = refl; order = record { objects = tt; uploads = tt; refs = tt; files = tt }; honest = refl; inside = record { objects = refl; uploads = refl }; uncopied = refl; no_data = λ e. absurd (cc); shows = inl refl },
-  (record { ours = refl; order = record { objects = tt; uploads = tt; refs = tt; files = tt }; honest = rw world_is refl; inside = record { objects = refl; uploads = refl }; uncopied = refl; no_data = λ e. absurd (cc); shows = inl refl },
-  (record { ours = refl; order = record { objects = tt; uploads = tt; refs = tt; files = tt }; honest = refl; inside = record { objects = refl; uploads = refl }; uncopied = refl; no_data = λ e. absurd (cc); shows = inl refl },
-  (record { ours = refl; order = record { objects = tt; uploads = tt; refs = tt; files = tt }; honest = refl; inside = record { objects = refl; uploads = refl }; uncopied = refl; no_data = λ e. absurd (cc); shows = inl refl },
-  (record { ours = refl; order = record { objects = tt; uploads = tt; refs = tt; files = tt }; honest = refl; inside = record { objects = refl; uploads = refl }; uncopied = refl; no_data = λ e. absurd (cc); shows = inl refl },
-  (record { ours = refl; order = record { objects = tt; uploads = tt; refs = tt; files = tt }; honest = refl; inside = record { objects = refl; uploads = refl }; uncopied = refl; no_data = λ e. absurd (cc); shows = inl refl },
-  (record { ours = refl; order = record { objects = tt; uploads = tt; refs = tt; files = tt }; honest = refl; inside = record { objects = refl; uploads = refl }; uncopied = refl; no_data = λ e. absurd (cc); shows = inl refl },
-  (record { ours = refl; order = record { objects = tt; uploads = tt; refs = tt; files = tt }; honest = refl; inside = record { objects = refl; uploads = refl }; uncopied = refl; no_data = λ e. refl; shows = inl refl },
-  (record { ours = refl; order = record { objects = tt; uploads = tt; refs = tt; files = tt }; honest = rw world_is refl; inside = record { objects = refl; uploads = refl }; uncopied = refl; no_data = λ e. refl; shows = inr (refl, refl, refl) },
-  (record { ours = refl; order = record { objects = rw world_is tt; uploads = rw world_is tt; refs = rw world_is tt; files = tt }; honest = refl; inside = record { objects = rw world_is refl; uploads = rw world_is refl }; uncopied = refl; no_data = λ e. refl; shows = inl (rw world_is refl) },
-  (record { ours = refl; order = record { objects = rw world_is tt; uploads = rw world_is tt; refs = rw world_is tt; files = tt }; honest = rw world_is refl; inside = record { objects = rw world_is refl; uploads = rw world_is refl }; uncopied = refl; no_data = λ e. refl; shows = inl (rw world_is refl) },
-  (record { ours = refl; order = record { objects = rw world_is tt; uploads = rw world_is tt; refs = rw world_is tt; files = tt }; honest = rw world_is refl; inside = record { objects = rw world_is refl; uploads = rw world_is refl }; uncopied = refl; no_data = λ e. refl; shows = inl (rw world_is refl) },
-  (record { ours = refl; order = record { objects = rw world_is tt; uploads = rw world_is tt; refs = rw world_is tt; files = tt }; honest = rw world_is refl; inside = record { objects = rw world_is refl; uploads = rw world_is refl }; uncopied = refl; no_data = λ e. refl; shows = inl (rw world_is refl) },
-  (record { ours = refl; order = record { objects = rw world_is tt; uploads = rw world_is tt; refs = rw world_is tt; files = tt }; honest = refl; inside = record { objects = rw world_is refl; uploads = rw world_is refl }; uncopied = refl; no_data = λ e. refl; shows = inl (rw world_is refl) },
-  record { objects = rw world_is refl; uploads = rw world_is refl }
-  ))))))))))))))))))))))))
+steps = (
+  record { ours = refl; order = record { objects = tt; uploads = tt; refs = tt; files = tt }; honest = refl; inside = record { objects = refl; uploads = refl }; uncopied = refl; no_data = λ e. refl; shows = inl refl },
+  (
+    record { ours = refl; order = record { objects = tt; uploads = tt; refs = tt; files = tt }; honest = refl; inside = record { objects = refl; uploads = refl }; uncopied = refl; no_data = λ e. refl; shows = inl refl },
+    (
+      record { ours = refl; order = record { objects = tt; uploads = tt; refs = tt; files = tt }; honest = refl; inside = record { objects = refl; uploads = refl }; uncopied = refl; no_data = λ e. refl; shows = inl refl },
+      (
+        record { ours = refl; order = record { objects = tt; uploads = tt; refs = tt; files = tt }; honest = refl; inside = record { objects = refl; uploads = refl }; uncopied = refl; no_data = λ e. absurd (cc); shows = inl refl },
+        (
+          record { ours = refl; order = record { objects = tt; uploads = tt; refs = tt; files = tt }; honest = rw hello_is refl; inside = record { objects = refl; uploads = refl }; uncopied = refl; no_data = λ e. absurd (cc); shows = inl refl },
+          (
+            record { ours = refl; order = record { objects = tt; uploads = tt; refs = tt; files = tt }; honest = refl; inside = record { objects = refl; uploads = refl }; uncopied = refl; no_data = λ e. absurd (cc); shows = inl refl },
+            (
+              record { ours = refl; order = record { objects = tt; uploads = tt; refs = tt; files = tt }; honest = refl; inside = record { objects = refl; uploads = refl }; uncopied = refl; no_data = λ e. absurd (cc); shows = inl refl },
+              (
+                record { ours = refl; order = record { objects = tt; uploads = tt; refs = tt; files = tt }; honest = refl; inside = record { objects = refl; uploads = refl }; uncopied = refl; no_data = λ e. absurd (cc); shows = inl refl },
+                (
+                  record { ours = refl; order = record { objects = tt; uploads = tt; refs = tt; files = tt }; honest = refl; inside = record { objects = refl; uploads = refl }; uncopied = refl; no_data = λ e. absurd (cc); shows = inl refl },
+                  (
+                    record { ours = refl; order = record { objects = tt; uploads = tt; refs = tt; files = tt }; honest = refl; inside = record { objects = refl; uploads = refl }; uncopied = refl; no_data = λ e. absurd (cc); shows = inl refl },
+                    (
+                      record { ours = refl; order = record { objects = tt; uploads = tt; refs = tt; files = tt }; honest = refl; inside = record { objects = refl; uploads = refl }; uncopied = refl; no_data = λ e. absurd (cc); shows = inl refl },
+                      (
+                        record { ours = refl; order = record { objects = tt; uploads = tt; refs = tt; files = tt }; honest = rw world_is refl; inside = record { objects = refl; uploads = refl }; uncopied = refl; no_data = λ e. absurd (cc); shows = inl refl },
+                        (
+                          record { ours = refl; order = record { objects = tt; uploads = tt; refs = tt; files = tt }; honest = refl; inside = record { objects = refl; uploads = refl }; uncopied = refl; no_data = λ e. absurd (cc); shows = inl refl },
+                          (
+                            record { ours = refl; order = record { objects = tt; uploads = tt; refs = tt; files = tt }; honest = refl; inside = record { objects = refl; uploads = refl }; uncopied = refl; no_data = λ e. absurd (cc); shows = inl refl },
+                            (
+                              record { ours = refl; order = record { objects = tt; uploads = tt; refs = tt; files = tt }; honest = refl; inside = record { objects = refl; uploads = refl }; uncopied = refl; no_data = λ e. absurd (cc); shows = inl refl },
+                              (
+                                record { ours = refl; order = record { objects = tt; uploads = tt; refs = tt; files = tt }; honest = refl; inside = record { objects = refl; uploads = refl }; uncopied = refl; no_data = λ e. absurd (cc); shows = inl refl },
+                                (
+                                  record { ours = refl; order = record { objects = tt; uploads = tt; refs = tt; files = tt }; honest = refl; inside = record { objects = refl; uploads = refl }; uncopied = refl; no_data = λ e. absurd (cc); shows = inl refl },
+                                  (
+                                    record { ours = refl; order = record { objects = tt; uploads = tt; refs = tt; files = tt }; honest = refl; inside = record { objects = refl; uploads = refl }; uncopied = refl; no_data = λ e. refl; shows = inl refl },
+                                    (
+                                      record { ours = refl; order = record { objects = tt; uploads = tt; refs = tt; files = tt }; honest = rw world_is refl; inside = record { objects = refl; uploads = refl }; uncopied = refl; no_data = λ e. refl; shows = inr (refl, refl, refl) },
+                                      (
+                                        record { ours = refl; order = record { objects = rw world_is tt; uploads = rw world_is tt; refs = rw world_is tt; files = tt }; honest = refl; inside = record { objects = rw world_is refl; uploads = rw world_is refl }; uncopied = refl; no_data = λ e. refl; shows = inl (rw world_is refl) },
+                                        (
+                                          record { ours = refl; order = record { objects = rw world_is tt; uploads = rw world_is tt; refs = rw world_is tt; files = tt }; honest = rw world_is refl; inside = record { objects = rw world_is refl; uploads = rw world_is refl }; uncopied = refl; no_data = λ e. refl; shows = inl (rw world_is refl) },
+                                          (
+                                            record { ours = refl; order = record { objects = rw world_is tt; uploads = rw world_is tt; refs = rw world_is tt; files = tt }; honest = rw world_is refl; inside = record { objects = rw world_is refl; uploads = rw world_is refl }; uncopied = refl; no_data = λ e. refl; shows = inl (rw world_is refl) },
+                                            (
+                                              record { ours = refl; order = record { objects = rw world_is tt; uploads = rw world_is tt; refs = rw world_is tt; files = tt }; honest = rw world_is refl; inside = record { objects = rw world_is refl; uploads = rw world_is refl }; uncopied = refl; no_data = λ e. refl; shows = inl (rw world_is refl) },
+                                              (
+                                                record { ours = refl; order = record { objects = rw world_is tt; uploads = rw world_is tt; refs = rw world_is tt; files = tt }; honest = refl; inside = record { objects = rw world_is refl; uploads = rw world_is refl }; uncopied = refl; no_data = λ e. refl; shows = inl (rw world_is refl) },
+                                                record { objects = rw world_is refl; uploads = rw world_is refl },
+                                              ),
+                                            ),
+                                          ),
+                                        ),
+                                      ),
+                                    ),
+                                  ),
+                                ),
+                              ),
+                            ),
+                          ),
+                        ),
+                      ),
+                    ),
+                  ),
+                ),
+              ),
+            ),
+          ),
+        ),
+      ),
+    ),
+  ),
+)
 
 path : is_key_path (codes "out/p") ≡ true
 unfolding parts_from
@@ -140,14 +232,14 @@ unfolding digits escape_byte
 two_attempts = record {
   sent = refl;
   event = refl;
-  keeps = subst (λ c. Keeps script (Some 6) c journal) opening_is (kept_by script refl (Some 6) [] empty_book journal goes_well steps);
-  setup = record { event = refl; may = refl; doing = refl; follows = (refl, (refl, (refl, tt))); over = refl; has_ended = refl };
-  first_write = record { event = refl; may = refl; doing = refl; follows = (refl, (refl, (refl, (refl, tt)))); over = refl; has_ended = refl };
-  first_task = record { event = refl; may = refl; doing = refl; follows = (refl, (refl, (refl, tt))); over = refl; has_ended = refl };
-  second_write = record { event = refl; may = refl; doing = refl; follows = (refl, (refl, (refl, (refl, tt)))); over = refl; has_ended = refl };
-  second_task = record { event = refl; may = refl; doing = refl; follows = (refl, (refl, (refl, tt))); over = refl; has_ended = refl };
-  commit = record { event = refl; may = refl; doing = refl; follows = rw set_is_read (refl, (refl, (refl, tt))); over = rw set_is_read refl; has_ended = refl };
-  clean = record { event = refl; may = refl; doing = refl; follows = (refl, (refl, (refl, (refl, tt)))); over = refl; has_ended = refl };
+  keeps = subst (λ c. Keeps script (Some 6) c journal) opening_is (kept_by script refl [] refl (Some 6) [] empty_book journal goes_well steps refl);
+  setup = record { event = refl; may = refl; doing = refl; turns = (refl, (refl, (refl, tt))); follows = (refl, (refl, (refl, tt))); over = refl; has_ended = refl };
+  first_write = record { event = refl; may = refl; doing = refl; turns = (refl, (refl, (refl, (refl, tt)))); follows = (refl, (refl, (refl, (refl, tt)))); over = refl; has_ended = refl };
+  first_task = record { event = refl; may = refl; doing = refl; turns = (refl, (refl, (refl, tt))); follows = (refl, (refl, (refl, tt))); over = refl; has_ended = refl };
+  second_write = record { event = refl; may = refl; doing = refl; turns = (refl, (refl, (refl, (refl, tt)))); follows = (refl, (refl, (refl, (refl, tt)))); over = refl; has_ended = refl };
+  second_task = record { event = refl; may = refl; doing = refl; turns = (refl, (refl, (refl, tt))); follows = (refl, (refl, (refl, tt))); over = refl; has_ended = refl };
+  commit = record { event = refl; may = refl; doing = refl; turns = (refl, (refl, (refl, tt))); follows = rw set_is_read (refl, (refl, (refl, tt))); over = rw set_is_read refl; has_ended = refl };
+  clean = record { event = refl; may = refl; doing = refl; turns = (refl, (refl, (refl, (refl, tt)))); follows = (refl, (refl, (refl, (refl, tt)))); over = refl; has_ended = refl };
   first_published = refl;
   second_published = refl;
   not_begun = refl;

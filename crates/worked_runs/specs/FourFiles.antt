@@ -1,5 +1,5 @@
 -- The run of one attempt with four files whose job's commit is killed after two completions.
-use Rattle.std.specs.Prelude.{◌≡◌, ℕ, true, false, List, [], ◌∷◌, ◌++◌, length, Some, None, codes}
+use Rattle.std.specs.Prelude.{◌≡◌, ℕ, true, false, List, [], ◌∷◌, ◌++◌, length, take, Some, None, codes}
 use Rattle.s3_types.specs.Moment.{moment}
 use Rattle.s3_types.specs.declared.request.Actor.TheVariants.{Driver}
 use Rattle.s3_types.specs.declared.request.Committer.TheVariants.{Magic}
@@ -22,10 +22,10 @@ use Rattle.job_operations.specs.View.{view, object_at}
 use Rattle.job_promise.specs.Follows.{OpFollows, op_over}
 use Rattle.job_promise.specs.Scope.{upload_at}
 use Rattle.job_promise.specs.Seen.{Seen, seen}
-use Rattle.job_promise.specs.States.{past, commit_event, verdict, dead}
-use Rattle.job_promise.specs.Turns.{by_actor}
+use Rattle.job_promise.specs.States.{past, refusal, commit_event, verdict, dead}
+use Rattle.job_promise.specs.Turns.{Turns, of_event, by_actor}
 use Rattle.worked_runs.specs.Jobs.{lake, job, attempt, worker}
-use Rattle.worked_runs.specs.OneFile.{opening, setup_entries, doing}
+use Rattle.worked_runs.specs.OneFile.{opening, setup_entries, doing as begun_so}
 use Rattle.worked_runs.specs.RefusedEnds.{completes}
 use Rattle.worked_runs.specs.Runs.{hello, upload, set_of, held, writes, lists, reads_record, puts_set, reads_set, setting, Goes, Keeps}
 
@@ -84,9 +84,13 @@ pub record FourFiles : Type 0 where
   pub setup : Goes script the_ends journal Driver Setup 1 (Some 0) (ends.Setup setups.Done)
   pub write : Goes script the_ends journal worker Write 2 (Some 0) (ends.Task tasks.Done)
   pub task : Goes script the_ends journal worker Commit 3 (Some 0) (ends.Task tasks.Done)
-  -- the commit follows as far as it went, and is not over
-  pub commit : OpFollows (setting script) Driver (doing Commit 4 None) (by_actor Driver journal)
-  pub unended : op_over (setting script) Driver (doing Commit 4 None) (by_actor Driver journal) ≡ None
+  -- the commit begins without a request and has three in its step; it follows as far as it went, and is not over
+  pub start : Turns script (past script (take 3 the_ends)).state (Start Driver Commit) Done (of_event 4 journal)
+  pub step : Turns script (past script (take 4 the_ends)).state (Step Driver 3) Done (of_event 5 journal)
+  pub dies : refusal (past script (take 5 the_ends)).state (Kill Driver) ≡ None
+  pub doing : (past script the_ends).doing Driver ≡ Some (begun_so Commit 4 None)
+  pub commit : OpFollows (setting script) Driver (begun_so Commit 4 None) (by_actor Driver journal)
+  pub unended : op_over (setting script) Driver (begun_so Commit 4 None) (by_actor Driver journal) ≡ None
   -- it is seen to begin with the read of the set, which picks the attempt
   pub not_begun : (at 25).begun ≡ false
   pub begun : (at 26).begun ≡ true

@@ -2,9 +2,8 @@
 use Rattle.std.specs.Prelude.{◌≡◌, ℕ, ◌-◌, false, List, [], ◌∷◌, ◌++◌, take, slice_get, Option, Some, None, codes}
 use Rattle.std.specs.FinMap as fin
 use Rattle.serde_json.specs.Written.{compact_text}
-use Rattle.s3_types.specs.Moment.{IsHonest}
 use Rattle.s3_types.specs.Store.{Content, Upload as Live}
-use Rattle.s3_types.specs.Tags.{Spelled, plain_tag, joined_tag}
+use Rattle.s3_types.specs.Tags.{Spelled, plain_tag}
 use Rattle.s3_types.specs.declared.request.Actor.{Actor}
 use Rattle.s3_types.specs.declared.request.Actor.TheVariants.{Driver}
 use Rattle.s3_types.specs.declared.request.Request.TheVariants.{PutObject, GetObject, ListPage, CreateUpload, UploadPart}
@@ -23,9 +22,10 @@ use Rattle.job_model.specs.declared.ends.EventEnd.TheVariants.{Ended}
 use Rattle.job_operations.specs.Operations.{Setting}
 use Rattle.job_promise.specs.Headline.{Always}
 use Rattle.job_promise.specs.Entries.{ZeroRename, OutsideStays}
+use Rattle.job_promise.specs.Promise.{Sent}
 use Rattle.job_promise.specs.Follows.{OpFollows, op_over}
 use Rattle.job_promise.specs.States.{past, refusal}
-use Rattle.job_promise.specs.Turns.{until, by_actor}
+use Rattle.job_promise.specs.Turns.{until, of_event, by_actor, AllBy}
 use Rattle.worked_runs.specs.Jobs.{lake, said, hello_tag}
 use Rattle.worked_runs.specs.OneFile.{doing as begun_so}
 
@@ -84,11 +84,12 @@ abbrev pub setting : Script → Setting
 setting w = record { script = w; minimum = 5242880 }
 
 -- Event k, where the events had these ends: it has the actor do a whole operation, as it may, with this task missing then.
--- The actor's entries up to there are what the operation asks, they lead to this end, and the event has it.
+-- Its entries are the actor's; the actor's entries up to there are what the operation asks, they lead to this end, and the event has it.
 pub record Goes (w : Script) (xs : List EventEnd) (journal : List Entry) (a : Actor) (op : Op) (k : ℕ) (missing : Option ℕ) (end : OpEnd) : Type 0 where
   pub event : slice_get w.events (k - 1) ≡ Some (Do a op)
   pub may : refusal (past w (take (k - 1) xs)).state (Do a op) ≡ None
   pub doing : (past w (take k xs)).doing a ≡ Some (begun_so op k missing)
+  pub turns : AllBy a (of_event k journal)
   pub follows : OpFollows (setting w) a (begun_so op k missing) (by_actor a (until k journal))
   pub over : op_over (setting w) a (begun_so op k missing) (by_actor a (until k journal)) ≡ Some end
   pub has_ended : slice_get xs (k - 1) ≡ Some (Ended end)
@@ -97,8 +98,8 @@ pub record Goes (w : Script) (xs : List EventEnd) (journal : List Entry) (a : Ac
 pub record Keeps (w : Script) (commit : Option ℕ) (opening : Content) (journal : List Entry) : Type 0 where
   -- at each moment a reader is shown what he may rely on
   pub always : Always w commit opening journal
-  -- each answer is the one that was due
-  pub honest : IsHonest opening journal
+  -- each answer is the one that was due, and each sending has the outcome that the script names for its number
+  pub sent : Sent w opening journal
   -- nothing is copied, the driver sends no data, and only it shows files
   pub zero_rename : ZeroRename w opening journal
   pub outside : OutsideStays w opening journal
