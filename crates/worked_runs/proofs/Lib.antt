@@ -1,22 +1,22 @@
-mod Digits
-mod OneSet
-mod MapLists
-mod Tagged
-mod Books
-mod Checks
-mod Sights
-mod Refusals
-mod RefusedEnds
-mod Owed
-mod Frames
-mod OneMoments
-mod OnePlays
-mod OneEnds
-mod LostMarks
-mod StrayEntries
-mod Kept
-mod SharedPaths
-mod LostSets
-mod FourFileRuns
-mod TwoAttemptRuns
-mod TakenRuns
+pub mod Digits
+pub mod OneSet
+pub mod MapLists
+pub mod Tagged
+pub mod Books
+pub mod Checks
+pub mod Sights
+pub mod Refusals
+pub mod RefusedEnds
+pub mod Owed
+pub mod Frames
+pub mod OneMoments
+pub mod OnePlays
+pub mod OneEnds
+pub mod LostMarks
+pub mod StrayEntries
+pub mod Kept
+pub mod SharedPaths
+pub mod LostSets
+pub mod FourFileRuns
+pub mod TwoAttemptRuns
+pub mod TakenRuns

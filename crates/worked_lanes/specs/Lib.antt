@@ -1,0 +1,5 @@
+pub mod FourFiles
+pub mod LanesReverted
+pub mod LanesLost
+pub mod LanesKilled
+pub mod Restarted

@@ -1,0 +1,28 @@
+//! Runs of a job with four files and of two jobs written out as data, and what the definitions of a
+//! job's operations and of its promise say of them.
+#![tactic(auto)]
+
+ghost use Rattle.worked_lanes.specs.LanesKilled.{LanesKilled};
+ghost use Rattle.worked_lanes.specs.LanesLost.{LanesLost};
+ghost use Rattle.worked_lanes.specs.LanesReverted.{LanesReverted};
+ghost use Rattle.worked_lanes.specs.Restarted.{Restarted};
+
+/// A commit in one lane in which a completion wears out.
+pub fn lanes_reverted()
+    ensures { LanesReverted }
+{}
+
+/// A commit in two lanes in which the reply to a completion is lost.
+pub fn lanes_lost()
+    ensures { LanesLost }
+{}
+
+/// The same where the driver is killed after five sendings.
+pub fn lanes_killed()
+    ensures { LanesKilled }
+{}
+
+/// A driver that is killed in its commit and restarted.
+pub fn restarted()
+    ensures { Restarted }
+{}
