@@ -6,3 +6,5 @@ mod Reverted
 mod Lost
 mod Killed
 mod Aborted
+mod Strangers
+mod Twins

@@ -26,7 +26,7 @@ abbrev pub is_nil : {X : Type 0} → List X → Bool
 is_nil [] = true
 is_nil (x ∷ xs) = false
 
-nil_is : {X : Type 0} (xs : List X) → is_nil xs ≡ true → xs ≡ []
+pub nil_is : {X : Type 0} (xs : List X) → is_nil xs ≡ true → xs ≡ []
 nil_is [] h = refl
 nil_is (x ∷ xs) h = absurd (false≢true h)
 
@@ -98,8 +98,16 @@ no_data_is e h d = not_is (sends_data e.request) (subst (λ a. no_data_by a (sen
 abbrev pub Showing : Book → Entry → Type 0
 Showing b e = (visible (effect_on b e.request e.outcome).objects ≡ visible b.objects) ⊎ ((e.actor ≡ Driver) × (may_show e.request ≡ true) × (is_effective e.outcome ≡ true))
 
-pub sound_step : (b : Book) (e : Entry) → is_sound b e ≡ true → IsHonestOutcome e.outcome (reply b e.request) → Showing b e → Step [] b e
-sound_step b e h a s =
+-- what a sound step is of
+record Sound (b : Book) (e : Entry) : Type 0 where
+  ours : is_ours e.request ≡ true
+  order : InOrder b
+  inside : Inside [] b
+  uncopied : is_copy e.request ≡ false
+  no_data : e.actor ≡ Driver → sends_data e.request ≡ false
+
+parts_of : (b : Book) (e : Entry) → is_sound b e ≡ true → Sound b e
+parts_of b e h =
     let p = and_parts (is_ours e.request) _ h in
     let q = and_parts (is_sorted text_cmp b.objects) _ p.1 in
     let r = and_parts (is_sorted nat_cmp (map (λ u. (u.0, upload_of u.1)) b.uploads)) _ q.1 in
@@ -111,12 +119,19 @@ sound_step b e h a s =
     record {
       ours = p.0;
       order = record { objects = true_is _ q.0; uploads = true_is _ r.0; refs = true_is _ t.0; files = true_is _ u.0 };
-      honest = a;
       inside = record { objects = nil_is _ v.0; uploads = x.0 };
       uncopied = not_is _ y.0;
       no_data = no_data_is e y.1;
-      shows = s;
     }
+
+pub sound_order : (b : Book) (e : Entry) → is_sound b e ≡ true → InOrder b
+sound_order b e h = (parts_of b e h).order
+
+pub sound_inside : (b : Book) (e : Entry) → is_sound b e ≡ true → Inside [] b
+sound_inside b e h = (parts_of b e h).inside
+
+pub sound_step : (b : Book) (e : Entry) → is_sound b e ≡ true → IsHonestOutcome e.outcome (reply b e.request) → Showing b e → Step [] b e
+sound_step b e h a s = let p = parts_of b e h in record { ours = p.ours; order = p.order; honest = a; inside = p.inside; uncopied = p.uncopied; no_data = p.no_data; shows = s }
 
 -- so it is of each of these entries, and nothing is shown before or after it
 abbrev pub sound : Book → List Entry → Bool

@@ -3,3 +3,4 @@ pub mod LanesReverted
 pub mod LanesLost
 pub mod LanesKilled
 pub mod Restarted
+pub mod TwoJobs

@@ -6,6 +6,7 @@ ghost use Rattle.worked_lanes.specs.LanesKilled.{LanesKilled};
 ghost use Rattle.worked_lanes.specs.LanesLost.{LanesLost};
 ghost use Rattle.worked_lanes.specs.LanesReverted.{LanesReverted};
 ghost use Rattle.worked_lanes.specs.Restarted.{Restarted};
+ghost use Rattle.worked_lanes.specs.TwoJobs.{TwoJobs};
 
 /// A commit in one lane in which a completion wears out.
 pub fn lanes_reverted()
@@ -25,4 +26,9 @@ pub fn lanes_killed()
 /// A driver that is killed in its commit and restarted.
 pub fn restarted()
     ensures { Restarted }
+{}
+
+/// Two jobs at one destination, as the first of them sees it.
+pub fn two_jobs()
+    ensures { TwoJobs }
 {}

@@ -119,7 +119,7 @@ module _ (w : Script) (to : w.dest ≡ dest) (os : List (List ℕ × Object)) wh
   shown_same : (b c : Book) → visible c.objects ≡ visible b.objects → Same (view w.dest (content_of c)) (view w.dest (content_of b))
   shown_same b c h p = ap (λ d. view d (content_of c) p) to ∙ views c p ∙ ap (λ l. find text_cmp p l) h ∙ sym (views b p) ∙ ap (λ d. view d (content_of b) p) (sym to)
 
-  zero_step : (b : Book) (e : Entry) → Step os b e → Inside os (effect_on b e.request e.outcome) → IsZeroRename w e (content_of b) (content_of (effect_on b e.request e.outcome))
+  pub zero_step : (b : Book) (e : Entry) → Step os b e → Inside os (effect_on b e.request e.outcome) → IsZeroRename w e (content_of b) (content_of (effect_on b e.request e.outcome))
   zero_step b e h g = record {
     uncopied = h.uncopied;
     no_data = h.no_data;
