@@ -34,18 +34,25 @@ unfolding digits escape_byte
 walk = (
   record { good = ((refl, refl), tt); sound = refl; honest = rw hello_is refl; shows = inr (refl, refl, refl); leads = rw hello_is refl; ours = refl; seen = refl },
   (
-  record { good = ((refl, refl), tt); sound = refl; honest = rw hello_is refl; shows = inr (refl, refl, refl); leads = rw hello_is refl; ours = refl; seen = refl },
-  (
-  record { good = ((refl, refl), tt); sound = refl; honest = refl; shows = inl refl; leads = refl; ours = refl; seen = refl },
-  (
-  record { good = ((refl, refl), tt); sound = refl; honest = refl; shows = inl refl; leads = refl; ours = refl; seen = refl },
-  (
-  record { good = ((refl, refl), tt); sound = refl; honest = refl; shows = inl refl; leads = refl; ours = refl; seen = refl },
-  (
-  record { good = ((refl, refl), tt); sound = refl; honest = refl; shows = inl refl; leads = refl; ours = refl; seen = refl },
-  (
-  record { good = ((refl, refl), tt); sound = refl; honest = refl; shows = inl refl; leads = refl; ours = refl; seen = refl },
-  (((refl, refl), tt), record { objects = refl; uploads = refl }))))))))
+    record { good = ((refl, refl), tt); sound = refl; honest = rw hello_is refl; shows = inr (refl, refl, refl); leads = rw hello_is refl; ours = refl; seen = refl },
+    (
+      record { good = ((refl, refl), tt); sound = refl; honest = refl; shows = inl refl; leads = refl; ours = refl; seen = refl },
+      (
+        record { good = ((refl, refl), tt); sound = refl; honest = refl; shows = inl refl; leads = refl; ours = refl; seen = refl },
+        (
+          record { good = ((refl, refl), tt); sound = refl; honest = refl; shows = inl refl; leads = refl; ours = refl; seen = refl },
+          (
+            record { good = ((refl, refl), tt); sound = refl; honest = refl; shows = inl refl; leads = refl; ours = refl; seen = refl },
+            (
+              record { good = ((refl, refl), tt); sound = refl; honest = refl; shows = inl refl; leads = refl; ours = refl; seen = refl },
+              (((refl, refl), tt), record { objects = refl; uploads = refl }),
+            ),
+          ),
+        ),
+      ),
+    ),
+  ),
+)
 
 pub restarted : Restarted
 unfolding digits escape_byte

@@ -33,24 +33,32 @@ unfolding digits
 two_walk = (
   record { good = ((refl, refl), tt); sound = refl; honest = tt; shows = inr (refl, refl, refl); leads = rw hello_is refl; ours = refl; seen = refl },
   (
-  record { good = ((refl, refl), tt); sound = refl; honest = rw hello_is refl; shows = inr (refl, refl, refl); leads = rw hello_is refl; ours = refl; seen = refl },
-  (
-  record { good = ((refl, refl), tt); sound = refl; honest = refl; shows = inl refl; leads = refl; ours = refl; seen = refl },
-  (
-  record { good = ((refl, refl), tt); sound = refl; honest = rw hello_is refl; shows = inr (refl, refl, refl); leads = rw hello_is refl; ours = refl; seen = refl },
-  (((refl, refl), tt), record { objects = refl; uploads = refl })))))
+    record { good = ((refl, refl), tt); sound = refl; honest = rw hello_is refl; shows = inr (refl, refl, refl); leads = rw hello_is refl; ours = refl; seen = refl },
+    (
+      record { good = ((refl, refl), tt); sound = refl; honest = refl; shows = inl refl; leads = refl; ours = refl; seen = refl },
+      (
+        record { good = ((refl, refl), tt); sound = refl; honest = rw hello_is refl; shows = inr (refl, refl, refl); leads = rw hello_is refl; ours = refl; seen = refl },
+        (((refl, refl), tt), record { objects = refl; uploads = refl }),
+      ),
+    ),
+  ),
+)
 
 one_walk : Walk (script 1) read_stop one_entries one_stops
 unfolding digits
 one_walk = (
   record { good = ((refl, refl), tt); sound = refl; honest = tt; shows = inr (refl, refl, refl); leads = rw hello_is refl; ours = refl; seen = refl },
   (
-  record { good = ((refl, refl), tt); sound = refl; honest = refl; shows = inl refl; leads = refl; ours = refl; seen = refl },
-  (
-  record { good = ((refl, refl), tt); sound = refl; honest = rw hello_is refl; shows = inr (refl, refl, refl); leads = rw hello_is refl; ours = refl; seen = refl },
-  (
-  record { good = ((refl, refl), tt); sound = refl; honest = rw hello_is refl; shows = inr (refl, refl, refl); leads = rw hello_is refl; ours = refl; seen = refl },
-  (((refl, refl), tt), record { objects = refl; uploads = refl })))))
+    record { good = ((refl, refl), tt); sound = refl; honest = refl; shows = inl refl; leads = refl; ours = refl; seen = refl },
+    (
+      record { good = ((refl, refl), tt); sound = refl; honest = rw hello_is refl; shows = inr (refl, refl, refl); leads = rw hello_is refl; ours = refl; seen = refl },
+      (
+        record { good = ((refl, refl), tt); sound = refl; honest = rw hello_is refl; shows = inr (refl, refl, refl); leads = rw hello_is refl; ours = refl; seen = refl },
+        (((refl, refl), tt), record { objects = refl; uploads = refl }),
+      ),
+    ),
+  ),
+)
 
 killed_two : KilledWith 2 in_two (codes "a" ∷ codes "b" ∷ codes "d" ∷ [])
 unfolding digits escape_byte

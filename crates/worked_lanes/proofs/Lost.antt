@@ -27,7 +27,6 @@ all_four = with_files (codes "a" ∷ codes "b" ∷ codes "c" ∷ codes "d" ∷ [
 abbrev marked : Book
 marked = record { objects = (codes "out/_SUCCESS", plain mark_bytes) ∷ all_four.objects; uploads = []; next = 5; files = [] }
 
-
 abbrev stops : List Stop
 stops = record { mark = false; book = one } ∷ record { mark = false; book = two } ∷ record { mark = false; book = two } ∷ record { mark = false; book = three } ∷ record { mark = false; book = all_four } ∷ record { mark = true; book = marked } ∷ []
 
@@ -37,16 +36,22 @@ unfolding digits
 walk = (
   record { good = ((refl, refl), tt); sound = refl; honest = tt; shows = inr (refl, refl, refl); leads = rw hello_is refl; ours = refl; seen = refl },
   (
-  record { good = ((refl, refl), tt); sound = refl; honest = rw hello_is refl; shows = inr (refl, refl, refl); leads = rw hello_is refl; ours = refl; seen = refl },
-  (
-  record { good = ((refl, refl), tt); sound = refl; honest = refl; shows = inl refl; leads = refl; ours = refl; seen = refl },
-  (
-  record { good = ((refl, refl), tt); sound = refl; honest = rw hello_is refl; shows = inr (refl, refl, refl); leads = rw hello_is refl; ours = refl; seen = refl },
-  (
-  record { good = ((refl, refl), tt); sound = refl; honest = rw hello_is refl; shows = inr (refl, refl, refl); leads = rw hello_is refl; ours = refl; seen = refl },
-  (
-  record { good = ((refl, refl), tt); sound = refl; honest = refl; shows = inl refl; leads = refl; ours = refl; seen = refl },
-  (((refl, refl), (refl, refl, refl, refl)), record { objects = refl; uploads = refl })))))))
+    record { good = ((refl, refl), tt); sound = refl; honest = rw hello_is refl; shows = inr (refl, refl, refl); leads = rw hello_is refl; ours = refl; seen = refl },
+    (
+      record { good = ((refl, refl), tt); sound = refl; honest = refl; shows = inl refl; leads = refl; ours = refl; seen = refl },
+      (
+        record { good = ((refl, refl), tt); sound = refl; honest = rw hello_is refl; shows = inr (refl, refl, refl); leads = rw hello_is refl; ours = refl; seen = refl },
+        (
+          record { good = ((refl, refl), tt); sound = refl; honest = rw hello_is refl; shows = inr (refl, refl, refl); leads = rw hello_is refl; ours = refl; seen = refl },
+          (
+            record { good = ((refl, refl), tt); sound = refl; honest = refl; shows = inl refl; leads = refl; ours = refl; seen = refl },
+            (((refl, refl), (refl, refl, refl, refl)), record { objects = refl; uploads = refl }),
+          ),
+        ),
+      ),
+    ),
+  ),
+)
 
 pub lanes_lost : LanesLost
 unfolding digits escape_byte

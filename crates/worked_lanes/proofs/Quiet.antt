@@ -147,8 +147,7 @@ all_sound b [] fs h a g = g
 all_sound b (e ∷ es) fs h a g =
     let p = and_parts (is_sound b e && (is_nil (visible b.objects) && is_nil (visible (effect_on b e.request e.outcome).objects))) _ h in
     let q = and_parts (is_sound b e) _ p.0 in
-    let r = and_parts (is_nil (visible b.objects)) _ q.1 in
-    (
+    let r = and_parts (is_nil (visible b.objects)) _ q.1 in (
       sound_step b e q.0 a.0 (inl (nil_is (visible (effect_on b e.request e.outcome).objects) r.1 ∙ sym (nil_is (visible b.objects) r.0))),
       all_sound (effect_on b e.request e.outcome) es fs p.1 a.1 g,
     )

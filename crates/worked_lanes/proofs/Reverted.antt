@@ -29,7 +29,6 @@ one_upload = with_files ([]) (dd ∷ [])
 abbrev nothing : Book
 nothing = with_files ([]) ([])
 
-
 abbrev stops : List Stop
 stops = record { mark = false; book = one } ∷ record { mark = false; book = two } ∷ record { mark = false; book = two } ∷ record { mark = false; book = one_left } ∷ record { mark = false; book = none_left } ∷ record { mark = false; book = one_upload } ∷ record { mark = false; book = nothing } ∷ []
 
@@ -39,18 +38,25 @@ unfolding digits
 walk = (
   record { good = ((refl, refl), tt); sound = refl; honest = rw hello_is refl; shows = inr (refl, refl, refl); leads = rw hello_is refl; ours = refl; seen = refl },
   (
-  record { good = ((refl, refl), tt); sound = refl; honest = tt; shows = inr (refl, refl, refl); leads = rw hello_is refl; ours = refl; seen = refl },
-  (
-  record { good = ((refl, refl), tt); sound = refl; honest = refl; shows = inl refl; leads = refl; ours = refl; seen = refl },
-  (
-  record { good = ((refl, refl), tt); sound = refl; honest = refl; shows = inr (refl, refl, refl); leads = refl; ours = refl; seen = refl },
-  (
-  record { good = ((refl, refl), tt); sound = refl; honest = refl; shows = inr (refl, refl, refl); leads = refl; ours = refl; seen = refl },
-  (
-  record { good = ((refl, refl), tt); sound = refl; honest = refl; shows = inl refl; leads = refl; ours = refl; seen = refl },
-  (
-  record { good = ((refl, refl), tt); sound = refl; honest = refl; shows = inl refl; leads = refl; ours = refl; seen = refl },
-  (((refl, refl), tt), record { objects = refl; uploads = refl }))))))))
+    record { good = ((refl, refl), tt); sound = refl; honest = tt; shows = inr (refl, refl, refl); leads = rw hello_is refl; ours = refl; seen = refl },
+    (
+      record { good = ((refl, refl), tt); sound = refl; honest = refl; shows = inl refl; leads = refl; ours = refl; seen = refl },
+      (
+        record { good = ((refl, refl), tt); sound = refl; honest = refl; shows = inr (refl, refl, refl); leads = refl; ours = refl; seen = refl },
+        (
+          record { good = ((refl, refl), tt); sound = refl; honest = refl; shows = inr (refl, refl, refl); leads = refl; ours = refl; seen = refl },
+          (
+            record { good = ((refl, refl), tt); sound = refl; honest = refl; shows = inl refl; leads = refl; ours = refl; seen = refl },
+            (
+              record { good = ((refl, refl), tt); sound = refl; honest = refl; shows = inl refl; leads = refl; ours = refl; seen = refl },
+              (((refl, refl), tt), record { objects = refl; uploads = refl }),
+            ),
+          ),
+        ),
+      ),
+    ),
+  ),
+)
 
 pub lanes_reverted : LanesReverted
 unfolding digits escape_byte

@@ -34,8 +34,7 @@ quiet_steps b [] fs h a g = g
 quiet_steps b (e ∷ es) fs h a g =
     let p = and_parts (is_sound b e && (is_nil (visible b.objects) && is_nil (visible (effect_on b e.request e.outcome).objects))) _ h in
     let q = and_parts (is_sound b e) _ p.0 in
-    let r = and_parts (is_nil (visible b.objects)) _ q.1 in
-    (
+    let r = and_parts (is_nil (visible b.objects)) _ q.1 in (
       record { sound = q.0; honest = a.0; shows = λ o. inl (nil_is (visible (effect_on b e.request e.outcome).objects) r.1 ∙ sym (nil_is (visible b.objects) r.0)) },
       quiet_steps (effect_on b e.request e.outcome) es fs p.1 a.1 g,
     )

@@ -102,30 +102,39 @@ walk = (
   record { sound = refl; honest = rw hello_is refl; shows = λ o. absurd (cc) },
   rw hello_is refl,
   (
-  record { sound = refl; honest = refl; shows = λ o. inl refl },
-  refl,
-  (
-  record { sound = refl; honest = refl; shows = λ o. inl refl },
-  refl,
-  (
-  record { sound = refl; honest = rw hello_is refl; shows = λ o. inr (refl, refl, refl) },
-  rw hello_is refl,
-  (
-  record { sound = refl; honest = refl; shows = λ o. inl refl },
-  refl,
-  (
-  record { sound = refl; honest = refl; shows = λ o. inl refl },
-  refl,
-  (
-  record { sound = refl; honest = refl; shows = λ o. inl refl },
-  refl,
-  (
-  record { sound = refl; honest = refl; shows = λ o. inl refl },
-  refl,
-  (
-  record { sound = refl; honest = refl; shows = λ o. inl refl },
-  refl,
-  record { objects = refl; uploads = refl })))))))))
+    record { sound = refl; honest = refl; shows = λ o. inl refl },
+    refl,
+    (
+      record { sound = refl; honest = refl; shows = λ o. inl refl },
+      refl,
+      (
+        record { sound = refl; honest = rw hello_is refl; shows = λ o. inr (refl, refl, refl) },
+        rw hello_is refl,
+        (
+          record { sound = refl; honest = refl; shows = λ o. inl refl },
+          refl,
+          (
+            record { sound = refl; honest = refl; shows = λ o. inl refl },
+            refl,
+            (
+              record { sound = refl; honest = refl; shows = λ o. inl refl },
+              refl,
+              (
+                record { sound = refl; honest = refl; shows = λ o. inl refl },
+                refl,
+                (
+                  record { sound = refl; honest = refl; shows = λ o. inl refl },
+                  refl,
+                  record { objects = refl; uploads = refl },
+                ),
+              ),
+            ),
+          ),
+        ),
+      ),
+    ),
+  ),
+)
 
 steps : EyeSteps empty_book eyes
 steps = quiet_steps empty_book quiet later is_sound answered (subst (λ b. EyeSteps b later) (sym quiet_is) (walk_steps read_b later books walk))
