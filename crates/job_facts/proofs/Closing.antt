@@ -5,7 +5,6 @@ use Rattle.s3_types.specs.Moment.{is_effective}
 use Rattle.s3_types.specs.declared.request.Committer.{Committer}
 use Rattle.s3_types.specs.declared.request.Committer.TheVariants.{Magic, Directory, Partitioned}
 use Rattle.s3_types.specs.declared.request.Request.{Request}
-use Rattle.s3_types.specs.declared.request.Request.TheVariants.{PutObject}
 use Rattle.s3_types.specs.declared.reply.Reply.{Reply}
 use Rattle.s3_types.specs.declared.journal.Outcome.{Outcome}
 use Rattle.s3_types.specs.declared.journal.Outcome.TheVariants.{Answered, Slow, RequestLost, ReplyLost}
@@ -22,15 +21,15 @@ use Rattle.job_operations.specs.Outputs.{same_path}
 use Rattle.job_operations.specs.Knowledge.{drawn_for, drawn_in}
 use Rattle.job_operations.specs.Records.{file_key, file_record}
 use Rattle.job_operations.specs.Walks.{Sweep, Listing, Deleting, sweep_asks, sweep_hears}
-use Rattle.job_operations.specs.Lanes.{Turn, nth, completion, abort, deletion, again, follow, dealt, chosen, undo, in_turn, is_tried, is_unsent, revert}
+use Rattle.job_operations.specs.Lanes.{Turn, nth, abort, deletion, again, follow, dealt, chosen, undo, in_turn, is_tried, is_unsent, revert}
 use Rattle.job_operations.specs.JobCommits.{Sets, all_commits, picks_of, Commit, Fetching, Replacing, Completing, Marking, Reverting, CommitOver, set_request, set_read, commit_asks, commit_hears, commit_misses, commit_tells, commit_start, completing, is_no_magic, replaced, replacing, decided, fetching, fetched, swept, reverting, worn_completion}
 use Rattle.job_operations.specs.Cleanups.{Clean, Walking, Aborting, Sweeping, Naming, Removing, CleanOver, clean_asks}
 use Rattle.job_promise.specs.Ends.{lists_uploads}
 use Rattle.job_promise.specs.Seen.{Seen}
-use Rattle.job_operations.specs.LaneTable.{Table, Tabled, In}
+use Rattle.job_operations.specs.LaneTable.{Tabled}
 use Rattle.job_operations.specs.Operations.{Setting, Operation, asks}
 use Rattle.request_frame.specs.Members.{IsIn}
-use Rattle.request_frame.proofs.Members.{some_is, none_some, false_true, eq_nat, in_map, in_append}
+use Rattle.request_frame.proofs.Members.{some_is, false_true, eq_nat, in_map}
 use Rattle.s3_types.specs.Store.{Scene}
 use Rattle.job_facts.specs.Told.{Told, known, ends, tell_driver, tell_attempt}
 use Rattle.job_facts.specs.Facts.{Facts, Hold, knowing}

@@ -35,3 +35,5 @@ pub mod SettingUp
 pub mod Live
 pub mod Clearing
 pub mod Closing
+pub mod Apart
+pub mod Remaining

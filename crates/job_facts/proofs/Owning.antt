@@ -68,7 +68,7 @@ module _ {w : Script} (ds : List Drawn) where
       (names_upload (UploadPart w.dest.bucket (file_key w f) b.latest.upload (length b.latest.tags + 1) p) b.latest (subst (λ (l : List Drawn). IsIn b.latest l) is (latest_in w minimum a b)) refl refl refl)
 
 -- an attempt's directory is below the job's magic directory
-own_directory : (w : Script) (a : Who) (q : List ℕ) → begins (attempt_prefix w a) q ≡ true → begins (magic_prefix w.dest.key w.job) q ≡ true
+pub own_directory : (w : Script) (a : Who) (q : List ℕ) → begins (attempt_prefix w a) q ≡ true → begins (magic_prefix w.dest.key w.job) q ≡ true
 own_directory w a q h =
     let rest = codes "tasks/" ++ (decimal a.task ++ (codes "_" ++ (decimal a.attempt ++ codes "/__base"))) in
     begins_front (magic_prefix w.dest.key w.job) (rest ++ codes "/") q (ap (λ p. begins p q) (sym (split rest)) ∙ h)

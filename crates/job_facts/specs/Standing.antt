@@ -1,5 +1,5 @@
 -- Until the driver's abort or clean of the job begins, what an attempt has written stands, and the driver ends no upload that may still be sent to: so no write or commit finds its own gone.
-use Rattle.std.specs.Prelude.{◌≡◌, ℕ, ◌⊎◌, Bool, true, false, List, [], ◌∷◌, Option, Some}
+use Rattle.std.specs.Prelude.{◌≡◌, ℕ, ◌⊎◌, Bool, true, false, List, [], ◌∷◌, Some}
 use Rattle.std.specs.Ordering.{is_lt}
 use Rattle.proof_base.specs.Order.{text_cmp}
 use Rattle.s3_types.specs.declared.object.Object.{Object}

@@ -1,5 +1,5 @@
 -- The laws of what stands until the driver's abort or clean of the job begins.
-use Rattle.std.specs.Prelude.{◌≡◌, ℕ, false, List, Option, Some}
+use Rattle.std.specs.Prelude.{◌≡◌, ℕ, Bool, false, List, Option, Some}
 use Rattle.s3_types.specs.Answer.{answer}
 use Rattle.s3_types.specs.Moment.{IsHonestOutcome}
 use Rattle.s3_types.specs.declared.request.Request.{Request}
@@ -7,16 +7,21 @@ use Rattle.s3_types.specs.declared.journal.Outcome.{Outcome}
 use Rattle.job_model.specs.Attempts.{Who}
 use Rattle.job_model.specs.Legal.{IsLegal}
 use Rattle.job_model.specs.JobScript.{Script}
+use Rattle.job_model.specs.declared.ends.TaskEnd.TheVariants as tasks
+use Rattle.job_operations.specs.Writes.{Write, WriteOver, write_start, write_over}
+use Rattle.job_operations.specs.TaskCommits.{TaskCommit, TaskCommitOver, task_commit_start, task_commit_over}
 use Rattle.job_operations.specs.JobCommits.{Commit, commit_start, commit_asks, commit_tells}
 use Rattle.job_operations.specs.Cleanups.{Clean, clean_asks}
 use Rattle.job_operations.specs.LaneTable.{Tabled}
-use Rattle.job_operations.specs.Operations.{Setting, Operation, asks}
-use Rattle.job_promise.specs.Seen.{Seen}
-use Rattle.job_facts.specs.Told.{Told, known, nothing_told, tell, entry, driver_entry}
-use Rattle.job_facts.specs.Facts.{Hold}
+use Rattle.job_operations.specs.Operations.{Setting, Operation, asks, tells}
+use Rattle.job_promise.specs.Seen.{Seen, see}
+use Rattle.job_facts.specs.Told.{Told, known, nothing_told, tell, entry, driver_entry, strange_entry}
+use Rattle.job_facts.specs.Stores.{sets_at}
+use Rattle.job_facts.specs.Foreign.{IsForeign}
+use Rattle.job_facts.specs.Facts.{IsAttempt, IsSet, Hold}
 use Rattle.job_facts.specs.Fits.{Fits}
 use Rattle.job_facts.specs.Driver.{FitsClean, FitsJobCommit}
-use Rattle.job_facts.specs.Standing.{Closed, Reverts}
+use Rattle.job_facts.specs.Standing.{Closed, Reverts, WriteStands, CommitStands, Stands}
 
 -- Until it cleans up, the driver ends only uploads of attempts that have sent their publishing requests. Of a commit's lanes it takes that their numbers are those of uploads (`Tabled`, which `job_operations` keeps); of a stranger's entry nothing is told.
 pub record DriverCloses : Type 0 where
@@ -27,3 +32,25 @@ pub record DriverCloses : Type 0 where
   pub clean : (w : Script) (m : Told) (t : Clean) → FitsClean w m.cleaned t → (r : Request) → clean_asks w t ≡ Some r → (n : ℕ) (o : Outcome) → Closed (tell w m (driver_entry n r o))
   pub attempt : (g : Setting) (m : Told) (a : Who) (op : Operation) → Fits g.script g.minimum a m op → (r : Request) → asks g a (known m a) op ≡ Some r → (n : ℕ) (o : Outcome)
       → let now = tell g.script m (entry a n r o) in (Closed m → Closed now) × ((c : Commit) → Reverts m.publish_sent m.drawn c → Reverts now.publish_sent now.drawn c)
+
+-- Until the driver cleans up, what a write or commit of an attempt has written stands, whatever others send; so none ends Gone, and a commit that is done has published.
+pub record NothingGone : Type 0 where
+  pub write : (w : Script) (s : Seen) (a : Who) → WriteStands w s a (write_start w a)
+  pub commit : (w : Script) → IsLegal w → (s : Seen) (a : Who) → WriteStands w s a (WriteOver tasks.Done) → CommitStands w s a false (task_commit_start w a)
+  -- its own requests, by each outcome
+  pub goes : (g : Setting) → IsLegal g.script → (k : Option ℕ) (s : Seen) (m : Told) (a : Who) (n : ℕ) → Hold g.script g.minimum s m → Closed m → m.cleaned ≡ false → (op : Operation) → Fits g.script g.minimum a m op → Stands g.script s a op
+      → (r : Request) → asks g a (known m a) op ≡ Some r → (o : Outcome) → IsHonestOutcome o (answer s.scene r) → Stands g.script (see g.script k s (entry a n r o)) a (tells g a op o)
+  -- another attempt's
+  pub others : (g : Setting) → IsLegal g.script → (k : Option ℕ) (s : Seen) (m : Told) (a b : Who) (n : ℕ) → Hold g.script g.minimum s m → IsAttempt g.script a → IsAttempt g.script b → (a ≡ b → ⊥) → (op : Operation) → Fits g.script g.minimum b m op
+      → (r : Request) → asks g b (known m b) op ≡ Some r → (o : Outcome) → (mine : Operation) → Stands g.script s a mine → Stands g.script (see g.script k s (entry b n r o)) a mine
+  -- the driver's commit's
+  pub driver : (g : Setting) → IsLegal g.script → (k : Option ℕ) (s : Seen) (m : Told) (a : Who) (n : ℕ) → Hold g.script g.minimum s m → (c : Commit) → FitsJobCommit g.script g.minimum m.publish_sent m.drawn c
+      → (r : Request) → commit_asks g.script c ≡ Some r → (o : Outcome) → (mine : Operation) → Stands g.script s a mine → Stands g.script (see g.script k s (driver_entry n r o)) a mine
+  -- a stranger's
+  pub strangers : (w : Script) (minimum : ℕ) → IsLegal w → (k : Option ℕ) (s : Seen) (m : Told) (a : Who) (n : ℕ) → Hold w minimum s m → (r : Request) → IsForeign w m.drawn r → (o : Outcome) → (mine : Operation) → Stands w s a mine
+      → Stands w (see w k s (strange_entry n r o)) a mine
+  pub never_write : (w : Script) (s : Seen) (a : Who) (t : Write) (name : List ℕ) → WriteStands w s a t → write_over t ≡ Some (tasks.Gone name) → ⊥
+  pub never_commit : (w : Script) (s : Seen) (a : Who) (repeated : Bool) (t : TaskCommit) (name : List ℕ) → CommitStands w s a repeated t → task_commit_over t ≡ Some (tasks.Gone name) → ⊥
+  -- the set of its task stands, and is that of the last publisher
+  pub published : (w : Script) (minimum : ℕ) (s : Seen) (m : Told) (a : Who) (repeated : Bool) → Hold w minimum s m → m.cleaned ≡ false → IsAttempt w a → CommitStands w s a repeated (TaskCommitOver tasks.Done)
+      → (bytes : List ℕ) × (sets_at w s.scene a.task ≡ Some bytes) × IsSet w minimum s.last m.publish_sent m.drawn a.task bytes

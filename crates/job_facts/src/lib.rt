@@ -5,7 +5,7 @@
 ghost use Rattle.job_facts.specs.Laws.{AnswersFit, AttemptBegins, AttemptGoes, AttemptNames, CleanGoes, CommitGoes, DrivingKeeps, FactsBegin, ForeignKeeps, ReadsKeep, ToldIsSaid};
 ghost use Rattle.job_facts.specs.SetupLaws.{SetupGoes};
 ghost use Rattle.job_facts.specs.Clearing.{CleanClears};
-ghost use Rattle.job_facts.specs.StandingLaws.{DriverCloses};
+ghost use Rattle.job_facts.specs.StandingLaws.{DriverCloses, NothingGone};
 
 /// The driver's set-up, which ends where the facts begin.
 pub fn setups()
@@ -41,6 +41,7 @@ pub fn driver()
 /// What stands until the driver's abort or clean of the job begins.
 pub fn standing()
     ensures closes { DriverCloses }
+    ensures gone { NothingGone }
 {}
 
 /// What the driver's abort or clean of the job leaves where nobody else sends.

@@ -1,5 +1,7 @@
 use Rattle.std.proofs.lemmas.Bool.{false≢true}
 use Rattle.job_facts.proofs.Closing.{reverts_start, commit_closes, clean_closes, attempt_closes, attempt_reverts}
+use Rattle.job_facts.proofs.JobCommitting.{commit_drives}
+use Rattle.job_facts.proofs.Remaining.{stands_kept, other_stood, driver_stood, strange_stood, write_begins, commit_begins, own_stands, write_never, commit_never, commit_done}
 use Rattle.job_facts.proofs.standing.Goals as goal
 
 pub returns : goal.returns
@@ -10,5 +12,16 @@ returns c = record {
     commit = λ g j s m h closed c f t v r e n o. commit_closes g j s m h closed c f t v r e o;
     clean = λ w m t h r e n o. clean_closes w m t h r e o;
     attempt = λ g m a op fits r e n o. (attempt_closes g m a op fits r e o, attempt_reverts g m a op fits r e o);
+  };
+  gone = record {
+    write = write_begins;
+    commit = commit_begins;
+    goes = own_stands;
+    others = λ g j k s m a b n h d e ne op fits r x o. stands_kept (other_stood g j k s m a b n h.there d e ne op fits r x o);
+    driver = λ g j k s m a n h c fits r e o. stands_kept (driver_stood g.script j k s a n h.there r (commit_drives g.script g.minimum k s m n j h c fits r e) o);
+    strangers = λ w minimum j k s m a n h r f o. stands_kept (strange_stood w j k s a n h.there r m.drawn f o);
+    never_write = write_never;
+    never_commit = commit_never;
+    published = commit_done;
   };
 }

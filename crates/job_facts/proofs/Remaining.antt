@@ -1,0 +1,476 @@
+-- What an attempt has written stands, whatever others send, until the driver cleans up; and so it goes on.
+use Rattle.std.proofs.Common.{◌≡◌, ℕ, zero, suc, ◌+◌, ◌⊎◌, inl, inr, nat_eq, nat_lt, ◌&&◌, ◌||◌, Bool, true, false, cond, List, [], ◌∷◌, ◌++◌, map, take, length, Option, Some, None, is_some, refl, sym, ap, subst, ◌∙◌}
+use Rattle.std.specs.FinMap as fin
+use Rattle.std.specs.List.{list_any}
+use Rattle.std.specs.Ordering.{is_lt}
+use Rattle.std.proofs.lemmas.Bool.{false≢true}
+use Rattle.proof_base.specs.Order.{text_cmp, text_eq}
+use Rattle.s3_types.specs.Pages.{listed}
+use Rattle.s3_types.specs.Tags.{plain_tag}
+use Rattle.s3_types.specs.Answer.{answer, apply, found, rename_answer}
+use Rattle.s3_types.specs.Moment.{IsHonestOutcome}
+use Rattle.s3_types.specs.declared.object.Object.{Object}
+use Rattle.s3_types.specs.declared.request.Committer.{Committer}
+use Rattle.s3_types.specs.declared.request.Committer.TheVariants.{Magic, Directory, Partitioned}
+use Rattle.s3_types.specs.declared.request.Request.{Request}
+use Rattle.s3_types.specs.declared.request.Request.TheVariants.{GetObject, UploadPart}
+use Rattle.s3_types.specs.declared.reply.Reply.{Reply}
+use Rattle.s3_types.specs.declared.reply.Reply.TheVariants.{Page, Part, Upload, Refused, ClusterDone}
+use Rattle.s3_types.specs.declared.reply.Refusal.TheVariants.{NoSuchFile}
+use Rattle.s3_types.specs.declared.reply.PageEntry.{PageEntry}
+use Rattle.s3_types.specs.declared.journal.Outcome.{Outcome}
+use Rattle.s3_types.specs.declared.journal.Outcome.TheVariants.{Answered, Slow, RequestLost, ReplyLost}
+use Rattle.sendings.specs.Retries.{Retried, Item, Got, WornOut, step, unanswered_by}
+use Rattle.magic_paths.specs.Layout.{set_key, staged_set_path}
+use Rattle.magic_paths.specs.Places.{TemporaryPlace}
+use Rattle.job_model.specs.Files.{File}
+use Rattle.job_model.specs.Attempts.{Who}
+use Rattle.job_model.specs.Legal.{IsLegal}
+use Rattle.job_model.specs.JobScript.{Script}
+use Rattle.job_model.specs.Known.{Drawn}
+use Rattle.job_model.specs.declared.ends.TaskEnd.TheVariants as tasks
+use Rattle.job_operations.specs.Outputs.{files}
+use Rattle.job_operations.specs.Knowledge.{is_set_key, is_set_path}
+use Rattle.job_operations.specs.Records.{record_key}
+use Rattle.job_operations.specs.Uploading.{Uploading, Creating, Sending, Uploaded, GoesOn, AllSent, IsGone, sending, created, sent_part, upload_asks, upload_hears, file_parts}
+use Rattle.job_operations.specs.Walks.{walked, walked_by, keys_on, last_of, page_after}
+use Rattle.job_operations.specs.Writes.{Write, Marking, Recording, WriteOver, writing, write_start_by, write_start, write_asks, write_over, write_hears, write_after}
+use Rattle.job_operations.specs.Writes as writes
+use Rattle.job_operations.specs.TaskCommits.{TaskCommit, Looking, Reading, Publishing, Checking, Storing, Renaming, TaskCommitOver, reading, looked, looked_at, least_missing, least_of, in_order, read_record, storing, checking, checked, renamed, to_check, task_commit_start_by, task_commit_start, task_commit_asks, task_commit_over, task_commit_hears, task_commit_after, attempt_prefix, temporary_path}
+use Rattle.job_operations.specs.TaskCommits as commits
+use Rattle.job_operations.specs.Operations.{Setting, Operation, TheSetup, TheWrite, TheTaskCommit, TheTaskAbort, TheCommit, TheClean, asks, tells}
+use Rattle.job_promise.specs.Seen.{Seen, see, is_magic, is_staging, is_publishing, last_by}
+use Rattle.request_frame.specs.Members.{IsIn, last_from}
+use Rattle.request_frame.specs.Held.{HasBucket}
+use Rattle.request_frame.proofs.Members.{some_is, false_true, true_or_false, text_true, text_here, nat_true, in_map, in_front, in_back}
+use Rattle.request_frame.proofs.Flat.{page_covers, page_all, last_append}
+use Rattle.job_facts.specs.Told.{Told, known, entry, driver_entry, strange_entry}
+use Rattle.job_facts.specs.Stores.{sets_at}
+use Rattle.job_facts.specs.Foreign.{IsForeign, IsDriving}
+use Rattle.job_facts.specs.Facts.{IsAttempt, IsSet, Hold}
+use Rattle.job_facts.specs.Fits.{IsOpen, Fits, FitsUpload, FitsWrite, FitsCommit}
+use Rattle.job_facts.specs.Standing.{Closed, HasRecord, HasRecords, HasTemporary, HasPublished, Listed, NotGone, WriteStands, CommitStands, Stands}
+use Rattle.job_facts.proofs.Placed.{path_below}
+use Rattle.job_facts.proofs.Shapes.{key_before, answer_is, puts}
+use Rattle.job_facts.proofs.Uploads.{drop_more, latest_in, asks_part}
+use Rattle.job_facts.proofs.Replies.{part_taken}
+use Rattle.job_facts.proofs.Ordered.{order_each}
+use Rattle.job_facts.proofs.Emptying.{magic_some, last_so}
+use Rattle.job_facts.proofs.Apart.{HasKey, HasPath, record_own, record_below, another, key_left, path_left, write_keys, write_paths, commit_keys, commit_paths, abort_keys, abort_paths, temporary_apart, set_apart}
+
+-- ---- from one moment to another what it has written stays
+
+pub record Stood (w : Script) (a : Who) (s t : Seen) : Type 0 where
+  pub records : (f : File) → IsIn f (files w a) → HasRecord w s a f → HasRecord w t a f
+  pub temporary : HasTemporary w s a → HasTemporary w t a
+  pub last : (n : ℕ) → HasPublished s n → HasPublished t n
+
+module _ {w : Script} {a : Who} {s t : Seen} (h : Stood w a s t) where
+  records_kept : (left : List File) → HasRecords w s a left → HasRecords w t a left
+  records_kept left g f i = elim (g f i) [ inl l ↦ inl l | inr x ↦ inr (h.records f i x) ]
+
+  write_kept : (op : Write) → WriteStands w s a op → WriteStands w t a op
+  write_kept (writes.Uploads f fs u) g = records_kept (f ∷ fs) g
+  write_kept (Marking f fs) g = records_kept (f ∷ fs) g
+  write_kept (Recording f fs) g = records_kept (f ∷ fs) g
+  write_kept (WriteOver end) g = (g.0, λ e m. records_kept [] (g.1 e m))
+
+  commit_kept : (b : Bool) (op : TaskCommit) → CommitStands w s a b op → CommitStands w t a b op
+  commit_kept b (Looking keys) g = (records_kept [] g.0, g.1)
+  commit_kept b (Reading cs f fs) g = (records_kept [] g.0, g.1)
+  commit_kept b (Publishing cs) g = tt
+  commit_kept b (Checking p ps) g = tt
+  commit_kept b (commits.Uploads f fs u) g = tt
+  commit_kept b Storing g = tt
+  commit_kept b Renaming g = elim g [ inl x ↦ inl (h.temporary x) | inr x ↦ inr (x.0, h.last a.task x.1) ]
+  commit_kept b (TaskCommitOver end) g = (g.0, λ e. h.last a.task (g.1 e))
+
+  pub stands_kept : (op : Operation) → Stands w s a op → Stands w t a op
+  stands_kept (TheSetup x) g = tt
+  stands_kept (TheWrite x) g = write_kept x.operation g
+  stands_kept (TheTaskCommit x) g = commit_kept x.repeated x.operation g
+  stands_kept (TheTaskAbort x) g = tt
+  stands_kept (TheCommit c) g = tt
+  stands_kept (TheClean x) g = tt
+
+-- ---- entries of others
+
+some_last : (b : Bool) (v : ℕ) (o : Option ℕ) → (n : ℕ) × (o ≡ Some n) → (n : ℕ) × (cond b (Some v) o ≡ Some n)
+some_last true v o h = (v, refl)
+some_last false v o h = h
+
+-- an attempt's, whose effect leaves these
+stood_by : (w : Script) (k : Option ℕ) (s : Seen) (a b : Who) (n : ℕ) (r : Request) → ((f : File) → IsIn f (files w a) → HasKey w s.scene (record_key w a f) → HasKey w (apply s.scene r) (record_key w a f))
+    → (HasPath s.scene (temporary_path w a) → HasPath (apply s.scene r) (temporary_path w a)) → (o : Outcome) → Stood w a s (see w k s (entry b n r o))
+stood_by w k s a b n r keys path (Answered x) = record { records = keys; temporary = path; last = λ t h. some_last (nat_eq t b.task && is_publishing w s.scene b.task r) b.attempt (s.last t) h }
+stood_by w k s a b n r keys path Slow = record { records = λ f i h. h; temporary = λ h. h; last = λ t h. h }
+stood_by w k s a b n r keys path RequestLost = record { records = λ f i h. h; temporary = λ h. h; last = λ t h. h }
+stood_by w k s a b n r keys path ReplyLost = record { records = keys; temporary = path; last = λ t h. some_last (nat_eq t b.task && is_publishing w s.scene b.task r) b.attempt (s.last t) h }
+
+pub other_stood : (g : Setting) → IsLegal g.script → (k : Option ℕ) (s : Seen) (m : Told) (a b : Who) (n : ℕ) → HasBucket s.scene.content g.script.dest.bucket → IsAttempt g.script a → IsAttempt g.script b → (a ≡ b → ⊥)
+    → (op : Operation) → Fits g.script g.minimum b m op → (r : Request) → asks g b (known m b) op ≡ Some r → (o : Outcome) → Stood g.script a s (see g.script k s (entry b n r o))
+other_stood g j k s m a b n there d e ne (TheSetup t) h r x o = absurd h
+other_stood g j k s m a b n there d e ne (TheWrite t) h r x o =
+    stood_by g.script k s a b n r (λ f i. write_keys g.script s.scene there b (known m b) t.operation r x (record_key g.script a f)) (write_paths g.script s.scene there b (known m b) t.operation r x (temporary_path g.script a)) o
+other_stood g j k s m a b n there d e ne (TheTaskCommit t) h r x o =
+    stood_by g.script k s a b n r (λ f i. commit_keys g.script s.scene there b (known m b) t.operation r x (record_key g.script a f))
+    (commit_paths g.script s.scene there b (known m b) t.operation r x (temporary_path g.script a) (temporary_apart j a b d e ne) (set_apart j a b.task d e.task)) o
+other_stood g j k s m a b n there d e ne (TheTaskAbort t) h r x o =
+    stood_by g.script k s a b n r (λ f i. abort_keys g.script s.scene there b (known m b) t.operation h r x (record_key g.script a f) (another j a b d e ne f))
+    (abort_paths g.script s.scene there b t.operation r x (temporary_path g.script a) (temporary_apart j a b d e ne)) o
+other_stood g j k s m a b n there d e ne (TheCommit c) h r x o = absurd h
+other_stood g j k s m a b n there d e ne (TheClean t) h r x o = absurd h
+
+module _ (w : Script) (j : IsLegal w) (k : Option ℕ) (s : Seen) (a : Who) (n : ℕ) (there : HasBucket s.scene.content w.dest.bucket) (r : Request) where
+  pub driver_stood : IsDriving w r → (o : Outcome) → Stood w a s (see w k s (driver_entry n r o))
+  driver_stood d o = by o
+    where
+      keys : (f : File) → IsIn f (files w a) → HasKey w s.scene (record_key w a f) → HasKey w (apply s.scene r) (record_key w a f)
+      keys f i = key_left w s.scene there (record_key w a f) r (λ b x. false_true (d.keys b (record_key w a f) x) (record_below j a f))
+
+      path : HasPath s.scene (temporary_path w a) → HasPath (apply s.scene r) (temporary_path w a)
+      path = path_left w s.scene there (temporary_path w a) r (λ x. false_true (d.paths (temporary_path w a) x) (path_below w (TemporaryPlace a.task a.attempt)))
+
+      by : (o : Outcome) → Stood w a s (see w k s (driver_entry n r o))
+      by (Answered x) = record { records = keys; temporary = path; last = λ t h. h }
+      by Slow = record { records = λ f i h. h; temporary = λ h. h; last = λ t h. h }
+      by RequestLost = record { records = λ f i h. h; temporary = λ h. h; last = λ t h. h }
+      by ReplyLost = record { records = keys; temporary = path; last = λ t h. h }
+
+  pub strange_stood : (drawn : Who → List Drawn) → IsForeign w drawn r → (o : Outcome) → Stood w a s (see w k s (strange_entry n r o))
+  strange_stood drawn d o = by o
+    where
+      keys : (f : File) → IsIn f (files w a) → HasKey w s.scene (record_key w a f) → HasKey w (apply s.scene r) (record_key w a f)
+      keys f i = key_left w s.scene there (record_key w a f) r (λ b x. false_true (d.keys b (record_key w a f) x) (record_below j a f))
+
+      path : HasPath s.scene (temporary_path w a) → HasPath (apply s.scene r) (temporary_path w a)
+      path = path_left w s.scene there (temporary_path w a) r (λ x. false_true (d.paths (temporary_path w a) x) (path_below w (TemporaryPlace a.task a.attempt)))
+
+      by : (o : Outcome) → Stood w a s (see w k s (strange_entry n r o))
+      by (Answered x) = record { records = keys; temporary = path; last = λ t h. h }
+      by Slow = record { records = λ f i h. h; temporary = λ h. h; last = λ t h. h }
+      by RequestLost = record { records = λ f i h. h; temporary = λ h. h; last = λ t h. h }
+      by ReplyLost = record { records = keys; temporary = path; last = λ t h. h }
+
+-- ---- a step under retries, by whether a sending of the request was lost
+
+step_stands : {M : Type 0} (P : Bool → M → Type 0) (retries : ℕ) (after : M → Item → M) (t : Retried M) (o : Outcome) → ((x : Reply) → o ≡ Answered x → P false (after t.operation (Got x t.repeated))) → (o ≡ Slow → P t.repeated t.operation)
+    → ((o ≡ RequestLost) ⊎ (o ≡ ReplyLost) → P true t.operation) → P false (after t.operation WornOut) → P (step retries after t o).repeated (step retries after t o).operation
+step_stands P retries after t (Answered x) heard slow lost worn = heard x refl
+step_stands P retries after t Slow heard slow lost worn = by t.spare
+  where
+    by : (n : ℕ) → P (unanswered_by retries after t.operation t.repeated n).repeated (unanswered_by retries after t.operation t.repeated n).operation
+    by zero = worn
+    by (suc n) = slow refl
+step_stands P retries after t RequestLost heard slow lost worn = by t.spare
+  where
+    by : (n : ℕ) → P (unanswered_by retries after t.operation true n).repeated (unanswered_by retries after t.operation true n).operation
+    by zero = worn
+    by (suc n) = lost (inl refl)
+step_stands P retries after t ReplyLost heard slow lost worn = by t.spare
+  where
+    by : (n : ℕ) → P (unanswered_by retries after t.operation true n).repeated (unanswered_by retries after t.operation true n).operation
+    by zero = worn
+    by (suc n) = lost (inr refl)
+
+-- ---- uploads are not gone
+
+abbrev StillThere : Uploaded → Type 0
+StillThere (GoesOn u) = Unit {0}
+StillThere AllSent = Unit {0}
+StillThere IsGone = ⊥
+
+sending_there : (ps : List (List ℕ)) → StillThere (sending ps)
+sending_there [] = tt
+sending_there (p ∷ ps) = tt
+
+created_there : (w : Script) (minimum : ℕ) (f : File) (x : Reply) → StillThere (created w minimum f x)
+created_there w minimum f (Upload id) = sending_there (file_parts w minimum f)
+created_there w minimum f _ = tt
+
+module _ (w : Script) (minimum : ℕ) (s : Seen) (m : Told) (a : Who) (j : IsLegal w) (facts : Hold w minimum s m) (closed : Closed m) (before : m.cleaned ≡ false) (clean : m.undone a ≡ false) where
+  -- the driver has not ended an upload of an attempt that may learn of more
+  not_ended : m.publish_sent a ≡ false → (d : Drawn) → IsIn d (m.drawn a) → m.ended d.upload ≡ false
+  not_ended unsent d i = elim (true_or_false (m.ended d.upload)) [
+    | inr out ↦ out
+    | inl ended ↦
+        let c = closed before d.upload ended in
+        let same = facts.ids.apart a c.0 d c.1 i c.2 (sym c.3) in
+        absurd (false_true unsent (ap m.publish_sent same.0 ∙ c.4))
+  ]
+
+  upload_there : IsOpen (known m a) → (f : File) (fs : List File) (u : Uploading) → FitsUpload w minimum a (known m a) f fs u → (x : Reply) → x ≡ answer s.scene (upload_asks w (known m a) f u) → StillThere (upload_hears w minimum f u x)
+  upload_there free f fs Creating t x honest = created_there w minimum f x
+  upload_there free f fs (Sending p ps) b x honest =
+      let block = drop_more w minimum a (file_parts w minimum f) (length b.latest.tags) p ps b.left in
+      let i = latest_in w minimum a b in
+      let taken = part_taken j facts a b.latest f p i (b.each f (inl refl)) b.key (not_ended free.0 b.latest i) clean block.2 in
+      let P : Request → Type 0 = λ q. x ≡ answer s.scene q → x ≡ Part (plain_tag p) in
+      let is : x ≡ Part (plain_tag p) = subst P (sym (asks_part w minimum a b)) (λ e. e ∙ subst (λ key. answer s.scene (UploadPart w.dest.bucket key b.latest.upload (length b.latest.tags + 1) p) ≡ Part (plain_tag p)) b.key taken) honest in
+      subst (λ y. StillThere (sent_part ps y)) (sym is) (sending_there ps)
+
+-- ---- as they begin
+
+writing_stands : (w : Script) (s : Seen) (a : Who) (fs : List File) → HasRecords w s a fs → WriteStands w s a (writing fs)
+writing_stands w s a [] h = (tt, λ e m. h)
+writing_stands w s a (f ∷ fs) h = h
+
+pub write_begins : (w : Script) (s : Seen) (a : Who) → WriteStands w s a (write_start w a)
+write_begins w s a = by w.committer refl
+  where
+    by : (c : Committer) → w.committer ≡ c → WriteStands w s a (write_start_by c (files w a))
+    by Magic e = writing_stands w s a (files w a) (λ f i. inl i)
+    by Directory e = (tt, λ d m. absurd (false≢true (sym (ap is_magic e) ∙ m)))
+    by Partitioned e = (tt, λ d m. absurd (false≢true (sym (ap is_magic e) ∙ m)))
+
+storing_stands : (w : Script) (s : Seen) (a : Who) (fs : List File) → CommitStands w s a false (storing fs)
+storing_stands w s a [] = tt
+storing_stands w s a (f ∷ fs) = tt
+
+checking_stands : (w : Script) (s : Seen) (a : Who) (ds : List (List ℕ)) → CommitStands w s a false (checking w a ds)
+checking_stands w s a [] = storing_stands w s a (files w a)
+checking_stands w s a (d ∷ ds) = tt
+
+pub commit_begins : (w : Script) → IsLegal w → (s : Seen) (a : Who) → WriteStands w s a (WriteOver tasks.Done) → CommitStands w s a false (task_commit_start w a)
+commit_begins w j s a h = by w.committer refl
+  where
+    by : (c : Committer) → w.committer ≡ c → CommitStands w s a false (task_commit_start_by c w a)
+    by Magic e = (h.1 refl (ap is_magic e), λ f i. inr (magic_some w.dest.key _ (record_key w a f) (record_below j a f)))
+    by Directory e = checking_stands w s a (to_check w a)
+    by Partitioned e = checking_stands w s a (to_check w a)
+
+-- ---- listings
+
+there_any : (k : List ℕ) (ks : List (List ℕ)) → IsIn k ks → list_any (text_eq k) ks ≡ true
+there_any k [] i = absurd i
+there_any k (q ∷ ks) (inl e) = ap (λ b. b || list_any (text_eq k) ks) (text_true k q e)
+there_any k (q ∷ ks) (inr i) = by (text_eq k q) (there_any k ks i)
+  where
+    by : (b : Bool) → list_any (text_eq k) ks ≡ true → (b || list_any (text_eq k) ks) ≡ true
+    by true h = refl
+    by false h = h
+
+none_is_missing : (ks all : List (List ℕ)) → ((k : List ℕ) → IsIn k all → IsIn k ks) → least_missing ks all ≡ None
+none_is_missing ks [] h = refl
+none_is_missing ks (k ∷ all) h =
+    ap (λ b. cond b (least_missing ks all) (Some (least_of (least_missing ks all) k))) (there_any k ks (h k (inl refl))) ∙ none_is_missing ks all (λ q i. h q (inr i))
+
+reading_stands : (w : Script) (s : Seen) (a : Who) (cs fs : List File) → HasRecords w s a [] → ((g : File) → IsIn g fs → IsIn g (files w a)) → CommitStands w s a false (reading cs fs)
+reading_stands w s a cs [] h mine = tt
+reading_stands w s a cs (f ∷ fs) h mine = (h, mine)
+
+module _ (w : Script) (s : Seen) (a : Who) where
+  looked_stands : (keys : List (List ℕ)) → HasRecords w s a [] → (more : Bool) → Listed w a keys → (more ≡ false → (f : File) → IsIn f (files w a) → IsIn (record_key w a f) keys) → CommitStands w s a false (looked w a (walked_by more keys))
+  looked_stands keys h true l all = (h, l)
+  looked_stands keys h false l all =
+      let none : least_missing keys (map (record_key w a) (files w a)) ≡ None = none_is_missing keys (map (record_key w a) (files w a))
+      (λ k i. let o = in_map (record_key w a) k (files w a) i in subst (λ q. IsIn q keys) (sym o.2) (all refl o.0 o.1)) in
+      subst (λ o. CommitStands w s a false (looked_at o (in_order w a keys))) (sym none) (reading_stands w s a (in_order w a keys) (in_order w a keys) h (λ g i. (order_each w a keys g i).0))
+
+  checked_stands : (d : List ℕ) (ds : List (List ℕ)) (x : Reply) → CommitStands w s a false (checked w a d ds x)
+  checked_stands d ds (Page [] more) = checking_stands w s a ds
+  checked_stands d ds (Page (y ∷ ys) more) = (tt, λ e. absurd cc)
+  checked_stands d ds _ = tt
+
+  uploaded_stands : (f : File) (fs : List File) (u : Uploaded) → StillThere u → CommitStands w s a false (commits.uploaded w f fs u)
+  uploaded_stands f fs (GoesOn u) h = tt
+  uploaded_stands f fs AllSent h = storing_stands w s a fs
+  uploaded_stands f fs IsGone h = absurd h
+
+  written_stands : (f : File) (fs : List File) (u : Uploaded) → StillThere u → HasRecords w s a (f ∷ fs) → WriteStands w s a (writes.uploaded w f fs u)
+  written_stands f fs (GoesOn u) h g = g
+  written_stands f fs AllSent h g = g
+  written_stands f fs IsGone h g = absurd h
+
+renamed_done : (w : Script) (a : Who) (x : Reply) (b : Bool) → b ≡ true → renamed w a x b ≡ TaskCommitOver tasks.Done
+renamed_done w a (Refused NoSuchFile) b e = ap (λ c. TaskCommitOver (cond c tasks.Done (tasks.Gone (temporary_path w a)))) e
+renamed_done w a _ b e = refl
+
+-- ---- its own requests
+
+module _ (w : Script) (minimum : ℕ) (k : Option ℕ) (s : Seen) (m : Told) (a : Who) (n : ℕ) (j : IsLegal w) (facts : Hold w minimum s m) (closed : Closed m) (before : m.cleaned ≡ false) (clean : m.undone a ≡ false) (retries spare : ℕ) (repeated : Bool) where
+  abbrev now : Request → Outcome → Seen
+  now r o = see w k s (entry a n r o)
+
+  due_of : (r : Request) (o : Outcome) (x : Reply) → o ≡ Answered x → IsHonestOutcome o (answer s.scene r) → x ≡ answer s.scene r
+  due_of r o x e honest = subst (λ v. IsHonestOutcome v (answer s.scene r)) e honest
+
+  -- ---- a write
+
+  abbrev at_write : Write → Retried Write
+  at_write op = record { operation = op; spare = spare; repeated = repeated }
+
+  write_by : (op : Write) (r : Request) → write_asks w a (known m a) op ≡ Some r → (o : Outcome) → IsHonestOutcome o (answer s.scene r) → WriteStands w s a op
+      → ((x : Reply) → x ≡ answer s.scene r → WriteStands w (now r (Answered x)) a op → WriteStands w (now r (Answered x)) a (write_hears w minimum op x)) → WriteStands w (now r o) a (step retries (write_after w minimum) (at_write op) o).operation
+  write_by op r e o honest h heard =
+      let kept : (v : Outcome) → WriteStands w (now r v) a op = λ v. write_kept
+      (stood_by w k s a a n r (λ f i. write_keys w s.scene facts.there a (known m a) op r e (record_key w a f)) (write_paths w s.scene facts.there a (known m a) op r e (temporary_path w a)) v) op h in
+      step_stands (λ b v. WriteStands w (now r o) a v) retries (write_after w minimum) (at_write op) o
+      (λ x y. subst (λ v. WriteStands w (now r v) a (write_hears w minimum op x)) (sym y) (heard x (due_of r o x y honest) (kept (Answered x)))) (λ y. kept o) (λ y. kept o) (tt, λ y. absurd cc)
+
+  pub write_stands : (op : Write) → FitsWrite w minimum a (known m a) op → WriteStands w s a op → (r : Request) → write_asks w a (known m a) op ≡ Some r → (o : Outcome) → IsHonestOutcome o (answer s.scene r)
+      → WriteStands w (now r o) a (step retries (write_after w minimum) (at_write op) o).operation
+  write_stands (writes.Uploads f fs u) fits h r e o honest =
+      write_by (writes.Uploads f fs u) r e o honest h
+      (λ x due g. written_stands w (now r (Answered x)) a f fs (upload_hears w minimum f u x) (upload_there w minimum s m a j facts closed before clean fits.1 f fs u fits.2 x (due ∙ ap (answer s.scene) (sym (some_is e)))) g)
+  write_stands (Marking f fs) fits h r e o honest = write_by (Marking f fs) r e o honest h (λ x due g. g)
+  write_stands (Recording f fs) fits h r e o honest =
+      write_by (Recording f fs) r e o honest h
+      (λ x due g. writing_stands w (now r (Answered x)) a fs (λ f' i. elim (g f' i) [
+        | inl more ↦ elim more [ inl is ↦ inr (subst (λ v. HasKey w (apply s.scene r) (record_key w a v)) (sym is) put_here) | inr later ↦ inl later ]
+        | inr stands ↦ inr stands
+      ]))
+    where
+      put_here : HasKey w (apply s.scene r) (record_key w a f)
+      put_here = subst (λ q. HasKey w (apply s.scene q) (record_key w a f)) (some_is e) (_, (puts w s.scene facts.there.0 facts.there.1 (record_key w a f) _ None).here)
+  write_stands (WriteOver end) fits h r e o honest = absurd cc
+
+  -- ---- a commit
+
+  abbrev at_commit : TaskCommit → Retried TaskCommit
+  at_commit op = record { operation = op; spare = spare; repeated = repeated }
+
+  records_now : (op : TaskCommit) (r : Request) → task_commit_asks w a (known m a) op ≡ Some r → (o : Outcome) → HasRecords w s a [] → HasRecords w (now r o) a []
+  records_now op r e o h f i = elim (h f i) [ inl none ↦ inl none | inr x ↦ inr (by o) ]
+    where
+      stands : HasRecord w s a f
+      stands = elim (h f i) [ inl none ↦ absurd none | inr x ↦ x ]
+
+      by : (o : Outcome) → HasRecord w (now r o) a f
+      by (Answered x) = commit_keys w s.scene facts.there a (known m a) op r e (record_key w a f) stands
+      by Slow = stands
+      by RequestLost = stands
+      by ReplyLost = commit_keys w s.scene facts.there a (known m a) op r e (record_key w a f) stands
+
+  -- all but the rename
+  commit_by : (op : TaskCommit) (r : Request) (o : Outcome) → IsHonestOutcome o (answer s.scene r) → ((b : Bool) (v : Outcome) → CommitStands w (now r v) a b op)
+      → ((x : Reply) → x ≡ answer s.scene r → CommitStands w (now r (Answered x)) a false (task_commit_hears w minimum a op x repeated))
+      → let t = step retries (task_commit_after w minimum a) (at_commit op) o in CommitStands w (now r o) a t.repeated t.operation
+  commit_by op r o honest kept heard =
+      step_stands (λ b v. CommitStands w (now r o) a b v) retries (task_commit_after w minimum a) (at_commit op) o
+      (λ x y. subst (λ v. CommitStands w (now r v) a false (task_commit_hears w minimum a op x repeated)) (sym y) (heard x (due_of r o x y honest))) (λ y. kept repeated o) (λ y. kept true o) (tt, λ y. absurd cc)
+
+  published : (r : Request) → is_publishing w s.scene a.task r ≡ true → (i : ℕ) × (last_by w s.scene s.last a.task a.attempt r a.task ≡ Some i)
+  published r e = (a.attempt, ap (λ b. cond b (Some a.attempt) (s.last a.task)) (ap (λ b. nat_eq a.task a.task && b) e ∙ ap (λ b. b && true) (nat_true a.task a.task refl)))
+
+  -- a page of its directory
+  looks : (keys : List (List ℕ)) → CommitStands w s a repeated (Looking keys) → (r : Request) → task_commit_asks w a (known m a) (Looking keys) ≡ Some r → (x : Reply) → x ≡ answer s.scene r → CommitStands w (now r (Answered x)) a false (looked w a (walked keys x))
+  looks keys h r e x due =
+      let there = facts.there in
+      let q = page_after w.dest.bucket (attempt_prefix w a) keys in
+      let xs : List PageEntry = listed (attempt_prefix w a) false (last_of keys) there.0.objects in
+      let is : x ≡ Page (take 1000 xs) (nat_lt 1000 (length xs)) = due ∙ ap (answer s.scene) (sym (some_is e)) ∙ answer_is w s.scene there.0 there.1 q refl in
+      let here : (f : File) → IsIn f (files w a) → (y : Object) × (fin.get there.0.objects (record_key w a f) ≡ Some y) = λ f i. elim (h.0 f i) [ inl none ↦ absurd none | inr y ↦ (y.0, sym (key_before w s.scene there.0 there.1 (record_key w a f)) ∙ y.1) ] in
+      let last_more : last_of (keys ++ keys_on (take 1000 xs)) ≡ last_from (last_of keys) (keys_on (take 1000 xs)) = last_so (keys ++ keys_on (take 1000 xs)) ∙ last_append [] keys (keys_on (take 1000 xs)) ∙ ap (λ t. last_from t (keys_on (take 1000 xs))) (sym (last_so keys)) in
+      let more : Listed w a (keys ++ keys_on (take 1000 xs)) = λ f i. elim (h.1 f i) [
+        | inl old ↦ inl (in_front (record_key w a f) keys (keys_on (take 1000 xs)) old)
+        | inr l ↦ elim (page_covers 1000 (attempt_prefix w a) (last_of keys) (record_key w a f) there.0.objects (here f i).0 (here f i).1 (record_own j a f) l) [
+          | inl new ↦ inl (in_back (record_key w a f) keys (keys_on (take 1000 xs)) new)
+          | inr g ↦ inr (ap (λ t. is_lt (text_cmp t (record_key w a f))) last_more ∙ g)
+        ]
+      ] in
+      let all : nat_lt 1000 (length xs) ≡ false → (f : File) → IsIn f (files w a) → IsIn (record_key w a f) (keys ++ keys_on (take 1000 xs)) = λ few f i. elim (h.1 f i) [
+        | inl old ↦ in_front (record_key w a f) keys (keys_on (take 1000 xs)) old
+        | inr l ↦ in_back (record_key w a f) keys (keys_on (take 1000 xs)) (page_all 1000 (attempt_prefix w a) (last_of keys) (record_key w a f) there.0.objects (here f i).0 few (here f i).1 (record_own j a f) l)
+      ] in
+      let t : Seen = now r (Answered x) in
+      subst (λ y. CommitStands w t a false (looked w a (walked keys y))) (sym is) (looked_stands w t a (keys ++ keys_on (take 1000 xs)) (records_now (Looking keys) r e (Answered x) h.0) (nat_lt 1000 (length xs)) more all)
+
+  -- a record that is read
+  reads : (cs : List File) (f : File) (fs : List File) → CommitStands w s a repeated (Reading cs f fs) → (r : Request) → task_commit_asks w a (known m a) (Reading cs f fs) ≡ Some r → (x : Reply) → x ≡ answer s.scene r
+      → CommitStands w (now r (Answered x)) a false (read_record w a cs f fs x)
+  reads cs f fs h r e x due = elim (h.0 f (h.1 f (inl refl))) [
+    | inl none ↦ absurd none
+    | inr y ↦
+        let there = facts.there in
+        let q = GetObject w.dest.bucket (record_key w a f) in
+        let is : x ≡ found (Some y.0) = due ∙ ap (answer s.scene) (sym (some_is e)) ∙ answer_is w s.scene there.0 there.1 q refl ∙ ap found (sym (key_before w s.scene there.0 there.1 (record_key w a f)) ∙ y.1) in
+        let t : Seen = now r (Answered x) in
+        subst (λ v. CommitStands w t a false (read_record w a cs f fs v)) (sym is) (reading_stands w t a cs fs (records_now (Reading cs f fs) r e (Answered x) h.0) (λ g i. h.1 g (inr i)))
+  ]
+
+  -- the rename
+  rename_stands : is_staging w.committer ≡ true → CommitStands w s a repeated Renaming → (r : Request) → task_commit_asks w a (known m a) Renaming ≡ Some r → (o : Outcome) → IsHonestOutcome o (answer s.scene r)
+      → let t = step retries (task_commit_after w minimum a) (at_commit Renaming) o in CommitStands w (now r o) a t.repeated t.operation
+  rename_stands staging h r e o honest = elim h [
+    | inl temporary ↦
+        let publishes : is_publishing w s.scene a.task r ≡ true =
+        ap (is_publishing w s.scene a.task) (sym (some_is e)) ∙ ap (λ b. b && (is_set_path w a.task (staged_set_path w.job a.task) && is_some (fin.get s.scene.files (temporary_path w a)))) staging
+        ∙ ap (λ b. b && is_some (fin.get s.scene.files (temporary_path w a))) (text_true (staged_set_path w.job a.task) (staged_set_path w.job a.task) refl) ∙ ap is_some temporary.1 in
+        step_stands (λ b v. CommitStands w (now r o) a b v) retries (task_commit_after w minimum a) (at_commit Renaming) o
+        (λ x y.
+        let is : x ≡ ClusterDone = due_of r o x y honest ∙ ap (answer s.scene) (sym (some_is e)) ∙ ap rename_answer temporary.1 in
+        let done : renamed w a x repeated ≡ TaskCommitOver tasks.Done = ap (λ v. renamed w a v repeated) is in
+        subst (λ v. CommitStands w (now r v) a false (renamed w a x repeated)) (sym y) (subst (λ v. CommitStands w (now r (Answered x)) a false v) (sym done) (tt, λ d. published r publishes)))
+        (λ y. subst (λ v. CommitStands w (now r v) a repeated Renaming) (sym y) (inl temporary))
+        (λ y. elim y [
+          | inl lost ↦ subst (λ v. CommitStands w (now r v) a true Renaming) (sym lost) (inl temporary)
+          | inr unheard ↦ subst (λ v. CommitStands w (now r v) a true Renaming) (sym unheard) (inr (refl, published r publishes))
+        ])
+        (tt, λ y. absurd cc)
+    | inr done ↦
+        let still : (v : Outcome) → HasPublished (now r v) a.task = last_kept r done.1 in
+        step_stands (λ b v. CommitStands w (now r o) a b v) retries (task_commit_after w minimum a) (at_commit Renaming) o
+        (λ x y. subst (λ v. CommitStands w (now r o) a false v) (sym (renamed_done w a x repeated done.0)) (tt, λ d. still o))
+        (λ y. inr (done.0, still o)) (λ y. inr (refl, still o)) (tt, λ y. absurd cc)
+  ]
+    where
+      last_kept : (r : Request) → HasPublished s a.task → (v : Outcome) → HasPublished (now r v) a.task
+      last_kept r h (Answered x) = some_last (nat_eq a.task a.task && is_publishing w s.scene a.task r) a.attempt (s.last a.task) h
+      last_kept r h Slow = h
+      last_kept r h RequestLost = h
+      last_kept r h ReplyLost = some_last (nat_eq a.task a.task && is_publishing w s.scene a.task r) a.attempt (s.last a.task) h
+
+  pub commit_stands : (op : TaskCommit) → FitsCommit w minimum a (known m a) op → CommitStands w s a repeated op → (r : Request) → task_commit_asks w a (known m a) op ≡ Some r → (o : Outcome) → IsHonestOutcome o (answer s.scene r)
+      → let t = step retries (task_commit_after w minimum a) (at_commit op) o in CommitStands w (now r o) a t.repeated t.operation
+  commit_stands (Looking keys) fits h r e o honest = commit_by (Looking keys) r o honest (λ b v. (records_now (Looking keys) r e v h.0, h.1)) (looks keys h r e)
+  commit_stands (Reading cs f fs) fits h r e o honest = commit_by (Reading cs f fs) r o honest (λ b v. (records_now (Reading cs f fs) r e v h.0, h.1)) (reads cs f fs h r e)
+  commit_stands (Publishing cs) fits h r e o honest =
+      let is_set : is_set_key w a.task w.dest.bucket (set_key w.dest.key w.job a.task) ≡ true = rw (text_true w.dest.bucket w.dest.bucket refl, text_true (set_key w.dest.key w.job a.task) (set_key w.dest.key w.job a.task) refl) refl in
+      let publishes : is_publishing w s.scene a.task r ≡ true = ap (is_publishing w s.scene a.task) (sym (some_is e)) ∙ ap (λ b. b && is_set_key w a.task w.dest.bucket (set_key w.dest.key w.job a.task)) fits.0 ∙ is_set in
+      commit_by (Publishing cs) r o honest (λ b v. tt) (λ x due. (tt, λ d. published r publishes))
+  commit_stands (Checking p ps) fits h r e o honest = commit_by (Checking p ps) r o honest (λ b v. tt) (λ x due. checked_stands w (now r (Answered x)) a p ps x)
+  commit_stands (commits.Uploads f fs u) fits h r e o honest =
+      commit_by (commits.Uploads f fs u) r o honest (λ b v. tt)
+      (λ x due. uploaded_stands w (now r (Answered x)) a f fs (upload_hears w minimum f u x) (upload_there w minimum s m a j facts closed before clean fits.1 f fs u fits.2 x (due ∙ ap (answer s.scene) (sym (some_is e)))))
+  commit_stands Storing fits h r e o honest = commit_by Storing r o honest (λ b v. tt) (λ x due. inl here)
+    where
+      here : HasPath (apply s.scene r) (temporary_path w a)
+      here = subst (λ q. HasPath (apply s.scene q) (temporary_path w a)) (some_is e) (_, text_here s.scene.files (temporary_path w a) (temporary_path w a) _ refl)
+  commit_stands Renaming fits h r e o honest = rename_stands fits.0 h r e o honest
+  commit_stands (TaskCommitOver end) fits h r e o honest = absurd cc
+
+-- ---- all operations
+
+pub own_stands : (g : Setting) → IsLegal g.script → (k : Option ℕ) (s : Seen) (m : Told) (a : Who) (n : ℕ) → Hold g.script g.minimum s m → Closed m → m.cleaned ≡ false → (op : Operation) → Fits g.script g.minimum a m op → Stands g.script s a op
+    → (r : Request) → asks g a (known m a) op ≡ Some r → (o : Outcome) → IsHonestOutcome o (answer s.scene r) → Stands g.script (see g.script k s (entry a n r o)) a (tells g a op o)
+own_stands g j k s m a n facts closed before (TheSetup t) fits h r e o honest = tt
+own_stands g j k s m a n facts closed before (TheWrite t) fits h r e o honest = write_stands g.script g.minimum k s m a n j facts closed before fits.0 g.script.retries t.spare t.repeated t.operation fits.1 h r e o honest
+own_stands g j k s m a n facts closed before (TheTaskCommit t) fits h r e o honest = commit_stands g.script g.minimum k s m a n j facts closed before fits.0 g.script.retries t.spare t.repeated t.operation fits.1 h r e o honest
+own_stands g j k s m a n facts closed before (TheTaskAbort t) fits h r e o honest = tt
+own_stands g j k s m a n facts closed before (TheCommit c) fits h r e o honest = tt
+own_stands g j k s m a n facts closed before (TheClean t) fits h r e o honest = tt
+
+-- ---- and as they end
+
+pub write_never : (w : Script) (s : Seen) (a : Who) (op : Write) (name : List ℕ) → WriteStands w s a op → write_over op ≡ Some (tasks.Gone name) → ⊥
+write_never w s a (writes.Uploads f fs u) name h e = absurd cc
+write_never w s a (Marking f fs) name h e = absurd cc
+write_never w s a (Recording f fs) name h e = absurd cc
+write_never w s a (WriteOver end) name h e = subst NotGone (some_is e) h.0
+
+pub commit_never : (w : Script) (s : Seen) (a : Who) (b : Bool) (op : TaskCommit) (name : List ℕ) → CommitStands w s a b op → task_commit_over op ≡ Some (tasks.Gone name) → ⊥
+commit_never w s a b (Looking keys) name h e = absurd cc
+commit_never w s a b (Reading cs f fs) name h e = absurd cc
+commit_never w s a b (Publishing cs) name h e = absurd cc
+commit_never w s a b (Checking p ps) name h e = absurd cc
+commit_never w s a b (commits.Uploads f fs u) name h e = absurd cc
+commit_never w s a b Storing name h e = absurd cc
+commit_never w s a b Renaming name h e = absurd cc
+commit_never w s a b (TaskCommitOver end) name h e = subst NotGone (some_is e) h.0
+
+pub commit_done : (w : Script) (minimum : ℕ) (s : Seen) (m : Told) (a : Who) (b : Bool) → Hold w minimum s m → m.cleaned ≡ false → IsAttempt w a → CommitStands w s a b (TaskCommitOver tasks.Done) → (bytes : List ℕ) × (sets_at w s.scene a.task ≡ Some bytes) × IsSet w minimum s.last m.publish_sent m.drawn a.task bytes
+commit_done w minimum s m a b facts before d h =
+    let p = h.1 refl in
+    let x = facts.standing before a.task p.0 d.task p.1 in
+    (x.0, x.1, facts.sets a.task x.0 d.task x.1)
