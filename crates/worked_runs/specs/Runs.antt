@@ -39,14 +39,15 @@ pub record Text : Type 0 where
 abbrev pub hello : Text
 hello = record { bytes = codes "hello"; tag = hello_tag }
 
--- the pending upload of a task's attempt for a file, and the set of these
+-- the pending upload of a task's attempt for a file that has this text
 abbrev pub upload : Text → ℕ → ℕ → List ℕ → ℕ → Pending
 upload text task attempt path id = record { task = task; attempt = attempt; bucket = lake; destination = codes "out/" ++ path; upload = id; length = 5; tags = text.tag ∷ []; sizes = Some (5 ∷ []) }
 
+-- an attempt's set of such uploads
 abbrev pub set_of : ℕ → ℕ → List Pending → PendingSet
 set_of task attempt uploads = record { job = codes "j1"; task = task; attempt = attempt; commits = uploads }
 
--- that upload in the store, with its one part
+-- the live upload of a file that has `hello`, as the store holds it with its one part
 abbrev pub held : List ℕ → Live
 held path = record { key = codes "out/" ++ path; parts = fin.insert fin.empty 1 (codes "hello") }
 
