@@ -1,13 +1,13 @@
 -- Four files, and a driver that is killed in its commit, restarted, and aborts.
-use Rattle.std.proofs.Common.{◌≡◌, ℕ, true, false, List, [], ◌∷◌, ◌++◌, drop, Some, None, refl, codes, inl, inr}
+use Rattle.std.proofs.Common.{false, List, [], ◌∷◌, drop, refl, codes, inl, inr, ◌∙◌}
 use Rattle.std.specs.Fmt.{digits}
 use Rattle.json.specs.Print.{escape_byte}
-use Rattle.s3_types.specs.declared.journal.Entry.{Entry}
 use Rattle.worked_runs.proofs.Books.{Book}
 use Rattle.worked_runs.proofs.Tagged.{hello_is}
 use Rattle.worked_lanes.specs.Restarted.{script, later_entries, Restarted}
+use Rattle.worked_lanes.proofs.Quiet.{lookup_is}
 use Rattle.worked_lanes.proofs.FourSet.{set_is_read}
-use Rattle.worked_lanes.proofs.FourEntries.{with_files, whole_files, da, db, dc, dd, prepared}
+use Rattle.worked_lanes.proofs.FourEntries.{with_files, whole_files, db, dc, dd, prepared}
 use Rattle.worked_lanes.proofs.Walks.{Stop, Walk, read_stop, always_kept, is_honest, no_rename, nothing_outside, shown, object_then, upload_then}
 
 abbrev one : Book
@@ -80,4 +80,5 @@ restarted = record {
   two = shown 3 1 script.fates (drop 3 script.events) 5 refl later_entries stops walk 2 28 refl refl;
   stay = shown 3 1 script.fates (drop 3 script.events) 5 refl later_entries stops walk 7 33 refl refl;
   no_uploads = λ id. upload_then 3 1 script.fates (drop 3 script.events) 5 refl later_entries stops walk 7 33 refl refl id;
+  objects = λ key. object_then 3 1 script.fates (drop 3 script.events) 5 refl later_entries stops walk 7 33 refl refl key ∙ lookup_is (whole_files (codes "a" ∷ codes "b" ∷ [])) key;
 }

@@ -1,35 +1,25 @@
 -- The entries of four files before their commit, and the store that they leave.
-use Rattle.std.proofs.Common.{◌≡◌, ℕ, zero, suc, Bool, true, false, cond, List, [], ◌∷◌, ◌++◌, Option, Some, None, refl, sym, ap, subst, ◌∙◌, ◌&&◌, codes, arith, take}
-use Rattle.std.specs.Map.{lookup}
-use Rattle.proof_base.specs.Order.{text_eq, text_cmp}
-use Rattle.s3_types.specs.Moment.{moment}
-use Rattle.job_operations.specs.View.{view, object_at}
-use Rattle.job_promise.specs.Scope.{upload_at, upload_in}
-use Rattle.std.specs.Option.{option_map}
-use Rattle.std.specs.Ordering.{nat_cmp}
-use Rattle.std.specs.FinMap.Entries.{find}
-use Rattle.worked_runs.specs.Jobs.{lake}
+use Rattle.std.proofs.Common.{◌≡◌, ℕ, zero, suc, Bool, true, false, cond, List, [], ◌∷◌, ◌++◌, Option, Some, None, refl, sym, ap, subst, ◌∙◌, ◌&&◌, codes, arith}
 use Rattle.std.proofs.lemmas.Bool.Decides.{nat_tests}
-use Rattle.job_model.specs.JobScript.{Script}
-use Rattle.job_promise.specs.Seen.{is_reading}
 use Rattle.std.specs.Fmt.{digits}
-use Rattle.json.specs.Print.{escape_byte}
 use Rattle.std.specs.Prelude.{nat_eq, nat_le}
+use Rattle.json.specs.Print.{escape_byte}
 use Rattle.s3_types.specs.Fates.{FateMap}
 use Rattle.s3_types.specs.declared.object.Object.{Object}
 use Rattle.s3_types.specs.declared.journal.Entry.{Entry}
+use Rattle.job_model.specs.JobScript.{Script}
 use Rattle.job_model.specs.declared.events.Event.{Event}
 use Rattle.job_operations.specs.Outputs.{Picks}
-use Rattle.worked_runs.specs.OneFile.{opening}
-use Rattle.worked_runs.proofs.Books.{Book, Draft, upload_of, content_of, at_bucket, upload_found, is_ours}
-use Rattle.worked_runs.proofs.Checks.{book_after, effect_on, are_ours, visible, dest, objects_at, moment_is}
-use Rattle.worked_runs.proofs.Sights.{Saw, opens, saw, saw_all}
-use Rattle.worked_runs.proofs.Owed.{Good, AllGood}
-use Rattle.worked_runs.proofs.Frames.{Step, Steps}
-use Rattle.worked_runs.proofs.Refusals.{empty_book, opening_is}
+use Rattle.job_promise.specs.Seen.{is_reading}
+use Rattle.worked_runs.proofs.Books.{Book, Draft}
+use Rattle.worked_runs.proofs.Checks.{book_after}
+use Rattle.worked_runs.proofs.Sights.{Saw, opens, saw_all}
+use Rattle.worked_runs.proofs.Owed.{AllGood}
+use Rattle.worked_runs.proofs.Frames.{Steps}
+use Rattle.worked_runs.proofs.Refusals.{empty_book}
 use Rattle.worked_runs.proofs.Tagged.{hello_is}
 use Rattle.worked_lanes.specs.FourFiles.{script, out, below_attempt, pending, set_key, record_bytes, set_bytes, attempt_entries, reads, read_entries, Prepared}
-use Rattle.worked_lanes.proofs.Quiet.{quiet, all_quiet, sound, all_sound, Answered, shows}
+use Rattle.worked_lanes.proofs.Quiet.{quiet, all_quiet, sound, all_sound, Answered}
 
 -- ---- stores
 

@@ -1,8 +1,8 @@
 -- The set of four files is read as it was put.
 use Rattle.std.proofs.Common.{◌≡◌, true, refl, Ok, lit<, codes}
-use Rattle.words.specs.Parts.{parts_from}
 use Rattle.serde_json.specs.Written.{compact_text}
-use Rattle.s3_types.specs.Names.{is_key_path, is_key}
+use Rattle.words.specs.Parts.{parts_from}
+use Rattle.s3_types.specs.Names.{is_key_path}
 use Rattle.pending_json.specs.Trees.{set_tree}
 use Rattle.pending_json.specs.Records.{IsPending, IsSet}
 use Rattle.pending_json.specs.Reading.{set_of}

@@ -1,14 +1,13 @@
 -- Four files, and a driver that is killed in its commit, in two lanes and in one.
-use Rattle.std.proofs.Common.{◌≡◌, ℕ, true, false, List, [], ◌∷◌, ◌++◌, drop, Some, None, refl, codes, inl, inr}
+use Rattle.std.proofs.Common.{false, List, [], ◌∷◌, drop, refl, codes, inl, inr}
 use Rattle.std.specs.Fmt.{digits}
 use Rattle.json.specs.Print.{escape_byte}
-use Rattle.s3_types.specs.declared.journal.Entry.{Entry}
 use Rattle.worked_runs.proofs.Books.{Book}
 use Rattle.worked_runs.proofs.Tagged.{hello_is}
 use Rattle.worked_lanes.specs.LanesKilled.{script, two_entries, one_entries, in_two, in_one, KilledWith, LanesKilled}
 use Rattle.worked_lanes.proofs.FourSet.{set_is_read}
-use Rattle.worked_lanes.proofs.FourEntries.{with_files, whole_files, da, db, dc, dd, prepared}
-use Rattle.worked_lanes.proofs.Walks.{Stop, Walk, read_stop, always_kept, is_honest, no_rename, nothing_outside, shown, object_then, upload_then}
+use Rattle.worked_lanes.proofs.FourEntries.{with_files, db, dc, dd, prepared}
+use Rattle.worked_lanes.proofs.Walks.{Stop, Walk, read_stop, always_kept, is_honest, no_rename, nothing_outside, shown, object_then}
 
 abbrev a_only : Book
 a_only = with_files (codes "a" ∷ []) (db ∷ dc ∷ dd ∷ [])

@@ -1,15 +1,14 @@
 -- Four files in two lanes, where the reply to the first completion is lost.
-use Rattle.std.proofs.Common.{◌≡◌, ℕ, true, false, List, [], ◌∷◌, ◌++◌, drop, Some, None, refl, codes, inl, inr}
+use Rattle.std.proofs.Common.{true, false, List, [], ◌∷◌, drop, refl, codes, inl, inr}
 use Rattle.std.specs.Fmt.{digits}
 use Rattle.json.specs.Print.{escape_byte}
-use Rattle.s3_types.specs.declared.journal.Entry.{Entry}
 use Rattle.worked_runs.proofs.Books.{Book}
 use Rattle.worked_runs.proofs.Tagged.{hello_is}
 use Rattle.worked_lanes.specs.FourFiles.{mark_bytes}
 use Rattle.worked_lanes.specs.LanesLost.{script, commit_entries, LanesLost}
 use Rattle.worked_lanes.proofs.FourSet.{set_is_read}
-use Rattle.worked_lanes.proofs.FourEntries.{with_files, plain, da, db, dc, dd, prepared}
-use Rattle.worked_lanes.proofs.Walks.{Stop, Walk, read_stop, always_kept, is_honest, no_rename, nothing_outside, shown, object_then, upload_then}
+use Rattle.worked_lanes.proofs.FourEntries.{with_files, plain, db, dc, dd, prepared}
+use Rattle.worked_lanes.proofs.Walks.{Stop, Walk, read_stop, always_kept, is_honest, no_rename, nothing_outside, shown, object_then}
 
 abbrev one : Book
 one = with_files (codes "a" ∷ []) (db ∷ dc ∷ dd ∷ [])

@@ -1,5 +1,5 @@
 -- Entries that change nothing that is shown, over a store that shows nothing.
-use Rattle.std.proofs.Common.{◌≡◌, ℕ, Bool, true, false, ◌&&◌, ◌||◌, not, List, [], ◌∷◌, ◌++◌, Option, Some, None, is_some, refl, sym, ap, subst, ◌∙◌, inl, T, ◌⊎◌, map, take, cond}
+use Rattle.std.proofs.Common.{◌≡◌, ℕ, Bool, true, false, ◌&&◌, not, List, [], ◌∷◌, ◌++◌, Option, Some, refl, sym, ap, subst, ◌∙◌, inl, T, ◌⊎◌, map, take, cond}
 use Rattle.std.specs.List.{list_all}
 use Rattle.std.specs.FinMap.Entries.{where_key, find, is_sorted}
 use Rattle.std.specs.Map.{lookup}
@@ -14,9 +14,9 @@ use Rattle.s3_types.specs.declared.request.Actor.TheVariants.{Driver, Attempt, S
 use Rattle.s3_types.specs.declared.journal.Entry.{Entry}
 use Rattle.job_model.specs.JobScript.{Script}
 use Rattle.job_operations.specs.View.{view}
-use Rattle.job_operations.specs.Outputs.{Picks, is_decided}
+use Rattle.job_operations.specs.Outputs.{Picks}
 use Rattle.job_promise.specs.Entries.{is_copy, sends_data, may_show}
-use Rattle.worked_runs.proofs.Books.{Book, upload_of, content_of, is_ours, reply, ref_in, InOrder, Draft}
+use Rattle.worked_runs.proofs.Books.{Book, upload_of, content_of, is_ours, reply, ref_in, InOrder}
 use Rattle.worked_runs.proofs.Checks.{dest, visible, views, effect_on, are_ours, without_files, book_after, moment_is}
 use Rattle.worked_runs.proofs.Sights.{Saw, saw, saw_all}
 use Rattle.worked_runs.proofs.Owed.{Viewed, Marked, Good, AllGood}
@@ -154,7 +154,7 @@ all_sound b (e ∷ es) fs h a g =
 
 -- ---- what is shown
 
-lookup_is : (fs : List (List ℕ × List ℕ)) (p : List ℕ) → find text_cmp p fs ≡ lookup (text_eq p) fs
+pub lookup_is : {X : Type 0} (fs : List (List ℕ × X)) (p : List ℕ) → find text_cmp p fs ≡ lookup (text_eq p) fs
 lookup_is [] p = refl
 lookup_is (f ∷ fs) p = ap (λ o. cond (eq_by_cmp text_cmp p f.0) (Some f.1) o) (lookup_is fs p) ∙ ap (λ b. cond b (Some f.1) (lookup (text_eq p) fs)) (sym (text_ties p f.0))
 

@@ -1,24 +1,31 @@
 -- Two jobs at one destination, as the first of them sees it.
-use Rattle.std.proofs.Common.{◌≡◌, ℕ, true, List, [], ◌∷◌, ◌++◌, Some, None, Ok, refl, codes, inl, inr, lit<, subst, sym, take}
+use Rattle.std.proofs.Common.{◌≡◌, ℕ, true, false, List, [], ◌∷◌, ◌++◌, Some, None, Ok, refl, codes, inl, inr, lit<, subst, sym, take}
 use Rattle.std.specs.Fmt.{digits}
 use Rattle.json.specs.Print.{escape_byte}
+use Rattle.serde_json.specs.Written.{compact_text}
 use Rattle.words.specs.Parts.{parts_from}
 use Rattle.s3_types.specs.Names.{is_key_path}
 use Rattle.s3_types.specs.declared.object.Object.{Object}
 use Rattle.s3_types.specs.declared.journal.Entry.{Entry}
-use Rattle.serde_json.specs.Written.{compact_text}
+use Rattle.s3_types.specs.declared.request.Actor.TheVariants.{Driver}
+use Rattle.s3_types.specs.declared.request.Request.TheVariants.{ListPage, ListUploads}
 use Rattle.pending_json.specs.Trees.{set_tree}
 use Rattle.pending_json.specs.Records.{IsPending, IsSet}
 use Rattle.pending_json.specs.Reading as reading
 use Rattle.pending_json.proofs.RoundTrip.{set_text}
+use Rattle.job_model.specs.declared.events.Op.TheVariants as ops
 use Rattle.job_promise.specs.Eyes.{in_eyes}
+use Rattle.job_promise.specs.Follows.{OpFollows}
+use Rattle.job_promise.specs.Turns.{by_actor}
+use Rattle.worked_runs.specs.Jobs.{lake}
+use Rattle.worked_runs.specs.OneFile.{doing}
 use Rattle.worked_runs.proofs.Books.{Book, Draft}
 use Rattle.worked_runs.proofs.Checks.{book_after}
 use Rattle.worked_runs.proofs.OneSet.{small_utf8}
 use Rattle.worked_runs.proofs.Refusals.{empty_book}
 use Rattle.worked_runs.proofs.Tagged.{hello_is}
-use Rattle.worked_lanes.specs.FourFiles.{out, record_of, record_bytes}
-use Rattle.worked_lanes.specs.TwoJobs.{ja, set_key, below_attempt, pending, set_of, set_bytes, mark_bytes, quiet_entries, later_entries, mine, eyes, Kept, TwoJobs}
+use Rattle.worked_lanes.specs.FourFiles.{setting, record_of, record_bytes}
+use Rattle.worked_lanes.specs.TwoJobs.{ja, magic, set_key, below_attempt, pending, set_of, set_bytes, mark_bytes, quiet_entries, later_entries, mine, eyes, TwoJobs}
 use Rattle.worked_lanes.proofs.Quiet.{sound, Answered}
 use Rattle.worked_lanes.proofs.FourEntries.{plain, draft, whole_files}
 use Rattle.worked_lanes.proofs.Strangers.{EyeWalk, EyeSteps, quiet_steps, walk_steps, book_at, eyes_honest, eyes_rename, eyes_lead, eyes_show, eyes_object}
@@ -142,6 +149,10 @@ steps = quiet_steps empty_book quiet later is_sound answered (subst (λ b. EyeSt
 leads : (m n : ℕ) → take n eyes ≡ quiet ++ take m later → book_after empty_book (take n eyes) ≡ book_at read_b books m
 leads m n e = eyes_lead quiet later eyes read_b books quiet_is walk m n e
 
+other_clean : OpFollows (setting ja) Driver (doing ops.Clean 5 None) (by_actor Driver eyes) → ⊥
+unfolding digits
+other_clean h = let e : Some (ListUploads lake (codes "out/") None 1000) ≡ Some (ListPage lake (magic (codes "ja")) false [] 1000) = h.0 in cc
+
 pub two_jobs : TwoJobs
 unfolding digits escape_byte
 two_jobs = record {
@@ -154,6 +165,7 @@ two_jobs = record {
     task = ((refl, (refl, (refl, tt))), refl);
   };
   commit = (rw set_is_read (refl, (refl, (refl, tt))), rw set_is_read refl);
+  other_clean = other_clean;
   worn = refl;
   due = refl;
   verdict = refl;

@@ -1,11 +1,10 @@
 -- A commit of four files, sending by sending over stores that are told.
-use Rattle.std.proofs.Common.{◌≡◌, ◌≤◌, ℕ, zero, suc, Bool, true, false, List, [], ◌∷◌, ◌++◌, take, Option, Some, None, refl, sym, ap, subst, ◌∙◌}
-use Rattle.std.specs.Map.{lookup}
+use Rattle.std.proofs.Common.{◌≡◌, ℕ, zero, suc, Bool, true, false, List, [], ◌∷◌, ◌++◌, take, Some, refl, sym, ap, subst, ◌∙◌}
 use Rattle.std.specs.Option.{option_map}
 use Rattle.std.specs.Ordering.{nat_cmp}
 use Rattle.std.specs.Prelude.{nat_le}
 use Rattle.std.specs.FinMap.Entries.{find}
-use Rattle.proof_base.specs.Order.{text_eq, text_cmp}
+use Rattle.proof_base.specs.Order.{text_cmp}
 use Rattle.s3_types.specs.Fates.{FateMap}
 use Rattle.s3_types.specs.Moment.{moment, IsHonest, IsHonestOutcome}
 use Rattle.s3_types.specs.declared.journal.Entry.{Entry}

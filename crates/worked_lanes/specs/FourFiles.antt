@@ -35,7 +35,6 @@ use Rattle.job_model.specs.declared.ends.EventEnd.{EventEnd}
 use Rattle.job_model.specs.declared.ends.EventEnd.TheVariants.{Ended}
 use Rattle.job_operations.specs.Operations.{Setting}
 use Rattle.job_operations.specs.View.{view}
-use Rattle.job_promise.specs.States.{Doing}
 use Rattle.job_promise.specs.Turns.{until, by_actor}
 use Rattle.job_promise.specs.Follows.{OpFollows, op_over}
 use Rattle.worked_runs.specs.Jobs.{lake, job, attempt, worker, entry, said, hello_tag}

@@ -1,6 +1,9 @@
 -- Four files, and a driver that is killed in its commit after two whole files and restarted: its abort leaves these two and no live upload.
 use Rattle.std.specs.Prelude.{◌≡◌, ℕ, true, false, List, [], ◌∷◌, ◌++◌, length, Some, None, codes}
 use Rattle.std.specs.FinMap as fin
+use Rattle.std.specs.Map.{lookup}
+use Rattle.proof_base.specs.Order.{text_eq}
+use Rattle.s3_types.specs.declared.object.Object.{Object}
 use Rattle.s3_types.specs.Moment.{IsHonest, moment}
 use Rattle.s3_types.specs.declared.request.Actor.TheVariants.{Driver}
 use Rattle.s3_types.specs.declared.request.Request.TheVariants.{AbortUpload, DeleteObjects, ListPage, ListUploads}
@@ -16,6 +19,7 @@ use Rattle.job_model.specs.declared.ends.EventEnd.{EventEnd}
 use Rattle.job_model.specs.declared.ends.EventEnd.TheVariants.{Done, Ended, Refused}
 use Rattle.job_model.specs.declared.ends.EventFault.TheVariants as faults
 use Rattle.job_model.specs.declared.states.ActorStage.TheVariants as stage
+use Rattle.job_operations.specs.View.{object_at}
 use Rattle.job_promise.specs.Headline.{Always}
 use Rattle.job_promise.specs.Entries.{ZeroRename, OutsideStays}
 use Rattle.job_promise.specs.Scope.{upload_at}
@@ -76,6 +80,9 @@ the_ends = abort_ends ++ Refused faults.NotDead ∷ Refused faults.NoRecovery �
 abbrev pub at : ℕ → Seen
 at m = seen script (Some 4) opening journal m
 
+abbrev pub two_objects : List (List ℕ × Object)
+two_objects = (out (codes "a"), record { bytes = codes "hello"; header = None }) ∷ (out (codes "b"), record { bytes = codes "hello"; header = None }) ∷ []
+
 pub record Restarted : Type 0 where
   pub sent : length journal ≡ 33
   pub always : Always script (Some 4) opening journal
@@ -100,7 +107,8 @@ pub record Restarted : Type 0 where
   pub begun : (at 26).begun ≡ true
   pub picked : (at 26).picks 0 ≡ Some 0
   pub unmarked : (at 33).put_mark ≡ false
-  -- the two files stay, and no upload is live at the end
+  -- the two files stay; at the end there is no other object, and no live upload
   pub two : Shows script journal 28 (hellos (codes "a" ∷ codes "b" ∷ []))
   pub stay : Shows script journal 33 (hellos (codes "a" ∷ codes "b" ∷ []))
   pub no_uploads : (id : ℕ) → upload_at (moment opening journal 33).content lake id ≡ None
+  pub objects : (key : List ℕ) → object_at (moment opening journal 33).content lake key ≡ lookup (text_eq key) two_objects

@@ -13,8 +13,7 @@ use Rattle.s3_types.specs.declared.request.Committer.TheVariants.{Magic}
 use Rattle.s3_types.specs.declared.request.Mode.TheVariants.{Append}
 use Rattle.s3_types.specs.declared.journal.Entry.{Entry}
 use Rattle.sendings.specs.Worn.{first_worn}
-use Rattle.pending_json.specs.Pending.{Pending}
-use Rattle.pending_json.specs.Trees.{pending_tree, set_tree, success_tree}
+use Rattle.pending_json.specs.Trees.{set_tree, success_tree}
 use Rattle.pending_json.specs.declared.records.PendingSet.{PendingSet}
 use Rattle.pending_json.specs.declared.records.SuccessMark.{SuccessMark}
 use Rattle.job_model.specs.JobScript.{Script}
@@ -30,12 +29,13 @@ use Rattle.job_operations.specs.View.{object_at}
 use Rattle.job_promise.specs.Entries.{ZeroRename}
 use Rattle.job_promise.specs.Ends.{commit_due}
 use Rattle.job_promise.specs.Eyes.{in_eyes}
+use Rattle.job_promise.specs.Follows.{OpFollows}
 use Rattle.job_promise.specs.Seen.{Seen, seen}
 use Rattle.job_promise.specs.States.{verdict}
 use Rattle.job_promise.specs.Turns.{until, since, by_actor}
 use Rattle.worked_runs.specs.Jobs.{lake, job, attempt, worker, said, hello_tag}
-use Rattle.worked_runs.specs.OneFile.{opening}
-use Rattle.worked_lanes.specs.FourFiles.{out, record_of, record_bytes, Shows, hellos, Goes, Prepared, done_events}
+use Rattle.worked_runs.specs.OneFile.{opening, doing}
+use Rattle.worked_lanes.specs.FourFiles.{setting, out, record_of, record_bytes, Shows, hellos, Goes, Prepared, done_events}
 
 -- ---- the jobs
 
@@ -165,6 +165,8 @@ pub record TwoJobs : Type 0 where
   pub zero_rename : ZeroRename ja opening eyes
   pub prepared : Prepared ja eyes
   pub commit : Goes ja eyes Driver ops.Commit 4 None 4 (Some (ends.Commit commits.Committed))
+  -- a clean of one job alone does not go so: it would abort what the other has not completed
+  pub other_clean : OpFollows (setting ja) Driver (doing ops.Clean 5 None) (by_actor Driver eyes) → ⊥
   pub worn : first_worn 3 (since 4 (by_actor Driver (until 4 eyes))) ≡ None
   pub due : commit_due ja (at 26).picks None None ≡ commits.Committed
   pub verdict : verdict ja the_ends ≡ 0
