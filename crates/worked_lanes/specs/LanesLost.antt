@@ -68,7 +68,8 @@ pub record LanesLost : Type 0 where
   -- the files come in the order of the lanes' turns, and the marker stands over all four
   pub none : Shows script journal 26 []
   pub one : Shows script journal 27 (hellos (codes "a" ∷ []))
-  pub two : Shows script journal 29 (hellos (codes "a" ∷ codes "b" ∷ []))
+  pub two : Shows script journal 28 (hellos (codes "a" ∷ codes "b" ∷ []))
+  pub again : Shows script journal 29 (hellos (codes "a" ∷ codes "b" ∷ []))
   pub three : Shows script journal 30 (hellos (codes "a" ∷ codes "b" ∷ codes "d" ∷ []))
   pub four : Shows script journal 31 (hellos (codes "a" ∷ codes "b" ∷ codes "c" ∷ codes "d" ∷ []))
   pub whole : Shows script journal 32 (hellos (codes "a" ∷ codes "b" ∷ codes "c" ∷ codes "d" ∷ []))
