@@ -20,7 +20,7 @@ abbrev one_upload : Book
 one_upload = with_files (codes "a" ∷ codes "b" ∷ []) (dd ∷ [])
 
 abbrev no_upload : Book
-no_upload = with_files (codes "a" ∷ codes "b" ∷ []) ([])
+no_upload = with_files (codes "a" ∷ codes "b" ∷ []) []
 
 -- the two files alone
 abbrev two_files : Book

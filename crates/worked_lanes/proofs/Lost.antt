@@ -20,7 +20,7 @@ abbrev three : Book
 three = with_files (codes "a" ∷ codes "b" ∷ codes "d" ∷ []) (dc ∷ [])
 
 abbrev all_four : Book
-all_four = with_files (codes "a" ∷ codes "b" ∷ codes "c" ∷ codes "d" ∷ []) ([])
+all_four = with_files (codes "a" ∷ codes "b" ∷ codes "c" ∷ codes "d" ∷ []) []
 
 -- with the marker
 abbrev marked : Book

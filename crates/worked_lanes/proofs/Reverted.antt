@@ -20,13 +20,13 @@ abbrev one_left : Book
 one_left = with_files (codes "a" ∷ []) (dc ∷ dd ∷ [])
 
 abbrev none_left : Book
-none_left = with_files ([]) (dc ∷ dd ∷ [])
+none_left = with_files [] (dc ∷ dd ∷ [])
 
 abbrev one_upload : Book
-one_upload = with_files ([]) (dd ∷ [])
+one_upload = with_files [] (dd ∷ [])
 
 abbrev nothing : Book
-nothing = with_files ([]) ([])
+nothing = with_files [] []
 
 abbrev stops : List Stop
 stops = record { mark = false; book = one } ∷ record { mark = false; book = two } ∷ record { mark = false; book = two } ∷ record { mark = false; book = one_left } ∷ record { mark = false; book = none_left } ∷ record { mark = false; book = one_upload } ∷ record { mark = false; book = nothing } ∷ []

@@ -1,5 +1,5 @@
--- Two jobs at one destination, as the first of them sees it.
-use Rattle.std.proofs.Common.{◌≡◌, ℕ, true, false, List, [], ◌∷◌, ◌++◌, Some, None, Ok, refl, codes, inl, inr, lit<, subst, sym, take}
+-- Two jobs at one destination, as each of them sees it.
+use Rattle.std.proofs.Common.{◌≡◌, not, ℕ, true, false, List, [], ◌∷◌, ◌++◌, Some, None, Ok, refl, codes, inl, inr, lit<, subst, sym, take}
 use Rattle.std.specs.Fmt.{digits}
 use Rattle.json.specs.Print.{escape_byte}
 use Rattle.serde_json.specs.Written.{compact_text}
@@ -10,7 +10,8 @@ use Rattle.s3_types.specs.declared.journal.Entry.{Entry}
 use Rattle.s3_types.specs.declared.request.Actor.TheVariants.{Driver}
 use Rattle.s3_types.specs.declared.request.Request.TheVariants.{ListPage, ListUploads}
 use Rattle.pending_json.specs.Trees.{set_tree}
-use Rattle.pending_json.specs.Records.{IsPending, IsSet}
+use Rattle.pending_json.specs.Records.{IsPending}
+use Rattle.pending_json.specs.declared.records.PendingSet.{PendingSet}
 use Rattle.pending_json.specs.Reading as reading
 use Rattle.pending_json.proofs.RoundTrip.{set_text}
 use Rattle.job_model.specs.declared.events.Op.TheVariants as ops
@@ -25,25 +26,35 @@ use Rattle.worked_runs.proofs.OneSet.{small_utf8}
 use Rattle.worked_runs.proofs.Refusals.{empty_book}
 use Rattle.worked_runs.proofs.Tagged.{hello_is}
 use Rattle.worked_lanes.specs.FourFiles.{setting, record_of, record_bytes}
-use Rattle.worked_lanes.specs.TwoJobs.{ja, magic, set_key, below_attempt, pending, set_of, set_bytes, mark_bytes, quiet_entries, later_entries, mine, eyes, TwoJobs}
+use Rattle.worked_lanes.specs.TwoJobs.{ja, jb, magic, set_key, below_attempt, pending, set_of, set_bytes, mark_bytes, quiet_entries, later_entries, mine, eyes, other_eyes, TwoJobs, TheOther}
 use Rattle.worked_lanes.proofs.Quiet.{sound, Answered}
 use Rattle.worked_lanes.proofs.FourEntries.{plain, draft, whole_files}
 use Rattle.worked_lanes.proofs.Strangers.{EyeWalk, EyeSteps, quiet_steps, walk_steps, book_at, eyes_honest, eyes_rename, eyes_lead, eyes_show, eyes_object}
 
--- ---- the set of ja
+-- ---- the sets
 
 key_path : is_key_path (codes "out/x") ≡ true
 unfolding parts_from
 key_path = refl
 
+other_path : is_key_path (codes "out/y") ≡ true
+unfolding parts_from
+other_path = refl
+
 is_record : IsPending (record_of (codes "x") 1)
 is_record = record { task = lit< tt; attempt = lit< tt; bucket = refl; destination = rw (small_utf8 (codes "out/x") refl) key_path; upload = lit< tt; length = lit< tt; tags = refl; sizes = refl }
 
-is_set : IsSet (set_of (codes "ja") (codes "x") 1)
-is_set = record { job = small_utf8 (codes "ja") refl; task = lit< tt; attempt = lit< tt; commits = (is_record, tt) }
+other_record : IsPending (record_of (codes "y") 2)
+other_record = record { task = lit< tt; attempt = lit< tt; bucket = refl; destination = rw (small_utf8 (codes "out/y") refl) other_path; upload = lit< tt; length = lit< tt; tags = refl; sizes = refl }
 
-set_is_read : reading.set_of (compact_text (set_tree (set_of (codes "ja") (codes "x") 1))) ≡ Ok (set_of (codes "ja") (codes "x") 1)
-set_is_read = set_text (set_of (codes "ja") (codes "x") 1) is_set
+abbrev IsRead : PendingSet → Type 0
+IsRead s = reading.set_of (compact_text (set_tree s)) ≡ Ok s
+
+set_is_read : IsRead (set_of (codes "ja") (codes "x") 1)
+set_is_read = set_text (set_of (codes "ja") (codes "x") 1) (record { job = small_utf8 (codes "ja") refl; task = lit< tt; attempt = lit< tt; commits = (is_record, tt) })
+
+other_is_read : IsRead (set_of (codes "jb") (codes "y") 2)
+other_is_read = set_text (set_of (codes "jb") (codes "y") 2) (record { job = small_utf8 (codes "jb") refl; task = lit< tt; attempt = lit< tt; commits = (other_record, tt) })
 
 -- ---- the stores
 
@@ -192,4 +203,82 @@ two_jobs = record {
     marker = eyes_object eyes clean_a 30 (below_attempt (codes "jb") (codes "y")) refl (leads 9 30 refl);
     pending = eyes_object eyes clean_a 30 (pending (codes "jb") (codes "y")) refl (leads 9 30 refl);
   };
+}
+
+-- ---- in the eyes of jb
+
+abbrev other_quiet : List Entry
+other_quiet = in_eyes (λ n. not (mine n)) quiet_entries
+
+abbrev other_later : List Entry
+other_later = in_eyes (λ n. not (mine n)) later_entries
+
+other_sound : sound empty_book other_quiet ≡ true
+unfolding digits
+other_sound = refl
+
+other_answered : Answered empty_book other_quiet
+unfolding digits escape_byte
+other_answered = (refl, (refl, (refl, (refl, (rw hello_is refl, (refl, (refl, (refl, (refl, (refl, (refl, (refl, (refl, (refl, (rw hello_is refl, (refl, (refl, (refl, (refl, (refl, (refl, tt)))))))))))))))))))))
+
+other_walk : EyeWalk read_b other_later books
+unfolding digits escape_byte
+other_walk = (
+  record { sound = refl; honest = rw hello_is refl; shows = λ o. inr (refl, refl, refl) },
+  rw hello_is refl,
+  (
+    record { sound = refl; honest = refl; shows = λ o. inl refl },
+    refl,
+    (
+      record { sound = refl; honest = refl; shows = λ o. inl refl },
+      refl,
+      (
+        record { sound = refl; honest = rw hello_is refl; shows = λ o. absurd (cc) },
+        rw hello_is refl,
+        (
+          record { sound = refl; honest = refl; shows = λ o. inl refl },
+          refl,
+          (
+            record { sound = refl; honest = refl; shows = λ o. inl refl },
+            refl,
+            (
+              record { sound = refl; honest = refl; shows = λ o. inl refl },
+              refl,
+              (
+                record { sound = refl; honest = refl; shows = λ o. inl refl },
+                refl,
+                (
+                  record { sound = refl; honest = refl; shows = λ o. inl refl },
+                  refl,
+                  record { objects = refl; uploads = refl },
+                ),
+              ),
+            ),
+          ),
+        ),
+      ),
+    ),
+  ),
+)
+
+other_quiet_is : book_after empty_book other_quiet ≡ read_b
+unfolding digits
+other_quiet_is = refl
+
+other_steps : EyeSteps empty_book other_eyes
+other_steps = quiet_steps empty_book other_quiet other_later other_sound other_answered (subst (λ b. EyeSteps b other_later) (sym other_quiet_is) (walk_steps read_b other_later books other_walk))
+
+pub the_other : TheOther
+unfolding digits escape_byte
+the_other = record {
+  zero_rename = eyes_rename jb refl other_eyes other_steps;
+  prepared = record {
+    setup = ((refl, (refl, (refl, tt))), refl);
+    write = ((refl, (refl, (refl, (refl, tt)))), refl);
+    task = ((refl, (refl, (refl, tt))), refl);
+  };
+  commit = (rw other_is_read (refl, (refl, (refl, tt))), rw other_is_read refl);
+  not_begun = refl;
+  begun = refl;
+  marked = refl;
 }

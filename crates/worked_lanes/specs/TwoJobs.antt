@@ -1,5 +1,5 @@
--- Two jobs at one destination, one file each, in one journal: what the first of them sees.
-use Rattle.std.specs.Prelude.{◌≡◌, ℕ, ◌+◌, ◌||◌, nat_le, Bool, true, false, List, [], ◌∷◌, ◌++◌, length, Option, Some, None, codes}
+-- Two jobs at one destination, one file each, in one journal: what each of them sees.
+use Rattle.std.specs.Prelude.{◌≡◌, ℕ, ◌+◌, ◌||◌, not, nat_le, Bool, true, false, List, [], ◌∷◌, ◌++◌, length, Option, Some, None, codes}
 use Rattle.serde_json.specs.Written.{compact_text}
 use Rattle.s3_types.specs.Tags.{plain_tag, joined_tag}
 use Rattle.s3_types.specs.Moment.{IsHonest, moment}
@@ -188,3 +188,15 @@ pub record TwoJobs : Type 0 where
   pub gone : object_then 30 (set_key (codes "ja")) ≡ None
   pub before : Kept 26
   pub stay : Kept 30
+
+-- the same run in the eyes of jb
+abbrev pub other_eyes : List Entry
+other_eyes = in_eyes (λ n. not (mine n)) journal
+
+pub record TheOther : Type 0 where
+  pub zero_rename : ZeroRename jb opening other_eyes
+  pub prepared : Prepared jb other_eyes
+  pub commit : Goes jb other_eyes Driver ops.Commit 4 None 4 (Some (ends.Commit commits.Committed))
+  pub not_begun : (seen jb (Some 4) opening other_eyes 20).begun ≡ false
+  pub begun : (seen jb (Some 4) opening other_eyes 21).begun ≡ true
+  pub marked : (seen jb (Some 4) opening other_eyes 23).put_mark ≡ true

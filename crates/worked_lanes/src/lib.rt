@@ -6,7 +6,7 @@ ghost use Rattle.worked_lanes.specs.LanesKilled.{LanesKilled};
 ghost use Rattle.worked_lanes.specs.LanesLost.{LanesLost};
 ghost use Rattle.worked_lanes.specs.LanesReverted.{LanesReverted};
 ghost use Rattle.worked_lanes.specs.Restarted.{Restarted};
-ghost use Rattle.worked_lanes.specs.TwoJobs.{TwoJobs};
+ghost use Rattle.worked_lanes.specs.TwoJobs.{TheOther, TwoJobs};
 
 /// A commit in one lane in which a completion wears out.
 pub fn lanes_reverted()
@@ -28,7 +28,8 @@ pub fn restarted()
     ensures { Restarted }
 {}
 
-/// Two jobs at one destination, as the first of them sees it.
+/// Two jobs at one destination, as each of them sees it.
 pub fn two_jobs()
-    ensures { TwoJobs }
+    ensures first { TwoJobs }
+    ensures other { TheOther }
 {}
