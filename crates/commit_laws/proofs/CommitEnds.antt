@@ -1,0 +1,398 @@
+-- a commit ends by its own entries
+use Rattle.std.proofs.Common.{◌≡◌, ℕ, zero, suc, ◌+◌, ◌<◌, ◌≤◌, ◌⊎◌, inl, inr, nat_lt, refl, ap, sym, subst, ◌∙◌, Bool, true, false, cond, arith, List, [], ◌∷◌, ◌++◌, map, length, slice_get, Option, Some, None, append_assoc, append-nil, length-append}
+use Rattle.std.proofs.lemmas.Bool.Decides.{nat_tests}
+use Rattle.s3_types.specs.declared.request.Committer.{Committer}
+use Rattle.s3_types.specs.declared.request.Committer.TheVariants.{Magic}
+use Rattle.s3_types.specs.declared.request.Request.{Request}
+use Rattle.s3_types.specs.declared.request.Request.TheVariants.{GetObject}
+use Rattle.s3_types.specs.declared.reply.Reply.{Reply}
+use Rattle.s3_types.specs.declared.journal.Outcome.{Outcome}
+use Rattle.s3_types.specs.declared.journal.Outcome.TheVariants.{Answered, Slow, RequestLost, ReplyLost}
+use Rattle.s3_types.specs.declared.journal.Entry.{Entry}
+use Rattle.pending_json.specs.Pending.{Pending}
+use Rattle.pending_json.specs.declared.records.PendingSet.{PendingSet}
+use Rattle.sendings.specs.Operation.{run, Follows}
+use Rattle.sendings.specs.Worn.{WornFirst}
+use Rattle.sendings.proofs.First.{none_sent}
+use Rattle.job_model.specs.JobScript.{Script}
+use Rattle.job_model.specs.Jobs.{Job}
+use Rattle.job_model.specs.declared.ends.CommitEnd.{CommitEnd}
+use Rattle.job_model.specs.declared.ends.CommitEnd.TheVariants as ends
+use Rattle.job_model.specs.declared.ends.Stage.TheVariants as stages
+use Rattle.job_operations.specs.Outputs.{Picks, same_path}
+use Rattle.job_operations.specs.Lanes.{Turn, again, follow, dealt, nth, chosen, undo, in_turn, abort, deletion, completion, revert, is_tried, is_unsent}
+use Rattle.job_operations.specs.JobCommits.{Sets, picks_of, all_commits, set_read, set_request, Commit, Fetching, Replacing, Completing, Marking, Reverting, CommitOver, completing, replaced, replacing, decided, fetching, fetched, reverting, worn_completion, commit_asks, commit_hears, commit_misses, commit_tells, commit_start, commit_over}
+use Rattle.job_operations.specs.LaneTable.{RequestsApart, Sound, AllSound}
+use Rattle.job_operations.specs.Laws.{EndIs}
+use Rattle.job_operations.specs.AtWork.{Committing, read_script, sets_in, sets_after, with_set, with_pick, picked_after, commit_wants, commit_told}
+use Rattle.job_operations.proofs.Members.{some_is, none_some, false_true}
+use Rattle.job_operations.proofs.LaneEnds.{ends_by_worn}
+use Rattle.commit_parts.specs.Tables.{listed}
+use Rattle.commit_parts.specs.ReadSets.{IsSetOf}
+use Rattle.commit_laws.specs.Fitting.{SpellsSet, FitsCommit}
+use Rattle.commit_parts.specs.ReadSets.{AreRead}
+use Rattle.commit_laws.specs.Laws.{start, AllFit, set_heard, sets_heard, due}
+use Rattle.job_operations.proofs.Members.{get_before}
+use Rattle.std.proofs.lemmas.Option.{slice_get_within}
+use Rattle.commit_parts.proofs.KeysApart.{sets_apart}
+
+less_or_same : (a b : ℕ) → a < b + 1 → (a < b) ⊎ (a ≡ b)
+less_or_same a b h = grind arith
+
+get_last : (sets : Sets) (s : PendingSet) → slice_get (sets ++ s ∷ []) (length sets) ≡ Some s
+get_last [] s = refl
+get_last (x ∷ xs) s = get_last xs s
+
+-- one more set that is of the next task
+pub read_more : (j : Job) (sets : Sets) (s : PendingSet) → AreRead j sets → IsSetOf j (length sets) s → AreRead j (sets ++ s ∷ [])
+read_more j sets s each new = λ n x e.
+    let len : length (sets ++ s ∷ []) ≡ length sets + 1 = length-append sets (s ∷ []) in
+    let low : n < length (sets ++ s ∷ []) = slice_get_within (sets ++ s ∷ []) n x e in
+    elim (less_or_same n (length sets) (omega arith)) [
+      | inl l ↦ each n x (get_before sets (s ∷ []) n x l e)
+      | inr same ↦
+          let G : ℕ → Type 0 = λ k. slice_get (sets ++ s ∷ []) k ≡ Some x in
+          let i : s ≡ x = some_is (sym (get_last sets s) ∙ subst G same e) in
+          let P : ℕ → Type 0 = λ k. IsSetOf j k x in
+          let Q : PendingSet → Type 0 = λ v. IsSetOf j (length sets) v in
+          subst P (sym same) (subst Q i new)
+    ]
+
+abbrev at : Job → List ℕ → Commit → Committing
+at j p c = record { plan = j; picked = p; operation = c }
+
+-- the path that picks of these sets share
+abbrev shared_of : Job → Sets → Option CommitEnd
+shared_of j s = same_path (read_script j s) (picks_of s)
+
+-- an end that is no fault is the one that is due
+abbrev EndOk : Job → Sets → CommitEnd → Type 0
+EndOk j s (ends.StoreFault stage) = Unit {0}
+EndOk j s end = end ≡ due None None (shared_of j s)
+
+-- ---- requests that read nothing
+
+abbrev reads : Request → Bool
+reads (GetObject bucket key) = true
+reads _ = false
+
+abbrev NoReads : List Request → Type 0
+NoReads [] = Unit {0}
+NoReads (q ∷ qs) = (reads q ≡ false) × NoReads qs
+
+no_reads_join : (xs ys : List Request) → NoReads xs → NoReads ys → NoReads (xs ++ ys)
+no_reads_join [] ys a b = b
+no_reads_join (x ∷ xs) ys a b = (a.0, no_reads_join xs ys a.1 b)
+
+no_reads_undo : (ps : List Pending) → NoReads (undo ps)
+no_reads_undo [] = tt
+no_reads_undo (p ∷ ps) = (refl, (refl, no_reads_undo ps))
+
+no_reads_aborts : (ps : List Pending) → NoReads (map abort ps)
+no_reads_aborts [] = tt
+no_reads_aborts (p ∷ ps) = (refl, no_reads_aborts ps)
+
+no_reads_deletions : (ps : List Pending) → NoReads (map deletion ps)
+no_reads_deletions [] = tt
+no_reads_deletions (p ∷ ps) = (refl, no_reads_deletions ps)
+
+no_reads_revert : (all : List Pending) (n : ℕ) (xs : List Turn) (done : List ℕ) → NoReads (revert all n xs done)
+no_reads_revert all n xs done = (refl, (refl, no_reads_join (undo (chosen (is_tried xs) 0 all)) _ (no_reads_undo (chosen (is_tried xs) 0 all)) (no_reads_join (map deletion (in_turn all done)) _ (no_reads_deletions (in_turn all done)) (no_reads_aborts (chosen (is_unsent n xs done) 0 all)))))
+
+nothing_heard : (q : Request) (o : Outcome) → reads q ≡ false → set_heard q o ≡ None
+nothing_heard (GetObject bucket key) o e = absurd (false_true e refl)
+nothing_heard _ o e = refl
+
+-- ---- once all is read
+
+-- a commit that has read these sets
+abbrev IsLate : Job → Sets → Commit → Type 0
+IsLate j s (Fetching sets m) = ⊥
+IsLate j s (Replacing sets p ps w m) = ⊥
+IsLate j s (Completing sets x xs done) = (sets ≡ s) × RequestsApart s × (shared_of j s ≡ None)
+IsLate j s (Marking sets m) = (sets ≡ s) × (shared_of j s ≡ None)
+IsLate j s (Reverting q qs m) = NoReads (q ∷ qs)
+IsLate j s (CommitOver end) = EndOk j s end
+
+late_completing : (j : Job) (s sets : Sets) (xs : List Turn) (done : List ℕ) → sets ≡ s → RequestsApart s → shared_of j s ≡ None → IsLate j s (completing sets xs done)
+late_completing j s sets [] done e apart none = (e, none)
+late_completing j s sets (x ∷ xs) done e apart none = (e, apart, none)
+
+late_reverting : (j : Job) (s : Sets) (qs : List Request) → NoReads qs → IsLate j s (reverting qs)
+late_reverting j s [] n = tt
+late_reverting j s (q ∷ qs) n = n
+
+late_either : (j : Job) (s : Sets) (b : Bool) (c d : Commit) → IsLate j s c → IsLate j s d → IsLate j s (cond b c d)
+late_either j s true c d x y = x
+late_either j s false c d x y = y
+
+late_heard : (j : Job) (s : Sets) (w : Script) (c : Commit) (r : Reply) → IsLate j s c → IsLate j s (commit_hears w c r)
+late_heard j s w (Fetching sets m) r h = absurd h
+late_heard j s w (Replacing sets p ps x m) r h = absurd h
+late_heard j s w (Completing sets x xs done) r h = late_completing j s sets (xs ++ follow w.lanes (length (all_commits sets)) x.number) (x.number ∷ done) h.0 h.1 h.2
+late_heard j s w (Marking sets m) r h = (let e : shared_of j s ≡ None = h.1 in ap (due None None) (sym e))
+late_heard j s w (Reverting q qs m) r h = late_reverting j s qs h.1
+late_heard j s w (CommitOver end) r h = h
+
+late_missed : (j : Job) (s : Sets) (w : Script) (c : Commit) (lost : Bool) → IsLate j s c → IsLate j s (commit_misses w c lost)
+late_missed j s w (Fetching sets m) lost h = absurd h
+late_missed j s w (Replacing sets p ps x m) lost h = absurd h
+late_missed j s w (Completing sets x xs done) lost h = late_either j s (nat_lt x.missed w.retries) (completing sets (xs ++ again x lost ∷ []) done) (worn_completion sets x xs done) (late_completing j s sets (xs ++ again x lost ∷ []) done h.0 h.1 h.2) (late_reverting j s (revert (all_commits sets) x.number xs done) (no_reads_revert (all_commits sets) x.number xs done))
+late_missed j s w (Marking sets m) lost h = late_either j s (nat_lt m w.retries) (Marking sets (m + 1)) (CommitOver (ends.StoreFault stages.Success)) h tt
+late_missed j s w (Reverting q qs m) lost h = late_either j s (nat_lt m w.retries) (Reverting q qs (m + 1)) (reverting qs) h (late_reverting j s qs h.1)
+late_missed j s w (CommitOver end) lost h = h
+
+late_next : (j : Job) (s : Sets) (w : Script) (c : Commit) (o : Outcome) → IsLate j s c → IsLate j s (commit_tells w c o)
+late_next j s w c (Answered r) h = late_heard j s w c r h
+late_next j s w c Slow h = late_missed j s w c false h
+late_next j s w c RequestLost h = late_missed j s w c true h
+late_next j s w c ReplyLost h = late_missed j s w c true h
+
+-- the script of these sets tells it the same
+late_tells : (j : Job) (s : Sets) (c : Commit) (o : Outcome) → IsLate j s c → commit_tells (read_script j (sets_after c o)) c o ≡ commit_tells (read_script j s) c o
+late_tells j s (Fetching sets m) o h = absurd h
+late_tells j s (Replacing sets p ps x m) o h = absurd h
+late_tells j s (Completing sets x xs done) o h = ap (λ t. commit_tells (read_script j t) (Completing sets x xs done) o) h.0
+late_tells j s (Marking sets m) o h = ap (λ t. commit_tells (read_script j t) (Marking sets m) o) h.0
+late_tells j s (Reverting q qs m) (Answered r) h = refl
+late_tells j s (Reverting q qs m) Slow h = refl
+late_tells j s (Reverting q qs m) RequestLost h = refl
+late_tells j s (Reverting q qs m) ReplyLost h = refl
+late_tells j s (CommitOver end) (Answered r) h = refl
+late_tells j s (CommitOver end) Slow h = refl
+late_tells j s (CommitOver end) RequestLost h = refl
+late_tells j s (CommitOver end) ReplyLost h = refl
+
+late_asks : (j : Job) (s : Sets) (c : Commit) → IsLate j s c → commit_asks (read_script j (sets_in c)) c ≡ commit_asks (read_script j s) c
+late_asks j s (Fetching sets m) h = absurd h
+late_asks j s (Replacing sets p ps x m) h = absurd h
+late_asks j s (Completing sets x xs done) h = refl
+late_asks j s (Marking sets m) h = ap (λ t. commit_asks (read_script j t) (Marking sets m)) h.0
+late_asks j s (Reverting q qs m) h = refl
+late_asks j s (CommitOver end) h = refl
+
+late_sound : (j : Job) (s : Sets) (c : Commit) → IsLate j s c → Sound c
+late_sound j s (Fetching sets m) h = absurd h
+late_sound j s (Replacing sets p ps x m) h = absurd h
+late_sound j s (Completing sets x xs done) h = subst RequestsApart (sym h.0) h.1
+late_sound j s (Marking sets m) h = tt
+late_sound j s (Reverting q qs m) h = tt
+late_sound j s (CommitOver end) h = tt
+
+-- it reads no more
+late_quiet : (j : Job) (s : Sets) (p : List ℕ) (c : Commit) (e : Entry) → IsLate j s c → commit_wants (at j p c) ≡ Some e.request → reads e.request ≡ false
+late_quiet j s p (Fetching sets m) e h f = absurd h
+late_quiet j s p (Replacing sets q qs x m) e h f = absurd h
+late_quiet j s p (Completing sets x xs done) e h f = ap reads (sym (some_is f))
+late_quiet j s p (Marking sets m) e h f = ap reads (sym (some_is f))
+late_quiet j s p (Reverting q qs m) e h f = ap reads (sym (some_is f)) ∙ h.0
+late_quiet j s p (CommitOver end) e h f = absurd (none_some refl f)
+
+-- ---- a run by one script
+
+-- the run from c on is one by the script of these sets, and its end is due by them
+record Ran (j : Job) (s : Sets) (p : List ℕ) (c : Commit) (es : List Entry) : Type 0 where
+  pub follows : Follows (commit_asks (read_script j s)) (commit_tells (read_script j s)) c es
+  pub sound : AllSound (read_script j s) c es
+  pub same : run (commit_tells (read_script j s)) c es ≡ (run commit_told (at j p c) es).operation
+  pub ends : (end : CommitEnd) → commit_over (run commit_told (at j p c) es).operation ≡ Some end → EndOk j s end
+
+ran_step : (j : Job) (s : Sets) (p q : List ℕ) (c d : Commit) (e : Entry) (es : List Entry) → commit_asks (read_script j s) c ≡ Some e.request → Sound c → commit_tells (read_script j s) c e.outcome ≡ d → commit_told (at j p c) e.outcome ≡ at j q d → Ran j s q d es → Ran j s p c (e ∷ es)
+ran_step j s p q c d e es asks sound tells told r =
+    let w = read_script j s in
+    let F : Commit → Type 0 = λ x. Follows (commit_asks w) (commit_tells w) x es in
+    let S : Commit → Type 0 = λ x. AllSound w x es in
+    let R : Commit → Type 0 = λ x. run (commit_tells w) x es ≡ (run commit_told (at j q d) es).operation in
+    let T : Committing → Type 0 = λ m. run (commit_tells w) (commit_tells w c e.outcome) es ≡ (run commit_told m es).operation in
+    let E : Committing → Type 0 = λ m. (end : CommitEnd) → commit_over (run commit_told m es).operation ≡ Some end → EndOk j s end in
+    record { follows = (asks, subst F (sym tells) r.follows); sound = (sound, subst S (sym tells) r.sound); same = subst T (sym told) (subst R (sym tells) r.same); ends = subst E (sym told) r.ends }
+
+over_is : (j : Job) (s : Sets) (c : Commit) → IsLate j s c → (end : CommitEnd) → commit_over c ≡ Some end → EndOk j s end
+over_is j s (Fetching sets m) h end e = absurd h
+over_is j s (Replacing sets p ps x m) h end e = absurd h
+over_is j s (Completing sets x xs done) h end e = absurd (none_some refl e)
+over_is j s (Marking sets m) h end e = absurd (none_some refl e)
+over_is j s (Reverting q qs m) h end e = absurd (none_some refl e)
+over_is j s (CommitOver x) h end e = let P : CommitEnd → Type 0 = λ v. EndOk j s v in subst P (some_is e) h
+
+record Late (j : Job) (s : Sets) (p : List ℕ) (c : Commit) (es : List Entry) : Type 0 where
+  pub ran : Ran j s p c es
+  pub quiet : sets_heard es ≡ []
+
+late_run : (j : Job) (s : Sets) (p : List ℕ) (c : Commit) (es : List Entry) → IsLate j s c → Follows commit_wants commit_told (at j p c) es → Late j s p c es
+late_run j s p c [] h f = record { ran = record { follows = tt; sound = tt; same = refl; ends = over_is j s c h }; quiet = refl }
+late_run j s p c (e ∷ es) h f =
+    let d = commit_tells (read_script j (sets_after c e.outcome)) c e.outcome in
+    let q = picked_after p c e.outcome in
+    let r = late_run j s q d es (late_next j s (read_script j (sets_after c e.outcome)) c e.outcome h) f.1 in
+    record {
+      ran = ran_step j s p q c d e es (sym (late_asks j s c h) ∙ f.0) (late_sound j s c h) (sym (late_tells j s c e.outcome h)) refl r.ran;
+      quiet = ap (λ v. listed v ++ sets_heard es) (nothing_heard e.request e.outcome (late_quiet j s p c e h f.0)) ∙ r.quiet;
+    }
+
+-- ---- while it reads
+
+less_is : (m n : ℕ) (b : Bool) → nat_lt m n ≡ b → b ≡ true → m < n
+less_is m n b e f = grind (arith, nat_tests)
+
+not_less : (m n : ℕ) → nat_lt m n ≡ false → n ≤ m
+not_less m n e = grind (arith, nat_tests)
+
+replaced_magic : (w : Script) (s : Sets) (c : Committer) → c ≡ Magic → replacing w s (replaced c w.mode w (picks_of s)) ≡ completing s (dealt w.lanes (length (all_commits s))) []
+replaced_magic w s c e = let P : Committer → Type 0 = λ v. replacing w s (replaced v w.mode w (picks_of s)) ≡ completing s (dealt w.lanes (length (all_commits s))) [] in subst P (sym e) refl
+
+decided_late : (j : Job) (s : Sets) (o : Option CommitEnd) → j.committer ≡ Magic → AreRead j s → length s ≡ j.tasks → shared_of j s ≡ o → IsLate j s (decided (read_script j s) s o)
+decided_late j s None mg each all e =
+    let L : Commit → Type 0 = λ c. IsLate j s c in
+    subst L (sym (replaced_magic (read_script j s) s j.committer mg)) (late_completing j s s (dealt j.lanes (length (all_commits s))) [] refl (sets_apart j s each all e) e)
+decided_late j s (Some x) mg each all e = decided_ok j s x (ap (due None None) (sym e))
+  where
+    decided_ok : (j : Job) (s : Sets) (x : CommitEnd) → x ≡ due None None (shared_of j s) → EndOk j s x
+    decided_ok j s (ends.StoreFault stage) h = tt
+    decided_ok j s ends.Committed h = h
+    decided_ok j s (ends.Missing t) h = h
+    decided_ok j s (ends.SamePath p t u) h = h
+    decided_ok j s ends.NoMemory h = h
+
+-- the run of a commit that has read these and reads on
+record Fetched (j : Job) (sets : Sets) (p : List ℕ) (c : Commit) (es : List Entry) : Type 0 where
+  pub all : Sets
+  pub ran : Ran j all p c es
+  pub heard : all ≡ sets ++ sets_heard es
+
+abbrev ReadsOn : Job → List Entry → Type 0
+ReadsOn j es = (sets : Sets) (m : ℕ) (p : List ℕ) → AreRead j sets → length sets < j.tasks → Follows commit_wants commit_told (at j p (Fetching sets m)) es → AllFit (at j p (Fetching sets m)) es → Fetched j sets p (Fetching sets m) es
+
+-- what follows on a set, and that the script of all sets tells it the same
+record AfterSet (j : Job) (s : Sets) (p : List ℕ) (c : Commit) (es : List Entry) : Type 0 where
+  pub all : Sets
+  pub ran : Ran j all p c es
+  pub heard : all ≡ s ++ sets_heard es
+  pub tells : fetching (read_script j all) s ≡ c
+
+abbrev follow_set : Job → Sets → Bool → Commit
+follow_set j s b = cond b (Fetching s 0) (decided (read_script j s) s (shared_of j s))
+
+after_set : (j : Job) (es : List Entry) → j.committer ≡ Magic → ReadsOn j es → (s : Sets) (p : List ℕ) (b : Bool) → nat_lt (length s) j.tasks ≡ b → AreRead j s → length s ≤ j.tasks → Follows commit_wants commit_told (at j p (follow_set j s b)) es → AllFit (at j p (follow_set j s b)) es → AfterSet j s p (follow_set j s b) es
+after_set j es mg later s p true e each few f k =
+    let r = later s 0 p each (less_is (length s) j.tasks true e refl) f k in
+    record { all = r.all; ran = r.ran; heard = r.heard; tells = ap (λ v. cond v (Fetching s 0) (decided (read_script j r.all) s (same_path (read_script j r.all) (picks_of s)))) e }
+after_set j es mg later s p false e each few f k =
+    let high : j.tasks ≤ length s = not_less (length s) j.tasks e in
+    let r = late_run j s p (decided (read_script j s) s (shared_of j s)) es (decided_late j s (shared_of j s) mg each (omega arith) refl) f in
+    record { all = s; ran = r.ran; heard = sym (append-nil s) ∙ ap (λ v. s ++ v) (sym r.quiet); tells = ap (λ v. cond v (Fetching s 0) (decided (read_script j s) s (shared_of j s))) e }
+
+-- the request of a read is the same by each script of the job
+asks_any : (c : Committer) (j : Job) (s t : Sets) (n : ℕ) → c ≡ Magic → set_request c (read_script j s) n ≡ set_request c (read_script j t) n
+asks_any c j s t n e = let P : Committer → Type 0 = λ v. set_request v (read_script j s) n ≡ set_request v (read_script j t) n in subst P (sym e) refl
+
+heard_base : (c : Committer) (w : Script) (n : ℕ) (r : Reply) → c ≡ Magic → set_heard (set_request c w n) (Answered r) ≡ set_read r
+heard_base c w n r e = let P : Committer → Type 0 = λ v. set_heard (set_request v w n) (Answered r) ≡ set_read r in subst P (sym e) refl
+
+unheard_base : (c : Committer) (w : Script) (n : ℕ) (o : Outcome) → c ≡ Magic → (set_heard (set_request Magic w n) o ≡ None) → set_heard (set_request c w n) o ≡ None
+unheard_base c w n o e h = let P : Committer → Type 0 = λ v. set_heard (set_request v w n) o ≡ None in subst P (sym e) h
+
+record Missed (c : Commit) (o : Outcome) (lost : Bool) : Type 0 where
+  pub tells : (w : Script) → commit_tells w c o ≡ commit_misses w c lost
+  pub unheard : (w : Script) (n : ℕ) → set_heard (set_request Magic w n) o ≡ None
+
+missed_by : (c : Commit) (o q : Outcome) (lost : Bool) → o ≡ q → ((w : Script) → commit_tells w c q ≡ commit_misses w c lost) → ((w : Script) (n : ℕ) → set_heard (set_request Magic w n) q ≡ None) → Missed c o lost
+missed_by c o q lost e a b = let P : Outcome → Type 0 = λ v. Missed c v lost in subst P (sym e) (record { tells = a; unheard = b })
+
+missed_next : (j : Job) (es : List Entry) → ReadsOn j es → (sets : Sets) (m : ℕ) (p : List ℕ) (b : Bool) → AreRead j sets → length sets < j.tasks
+    → Follows commit_wants commit_told (at j p (cond b (Fetching sets (m + 1)) (CommitOver (ends.StoreFault stages.Read)))) es → AllFit (at j p (cond b (Fetching sets (m + 1)) (CommitOver (ends.StoreFault stages.Read)))) es
+    → Fetched j sets p (cond b (Fetching sets (m + 1)) (CommitOver (ends.StoreFault stages.Read))) es
+missed_next j es later sets m p true each more f k = later sets (m + 1) p each more f k
+missed_next j es later sets m p false each more f k =
+    let r = late_run j sets p (CommitOver (ends.StoreFault stages.Read)) es tt f in
+    record { all = sets; ran = r.ran; heard = sym (append-nil sets) ∙ ap (λ v. sets ++ v) (sym r.quiet) }
+
+missed_step : (j : Job) (e : Entry) (es : List Entry) → j.committer ≡ Magic → ReadsOn j es → (sets : Sets) (m : ℕ) (p : List ℕ) (lost : Bool) → AreRead j sets → length sets < j.tasks → Missed (Fetching sets m) e.outcome lost
+    → commit_told (at j p (Fetching sets m)) e.outcome ≡ at j p (commit_misses (read_script j sets) (Fetching sets m) lost)
+    → Follows commit_wants commit_told (at j p (Fetching sets m)) (e ∷ es) → AllFit (at j p (Fetching sets m)) (e ∷ es) → Fetched j sets p (Fetching sets m) (e ∷ es)
+missed_step j e es mg later sets m p lost each more miss told f k =
+    let w = read_script j sets in
+    let F : Committing → Type 0 = λ v. Follows commit_wants commit_told v es in
+    let K : Committing → Type 0 = λ v. AllFit v es in
+    let r = missed_next j es later sets m p (nat_lt m j.retries) each more (subst F told f.1) (subst K told k.1) in
+    let asked : set_request j.committer w (length sets) ≡ e.request = some_is f.0 in
+    let S : Request → Type 0 = λ q. set_heard q e.outcome ≡ None in
+    let none : set_heard e.request e.outcome ≡ None = subst S asked (unheard_base j.committer w (length sets) e.outcome mg (miss.unheard w (length sets))) in
+    record {
+      all = r.all;
+      ran = ran_step j r.all p p (Fetching sets m) (commit_misses w (Fetching sets m) lost) e es (ap Some (asks_any j.committer j r.all sets (length sets) mg) ∙ f.0) tt (miss.tells (read_script j r.all)) told r.ran;
+      heard = r.heard ∙ ap (λ o. sets ++ (listed o ++ sets_heard es)) (sym none);
+    }
+
+abbrev told_set : Job → Sets → List ℕ → Option PendingSet → Committing
+told_set j sets p o = at j (with_pick p o) (fetched (read_script j (with_set sets o)) sets o)
+
+heard_step : (j : Job) (e : Entry) (es : List Entry) → j.committer ≡ Magic → ReadsOn j es → (sets : Sets) (m : ℕ) (p : List ℕ) (r : Reply) (o : Option PendingSet) → set_read r ≡ o → e.outcome ≡ Answered r → AreRead j sets → length sets < j.tasks → SpellsSet j (length sets) o
+    → Follows commit_wants commit_told (at j p (Fetching sets m)) (e ∷ es) → AllFit (at j p (Fetching sets m)) (e ∷ es) → Fetched j sets p (Fetching sets m) (e ∷ es)
+heard_step j e es mg later sets m p r None read is each more fit f k = absurd fit
+heard_step j e es mg later sets m p r (Some s) read is each more fit f k =
+    let w = read_script j sets in
+    let one = sets ++ s ∷ [] in
+    let len : length one ≡ length sets + 1 = length-append sets (s ∷ []) in
+    let b = nat_lt (length one) j.tasks in
+    let F : Committing → Type 0 = λ v. Follows commit_wants commit_told v es in
+    let K : Committing → Type 0 = λ v. AllFit v es in
+    let told : commit_told (at j p (Fetching sets m)) e.outcome ≡ at j (p ++ s.attempt ∷ []) (follow_set j one b) = ap (commit_told (at j p (Fetching sets m))) is ∙ ap (told_set j sets p) read in
+    let a = after_set j es mg later one (p ++ s.attempt ∷ []) b refl (read_more j sets s each fit) (omega arith) (subst F told f.1) (subst K told k.1) in
+    let asked : set_request j.committer w (length sets) ≡ e.request = some_is f.0 in
+    let S : Request → Type 0 = λ q. set_heard q (Answered r) ≡ set_read r in
+    let found : set_heard e.request e.outcome ≡ Some s = ap (set_heard e.request) is ∙ subst S asked (heard_base j.committer w (length sets) r mg) ∙ read in
+    record {
+      all = a.all;
+      ran = ran_step j a.all p (p ++ s.attempt ∷ []) (Fetching sets m) (follow_set j one b) e es (ap Some (asks_any j.committer j a.all sets (length sets) mg) ∙ f.0) tt
+          (ap (commit_tells (read_script j a.all) (Fetching sets m)) is ∙ ap (fetched (read_script j a.all) sets) read ∙ a.tells) told a.ran;
+      heard = a.heard ∙ append_assoc sets (s ∷ []) (sets_heard es) ∙ ap (λ v. sets ++ (listed v ++ sets_heard es)) (sym found);
+    }
+
+fetch_step : (j : Job) (e : Entry) (es : List Entry) → j.committer ≡ Magic → ReadsOn j es → (o : Outcome) → e.outcome ≡ o → (sets : Sets) (m : ℕ) (p : List ℕ) → AreRead j sets → length sets < j.tasks
+    → Follows commit_wants commit_told (at j p (Fetching sets m)) (e ∷ es) → AllFit (at j p (Fetching sets m)) (e ∷ es) → Fetched j sets p (Fetching sets m) (e ∷ es)
+fetch_step j e es mg later (Answered r) is sets m p each more f k = let P : Outcome → Type 0 = λ v. FitsCommit (at j p (Fetching sets m)) v in heard_step j e es mg later sets m p r (set_read r) refl is each more (subst P is k.0) f k
+fetch_step j e es mg later Slow is sets m p each more f k = missed_step j e es mg later sets m p false each more (missed_by (Fetching sets m) e.outcome Slow false is (λ w. refl) (λ w n. refl)) (ap (commit_told (at j p (Fetching sets m))) is) f k
+fetch_step j e es mg later RequestLost is sets m p each more f k = missed_step j e es mg later sets m p true each more (missed_by (Fetching sets m) e.outcome RequestLost true is (λ w. refl) (λ w n. refl)) (ap (commit_told (at j p (Fetching sets m))) is) f k
+fetch_step j e es mg later ReplyLost is sets m p each more f k = missed_step j e es mg later sets m p true each more (missed_by (Fetching sets m) e.outcome ReplyLost true is (λ w. refl) (λ w n. refl)) (ap (commit_told (at j p (Fetching sets m))) is) f k
+
+fetch_run : (j : Job) → j.committer ≡ Magic → (es : List Entry) → ReadsOn j es
+fetch_run j mg [] = λ sets m p each more f k. record { all = sets; ran = record { follows = tt; sound = tt; same = refl; ends = λ end e. absurd (none_some refl e) }; heard = sym (append-nil sets) }
+fetch_run j mg (e ∷ es) = λ sets m p each more f k. fetch_step j e es mg (fetch_run j mg es) e.outcome refl sets m p each more f k
+
+-- ---- its end
+
+due_by : (j : Job) (s : Sets) (worn : Option Request) (end : CommitEnd) → EndIs worn end → EndOk j s end → end ≡ due None worn (shared_of j s)
+due_by j s (Some r) end h ok = h
+due_by j s None (ends.StoreFault stage) h ok = absurd h
+due_by j s None ends.Committed h ok = ok
+due_by j s None (ends.Missing t) h ok = ok
+due_by j s None (ends.SamePath p t u) h ok = ok
+due_by j s None ends.NoMemory h ok = ok
+
+none_read : (j : Job) → AreRead j []
+none_read j = λ n s e. absurd (none_some refl e)
+
+ends_from : (j : Job) (es : List Entry) → j.committer ≡ Magic → 0 < j.lanes → Follows commit_wants commit_told (start j None) es → AllFit (start j None) es → (end : CommitEnd) → commit_over (run commit_told (start j None) es).operation ≡ Some end
+    → (worn : Option Request) × WornFirst j.retries es worn × (end ≡ due None worn (shared_of j (sets_heard es)))
+ends_from j es mg some f k end e =
+    let b = nat_lt 0 j.tasks in
+    let a = after_set j es mg (fetch_run j mg es) [] [] b refl (none_read j) (omega arith) f k in
+    let w = read_script j a.all in
+    let F : Commit → Type 0 = λ c. Follows (commit_asks w) (commit_tells w) c es in
+    let S : Commit → Type 0 = λ c. AllSound w c es in
+    let R : Commit → Type 0 = λ c. run (commit_tells w) c es ≡ (run commit_told (start j None) es).operation in
+    let at_end : commit_over (run (commit_tells w) (fetching w []) es) ≡ Some end = ap commit_over (subst R (sym a.tells) a.ran.same) ∙ e in
+    let r = ends_by_worn w some es (subst F (sym a.tells) a.ran.follows) (subst S (sym a.tells) a.ran.sound) end at_end in
+    let H : Sets → Type 0 = λ v. end ≡ due None r.0 (shared_of j v) in
+    (r.0, r.1, subst H a.heard (due_by j a.all r.0 end r.2 (a.ran.ends end e)))
+
+missing_ends : (j : Job) (t : ℕ) (es : List Entry) → Follows commit_wants commit_told (start j (Some t)) es → (end : CommitEnd) → commit_over (run commit_told (start j (Some t)) es).operation ≡ Some end
+    → (worn : Option Request) × WornFirst j.retries es worn × (end ≡ due (Some t) worn (shared_of j (sets_heard es)))
+missing_ends j t [] f end e = (None, none_sent j.retries, sym (some_is e))
+missing_ends j t (x ∷ es) f end e = absurd (none_some refl f.0)
+
+pub commit_ends : (j : Job) (missing : Option ℕ) → j.committer ≡ Magic → 0 < j.lanes → (es : List Entry) → Follows commit_wants commit_told (start j missing) es → AllFit (start j missing) es → (end : CommitEnd) → commit_over (run commit_told (start j missing) es).operation ≡ Some end
+    → (worn : Option Request) × WornFirst j.retries es worn × (end ≡ due missing worn (same_path (read_script j (sets_heard es)) (picks_of (sets_heard es))))
+commit_ends j None mg some es f k end e = ends_from j es mg some f k end e
+commit_ends j (Some t) mg some es f k end e = missing_ends j t es f end e

@@ -1,0 +1,2 @@
+mod CommitEnds
+mod Falling

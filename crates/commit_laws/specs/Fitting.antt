@@ -1,0 +1,47 @@
+-- Which outcomes may be told to a job's commit.
+use Rattle.std.specs.Prelude.{◌≡◌, ℕ, not, List, length, Option, Some, None}
+use Rattle.s3_types.specs.declared.reply.Reply.{Reply}
+use Rattle.s3_types.specs.declared.reply.Reply.TheVariants.{Refused}
+use Rattle.s3_types.specs.declared.reply.Refusal.TheVariants.{NoSuchBucket}
+use Rattle.s3_types.specs.declared.journal.Outcome.{Outcome}
+use Rattle.s3_types.specs.declared.journal.Outcome.TheVariants.{Answered}
+use Rattle.pending_json.specs.declared.records.PendingSet.{PendingSet}
+use Rattle.job_model.specs.Jobs.{Job, has_task}
+use Rattle.job_model.specs.declared.ends.CommitEnd.TheVariants as ends
+use Rattle.commit_parts.specs.ReadSets.{IsSetOf}
+use Rattle.job_operations.specs.Outputs.{first_where}
+use Rattle.job_operations.specs.JobCommits.{set_read, Commit, Fetching, Replacing, Completing, Marking, Reverting, CommitOver, FitsCompletion}
+use Rattle.job_operations.specs.AtWork.{Committing}
+
+-- the answer spells a task's set
+abbrev pub SpellsSet : Job → ℕ → Option PendingSet → Type 0
+SpellsSet j t None = ⊥
+SpellsSet j t (Some s) = IsSetOf j t s
+
+-- the store may answer so: it is never that the bucket is not there, and a set is always there
+abbrev pub FitsReply : Job → Commit → Reply → Type 0
+FitsReply j (Fetching sets m) r = SpellsSet j (length sets) (set_read r)
+FitsReply j (Replacing sets p ps s m) r = ⊥
+FitsReply j (Completing sets x xs finished) r = FitsCompletion x r
+FitsReply j _ r = r ≡ Refused NoSuchBucket → ⊥
+
+abbrev pub FitsCommit : Committing → Outcome → Type 0
+FitsCommit m (Answered r) = FitsReply m.plan m.operation r
+FitsCommit m _ = Unit {0}
+
+-- how many sendings of the present request got no answer
+abbrev pub missed_of : Commit → ℕ
+missed_of (Fetching sets m) = m
+missed_of (Replacing sets p ps s m) = m
+missed_of (Completing sets x xs finished) = x.missed
+missed_of (Marking sets m) = m
+missed_of (Reverting q qs m) = m
+missed_of (CommitOver end) = 0
+
+-- where memory was wanting
+abbrev pub without_memory : Committing → Committing
+without_memory m = record { plan = m.plan; picked = m.picked; operation = CommitOver ends.NoMemory }
+
+-- the least task of which none reported its commit
+abbrev pub least_missing : ℕ → List ℕ → Option ℕ
+least_missing tasks reported = first_where (λ t. not (has_task reported t)) 0 tasks

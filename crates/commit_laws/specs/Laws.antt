@@ -1,0 +1,108 @@
+-- What holds of a job's commit alone.
+use Rattle.std.specs.Prelude.{◌≡◌, ℕ, ◌+◌, ◌-◌, ◌*◌, ◌<◌, ◌≤◌, List, [], ◌∷◌, ◌++◌, length, Option, Some, None}
+use Rattle.s3_types.specs.Store.{Scene}
+use Rattle.s3_types.specs.declared.request.Request.{Request}
+use Rattle.s3_types.specs.declared.request.Request.TheVariants.{GetObject}
+use Rattle.s3_types.specs.declared.journal.Outcome.{Outcome}
+use Rattle.s3_types.specs.declared.journal.Outcome.TheVariants.{Answered}
+use Rattle.s3_types.specs.declared.journal.Entry.{Entry}
+use Rattle.s3_types.specs.declared.request.Committer.TheVariants.{Magic}
+use Rattle.pending_json.specs.declared.records.PendingSet.{PendingSet}
+use Rattle.sendings.specs.Operation.{run, Follows}
+use Rattle.sendings.specs.Worn.{WornFirst}
+use Rattle.job_model.specs.Jobs.{Job}
+use Rattle.job_model.specs.declared.ends.CommitEnd.{CommitEnd}
+use Rattle.job_model.specs.declared.ends.CommitEnd.TheVariants as ends
+use Rattle.job_operations.specs.Outputs.{same_path}
+use Rattle.job_operations.specs.JobCommits.{Sets, set_read, picks_of, all_commits, Commit, Fetching, Replacing, Completing, Marking, Reverting, CommitOver, commit_start, commit_over, stage_of}
+use Rattle.job_operations.specs.Lanes.{Turn}
+use Rattle.job_operations.specs.Measures.{FallsByOutcomes}
+use Rattle.job_operations.specs.AtWork.{Committing, read_script, commit_wants, commit_told}
+use Rattle.commit_parts.specs.Tables.{listed}
+use Rattle.commit_laws.specs.Fitting.{FitsCommit}
+
+-- the commit of a job as it begins, by the least task that none reported
+abbrev pub start : Job → Option ℕ → Committing
+start j missing = record { plan = j; picked = []; operation = commit_start (read_script j []) missing }
+
+-- each outcome fits where it was
+abbrev pub AllFit : Committing → List Entry → Type 0
+AllFit m [] = Unit {0}
+AllFit m (e ∷ es) = FitsCommit m e.outcome × AllFit (commit_told m e.outcome) es
+
+-- ---- its end
+
+abbrev pub set_heard : Request → Outcome → Option PendingSet
+set_heard (GetObject bucket key) (Answered r) = set_read r
+set_heard _ _ = None
+
+-- the sets that these entries' answered reads brought
+abbrev pub sets_heard : List Entry → Sets
+sets_heard [] = []
+sets_heard (e ∷ es) = listed (set_heard e.request e.outcome) ++ sets_heard es
+
+-- a missing task, then the first request that wore out, then a path that two tasks write, and else none of these
+abbrev pub due : Option ℕ → Option Request → Option CommitEnd → CommitEnd
+due (Some t) worn shared = ends.Missing t
+due None (Some r) shared = ends.StoreFault (stage_of r)
+due None None (Some end) = end
+due None None None = ends.Committed
+
+-- it ends so by its own entries alone
+pub record EndsByEntries : Type 0 where
+  pub ends : (j : Job) (missing : Option ℕ) → j.committer ≡ Magic → 0 < j.lanes → (es : List Entry) → Follows commit_wants commit_told (start j missing) es → AllFit (start j missing) es
+      → (end : CommitEnd) → commit_over (run commit_told (start j missing) es).operation ≡ Some end
+      → (worn : Option Request) × WornFirst j.retries es worn × (end ≡ due missing worn (same_path (read_script j (sets_heard es)) (picks_of (sets_heard es))))
+
+-- ---- how much it has left
+
+-- a lane from a turn on: its uploads that are not answered, each with its sendings and with one request of a revert
+abbrev pub turn_left : ℕ → ℕ → Turn → ℕ
+turn_left retries total x = (1 + (total - x.number)) * (2 * retries + 3) + (retries - x.missed)
+
+abbrev pub turns_left : ℕ → ℕ → List Turn → ℕ
+turns_left retries total [] = 0
+turns_left retries total (x ∷ xs) = turn_left retries total x + turns_left retries total xs
+
+-- lanes, then a revert of so many uploads of which so many are done, then the marker
+abbrev pub lanes_left : ℕ → ℕ → List Turn → ℕ → ℕ
+lanes_left retries total xs done = turns_left retries total xs + (3 * total + done + 3) * (retries + 1) + (retries + 2)
+
+-- all completions of so many uploads in so many lanes
+abbrev pub all_left : ℕ → ℕ → ℕ → ℕ
+all_left retries lanes total = lanes * ((1 + total) * (2 * retries + 3) + retries) + (3 * total + 3) * (retries + 1) + (retries + 2)
+
+-- a read of a set of at most so many uploads, with all that it may bring
+abbrev pub read_left : ℕ → ℕ → ℕ → ℕ
+read_left retries lanes most = most * (lanes * (2 * retries + 3) + 3 * (retries + 1)) + (retries + 2)
+
+-- at most so many sendings are to come, where each set has at most so many uploads
+abbrev pub left_of : ℕ → Job → Commit → ℕ
+left_of most j (Fetching sets m) = all_left j.retries j.lanes (length (all_commits sets)) + (1 + (j.tasks - length sets)) * read_left j.retries j.lanes most + (j.retries - m)
+left_of most j (Replacing sets p ps s m) = j.retries - m + 1
+left_of most j (Completing sets x xs done) = lanes_left j.retries (length (all_commits sets)) (x ∷ xs) (length done)
+left_of most j (Marking sets m) = j.retries - m + 1
+left_of most j (Reverting q qs m) = length qs * (j.retries + 1) + (j.retries - m + 1)
+left_of most j (CommitOver end) = 0
+
+abbrev pub left : ℕ → Committing → Scene → ℕ
+left most m s = left_of most m.plan m.operation
+
+abbrev pub HasFew : ℕ → Option PendingSet → Type 0
+HasFew most None = Unit {0}
+HasFew most (Some s) = length s.commits ≤ most
+
+-- a set that is read has at most so many uploads
+abbrev pub ReadsFew : ℕ → Commit → Outcome → Type 0
+ReadsFew most (Fetching sets m) (Answered r) = HasFew most (set_read r)
+ReadsFew most _ _ = Unit {0}
+
+-- the outcome fits, of a job that has a lane
+pub record FitsFew (most : ℕ) (m : Committing) (o : Outcome) : Type 0 where
+  pub lanes : 0 < m.plan.lanes
+  pub fits : FitsCommit m o
+  pub few : ReadsFew most m.operation o
+
+-- a commit sends no more than it has left, and nobody else adds to it
+pub record CommitFalls : Type 0 where
+  pub falls : (most : ℕ) → FallsByOutcomes commit_wants commit_told (FitsFew most) (left most) 0
