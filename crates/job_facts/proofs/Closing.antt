@@ -1,5 +1,5 @@
 -- Until it cleans up, the driver ends only uploads of attempts that have sent their publishing requests.
-use Rattle.std.proofs.Common.{◌≡◌, ℕ, zero, suc, ◌+◌, ◌<◌, inl, inr, nat_lt, nat_eq, ◌&&◌, ◌||◌, Bool, true, false, cond, List, [], ◌∷◌, ◌++◌, map, length, Option, Some, None, refl, sym, ap, subst, ◌∙◌, arith}
+use Rattle.std.proofs.Common.{◌≡◌, ℕ, ◌+◌, ◌<◌, inl, inr, nat_lt, nat_eq, ◌&&◌, ◌||◌, Bool, true, false, cond, List, [], ◌∷◌, ◌++◌, map, length, Option, Some, None, refl, sym, ap, subst, ◌∙◌}
 use Rattle.std.proofs.lemmas.Bool.{and_parts, or_parts, false≢true}
 use Rattle.s3_types.specs.Moment.{is_effective}
 use Rattle.s3_types.specs.declared.request.Committer.{Committer}
@@ -38,6 +38,7 @@ use Rattle.job_facts.specs.Driver.{Reads, FitsClean, FitsJobCommit}
 use Rattle.job_facts.specs.Standing.{IsSent, Closed, EndsSent, Reverts}
 use Rattle.job_facts.proofs.Whose.{or_true}
 use Rattle.job_facts.proofs.Legible.{drawn_is}
+use Rattle.job_facts.proofs.Turning.{nth_of}
 use Rattle.job_facts.proofs.JobCommitting.{in_sets, chosen_in}
 use Rattle.job_facts.proofs.Beside.{still_sent, still_known}
 
@@ -66,11 +67,6 @@ module _ (w : Script) (sent : Who → Bool) (drawn : Who → List Drawn) where
   aborts_end : (ps : List Pending) → All ps → EndsSent sent drawn (map abort ps)
   aborts_end [] h = tt
   aborts_end (p ∷ ps) h = (ends_one p (h p (inl refl)), aborts_end ps (λ q i. h q (inr i)))
-
-  nth_in : (ps : List Pending) (n : ℕ) → n < length ps → IsIn (nth ps n) ps
-  nth_in [] n h = absurd (omega arith)
-  nth_in (p ∷ ps) zero h = inl refl
-  nth_in (p ∷ ps) (suc n) h = inr (nth_in ps n (omega arith))
 
   -- a commit after something was heard or missed: only a revert matters
   reverts_completing : (sets : Sets) (xs : List Turn) (finished : List ℕ) → Reverts sent drawn (completing sets xs finished)
@@ -118,7 +114,7 @@ module _ (w : Script) (sent : Who → Bool) (drawn : Who → List Drawn) where
 
   revert_ends : IsLegal w → (ps : List Pending) → All ps → (worn : ℕ) → worn < length ps → (xs : List Turn) (finished : List ℕ) → EndsSent sent drawn (revert ps worn xs finished)
   revert_ends j ps h worn low xs finished = (
-    ends_one (nth ps worn) (h (nth ps worn) (nth_in ps worn low)),
+    ends_one (nth ps worn) (h (nth ps worn) (nth_of ps worn low)),
     (
       ends_none,
       both_end (undo (chosen (is_tried xs) 0 ps)) (map deletion (in_turn ps finished) ++ map abort (chosen (is_unsent worn xs finished) 0 ps))
@@ -170,7 +166,7 @@ module _ (w : Script) (sent : Who → Bool) (drawn : Who → List Drawn) where
   commit_ends (Replacing sets p ps s n) h t all r e = subst EndsOnly (some_is e) (sweep_ends p s)
   commit_ends (Completing sets x xs finished) h t all r e =
       let p = nth (all_commits sets) x.number in
-      subst EndsOnly (some_is e) (ends_one p (all sets x xs finished refl p (nth_in (all_commits sets) x.number (t.within x (inl refl)))))
+      subst EndsOnly (some_is e) (ends_one p (all sets x xs finished refl p (nth_of (all_commits sets) x.number (t.within x (inl refl)))))
   commit_ends (Marking sets n) h t all r e = subst EndsOnly (some_is e) ends_none
   commit_ends (Reverting q qs n) h t all r e = subst EndsOnly (some_is e) h.0
   commit_ends (CommitOver end) h t all r e = absurd cc

@@ -25,7 +25,7 @@ use Rattle.job_operations.specs.Walks.{walked, walked_by, keys_on, last_of, page
 use Rattle.job_operations.specs.Uploading.{Uploading, Uploaded, GoesOn, AllSent, IsGone, upload_asks, upload_hears}
 use Rattle.job_operations.specs.TaskCommits.{TaskCommit, Looking, Reading, Publishing, Checking, Uploads, Storing, Renaming, TaskCommitOver, task_commit_asks, task_commit_after, task_commit_hears, attempt_prefix, temporary_path, partition_prefix, reading, looked, looked_at, read_record, storing, checking, checked, uploaded, renamed, least_missing, in_order}
 use Rattle.job_promise.specs.Seen.{Seen, see, is_magic, is_staging}
-use Rattle.request_frame.specs.Members.{RisesFrom, last_from}
+use Rattle.request_frame.specs.Members.{RisesFrom}
 use Rattle.request_frame.proofs.Members.{some_is, map_in}
 use Rattle.request_frame.proofs.Flat.{page_rises, joins}
 use Rattle.job_facts.specs.Told.{Told, known, entry, tell}
@@ -40,15 +40,7 @@ use Rattle.job_facts.proofs.Publishes.{set_keeps, stage_keeps, rename_keeps, is_
 use Rattle.job_facts.proofs.Uploads.{FitsUploaded, next_todo, todo_none, all_commits, upload_keeps, upload_goes, upload_flags}
 use Rattle.job_facts.proofs.Writing.{fits_upload_same}
 use Rattle.job_facts.proofs.Going.{step_so, unlearnt}
-
--- the last of the keys so far
-last_so : (keys : List (List ℕ)) → last_of keys ≡ last_from [] keys
-last_so [] = refl
-last_so (k ∷ keys) = from k keys
-  where
-    from : (k : List ℕ) (keys : List (List ℕ)) → last_of (k ∷ keys) ≡ last_from k keys
-    from k [] = refl
-    from k (q ∷ keys) = from q keys
+use Rattle.job_facts.proofs.Emptying.{last_so}
 
 module _ (w : Script) (minimum : ℕ) (a : Who) (j : IsLegal w) where
   fits_storing : (k : Known) (fs : List File) → is_staging w.committer ≡ true → IsOpen k → Todo w minimum a k.drawn fs → FitsCommit w minimum a k (storing fs)

@@ -37,3 +37,4 @@ pub mod Clearing
 pub mod Closing
 pub mod Apart
 pub mod Remaining
+pub mod Turning

@@ -9,4 +9,5 @@ pub mod Laws
 pub mod SetupLaws
 pub mod Clearing
 pub mod Standing
+pub mod Turning
 pub mod StandingLaws

@@ -5,6 +5,7 @@
 ghost use Rattle.job_facts.specs.Laws.{AnswersFit, AttemptBegins, AttemptGoes, AttemptNames, CleanGoes, CommitGoes, DrivingKeeps, FactsBegin, ForeignKeeps, ReadsKeep, ToldIsSaid};
 ghost use Rattle.job_facts.specs.SetupLaws.{SetupGoes};
 ghost use Rattle.job_facts.specs.Clearing.{CleanClears};
+ghost use Rattle.job_facts.specs.Turning.{CommitTurns};
 ghost use Rattle.job_facts.specs.StandingLaws.{DriverCloses, NothingGone};
 
 /// The driver's set-up, which ends where the facts begin.
@@ -42,6 +43,11 @@ pub fn driver()
 pub fn standing()
     ensures closes { DriverCloses }
     ensures gone { NothingGone }
+{}
+
+/// The uploads that the driver's commit completes.
+pub fn completions()
+    ensures turns { CommitTurns }
 {}
 
 /// What the driver's abort or clean of the job leaves where nobody else sends.

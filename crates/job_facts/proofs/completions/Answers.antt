@@ -1,0 +1,12 @@
+use Rattle.job_facts.proofs.Turning.{uploads_apart, turns_start, commit_turns, turn_answered}
+use Rattle.job_facts.proofs.completions.Goals as goal
+
+pub returns : goal.returns
+returns c = record {
+  turns = record {
+    apart = uploads_apart;
+    begins = λ w m missing none. turns_start w m none missing;
+    goes = λ g j s m h c f t v r e n o. commit_turns g j s m h c f t v r e o;
+    answered = turn_answered;
+  };
+}

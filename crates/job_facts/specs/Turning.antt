@@ -1,0 +1,45 @@
+-- While the driver's commit completes the uploads of the sets that it holds: which of them it has ended.
+use Rattle.std.specs.Prelude.{◌≡◌, ℕ, ◌<◌, ◌⊎◌, true, false, map, length, List, ◌∷◌, Option, Some}
+use Rattle.s3_types.specs.Answer.{answer}
+use Rattle.s3_types.specs.Blocks.{named_from}
+use Rattle.s3_types.specs.Tags.{joined_tag}
+use Rattle.s3_types.specs.declared.request.Request.{Request}
+use Rattle.s3_types.specs.declared.reply.Reply.TheVariants.{Completed}
+use Rattle.s3_types.specs.declared.journal.Outcome.{Outcome}
+use Rattle.job_model.specs.Legal.{IsLegal}
+use Rattle.job_model.specs.JobScript.{Script}
+use Rattle.job_operations.specs.Lanes.{Turn, nth, completion}
+use Rattle.job_operations.specs.JobCommits.{Sets, all_commits, Commit, Fetching, Replacing, Completing, Marking, Reverting, CommitOver, commit_start, commit_asks, commit_tells}
+use Rattle.job_operations.specs.LaneTable.{Tabled}
+use Rattle.job_operations.specs.Operations.{Setting}
+use Rattle.job_promise.specs.Seen.{Seen}
+use Rattle.request_frame.specs.Members.{IsIn}
+use Rattle.job_facts.specs.Told.{Told, tell, driver_entry}
+use Rattle.job_facts.specs.Facts.{Hold}
+use Rattle.job_facts.specs.Driver.{Reads, FitsJobCommit}
+
+-- the driver has ended no upload
+abbrev pub NoneEnded : Told → Type 0
+NoneEnded m = (id : ℕ) → m.ended id ≡ false
+
+-- none is ended before the first completion; then each upload of the sets that is ended is done, or in turn with a sending of it lost
+abbrev pub Turns : Told → Commit → Type 0
+Turns m (Fetching sets n) = NoneEnded m
+Turns m (Replacing sets p ps s n) = NoneEnded m
+Turns m (Completing sets x xs finished) = (n : ℕ) → n < length (all_commits sets) → m.ended (nth (all_commits sets) n).upload ≡ true → IsIn n finished ⊎ ((y : Turn) × IsIn y (x ∷ xs) × (y.number ≡ n) × (y.lost ≡ true))
+Turns m (Marking sets n) = Unit {0}
+Turns m (Reverting r rs n) = Unit {0}
+Turns m (CommitOver end) = Unit {0}
+
+-- with every number of lanes (`Tabled`, which `job_operations` keeps)
+pub record CommitTurns : Type 0 where
+  -- the uploads of the sets that it holds are apart
+  pub apart : (w : Script) (minimum : ℕ) (s : Seen) (m : Told) → IsLegal w → Hold w minimum s m → (sets : Sets) → Reads w minimum m.publish_sent m.drawn sets
+      → (i n : ℕ) → i < length (all_commits sets) → n < length (all_commits sets) → (nth (all_commits sets) i).upload ≡ (nth (all_commits sets) n).upload → i ≡ n
+  pub begins : (w : Script) (m : Told) (missing : Option ℕ) → NoneEnded m → Turns m (commit_start w missing)
+  pub goes : (g : Setting) → IsLegal g.script → (s : Seen) (m : Told) → Hold g.script g.minimum s m → (c : Commit) → FitsJobCommit g.script g.minimum m.publish_sent m.drawn c → Tabled g.script c → Turns m c
+      → (r : Request) → commit_asks g.script c ≡ Some r → (n : ℕ) (o : Outcome) → Turns (tell g.script m (driver_entry n r o)) (commit_tells g.script c o)
+  -- a completion of which no sending was lost is answered with the joined tag of the file's parts
+  pub answered : (w : Script) (minimum : ℕ) (s : Seen) (m : Told) → IsLegal w → Hold w minimum s m → (sets : Sets) (x : Turn) (xs : List Turn) (finished : List ℕ)
+      → let c = Completing sets x xs finished in FitsJobCommit w minimum m.publish_sent m.drawn c → Tabled w c → Turns m c → x.lost ≡ false
+      → let p = nth (all_commits sets) x.number in answer s.scene (completion p) ≡ Completed (joined_tag (map (λ t. t.tag) (named_from 1 p.tags)))
