@@ -7,7 +7,7 @@ use Rattle.s3_types.specs.declared.reply.Refusal.TheVariants.{NoSuchBucket}
 use Rattle.s3_types.specs.declared.journal.Outcome.{Outcome}
 use Rattle.s3_types.specs.declared.journal.Outcome.TheVariants.{Answered}
 use Rattle.pending_json.specs.declared.records.PendingSet.{PendingSet}
-use Rattle.job_model.specs.Jobs.{Job}
+use Rattle.job_model.specs.Jobs.{Job, has_task}
 use Rattle.job_model.specs.declared.ends.CommitEnd.TheVariants as ends
 use Rattle.commit_parts.specs.ReadSets.{IsSetOf}
 use Rattle.job_operations.specs.Outputs.{first_where}
@@ -42,10 +42,6 @@ missed_of (CommitOver end) = 0
 -- where memory was wanting
 abbrev pub without_memory : Committing → Committing
 without_memory m = record { plan = m.plan; picked = m.picked; operation = CommitOver ends.NoMemory }
-
--- a task is one of these
-abbrev pub has_task : List ℕ → ℕ → Bool
-has_task tasks t = list_any (nat_eq t) tasks
 
 -- the least task of which none reported its commit
 abbrev pub least_missing : ℕ → List ℕ → Option ℕ

@@ -1,5 +1,6 @@
 -- What a job is, and what an attempt of it knows.
-use Rattle.std.specs.Prelude.{ℕ, List, Option}
+use Rattle.std.specs.Prelude.{ℕ, nat_eq, Bool, List, Option}
+use Rattle.std.specs.List.{list_any}
 use Rattle.path_keys.specs.Paths.{Path}
 use Rattle.job_model.specs.Files.{File}
 use Rattle.job_model.specs.Known.{Known}
@@ -26,3 +27,7 @@ pub record Task : Type 0 where
   pub block : ℕ
   pub minimum : ℕ
   pub known : Known
+
+-- a task is one of these
+abbrev pub has_task : List ℕ → ℕ → Bool
+has_task tasks t = list_any (nat_eq t) tasks

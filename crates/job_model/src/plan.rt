@@ -1,6 +1,7 @@
 ghost use Rattle.std.specs.Prelude.{◌≡◌, [], OnOk, OnErr};
 ghost use Rattle.std.specs.Ordering.{nat_cmp};
 ghost use Rattle.std.specs.BTreeSet.{insert_key};
+ghost use Rattle.job_model.specs.Jobs.{has_task};
 
 use crate::files::FileList;
 use crate::known::Knowledge;
@@ -87,6 +88,13 @@ impl TaskSet {
         TaskSet {
             held: BTreeSet::new(alloc),
         }
+    }
+
+    /// Whether a task is there. Takes no memory.
+    pub fn has(&self, task: u32) -> bool
+        ensures { result ≡ has_task self.now task }
+    {
+        self.held.contains(&task)
     }
 
     /// Adds a task, or changes nothing where it is there. After an error the set is as before.

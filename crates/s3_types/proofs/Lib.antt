@@ -1,3 +1,4 @@
 pub mod Begins
+pub mod Blocks
 pub mod Spans
 pub mod Utf8

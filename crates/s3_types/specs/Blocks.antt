@@ -12,7 +12,7 @@ abbrev pub greater : ℕ → ℕ → ℕ
 greater a b = cond (nat_lt a b) b a
 
 -- the size in bytes of the parts of a file: the largest of the block, the store's minimum, 1, and what makes 10,000 parts of it
-abbrev pub block_of : ℕ → ℕ → ℕ → ℕ
+unfoldable pub block_of : ℕ → ℕ → ℕ → ℕ
 block_of len block minimum = greater (greater block minimum) (greater 1 (quotient_up len MOST_PARTS))
 
 -- n blocks, the last one with what is left
@@ -21,7 +21,7 @@ blocks zero size bytes = []
 blocks (suc n) size bytes = take size bytes ∷ blocks n size (drop size bytes)
 
 -- the parts of a file's bytes; an empty file has one empty part
-abbrev pub parts_of : ℕ → List ℕ → List (List ℕ)
+unfoldable pub parts_of : ℕ → List ℕ → List (List ℕ)
 parts_of size bytes = blocks (greater 1 (quotient_up (length bytes) size)) size bytes
 
 -- the tags as a completion names them, numbered from n on

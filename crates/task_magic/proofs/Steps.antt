@@ -28,7 +28,7 @@ use Rattle.job_operations.specs.Writes.{Write}
 use Rattle.task_magic.specs.declared.stage.WriteStage.{WriteStage}
 use Rattle.task_magic.specs.declared.stage.WriteStage.TheVariants as stage
 use Rattle.task_magic.specs.Writing.{at_parts, at_stage, seen_write, is_new, HasSent, HoldsAt, Holds, IsWrite, dir_of, IsBehind, next_stage, with_drawn, FitsCreate, FitsPart, write_fits, upload_in, tag_in, ended_by, part_behind, size_of, parts_in, asks_behind}
-use Rattle.task_magic.proofs.Cut.{drop-blocks, length-parts, some_parts, few_parts, sum_parts}
+use Rattle.s3_types.proofs.Blocks.{drop-parts, some_size, some_parts, few_parts, sum_parts}
 use Rattle.task_magic.proofs.Told.{seen_at, front_is, none_left, created, part_gone, part_sent, with_tag, has_more, take_next, marked, recorded}
 
 -- ---- where nothing is to be shown
@@ -75,9 +75,7 @@ first_tags [] parts h = absurd h
 first_tags (d ∷ ds) parts h = h.1
 
 pub first_part : (t : Task) (f : File) (n : ℕ) → n < length (parts_in t f) → drop n (parts_in t f) ≡ part_behind t f.1 n ∷ drop (n + 1) (parts_in t f)
-first_part t f n h =
-    let few : n < length (parts_in t f) = h in
-    drop-blocks _ (size_of t f.1) f.1 n (subst (λ m. n < m) (length-parts (size_of t f.1) f.1) few)
+first_part t f n h = drop-parts (size_of t f.1) f.1 n h
 
 pub asks_part : (t : Task) (f : File) (fs : List File) (n : ℕ) → n < length (parts_in t f) → HasSent t.known.drawn (take n (parts_in t f)) → Some (asks_behind t f (stage.Sending n)) ≡ write_wants (seen_at t (f ∷ fs) (stage.Sending n))
 asks_part t f fs n h g =
@@ -115,7 +113,7 @@ pub begun_kept : (t : Task) (dir : Path) (place : ℕ) (f : File) (id : ℕ) →
 begun_kept t dir place f id e d n =
     let t' = with_known t (with_drawn t.known (file_key (task_script t) f) id) in
     let fs = drop (place + 1) t.files in
-    let some : 0 < length (parts_in t f) = some_parts (task_script t) t.minimum f in
+    let some : 0 < length (parts_in t f) = some_parts (size_of t f.1) f.1 in
     let sent : HasSent t'.known.drawn (take 0 (parts_in t f)) = (n, refl, refl, refl) in
     let asks : Some (asks_behind t' f (stage.Sending 0)) ≡ write_wants (seen_at t' (f ∷ fs) (stage.Sending 0)) = asks_part t' f fs 0 some sent in
     record {
@@ -290,8 +288,8 @@ first_is (x ∷ ds) d e parts h = let same : x ≡ d = cc in (same, subst (λ (y
 pub record_tags : (t : Task) (f : File) (d : Drawn) → Some d ≡ slice_get t.known.drawn 0 → HasSent t.known.drawn (parts_in t f) → are_tags d.tags ≡ true
 record_tags t f d e h =
     let k = (first_is t.known.drawn d e (parts_in t f) h).1 in
-    let some = some_parts (task_script t) t.minimum f in
-    let few = few_parts (task_script t) t.minimum f in
+    let some = some_parts (size_of t f.1) f.1 in
+    let few = few_parts t.block t.minimum f.1 in
     let low : nat_le 1 (length d.tags) ≡ true = at_most_so 1 (length d.tags) (omega (arith, k.0, some)) in
     let high : nat_le (length d.tags) 10000 ≡ true = at_most_so (length d.tags) 10000 (omega (arith, k.0, few)) in
     rw (low, high, k.2) refl
@@ -307,7 +305,7 @@ pub record_sizes : (t : Task) (f : File) (d : Drawn) → Some d ≡ slice_get t.
 record_sizes t f d e h =
     let k = (first_is t.known.drawn d e (parts_in t f) h).1 in
     let count : (length d.sizes == length d.tags) ≡ true = same_number (length d.sizes) (length d.tags) (ap length k.1 ∙ (length_map (parts_in t f) ∙ sym k.0)) in
-    let all : (sum d.sizes == length f.1) ≡ true = same_number (sum d.sizes) (length f.1) (ap sum k.1 ∙ sum_parts (task_script t) t.minimum f) in
+    let all : (sum d.sizes == length f.1) ≡ true = same_number (sum d.sizes) (length f.1) (ap sum k.1 ∙ sum_parts (size_of t f.1) f.1 (some_size (length f.1) t.block t.minimum)) in
     rw (count, all) refl
 
 pub record_last : (t : Task) (f : File) (d : Drawn) → Some d ≡ slice_get t.known.drawn 0 → HasSent t.known.drawn (parts_in t f) → d ≡ drawn_last t.known

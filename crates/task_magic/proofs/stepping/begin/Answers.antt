@@ -1,14 +1,13 @@
 use Rattle.job_model.specs.Known.{Known}
 use Rattle.job_model.specs.contracts.plan.TaskPlan.{the_view}
-use Rattle.job_operations.specs.AtWork.{task_script}
-use Rattle.task_magic.specs.Writing.{with_drawn}
-use Rattle.task_magic.proofs.Cut.{some_parts}
+use Rattle.task_magic.specs.Writing.{with_drawn, size_of}
+use Rattle.s3_types.proofs.Blocks.{some_parts}
 use Rattle.task_magic.proofs.Steps.{known_of, begun_told_by, begun_kept_by}
 use Rattle.task_magic.proofs.stepping.begin.Goals as goal
 use Rattle.task_magic.proofs.stepping.begin.Goals.{in-Ok, in-Err}
 
 pub ask_part-requires-clause-within : goal.ask_part-requires-clause-within
-ask_part-requires-clause-within c = some_parts (task_script c.args.plan.now) c.args.plan.now.minimum (c.in-Some.path.now, c.in-Some.bytes.now)
+ask_part-requires-clause-within c = some_parts (size_of c.args.plan.now c.in-Some.bytes.now) c.in-Some.bytes.now
 
 pub returns-clause-told : goal.returns-clause-told
 returns-clause-told c = elim c.match-draw.branch [
