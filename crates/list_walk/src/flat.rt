@@ -1,19 +1,12 @@
-ghost use Rattle.std.specs.Prelude.{◌≡◌, ◌++◌, ◌<◌, ◌≤◌, [], false, length, IfOk, OnOk, IsErrOf};
-ghost use Rattle.s3_types.specs.Store.{Scene};
-ghost use Rattle.operations.specs.declared.operation.Stage.TheVariants.{On};
-ghost use Rattle.operations.specs.Performed.{Performed};
-ghost use Rattle.list_walk.specs.Appends.{Appends};
-ghost use Rattle.list_walk.specs.Walks.{start, found_in, ReadyWalk, IsStill};
+ghost use Rattle.std.specs.Prelude.{◌≡◌, ◌++◌, [], IfOk, OnOk};
+ghost use Rattle.list_walk.specs.Walks.{found_in};
 ghost use Rattle.list_walk.specs.Kinds.{ask_keys, read_keys, after_keys, keys_from, keys_in};
 ghost use Rattle.list_walk.specs.PageLaws.{keys_listing};
 
-use crate::listing::{Listing, list};
-use crate::walk::{Kind, PageEnd, Walk};
-use machine::DriveStop;
-use s3_types::{
-    Actor, Bucket, Journal, Key, KeyList, ObjectStore, PageEntry, PageLimit, Refusal, Reply,
-    Request, Text,
-};
+use crate::listing::Listing;
+use crate::page::page_in;
+use crate::walk::{Kind, PageEnd};
+use s3_types::{Bucket, Key, KeyList, PageEntry, PageLimit, Reply, Request, Text};
 use std::alloc::{AllocError, Global};
 
 /// All keys of a bucket that begin with a prefix, in the order of their bytes.
@@ -72,13 +65,8 @@ impl Kind for Keys {
         mark: Text,
         reply: &Reply,
     ) -> Result<(Text, PageEnd), AllocError> {
-        let Reply::Page { entries, more } = reply else {
-            return Ok((mark, PageEnd::without_page(reply)));
-        };
-        Ok((
-            add_keys(found, mark, entries.as_slice())?,
-            PageEnd::of(*more),
-        ))
+        let (entries, end) = page_in(reply);
+        Ok((add_keys(found, mark, entries)?, end))
     }
 }
 

@@ -4,6 +4,7 @@
 mod flat;
 mod folder;
 mod listing;
+mod page;
 mod uploads;
 mod walk;
 mod walk_end;

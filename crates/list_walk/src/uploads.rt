@@ -1,19 +1,11 @@
-ghost use Rattle.std.specs.Prelude.{◌≡◌, ◌++◌, ◌<◌, ◌≤◌, false, length, IfOk, OnOk, IsErrOf, None};
-ghost use Rattle.s3_types.specs.Store.{Scene};
-ghost use Rattle.operations.specs.declared.operation.Stage.TheVariants.{On};
-ghost use Rattle.operations.specs.Performed.{Performed};
-ghost use Rattle.list_walk.specs.Appends.{Appends};
-ghost use Rattle.list_walk.specs.Walks.{start, found_in, ReadyWalk, IsStill};
+ghost use Rattle.std.specs.Prelude.{◌≡◌, ◌++◌, IfOk, OnOk, None};
+ghost use Rattle.list_walk.specs.Walks.{found_in};
 ghost use Rattle.list_walk.specs.Kinds.{ask_uploads, read_uploads, after_uploads, uploads_from};
 ghost use Rattle.list_walk.specs.PageLaws.{uploads_listing};
 
-use crate::listing::{Listing, list};
-use crate::walk::{Kind, PageEnd, Walk};
-use machine::DriveStop;
-use s3_types::{
-    Actor, Bucket, Journal, ObjectStore, PageLimit, Refusal, Reply, Request, Text, UploadList,
-    UploadRef,
-};
+use crate::listing::Listing;
+use crate::walk::{Kind, PageEnd};
+use s3_types::{Bucket, PageLimit, Reply, Request, Text, UploadList, UploadRef};
 use std::alloc::{AllocError, Global};
 
 /// The live uploads of a bucket whose keys begin with a prefix, by key and then by id.
