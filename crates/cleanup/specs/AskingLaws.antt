@@ -1,4 +1,4 @@
--- A clean is a machine.
+-- How a clean stands.
 use Rattle.std.specs.Prelude.{◌≡◌, ℕ, List, [], ◌∷◌, Option, Some, None}
 use Rattle.std.proofs.Common.{refl}
 use Rattle.s3_types.specs.declared.request.Committer.{Committer}
@@ -7,14 +7,13 @@ use Rattle.s3_types.specs.declared.request.Request.{Request}
 use Rattle.s3_types.specs.declared.request.UploadRef.{UploadRef}
 use Rattle.s3_types.specs.declared.reply.Reply.{Reply}
 use Rattle.s3_types.specs.declared.reply.Reply.TheVariants.{ClusterNames}
-use Rattle.machine.specs.Laws.{Laws}
+use Rattle.asking.specs.Asks.{AskLaws}
 use Rattle.machine.specs.Standing.{Fine}
 use Rattle.job_model.specs.Jobs.{Job}
 use Rattle.job_operations.specs.AtWork.{job_script, clean_wants, clean_told}
 use Rattle.job_operations.specs.Walks.{Walked, More, Whole, Sweep, walked_uploads, sweep_hears, all_go}
 use Rattle.job_operations.specs.Cleanups.{Clean, Walking, Aborting, Sweeping, Naming, Removing, CleanOver, clean_asks, clean_hears, aborted, aborting, walking, sweeping, removing, naming}
-use Rattle.cleanup.specs.Fits.{FitsDriving, never, standing, standing_of}
-use Rattle.cleanup.specs.Left.{clean_left}
+use Rattle.cleanup.specs.Fits.{FitsDriving, standing, standing_of}
 
 fine_aborted : (c : Committer) → standing_of (aborted c) ≡ Fine
 fine_aborted Magic = refl
@@ -49,16 +48,8 @@ goes_on j Naming r a e = fine_naming a
 goes_on j (Removing p ps) r a e = fine_removing ps
 goes_on j (CleanOver end) r a e = refl
 
-pub clean_laws : Laws clean_wants clean_told FitsDriving never clean_left standing
+pub clean_laws : AskLaws clean_wants clean_told FitsDriving standing
 clean_laws = record {
-  fit = λ m s r b e h. absurd h;
-  lost = λ m s b h. h;
-  hidden = λ m s r b e h. h;
-  took = λ m s r b e h. absurd h;
-  gave_up = λ m s r b e h. absurd h;
-  falls = λ m s r b e h. absurd h;
-  falls_worn = λ m s r b e h. absurd h;
-  no_rise = λ m s r b e h. absurd h;
   stops = λ m. refl;
   breaks = λ m. refl;
   faults = λ m r e. refl;

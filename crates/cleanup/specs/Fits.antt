@@ -1,6 +1,5 @@
 -- The replies that fit a clean, and how it stands.
 use Rattle.std.specs.Prelude.{Bool}
-use Rattle.s3_types.specs.Store.{Scene}
 use Rattle.s3_types.specs.declared.reply.Reply.{Reply}
 use Rattle.job_model.specs.declared.ends.CleanEnd.{CleanEnd}
 use Rattle.job_model.specs.declared.ends.CleanEnd.TheVariants.{Done, StoreFault, NoMemory}
@@ -20,10 +19,6 @@ FitsClean (CleanOver end) r = Unit {0}
 
 abbrev pub FitsDriving : Driving Clean → Reply → Bool → Type 0
 FitsDriving m r repeated = FitsClean m.operation r
-
--- a clean goes on among others, and promises nothing of a scene
-abbrev pub never : Driving Clean → Scene → Bool → Type 0
-never m s repeated = ⊥
 
 abbrev pub standing_at : CleanEnd → Standing
 standing_at Done = Fine

@@ -2,4 +2,4 @@ pub mod Held
 pub mod Fits
 pub mod Left
 pub mod Laws
-pub mod MachineLaws
+pub mod AskingLaws

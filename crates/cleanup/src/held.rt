@@ -5,11 +5,11 @@ ghost use Rattle.job_operations.specs.Cleanups.{clean_start, clean_asks, clean_h
 ghost use Rattle.cleanup.specs.Held.{clean_of, within_of, behind, stage_after, abort_stage, remove_stage};
 ghost use Rattle.cleanup.specs.Fits.{FitsClean};
 
-use crate::requests::{abort_request, names_request, remove_request, sweep_request, walk_request};
+use crate::requests::{abort_request, names_request, remove_request, walk_request};
 use job_model::{CleanEnd, JobPlan};
 use s3_types::{Committer, Reply, Request, Sequence, Text, TextList, put};
 use std::alloc::{AllocError, Global};
-use sweep::{AllKeys, Sweep, UploadWalk};
+use sweep::{AllKeys, Sweep, UploadWalk, sweep_request};
 
 /// Where a clean stands.
 #[derive(Clone, Copy, Debug)]
@@ -148,7 +148,7 @@ impl Held {
         requires stage { self.old.stage ≡ Stage.Walking }
         requires fits { FitsClean (clean_of self.old) reply.now }
         ensures goes { OnOk result (clean_of self.new ≡ walking committer (walked_uploads self.old.uploads reply.now)) }
-        ensures within { OnOk result (within_of self.new ≡ true) }
+        ensures within { within_of self.new ≡ true }
     {
         if self.uploads.hear(reply)? {
             return Ok(());
@@ -161,7 +161,7 @@ impl Held {
         requires stage { self.old.stage ≡ Stage.Sweeping }
         requires fits { FitsClean (clean_of self.old) reply.now }
         ensures goes { OnOk result (clean_of self.new ≡ sweeping (sweep_hears all_go self.old.sweep reply.now)) }
-        ensures within { OnOk result (within_of self.new ≡ true) }
+        ensures within { within_of self.new ≡ true }
     {
         if self.sweep.hear(alloc, &AllKeys, reply)? {
             return Ok(());
@@ -173,7 +173,7 @@ impl Held {
     fn hear_names(&mut self, alloc: Global, reply: &Reply) -> Result<(), AllocError>
         requires { self.old.stage ≡ Stage.Naming }
         ensures goes { OnOk result (clean_of self.new ≡ naming reply.now) }
-        ensures within { OnOk result (within_of self.new ≡ true) }
+        ensures within { within_of self.new ≡ true }
     {
         let Reply::ClusterNames(paths) = reply else {
             return Ok(());
@@ -189,7 +189,7 @@ impl Held {
         requires there { within_of self.old ≡ true }
         requires fits { FitsClean (clean_of self.old) reply.now }
         ensures goes { OnOk result (clean_of self.new ≡ clean_hears (job_script plan.now) (clean_of self.old) reply.now) }
-        ensures within { OnOk result (within_of self.new ≡ true) }
+        ensures within { within_of self.new ≡ true }
     {
         match self.stage {
             Stage::Walking => self.hear_uploads(alloc, plan.committer, reply),

@@ -1,23 +1,14 @@
 ghost use Rattle.std.specs.Prelude.{◌≡◌, ◌++◌, drop, codes, IfOk, Some};
 ghost use Rattle.s3_types.specs.declared.request.Request.TheVariants.{ClusterList};
 ghost use Rattle.magic_paths.specs.Layout as layout;
-ghost use Rattle.job_operations.specs.Walks.{uploads_after, sweep_asks};
+ghost use Rattle.job_operations.specs.Walks.{uploads_after};
 ghost use Rattle.cleanup.specs.Held.{abort_asks, remove_asks};
 
-use job_model::JobPlan;
-use magic_paths::{cluster_prefix, magic_prefix};
+use magic_paths::cluster_prefix;
 use path_keys::S3Path;
 use s3_types::{Bucket, Request, Text, UploadRef};
 use std::alloc::{AllocError, Global};
-use sweep::{Sweep, UploadWalk};
-
-/// What the keys below a destination begin with: its key and a `/`.
-fn dest_prefix(alloc: Global, dest: &S3Path) -> Result<Text, AllocError>
-    ensures { IfOk result (λ prefix. prefix ≡ dest.now.key ++ codes "/") }
-{
-    let key = dest.key().as_str();
-    Text::new(alloc, format!(in alloc; "{key}/")?)
-}
+use sweep::{UploadWalk, dest_prefix};
 
 /// The request for the next page of live uploads below a destination.
 pub fn walk_request(
@@ -46,22 +37,6 @@ pub fn abort_request(
         return Ok(None);
     };
     match Request::abort_upload(bucket, &upload.key, upload.upload) {
-        Ok(request) => Ok(Some(request)),
-        Err(error) => Err(error),
-    }
-}
-
-/// The next request of the sweep of a job's magic directory.
-pub fn sweep_request(
-    alloc: Global,
-    dest: &S3Path,
-    job: &Text,
-    sweep: &Sweep,
-) -> Result<Option<Request>, AllocError>
-    ensures { IfOk result (λ request. request ≡ Some (sweep_asks dest.now.bucket (layout.magic_prefix dest.now.key job.now) sweep.now)) }
-{
-    let prefix = magic_prefix(alloc, dest, job)?;
-    match sweep.request(alloc, dest.bucket(), &prefix) {
         Ok(request) => Ok(Some(request)),
         Err(error) => Err(error),
     }

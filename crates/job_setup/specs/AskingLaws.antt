@@ -1,4 +1,4 @@
--- A set-up is a machine.
+-- How a set-up stands.
 use Rattle.std.specs.Prelude.{◌≡◌, ℕ, Bool, true, false, cond, List, [], Option, Some, None}
 use Rattle.std.proofs.Common.{refl}
 use Rattle.s3_types.specs.declared.request.Committer.{Committer}
@@ -7,7 +7,7 @@ use Rattle.s3_types.specs.declared.request.Request.{Request}
 use Rattle.s3_types.specs.declared.reply.Reply.{Reply}
 use Rattle.s3_types.specs.declared.reply.Reply.TheVariants.{Head, Page, Refused}
 use Rattle.s3_types.specs.declared.reply.Refusal.TheVariants.{NoSuchBucket}
-use Rattle.machine.specs.Laws.{Laws}
+use Rattle.asking.specs.Asks.{AskLaws}
 use Rattle.machine.specs.Standing.{Fine}
 use Rattle.job_model.specs.Jobs.{Job}
 use Rattle.job_model.specs.JobScript.{Script}
@@ -15,8 +15,7 @@ use Rattle.job_operations.specs.AtWork.{job_script, setup_wants, setup_told}
 use Rattle.job_operations.specs.Conflicts.{checks_all}
 use Rattle.job_operations.specs.Walks.{Walked, More, Whole, keys_on, walked, Sweep, sweep_hears, all_go}
 use Rattle.job_operations.specs.Setup.{Setup, Heading, Checking, Clearing, Sweeping, SetupOver, setup_asks, setup_hears, headed, first_shown, checked_on, checked_by, checked, cleared, sweeping}
-use Rattle.job_setup.specs.Fits.{FitsDriving, never, standing, standing_of}
-use Rattle.job_setup.specs.Left.{setup_left}
+use Rattle.job_setup.specs.Fits.{FitsDriving, standing, standing_of}
 
 fine_nothing : (b : Bool) → standing_of (cond b (Checking []) Clearing) ≡ Fine
 fine_nothing true = refl
@@ -55,16 +54,8 @@ goes_on j Clearing r a e = fine_cleared j.committer
 goes_on j (Sweeping s) r a e = fine_sweeping (sweep_hears all_go s a)
 goes_on j (SetupOver end) r a e = refl
 
-pub setup_laws : Laws setup_wants setup_told FitsDriving never setup_left standing
+pub setup_laws : AskLaws setup_wants setup_told FitsDriving standing
 setup_laws = record {
-  fit = λ m s r b e h. absurd h;
-  lost = λ m s b h. h;
-  hidden = λ m s r b e h. h;
-  took = λ m s r b e h. absurd h;
-  gave_up = λ m s r b e h. absurd h;
-  falls = λ m s r b e h. absurd h;
-  falls_worn = λ m s r b e h. absurd h;
-  no_rise = λ m s r b e h. absurd h;
   stops = λ m. refl;
   breaks = λ m. refl;
   faults = λ m r e. refl;

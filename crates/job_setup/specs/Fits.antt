@@ -1,6 +1,5 @@
 -- The replies that fit a set-up, and how it stands.
 use Rattle.std.specs.Prelude.{Bool}
-use Rattle.s3_types.specs.Store.{Scene}
 use Rattle.s3_types.specs.declared.reply.Reply.{Reply}
 use Rattle.job_model.specs.declared.ends.SetupEnd.{SetupEnd}
 use Rattle.job_model.specs.declared.ends.SetupEnd.TheVariants.{StoreFault, NoMemory}
@@ -19,10 +18,6 @@ FitsSetup (SetupOver end) r = Unit {0}
 
 abbrev pub FitsDriving : Driving Setup → Reply → Bool → Type 0
 FitsDriving m r repeated = FitsSetup m.operation r
-
--- a set-up goes on among others, and promises nothing of a scene
-abbrev pub never : Driving Setup → Scene → Bool → Type 0
-never m s repeated = ⊥
 
 abbrev pub standing_at : SetupEnd → Standing
 standing_at StoreFault = Faulted

@@ -7,11 +7,11 @@ ghost use Rattle.job_setup.specs.Held.{setup_of, found_nothing, refused};
 ghost use Rattle.job_setup.specs.Fits.{FitsSetup};
 
 use crate::files::first_shown;
-use crate::requests::{clear_request, dest_prefix, head_request, page_request, sweep_request};
+use crate::requests::{clear_request, head_request, page_request};
 use job_model::{JobPlan, SetupEnd};
 use s3_types::{Committer, Mode, Refusal, Reply, Request, put};
 use std::alloc::{AllocError, Global};
-use sweep::{AllKeys, KeyWalk, Sweep};
+use sweep::{AllKeys, KeyWalk, Sweep, dest_prefix, sweep_request};
 
 /// Where a set-up stands.
 #[derive(Clone, Copy, Debug)]

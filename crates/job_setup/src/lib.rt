@@ -9,4 +9,4 @@ mod requests;
 mod setting;
 
 pub use laws::set_ups_end;
-pub use setting::SetupJob;
+pub use setting::{SettingUp, SetupJob};

@@ -2,21 +2,13 @@ ghost use Rattle.std.specs.Prelude.{◌≡◌, ◌≤◌, ◌++◌, length, code
 ghost use Rattle.s3_types.specs.Names.{is_key_path};
 ghost use Rattle.s3_types.specs.declared.request.Request.TheVariants.{HeadObject, DeleteObject};
 ghost use Rattle.magic_paths.specs.Layout as layout;
-ghost use Rattle.job_operations.specs.Walks.{page_after, sweep_asks};
+ghost use Rattle.job_operations.specs.Walks.{page_after};
 
-use magic_paths::{magic_prefix, success_key};
+use magic_paths::success_key;
 use path_keys::S3Path;
-use s3_types::{Key, Request, Text};
+use s3_types::{Key, Request};
 use std::alloc::{AllocError, Global};
-use sweep::{KeyWalk, Sweep};
-
-/// What the keys below a destination begin with: its key and a `/`.
-pub fn dest_prefix(alloc: Global, dest: &S3Path) -> Result<Text, AllocError>
-    ensures { IfOk result (λ prefix. prefix ≡ dest.now.key ++ codes "/") }
-{
-    let key = dest.key().as_str();
-    Text::new(alloc, format!(in alloc; "{key}/")?)
-}
+use sweep::{KeyWalk, dest_prefix};
 
 /// The request for the head of the object at a destination's own key, which has 1 to 400 bytes.
 pub fn head_request(dest: &S3Path) -> Result<Option<Request>, AllocError>
@@ -55,22 +47,6 @@ pub fn clear_request(alloc: Global, dest: &S3Path) -> Result<Option<Request>, Al
 {
     let key = success_key(alloc, dest)?;
     match Request::delete_object(dest.bucket(), &key) {
-        Ok(request) => Ok(Some(request)),
-        Err(error) => Err(error),
-    }
-}
-
-/// The next request of the sweep of a job's magic directory.
-pub fn sweep_request(
-    alloc: Global,
-    dest: &S3Path,
-    job: &Text,
-    sweep: &Sweep,
-) -> Result<Option<Request>, AllocError>
-    ensures { IfOk result (λ request. request ≡ Some (sweep_asks dest.now.bucket (layout.magic_prefix dest.now.key job.now) sweep.now)) }
-{
-    let prefix = magic_prefix(alloc, dest, job)?;
-    match sweep.request(alloc, dest.bucket(), &prefix) {
         Ok(request) => Ok(Some(request)),
         Err(error) => Err(error),
     }

@@ -1,134 +1,59 @@
-ghost use Rattle.std.specs.Prelude.{◌≡◌, IfOk, OnOk, OnErr, Ok};
-ghost use Rattle.std.specs.Option.{option_copied};
-ghost use Rattle.job_operations.specs.AtWork.{job_script, setup_wants, setup_told};
-ghost use Rattle.job_operations.specs.Setup.{SetupOver, setup_start, setup_asks, setup_over};
-ghost use Rattle.job_setup.specs.Held.{setup_of};
-ghost use Rattle.job_setup.specs.Fits.{FitsDriving, never, standing};
+ghost use Rattle.std.specs.Prelude.{⊤};
+ghost use Rattle.job_operations.specs.AtWork.{setup_wants, setup_told};
+ghost use Rattle.job_operations.specs.Setup.{setup_start, setup_over};
+ghost use Rattle.job_setup.specs.Fits.{FitsDriving, standing};
 ghost use Rattle.job_setup.specs.Left.{setup_left};
-ghost use Rattle.job_setup.specs.MachineLaws.{setup_laws};
+ghost use Rattle.job_setup.specs.AskingLaws.{setup_laws};
 
 use crate::held::{Held, Stage};
+use asking::{Asking, Asks, NextRequest};
 use job_model::{JobPlan, SetupEnd};
-use machine::Machine;
-use s3_types::{Reply, Request, let_go, put};
+use s3_types::{Reply, Request, let_go};
 use std::alloc::{AllocError, Global};
 use std::marker::Model;
 
-/// A set-up of a job. It looks at the destination's own key; for the directory committer with the mode `fail` it
-/// looks for a file of the destination; it deletes the marker of an earlier job; and for the magic
-/// committer it empties the job's magic directory. (Hadoop, S3A committers: job setup.)
+/// A set-up of a job, with the job's plan. It looks at the destination's own key; for the directory committer with
+/// the mode `fail` it looks for a file of the destination; it deletes the marker of an earlier job; and for
+/// the magic committer it empties the job's magic directory. (Hadoop, S3A committers: job setup.)
 #[derive(Drop)]
-pub struct SetupJob {
+pub struct SettingUp {
     plan: JobPlan,
-    alloc: Global,
     held: Held,
-    asked: Option<Request>,
 }
 
-impl Model for SetupJob {
-    ghost use Rattle.std.specs.Prelude.{◌≡◌};
-    ghost use Rattle.job_operations.specs.AtWork.{Driving, setup_wants};
+impl Model for SettingUp {
+    ghost use Rattle.job_operations.specs.AtWork.{Driving};
     ghost use Rattle.job_operations.specs.Setup.{Setup};
     ghost use Rattle.job_setup.specs.Held.{setup_of};
 
     ghost Value = { Driving Setup };
 
-    ghost view = { λ c. record { plan = c.plan; operation = setup_of c.held } };
-
-    ghost invariant = { λ c. c.asked ≡ setup_wants (record { plan = c.plan; operation = setup_of c.held }) };
+    ghost view = { λ s. record { plan = s.plan; operation = setup_of s.held } };
 }
 
-/// Asks what is asked now. Where memory is or was wanting, nothing more is asked.
-fn settle(
-    alloc: Global,
-    plan: &JobPlan,
-    held: &mut Held,
-    asked: &mut Option<Request>,
-    heard: Result<(), AllocError>,
-) -> Result<(), AllocError>
-    ensures asked { asked.new ≡ setup_asks (job_script plan.now) (setup_of held.new) }
-    ensures heard { OnOk result (heard ≡ Ok tt) }
-    ensures same { OnOk result (held.new ≡ held.old) }
-    ensures err { OnErr result (setup_of held.new ≡ SetupOver SetupEnd.NoMemory) }
-{
-    if let Err(error) = heard {
-        held.finish(SetupEnd::NoMemory);
-        put(asked, None);
-        return Err(error);
-    }
-    match held.request(alloc, plan) {
-        Ok(request) => {
-            put(asked, request);
-            Ok(())
-        }
-        Err(error) => {
-            held.finish(SetupEnd::NoMemory);
-            put(asked, None);
-            Err(error)
-        }
-    }
-}
+/// A set-up of a job. Its end is DestIsFile exactly where an object stands at the destination's own key,
+/// NoSuchBucket where the bucket is not there, Conflict with the first path on a page at which a reader is
+/// shown a file, and StoreFault exactly where a request wore out.
+pub type SetupJob = Asking<SettingUp>;
 
-impl SetupJob {
-    /// A set-up of which nothing was sent yet.
-    pub fn new(alloc: Global, plan: JobPlan) -> Result<SetupJob, AllocError>
-        ensures { IfOk result (λ setup. setup ≡ record { plan = plan; operation = setup_start }) }
-    {
-        let held = Held::new(alloc);
-        match held.request(alloc, &plan) {
-            Ok(asked) => Ok(SetupJob {
-                plan,
-                alloc,
-                held,
-                asked,
-            }),
-            Err(error) => Err(error),
-        }
-    }
+impl Asks for SettingUp {
+    type Plan = JobPlan;
 
-    /// The job's plan. Takes no memory.
-    pub fn plan(&self) -> &JobPlan
-        ensures { result.now ≡ self.now.plan }
-    {
-        &self.plan
-    }
+    type End = SetupEnd;
 
-    /// Gives the job's plan back. Takes no memory.
-    pub fn into_plan(self) -> JobPlan
-        ensures { result ≡ self.plan }
-    {
-        let SetupJob {
-            plan,
-            alloc: _,
-            held,
-            asked,
-        } = self;
-        let_go(held);
-        let_go(asked);
-        plan
-    }
+    ghost goes_by = { λ _. ⊤ };
 
-    /// How it ended, or None while a request is asked. DestIsFile comes exactly where an object stands at the
-    /// destination's own key, NoSuchBucket where the bucket is not there, Conflict with the first path on a page at
-    /// which a reader is shown a file, and StoreFault exactly where a request wore out. Takes no memory.
-    pub fn end(&self) -> Option<&SetupEnd>
-        ensures { option_copied result ≡ setup_over self.now.operation }
-    {
-        match self.held.stage {
-            Stage::Over => Some(&self.held.end),
-            _ => None,
-        }
-    }
-}
+    ghost begun = { λ plan. record { plan = plan; operation = setup_start } };
 
-impl Machine for SetupJob {
+    ghost plan_of = { λ m. m.plan };
+
+    ghost end_of = { λ m. setup_over m.operation };
+
     ghost wants = { setup_wants };
 
     ghost after = { setup_told };
 
     ghost fits = { FitsDriving };
-
-    ghost ready = { never };
 
     ghost left = { setup_left };
 
@@ -136,24 +61,45 @@ impl Machine for SetupJob {
 
     ghost laws = { setup_laws };
 
-    fn request(&self) -> Option<&Request> {
-        self.asked.as_ref()
+    fn begin(alloc: Global, plan: JobPlan) -> Result<SettingUp, AllocError> {
+        Ok(SettingUp {
+            plan,
+            held: Held::new(alloc),
+        })
     }
 
-    fn take(&mut self, reply: &Reply, _repeated: bool) -> Result<(), AllocError> {
-        let heard = self.held.hear(self.alloc, &self.plan, reply);
-        settle(
-            self.alloc,
-            &self.plan,
-            &mut self.held,
-            &mut self.asked,
-            heard,
-        )
+    fn ask(&self, alloc: Global) -> NextRequest {
+        self.held.request(alloc, &self.plan)
     }
 
-    fn worn(&mut self) -> Result<(), AllocError> {
+    fn wear(&mut self, _alloc: Global) -> NextRequest {
         self.held.finish(SetupEnd::StoreFault);
-        put(&mut self.asked, None);
-        Ok(())
+        Ok(None)
+    }
+
+    fn hear(&mut self, alloc: Global, reply: &Reply, _repeated: bool) -> NextRequest {
+        self.held.hear(alloc, &self.plan, reply)?;
+        self.ask(alloc)
+    }
+
+    fn break_off(&mut self) {
+        self.held.finish(SetupEnd::NoMemory);
+    }
+
+    fn plan(&self) -> &JobPlan {
+        &self.plan
+    }
+
+    fn into_plan(self) -> JobPlan {
+        let SettingUp { plan, held } = self;
+        let_go(held);
+        plan
+    }
+
+    fn end(&self) -> Option<&SetupEnd> {
+        match self.held.stage {
+            Stage::Over => Some(&self.held.end),
+            _ => None,
+        }
     }
 }

@@ -2,12 +2,14 @@
 //! that are to go: plain data that operations hold, and what they have left among others that send.
 #![tactic(auto)]
 
+mod below;
 mod key_test;
 mod key_walk;
 mod laws;
 mod sweeping;
 mod upload_walk;
 
+pub use below::{dest_prefix, sweep_request};
 pub use key_test::{AllBut, AllKeys, KeyTest};
 pub use key_walk::KeyWalk;
 pub use laws::{growth, sweeps_end, upload_walks_end, walks_end};

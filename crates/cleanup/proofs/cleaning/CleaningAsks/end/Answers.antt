@@ -2,10 +2,10 @@ use Rattle.std.proofs.Common.{◌≡◌, None, sym, subst, ◌∙◌}
 use Rattle.job_operations.specs.AtWork.{Driving}
 use Rattle.job_operations.specs.Cleanups.{Clean, clean_over}
 use Rattle.cleanup.proofs.Places.{over_is, not_over}
-use Rattle.cleanup.proofs.cleaning.Cleaning.end.Goals as goal
+use Rattle.cleanup.proofs.cleaning.CleaningAsks.end.Goals as goal
 
 pub returns-in_default : goal.returns-in_default
 returns-in_default c =
     let P : Driving Clean → Type 0 = λ v. None ≡ clean_over v.operation in
     let h = c.self.inside.held in
-    subst P c.self.view_is (sym (over_is h.stage h.uploads h.sweep h.paths h.at c.self.invariant.1 ∙ not_over h.stage c.in_default.not-Over))
+    subst P c.self.view_is (sym (over_is h.stage h.uploads h.sweep h.paths h.at c.self.invariant ∙ not_over h.stage c.in_default.not-Over))
