@@ -3,8 +3,9 @@ ghost use Rattle.std.specs.Prelude.{◌≡◌, ◌+◌, ◌<◌, ◌^◌, OnOk};
 use crate::losses::{first_reply_lost, losing};
 use crate::replies::show_outcome;
 use crate::requests::request_in;
-use crate::walks::{copied, walk_folder, walk_keys, walk_uploads};
+use crate::walks::{Shown, copied, walk};
 use anyhow::Result;
+use list_walk::{Folder, Keys, Uploads};
 use s3_service::Service;
 use s3_types::{Bucket, ObjectStore, Outcome, let_go};
 use std::alloc::Global;
@@ -52,38 +53,17 @@ fn call_lossy(rt: &impl Print, alloc: Global, service: &Service) -> Result<()> {
     asked
 }
 
-fn call_list_keys(
+/// A listing of a store that loses nothing.
+fn call_list<K: Shown>(
     rt: &impl Print,
     alloc: Global,
+    kind: K,
     service: &Service,
     bucket: &Bucket,
+    prefix: &str,
 ) -> Result<()> {
     let mut store = copied(alloc, service)?;
-    let walked = walk_keys(rt, alloc, &mut store, bucket, "d/k10");
-    let_go(store);
-    walked
-}
-
-fn call_list_folder(
-    rt: &impl Print,
-    alloc: Global,
-    service: &Service,
-    bucket: &Bucket,
-) -> Result<()> {
-    let mut store = copied(alloc, service)?;
-    let walked = walk_folder(rt, alloc, &mut store, bucket);
-    let_go(store);
-    walked
-}
-
-fn call_list_uploads(
-    rt: &impl Print,
-    alloc: Global,
-    service: &Service,
-    bucket: &Bucket,
-) -> Result<()> {
-    let mut store = copied(alloc, service)?;
-    let walked = walk_uploads(rt, alloc, &mut store, bucket);
+    let walked = walk(rt, alloc, kind, &mut store, bucket, prefix);
     let_go(store);
     walked
 }
@@ -100,11 +80,11 @@ pub fn show_calls(
     print!(rt; "\nLossy:")?;
     call_lossy(rt, alloc, service)?;
     print!(rt; "\nlist_keys:")?;
-    call_list_keys(rt, alloc, service, bucket)?;
+    call_list(rt, alloc, Keys, service, bucket, "d/k10")?;
     print!(rt; "list_folder:")?;
-    call_list_folder(rt, alloc, service, bucket)?;
+    call_list(rt, alloc, Folder, service, bucket, "")?;
     print!(rt; "\nlist_uploads:")?;
-    call_list_uploads(rt, alloc, service, bucket)?;
+    call_list(rt, alloc, Uploads, service, bucket, "")?;
     println!(rt)?;
     Ok(())
 }

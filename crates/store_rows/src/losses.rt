@@ -1,8 +1,9 @@
 ghost use Rattle.std.specs.Prelude.{◌≡◌, ◌≤◌, false, IfOk};
 ghost use Rattle.s3_types.specs.Fates.{is_answer};
 
-use crate::walks::{copied, walk_keys};
+use crate::walks::{copied, walk};
 use anyhow::Result;
+use list_walk::Keys;
 use s3_service::Service;
 use s3_types::{Bucket, Fate, Fates, let_go};
 use std::alloc::Global;
@@ -38,7 +39,7 @@ pub fn walk_losing(
     fates: Fates,
 ) -> Result<()> {
     let mut store = losing(alloc, service, fates)?;
-    let walked = walk_keys(rt, alloc, &mut store, bucket, "d/");
+    let walked = walk(rt, alloc, Keys, &mut store, bucket, "d/");
     let_go(store);
     walked
 }

@@ -101,58 +101,42 @@ fn parts_in(alloc: Global, words: &str) -> Result<PartList> {
     Ok(PartList::from_vec(parts))
 }
 
-/// `NUMBER BYTES`
-fn part_request(
-    alloc: Global,
-    bucket: &Bucket,
-    key: &Key,
+/// An upload that a request names.
+#[derive(Drop)]
+struct Target {
+    bucket: Bucket,
+    key: Key,
     upload: u64,
-    words: &str,
-) -> Result<Request> {
+}
+
+/// `NUMBER BYTES`
+fn part_request(alloc: Global, to: &Target, words: &str) -> Result<Request> {
     let (number, bytes) = cut(words);
     let number = number.parse::<u32>().context("a part's number")?;
     let bytes = Bytes::from_slice(alloc, bytes.as_bytes())?;
-    Ok(Request::upload_part(bucket, key, upload, number, &bytes)?)
+    Ok(Request::upload_part(&to.bucket, &to.key, to.upload, number, &bytes)?)
 }
 
 /// `[NUMBER=BYTES ..]`
-fn complete_request(
-    alloc: Global,
-    bucket: &Bucket,
-    key: &Key,
-    upload: u64,
-    words: &str,
-) -> Result<Request> {
+fn complete_request(alloc: Global, to: &Target, words: &str) -> Result<Request> {
     let parts = parts_in(alloc, words)?;
-    Ok(Request::complete_upload(alloc, bucket, key, upload, &parts)?)
+    Ok(Request::complete_upload(alloc, &to.bucket, &to.key, to.upload, &parts)?)
 }
 
 /// What has no words behind the upload.
-fn short_request(
-    bucket: &Bucket,
-    key: &Key,
-    upload: u64,
-    verb: &str,
-) -> Result<Request, AllocError> {
+fn short_request(to: &Target, verb: &str) -> Result<Request, AllocError> {
     if verb == "parts" {
-        Request::list_parts(bucket, key, upload)
+        Request::list_parts(&to.bucket, &to.key, to.upload)
     } else {
-        Request::abort_upload(bucket, key, upload)
+        Request::abort_upload(&to.bucket, &to.key, to.upload)
     }
 }
 
-fn request_to(
-    alloc: Global,
-    bucket: &Bucket,
-    key: &Key,
-    upload: u64,
-    verb: &str,
-    words: &str,
-) -> Result<Request> {
+fn request_to(alloc: Global, to: &Target, verb: &str, words: &str) -> Result<Request> {
     match verb {
-        "part" => part_request(alloc, bucket, key, upload, words),
-        "complete" => complete_request(alloc, bucket, key, upload, words),
-        _ => Ok(short_request(bucket, key, upload, verb)?),
+        "part" => part_request(alloc, to, words),
+        "complete" => complete_request(alloc, to, words),
+        _ => Ok(short_request(to, verb)?),
     }
 }
 
@@ -160,9 +144,12 @@ fn request_to(
 fn upload_request(alloc: Global, bucket: &Bucket, verb: &str, words: &str) -> Result<Request> {
     let (key, words) = cut(words);
     let (upload, words) = cut(words);
-    let key = Key::read(alloc, key.as_bytes())?;
-    let upload = upload.parse::<u64>().context("an upload")?;
-    request_to(alloc, bucket, &key, upload, verb, words)
+    let to = Target {
+        bucket: bucket.clone()?,
+        key: Key::read(alloc, key.as_bytes())?,
+        upload: upload.parse::<u64>().context("an upload")?,
+    };
+    request_to(alloc, &to, verb, words)
 }
 
 /// `get|head|delete|create KEY`

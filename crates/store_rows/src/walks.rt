@@ -7,7 +7,7 @@ use list_walk::{Folder, Keys, Kind, Uploads, list};
 use machine::DriveStop;
 use s3_service::Service;
 use s3_types::{
-    Actor, Bucket, EntryList, Journal, KeyList, ObjectStore, Sequence, Text, UploadList, let_go,
+    Actor, Bucket, Journal, Key, KeyList, ObjectStore, PageEntry, Sequence, Text, UploadRef, let_go,
 };
 use std::alloc::{AllocError, Global};
 use store_link::MemStore;
@@ -79,19 +79,58 @@ fn show_sendings(rt: &impl Print, journal: &Journal) -> Result<()> {
     Ok(())
 }
 
-fn show_keys(
-    rt: &impl Print,
-    alloc: Global,
-    journal: &Journal,
-    found: &Result<Option<KeyList>, DriveStop>,
-) -> Result<()> {
-    show_sendings(rt, journal)?;
-    match found {
-        Ok(Some(keys)) => println!(rt; ": {} of {} keys", in_order(alloc, keys)?, keys.len())?,
-        Ok(None) => println!(rt; ": no bucket")?,
-        Err(stop) => println!(rt; ": {stop:?}")?,
+/// What a walk finds of a kind.
+type Found<E> = Result<Option<Sequence<E>>, DriveStop>;
+
+/// What is listed, and how it is shown.
+pub trait Shown: Kind {
+    fn show(
+        rt: &impl Print,
+        alloc: Global,
+        journal: &Journal,
+        found: &Found<Self::Entry>,
+    ) -> Result<()>;
+}
+
+impl Shown for Keys {
+    /// Each sending, and how many keys stand at their places.
+    fn show(rt: &impl Print, alloc: Global, journal: &Journal, found: &Found<Key>) -> Result<()> {
+        show_sendings(rt, journal)?;
+        match found {
+            Ok(Some(keys)) => println!(rt; ": {} of {} keys", in_order(alloc, keys)?, keys.len())?,
+            Ok(None) => println!(rt; ": no bucket")?,
+            Err(stop) => println!(rt; ": {stop:?}")?,
+        }
+        Ok(())
     }
-    Ok(())
+}
+
+impl Shown for Folder {
+    fn show(
+        rt: &impl Print,
+        _alloc: Global,
+        _journal: &Journal,
+        found: &Found<PageEntry>,
+    ) -> Result<()> {
+        match found {
+            Ok(Some(entries)) => show_entries(rt, entries),
+            _ => Ok(()),
+        }
+    }
+}
+
+impl Shown for Uploads {
+    fn show(
+        rt: &impl Print,
+        _alloc: Global,
+        _journal: &Journal,
+        found: &Found<UploadRef>,
+    ) -> Result<()> {
+        match found {
+            Ok(Some(uploads)) => show_uploads(rt, uploads),
+            _ => Ok(()),
+        }
+    }
 }
 
 /// What a walk of the driver finds.
@@ -102,7 +141,7 @@ fn found_by<K: Kind, S: ObjectStore>(
     prefix: Text,
     store: &mut S,
     journal: &mut Journal,
-) -> Result<Option<Sequence<K::Entry>>, DriveStop>
+) -> Found<K::Entry>
     requires { S.requests store.old ≤ length journal.old.entries }
 {
     list(
@@ -118,10 +157,11 @@ fn found_by<K: Kind, S: ObjectStore>(
     )
 }
 
-/// Walks over the keys below a prefix.
-pub fn walk_keys<S: ObjectStore>(
+/// Walks below a prefix, and shows what is found.
+pub fn walk<K: Shown, S: ObjectStore>(
     rt: &impl Print,
     alloc: Global,
+    kind: K,
     store: &mut S,
     bucket: &Bucket,
     prefix: &str,
@@ -131,58 +171,8 @@ pub fn walk_keys<S: ObjectStore>(
     let bucket = bucket.clone()?;
     let prefix = Text::copied(alloc, prefix)?;
     let mut journal = Journal::new(alloc);
-    let found = found_by(alloc, Keys, bucket, prefix, store, &mut journal);
-    let shown = show_keys(rt, alloc, &journal, &found);
-    let_go(journal);
-    let_go(found);
-    shown
-}
-
-fn show_folder(rt: &impl Print, found: &Result<Option<EntryList>, DriveStop>) -> Result<()> {
-    let Ok(Some(entries)) = found else {
-        return Ok(());
-    };
-    show_entries(rt, entries)
-}
-
-/// The folder at the top.
-pub fn walk_folder<S: ObjectStore>(
-    rt: &impl Print,
-    alloc: Global,
-    store: &mut S,
-    bucket: &Bucket,
-) -> Result<()>
-    requires { S.requests store.old ≡ 0 }
-{
-    let bucket = bucket.clone()?;
-    let mut journal = Journal::new(alloc);
-    let found = found_by(alloc, Folder, bucket, Text::empty(), store, &mut journal);
-    let shown = show_folder(rt, &found);
-    let_go(journal);
-    let_go(found);
-    shown
-}
-
-fn show_live(rt: &impl Print, found: &Result<Option<UploadList>, DriveStop>) -> Result<()> {
-    let Ok(Some(uploads)) = found else {
-        return Ok(());
-    };
-    show_uploads(rt, uploads)
-}
-
-/// All live uploads.
-pub fn walk_uploads<S: ObjectStore>(
-    rt: &impl Print,
-    alloc: Global,
-    store: &mut S,
-    bucket: &Bucket,
-) -> Result<()>
-    requires { S.requests store.old ≡ 0 }
-{
-    let bucket = bucket.clone()?;
-    let mut journal = Journal::new(alloc);
-    let found = found_by(alloc, Uploads, bucket, Text::empty(), store, &mut journal);
-    let shown = show_live(rt, &found);
+    let found = found_by(alloc, kind, bucket, prefix, store, &mut journal);
+    let shown = K::show(rt, alloc, &journal, &found);
     let_go(journal);
     let_go(found);
     shown
