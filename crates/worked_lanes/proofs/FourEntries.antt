@@ -4,6 +4,7 @@ use Rattle.std.proofs.lemmas.Bool.Decides.{nat_tests}
 use Rattle.std.specs.Fmt.{digits}
 use Rattle.std.specs.Prelude.{nat_eq, nat_le}
 use Rattle.json.specs.Print.{escape_byte}
+use Rattle.s3_types.specs.Blocks.{block_of, parts_of}
 use Rattle.s3_types.specs.Fates.{FateMap}
 use Rattle.s3_types.specs.declared.object.Object.{Object}
 use Rattle.s3_types.specs.declared.journal.Entry.{Entry}
@@ -116,7 +117,7 @@ module _ (retries lanes : ℕ) (fates : FateMap) (events : List Event) where
   read_good k h fs g = all_quiet w (Some 4) (opens empty_book) (read_entries k) fs (is_quiet_then k) (subst (λ x. AllGood w (Some 4) [] x fs) (sym (read_seen k h)) g)
 
   pub prepared : Prepared w attempt_entries
-  unfolding digits
+  unfolding digits block_of parts_of
   prepared = record {
     setup = ((refl, (refl, (refl, tt))), refl);
     write = ((refl, (refl, (refl, (refl, (refl, (refl, (refl, (refl, (refl, (refl, (refl, (refl, (refl, (refl, (refl, (refl, tt)))))))))))))))), refl);

@@ -4,6 +4,7 @@ use Rattle.std.specs.Fmt.{digits}
 use Rattle.json.specs.Print.{escape_byte}
 use Rattle.serde_json.specs.Written.{compact_text}
 use Rattle.words.specs.Parts.{parts_from}
+use Rattle.s3_types.specs.Blocks.{block_of, parts_of}
 use Rattle.s3_types.specs.Names.{is_key_path}
 use Rattle.s3_types.specs.declared.object.Object.{Object}
 use Rattle.s3_types.specs.declared.journal.Entry.{Entry}
@@ -165,7 +166,7 @@ unfolding digits
 other_clean h = let e : Some (ListUploads lake (codes "out/") None 1000) ≡ Some (ListPage lake (magic (codes "ja")) false [] 1000) = h.0 in cc
 
 pub two_jobs : TwoJobs
-unfolding digits escape_byte
+unfolding digits escape_byte block_of parts_of
 two_jobs = record {
   sent = refl;
   honest = eyes_honest eyes steps;
@@ -269,7 +270,7 @@ other_steps : EyeSteps empty_book other_eyes
 other_steps = quiet_steps empty_book other_quiet other_later other_sound other_answered (subst (λ b. EyeSteps b other_later) (sym other_quiet_is) (walk_steps read_b other_later books other_walk))
 
 pub the_other : TheOther
-unfolding digits escape_byte
+unfolding digits escape_byte block_of parts_of
 the_other = record {
   zero_rename = eyes_rename jb refl other_eyes other_steps;
   prepared = record {

@@ -4,6 +4,7 @@ use Rattle.std.specs.Fmt.{digits}
 use Rattle.json.specs.Print.{escape_byte}
 use Rattle.serde_json.specs.Written.{compact_text}
 use Rattle.words.specs.Parts.{parts_from}
+use Rattle.s3_types.specs.Blocks.{block_of, parts_of}
 use Rattle.s3_types.specs.Moment.{moment}
 use Rattle.s3_types.specs.Names.{is_key_path, is_key}
 use Rattle.pending_json.specs.Records.{IsPending}
@@ -255,7 +256,7 @@ set_is_read = set_by 0 0 (of_file (codes "a") 1 ∷ of_file (codes "b") 2 ∷ of
 )
 
 pub four_files : FourFiles
-unfolding digits escape_byte
+unfolding digits escape_byte block_of parts_of
 four_files = record {
   sent = refl;
   event = refl;

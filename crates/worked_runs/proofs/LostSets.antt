@@ -2,6 +2,7 @@
 use Rattle.std.proofs.Common.{◌≡◌, [], ◌∷◌, Some, None, refl, subst, inl, codes}
 use Rattle.std.specs.Fmt.{digits}
 use Rattle.json.specs.Print.{escape_byte}
+use Rattle.s3_types.specs.Blocks.{block_of, parts_of}
 use Rattle.s3_types.specs.Moment.{moment}
 use Rattle.s3_types.specs.declared.fates.Fate.TheVariants.{After}
 use Rattle.job_operations.specs.View.{view, object_at}
@@ -105,7 +106,7 @@ steps = (
 )
 
 pub lost_set : LostSet
-unfolding digits escape_byte
+unfolding digits escape_byte block_of parts_of
 lost_set = record {
   sent = refl;
   event = refl;

@@ -6,6 +6,7 @@ use Rattle.std.specs.Prelude.{nat_le, nat_eq}
 use Rattle.std.proofs.lemmas.Bool.{and_parts}
 use Rattle.std.proofs.lemmas.Bool.Decides.{nat_tests}
 use Rattle.proof_base.proofs.Numbers.{at_most_is}
+use Rattle.s3_types.specs.Blocks.{block_of, parts_of}
 use Rattle.s3_types.specs.declared.request.Actor.{Actor}
 use Rattle.s3_types.specs.declared.request.Actor.TheVariants.{Driver, Attempt, Shell}
 use Rattle.s3_types.specs.declared.journal.Entry.{Entry}
@@ -32,7 +33,7 @@ use Rattle.worked_runs.proofs.OneSet.{set_is_read}
 -- ---- the operations
 
 pub goes : OneFileRuns
-unfolding digits
+unfolding digits block_of parts_of
 goes = record {
   setup = ((refl, (refl, (refl, tt))), refl);
   write = ((refl, (refl, (refl, (refl, tt)))), refl);

@@ -3,6 +3,7 @@ use Rattle.std.proofs.Common.{◌≡◌, true, [], ◌∷◌, Some, None, Ok, re
 use Rattle.std.specs.Fmt.{digits}
 use Rattle.json.specs.Print.{escape_byte}
 use Rattle.serde_json.specs.Written.{compact_text}
+use Rattle.s3_types.specs.Blocks.{block_of, parts_of}
 use Rattle.s3_types.specs.Moment.{moment}
 use Rattle.words.specs.Parts.{parts_from}
 use Rattle.s3_types.specs.Names.{is_key_path, is_key}
@@ -176,7 +177,7 @@ second_is_read : set_of (compact_text (set_tree second_set)) ≡ Ok second_set
 second_is_read = set_by 1 0 (second_upload ∷ []) (lit< tt) (lit< tt) (pending_by hello 1 0 (codes "p") 2 refl (lit< tt) (lit< tt) (lit< tt) key, tt)
 
 pub shared_path : SharedPath
-unfolding digits escape_byte
+unfolding digits escape_byte block_of parts_of
 shared_path = record {
   sent = refl;
   event = refl;

@@ -5,6 +5,7 @@ use Rattle.json.specs.Print.{escape_byte}
 use Rattle.serde_json.specs.Written.{compact_text}
 use Rattle.std.specs.List.{list_all}
 use Rattle.words.specs.Parts.{parts_from}
+use Rattle.s3_types.specs.Blocks.{block_of, parts_of}
 use Rattle.s3_types.specs.Moment.{moment}
 use Rattle.s3_types.specs.Names.{is_key_path}
 use Rattle.s3_types.specs.Pages.{begins}
@@ -228,7 +229,7 @@ no_magic_key : NoMagicKey script (moment (content_of empty_book) journal 24).con
 no_magic_key k o h = false_by (begins (codes "out/__magic/job-j1/") k) (key_found (λ q. not (begins (codes "out/__magic/job-j1/") q)) (book_after empty_book journal).objects keys_outside k o (sym (object_then empty_book journal 24 k refl) ∙ h))
 
 pub two_attempts : TwoAttempts
-unfolding digits escape_byte
+unfolding digits escape_byte block_of parts_of
 two_attempts = record {
   sent = refl;
   event = refl;
