@@ -1,10 +1,15 @@
+ghost use Rattle.std.specs.Prelude.{◌≡◌, true, IfOk};
+ghost use Rattle.s3_types.specs.Requests.{is_cluster};
+
 use crate::Cluster;
-use s3_types::{Bytes, Reply, Request, Text};
+use s3_types::{Bytes, Reply, Request, Text, let_go};
 use std::alloc::{AllocError, Global};
 use std::test::Fail;
 
 /// A request by a word and two texts.
-fn request(alloc: Global, word: &str, one: &str, two: &str) -> Result<Request, AllocError> {
+fn request(alloc: Global, word: &str, one: &str, two: &str) -> Result<Request, AllocError>
+    ensures { IfOk result (λ request. is_cluster request ≡ true) }
+{
     let path = Text::copied(alloc, one)?;
     match word {
         "put" => Request::cluster_put(&path, &Bytes::from_slice(alloc, two.as_bytes())?),
@@ -22,6 +27,35 @@ fn size(reply: &Reply) -> usize {
         Reply::ClusterNames(names) => names.len(),
         Reply::Refused(_) => 99,
         _ => 0,
+    }
+}
+
+/// What the reply to a request holds.
+fn answered(cluster: &mut Cluster, request: Request) -> Result<usize, AllocError>
+    requires { is_cluster request ≡ true }
+{
+    let answer = match cluster.apply(&request) {
+        Ok(reply) => {
+            let size = size(&reply);
+            let_go(reply);
+            Ok(size)
+        }
+        Err(error) => Err(error),
+    };
+    let_go(request);
+    answer
+}
+
+fn step(
+    alloc: Global,
+    cluster: &mut Cluster,
+    word: &str,
+    one: &str,
+    two: &str,
+) -> Result<usize, AllocError> {
+    match request(alloc, word, one, two) {
+        Ok(request) => answered(cluster, request),
+        Err(error) => Err(error),
     }
 }
 
@@ -48,9 +82,7 @@ fn keeps_files(rt: HostRuntime) -> Result<(), Fail> {
     let alloc = rt.alloc();
     let mut cluster = Cluster::new(alloc);
     for (word, one, two, want) in &STEPS {
-        let request = request(alloc, word, one, two)?;
-        assert!(rt; request.is_cluster());
-        assert_eq!(rt; size(&cluster.apply(&request)?), *want);
+        assert_eq!(rt; step(alloc, &mut cluster, word, one, two)?, *want);
     }
     Ok(())
 }
