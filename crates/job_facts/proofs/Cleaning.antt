@@ -38,7 +38,7 @@ use Rattle.job_facts.proofs.Shapes.{answer_is}
 use Rattle.job_facts.proofs.Going.{step_so}
 use Rattle.job_facts.proofs.Driving.{driving_keeps, reads_drive, sweep_keeps, remove_file_keeps}
 use Rattle.job_facts.proofs.Aborting.{taken_in, dropped_in}
-use Rattle.job_facts.proofs.Shows.{hidden_shows}
+use Rattle.job_facts.proofs.Shows.{HidesAll, hidden_shows}
 
 -- ---- what is found
 
@@ -104,14 +104,18 @@ module _ (w : Script) (minimum : ℕ) (k : Option ℕ) (s : Seen) (m : Told) (n 
   abbrev Shows : Outcome → Request → Type 0
   Shows o q = Same (view w.dest (effect s.scene q o).content) (view w.dest s.scene.content)
 
+  -- it changes no key that is not below the magic directory
+  pub clean_hides : (t : Clean) → FitsClean w m.cleaned t → (r : Request) → clean_asks w t ≡ Some r → HidesAll w r
+  clean_hides (Walking found) fits r e = subst (HidesAll w) (some_is e) (λ b q i. absurd i)
+  clean_hides (Aborting u us) fits r e = subst (HidesAll w) (some_is e) (λ b q i. absurd i)
+  clean_hides (Sweeping (Listing keys)) fits r e = subst (HidesAll w) (some_is e) (λ b q i. absurd i)
+  clean_hides (Sweeping (Deleting q qs)) fits r e = subst (HidesAll w) (some_is e) (λ b x i. fits.1 x (taken_in 1000 (q ∷ qs) x i))
+  clean_hides Naming fits r e = subst (HidesAll w) (some_is e) (λ b q i. absurd i)
+  clean_hides (Removing p ps) fits r e = subst (HidesAll w) (some_is e) (λ b q i. absurd i)
+  clean_hides (CleanOver end) fits r e = absurd cc
+
   pub clean_shows : (t : Clean) → FitsClean w m.cleaned t → (r : Request) → clean_asks w t ≡ Some r → (o : Outcome) → Shows o r
-  clean_shows (Walking found) fits r e o = subst (Shows o) (some_is e) (hidden_shows j s.scene (uploads_after w.dest.bucket (dest_prefix w) found) o h.there (λ b q i. absurd i))
-  clean_shows (Aborting u us) fits r e o = subst (Shows o) (some_is e) (hidden_shows j s.scene (AbortUpload w.dest.bucket u.key u.upload) o h.there (λ b q i. absurd i))
-  clean_shows (Sweeping (Listing keys)) fits r e o = subst (Shows o) (some_is e) (hidden_shows j s.scene (page_after w.dest.bucket (magic_prefix w.dest.key w.job) keys) o h.there (λ b q i. absurd i))
-  clean_shows (Sweeping (Deleting q qs)) fits r e o = subst (Shows o) (some_is e) (hidden_shows j s.scene (DeleteObjects w.dest.bucket (take 1000 (q ∷ qs))) o h.there (λ b x i. fits.1 x (taken_in 1000 (q ∷ qs) x i)))
-  clean_shows Naming fits r e o = subst (Shows o) (some_is e) (hidden_shows j s.scene (ClusterList (cluster_prefix w.job)) o h.there (λ b q i. absurd i))
-  clean_shows (Removing p ps) fits r e o = subst (Shows o) (some_is e) (hidden_shows j s.scene (ClusterDelete p) o h.there (λ b q i. absurd i))
-  clean_shows (CleanOver end) fits r e o = absurd cc
+  clean_shows t fits r e o = hidden_shows j s.scene r o h.there (clean_hides t fits r e)
 
   -- it goes on as it should
   module _ (retries : ℕ) (spare : ℕ) (repeated : Bool) where

@@ -38,7 +38,7 @@ use Rattle.job_facts.specs.Driver.{Reads, FitsClean, FitsJobCommit}
 use Rattle.job_facts.specs.Standing.{IsSent, Closed, EndsSent, Reverts}
 use Rattle.job_facts.proofs.Whose.{or_true}
 use Rattle.job_facts.proofs.Legible.{drawn_is}
-use Rattle.job_facts.proofs.Turning.{nth_of}
+use Rattle.job_facts.proofs.Held.{nth_of}
 use Rattle.job_facts.proofs.JobCommitting.{in_sets, chosen_in}
 use Rattle.job_facts.proofs.Beside.{still_sent, still_known}
 

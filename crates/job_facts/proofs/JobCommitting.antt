@@ -84,7 +84,7 @@ no_magic w k h = elim (true_or_false (begins (magic_prefix w.dest.key w.job) k))
 ]
 
 module _ {w : Script} (j : IsLegal w) where
-  file_open : (a : Who) (f : File) → IsIn f (files w a) → is_open f.0 ≡ true
+  pub file_open : (a : Who) (f : File) → IsIn f (files w a) → is_open f.0 ≡ true
   file_open a f i =
       let g = from_script w a f i in
       let e : f.0 ≡ path_of w.unique w.job g.given.0 = ap (λ (x : File). x.0) g.is in

@@ -38,3 +38,17 @@ pub mod Closing
 pub mod Apart
 pub mod Remaining
 pub mod Turning
+pub mod Ended
+pub mod Held
+pub mod Wanted
+pub mod Effects
+pub mod Numbered
+pub mod Deciding
+pub mod Filing
+pub mod EndedGone
+pub mod FilingLaws
+pub mod FilePaths
+pub mod Agreeing
+pub mod Running
+pub mod Reading
+pub mod Steps

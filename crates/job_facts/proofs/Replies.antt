@@ -66,19 +66,24 @@ module _ {w : Script} {minimum : ℕ} {s : Scene} {last : ℕ → Option ℕ} {m
       ∙ ap (λ u. part_answer u (length x.tags + 1) bytes) (held_live x g h)
       ∙ ap (λ b. cond b (Part (plain_tag bytes)) (Refused BadPartNumber)) (number_fits (length x.tags) (omega arith))
 
-  -- and an upload with all its parts is completed to its file
+  -- the parts of an upload that has them all are joined to its file
+  pub file_joined : (a : Who) (g : File) → IsIn g (files w a) → (x : IsWritten w minimum (m.drawn a) g) → m.ended x.drawn.upload ≡ false → m.undone a ≡ false
+      → joined (live f.there.0.uploads (file_key w g) x.drawn.upload) (named_from 1 x.drawn.tags) s.content.minimum ≡ Ok g.1
+  file_joined a g mine x e r =
+      let h = held_of a x.drawn g x.known mine x.key e r in
+      let tags = (written_tags j f a g mine x).0 in
+      let least : s.content.minimum ≡ minimum = f.least in
+      ap (λ q. joined (live f.there.0.uploads q x.drawn.upload) (named_from 1 x.drawn.tags) s.content.minimum) (sym x.key)
+      ∙ ap (λ u. joined u (named_from 1 x.drawn.tags) s.content.minimum) (held_live x.drawn g h)
+      ∙ ap (joined (Some (record { key = x.drawn.key; parts = h.parts })) (named_from 1 x.drawn.tags)) least
+      ∙ held_joined w minimum (at_id w s.content) x.drawn g h tags x.complete
+
+  -- and so it is completed
   pub completed : (a : Who) (g : File) → IsIn g (files w a) → (x : IsWritten w minimum (m.drawn a) g) → m.ended x.drawn.upload ≡ false → m.undone a ≡ false
       → answer s (CompleteUpload w.dest.bucket (file_key w g) x.drawn.upload (named_from 1 x.drawn.tags)) ≡ Completed (joined_tag (map (λ n. n.tag) (named_from 1 x.drawn.tags)))
   completed a g mine x e r =
-      let h = held_of a x.drawn g x.known mine x.key e r in
-      let tags = (written_tags j f a g mine x).0 in
-      let whole = held_joined w minimum (at_id w s.content) x.drawn g h tags x.complete in
-      let least : s.content.minimum ≡ minimum = f.least in
-      ap (λ q. answer s (CompleteUpload w.dest.bucket q x.drawn.upload (named_from 1 x.drawn.tags))) (sym x.key)
-      ∙ answer_is w s f.there.0 f.there.1 (CompleteUpload w.dest.bucket x.drawn.key x.drawn.upload (named_from 1 x.drawn.tags)) refl
-      ∙ ap (λ u. complete_answer (named_from 1 x.drawn.tags) (joined u (named_from 1 x.drawn.tags) s.content.minimum)) (held_live x.drawn g h)
-      ∙ ap (λ n. complete_answer (named_from 1 x.drawn.tags) (joined (Some (record { key = x.drawn.key; parts = h.parts })) (named_from 1 x.drawn.tags) n)) least
-      ∙ ap (complete_answer (named_from 1 x.drawn.tags)) whole
+      answer_is w s f.there.0 f.there.1 (CompleteUpload w.dest.bucket (file_key w g) x.drawn.upload (named_from 1 x.drawn.tags)) refl
+      ∙ ap (complete_answer (named_from 1 x.drawn.tags)) (file_joined a g mine x e r)
 
   -- ---- records
 

@@ -135,7 +135,7 @@ module _ (w : Script) (s : Scene) where
 -- ---- and changes nothing else
 
 -- a file that a reader is shown is not the marker of a committed job
-no_success : {w : Script} → IsLegal w → (p : List ℕ) → is_file_path p ≡ true → below w.dest.key p ≡ success_key w.dest.key → ⊥
+pub no_success : {w : Script} → IsLegal w → (p : List ℕ) → is_file_path p ≡ true → below w.dest.key p ≡ success_key w.dest.key → ⊥
 no_success {w = w} j p h e =
     let same : 47 ∷ p ≡ codes "/_SUCCESS" = append_cancel_left w.dest.key (47 ∷ p) (codes "/_SUCCESS") (sym (below_is w.dest.key p (some_dest j)) ∙ e) in
     let path : p ≡ codes "_SUCCESS" = cc in

@@ -32,7 +32,7 @@ begins_front (x ∷ a) b [] h = absurd (false≢true h)
 begins_front (x ∷ a) b (y ∷ q) h = let p = and_parts (nat_eq x y) (begins (a ++ b) q) h in rw (p.0, begins_front a b q p.1) refl
 
 -- a file's path is not below the magic directory
-shown_key : {w : Script} → IsLegal w → (p : List ℕ) → is_file_path p ≡ true → begins (magic_prefix w.dest.key w.job) (below w.dest.key p) ≡ false
+pub shown_key : {w : Script} → IsLegal w → (p : List ℕ) → is_file_path p ≡ true → begins (magic_prefix w.dest.key w.job) (below w.dest.key p) ≡ false
 shown_key {w = w} j p h = elim (true_or_false (begins (magic_prefix w.dest.key w.job) (below w.dest.key p))) [
   | inr no_so ↦ no_so
   | inl yes_so ↦

@@ -1,5 +1,5 @@
 -- While the driver's commit completes: the uploads of its sets are apart, and an upload that is ended is done or had a sending lost.
-use Rattle.std.proofs.Common.{◌≡◌, ℕ, zero, suc, ◌+◌, ◌<◌, ◌≤◌, ◌⊎◌, inl, inr, nat_lt, ◌&&◌, ◌||◌, Bool, true, false, cond, List, [], ◌∷◌, ◌++◌, map, length, slice_get, Option, Some, None, refl, sym, ap, subst, ◌∙◌, arith}
+use Rattle.std.proofs.Common.{◌≡◌, ℕ, zero, suc, ◌+◌, ◌<◌, ◌≤◌, ◌⊎◌, inl, inr, nat_eq, nat_lt, ◌&&◌, ◌||◌, Bool, true, false, cond, List, [], ◌∷◌, ◌++◌, map, length, slice_get, Option, Some, None, refl, sym, ap, subst, ◌∙◌, arith}
 use Rattle.std.proofs.lemmas.Bool.{and_parts, false≢true}
 use Rattle.s3_types.specs.Answer.{answer}
 use Rattle.s3_types.specs.Blocks.{named_from}
@@ -33,114 +33,21 @@ use Rattle.job_operations.specs.JobCommits.{Sets, all_commits, picks_of, Commit,
 use Rattle.job_operations.specs.LaneTable.{Tabled, In}
 use Rattle.job_promise.specs.Seen.{Seen}
 use Rattle.request_frame.specs.Members.{IsIn}
-use Rattle.request_frame.proofs.Members.{some_is, false_true, true_or_false, eq_nat, in_map, in_append, in_front, in_last}
+use Rattle.request_frame.proofs.Members.{some_is, false_true, true_or_false, eq_nat, nat_true, in_map, in_append, in_front, in_last}
 use Rattle.job_facts.specs.Told.{Told, ends, tell_driver}
 use Rattle.job_facts.specs.Facts.{IsWritten, ApartFiles, Hold, knowing}
 use Rattle.job_facts.specs.Driver.{IsHeldSet, Reads, FitsJobCommit}
-use Rattle.job_facts.specs.Turning.{NoneEnded, Turns}
+use Rattle.job_facts.specs.Turning.{NoneEnded, Turned, Turns}
 use Rattle.job_facts.proofs.Whose.{or_true}
 use Rattle.job_facts.proofs.Placed.{one_key}
 use Rattle.job_facts.proofs.Legible.{drawn_is}
 use Rattle.job_facts.proofs.Replies.{completed}
-use Rattle.job_facts.proofs.JobCommitting.{in_sets}
-
--- no two of them have one upload
-abbrev Uniq : List Pending → Type 0
-Uniq [] = Unit {0}
-Uniq (p ∷ ps) = ((q : Pending) → IsIn q ps → p.upload ≡ q.upload → ⊥) × Uniq ps
-
-uniq_append : (ps qs : List Pending) → Uniq ps → Uniq qs → ((p q : Pending) → IsIn p ps → IsIn q qs → p.upload ≡ q.upload → ⊥) → Uniq (ps ++ qs)
-uniq_append [] qs h k cross = k
-uniq_append (p ∷ ps) qs h k cross = (λ q i e. elim (in_append q ps qs i) [ inl l ↦ h.0 q l e | inr r ↦ cross p q (inl refl) r e ], uniq_append ps qs h.1 k (λ x y i l. cross x y (inr i) l))
-
-pub nth_of : (ps : List Pending) (n : ℕ) → n < length ps → IsIn (nth ps n) ps
-nth_of [] n h = absurd (omega arith)
-nth_of (p ∷ ps) zero h = inl refl
-nth_of (p ∷ ps) (suc n) h = inr (nth_of ps n (omega arith))
-
-uniq_nth : (ps : List Pending) → Uniq ps → (i n : ℕ) → i < length ps → n < length ps → (nth ps i).upload ≡ (nth ps n).upload → i ≡ n
-uniq_nth [] h i n x y e = absurd (omega arith)
-uniq_nth (p ∷ ps) h zero zero x y e = refl
-uniq_nth (p ∷ ps) h zero (suc n) x y e = absurd (h.0 (nth ps n) (nth_of ps n (omega arith)) e)
-uniq_nth (p ∷ ps) h (suc i) zero x y e = absurd (h.0 (nth ps i) (nth_of ps i (omega arith)) (sym e))
-uniq_nth (p ∷ ps) h (suc i) (suc n) x y e = ap (λ k. suc k) (uniq_nth ps h.1 i n (omega arith) (omega arith) e)
+use Rattle.job_facts.proofs.Held.{nth_of, of_sets, uploads_uniq}
+use Rattle.job_facts.proofs.Numbered.{to_in}
 
 module _ (w : Script) (minimum : ℕ) (s : Seen) (m : Told) (j : IsLegal w) (f : Hold w minimum s m) where
-  -- an upload of a set that is held: whose it is, and of which file
-  record IsOf (t : ℕ) (p : Pending) : Type 0 where
-    pub by : Who
-    pub task : by.task ≡ t
-    pub file : File
-    pub mine : IsIn file (files w by)
-    pub written : IsWritten w minimum (m.drawn by) file
-    pub sent : m.publish_sent by ≡ true
-    pub is : p ≡ file_record w by file written.drawn
-
-  abbrev record_of : Who → File → Pending
-  record_of a g = file_record w a g (drawn_for (knowing (m.drawn a)) (file_key w g))
-
-  abbrev held_one : (t : ℕ) (h : PendingSet) → (x : IsHeldSet w minimum m.publish_sent m.drawn t h) → (g : File) → IsIn g x.commits → (p : Pending) → p ≡ record_of x.by g → IsOf t p
-  held_one t h x g i p e =
-      let d = x.are.written g (x.are.each g i) in
-      let is : drawn_in (m.drawn x.by) (file_key w g) ≡ d.drawn = ap (drawn_in (m.drawn x.by)) (sym d.key) ∙ drawn_is f x.by d.drawn d.known in
-      record { by = x.by; task = x.task; file = g; mine = x.are.each g i; written = d; sent = x.has_sent; is = e ∙ ap (λ v. file_record w x.by g v) is }
-
-  held_of_set : (t : ℕ) (h : PendingSet) → (x : IsHeldSet w minimum m.publish_sent m.drawn t h) → (p : Pending) → IsIn p h.commits → IsOf t p
-  held_of_set t h x p i =
-      let at : IsIn p (map (record_of x.by) x.commits) = subst (λ (v : PendingSet). IsIn p v.commits) x.is i in
-      let g = in_map (record_of x.by) p x.commits at in
-      held_one t h x g.0 g.1 p g.2
-
-  -- one upload is of one attempt and one file
-  one_upload : (t u : ℕ) (p q : Pending) → (x : IsOf t p) → (y : IsOf u q) → p.upload ≡ q.upload → (t ≡ u) × (x.file.0 ≡ y.file.0)
-  one_upload t u p q x y e =
-      let ids : x.written.drawn.upload ≡ y.written.drawn.upload = sym (ap (λ (v : Pending). v.upload) x.is) ∙ e ∙ ap (λ (v : Pending). v.upload) y.is in
-      let same = f.ids.apart x.by y.by x.written.drawn y.written.drawn x.written.known y.written.known ids in
-      let key : file_key w x.file ≡ file_key w y.file = sym x.written.key ∙ ap (λ (v : Drawn). v.key) same.1 ∙ y.written.key in
-      (sym x.task ∙ ap (λ (v : Who). v.task) same.0 ∙ y.task, one_key j x.file y.file key)
-
-  uniq_set : (t : ℕ) (h : PendingSet) → (x : IsHeldSet w minimum m.publish_sent m.drawn t h) → (gs : List File) → ((g : File) → IsIn g gs → IsIn g x.commits) → ApartFiles gs → Uniq (map (record_of x.by) gs)
-  uniq_set t h x [] sub ap_files = tt
-  uniq_set t h x (g ∷ gs) sub ap_files = (
-    λ q i e.
-        let o = in_map (record_of x.by) q gs i in
-        let a = held_one t h x g (sub g (inl refl)) (record_of x.by g) refl in
-        let b = held_one t h x o.0 (sub o.0 (inr o.1)) q o.2 in
-        ap_files.0 o.0 o.1 (one_upload t t (record_of x.by g) q a b e).1,
-    uniq_set t h x gs (λ v i. sub v (inr i)) ap_files.1,
-  )
-
-  -- sets of tasks from t on
-  abbrev HeldFrom : ℕ → Sets → Type 0
-  HeldFrom t [] = Unit {0}
-  HeldFrom t (h ∷ sets) = IsHeldSet w minimum m.publish_sent m.drawn t h × HeldFrom (suc t) sets
-
-  held_from : (t : ℕ) (sets : Sets) → ((i : ℕ) (h : PendingSet) → slice_get sets i ≡ Some h → IsHeldSet w minimum m.publish_sent m.drawn (t + i) h) → HeldFrom t sets
-  held_from t [] reads = tt
-  held_from t (h ∷ sets) reads = (
-    (let e : t + 0 ≡ t = omega arith in subst (λ n. IsHeldSet w minimum m.publish_sent m.drawn n h) e (reads zero h refl)),
-    held_from (suc t) sets (λ i v g. let e : t + suc i ≡ suc t + i = omega arith in subst (λ n. IsHeldSet w minimum m.publish_sent m.drawn n v) e (reads (suc i) v g)),
-  )
-
-  later : (t : ℕ) (sets : Sets) → HeldFrom t sets → (q : Pending) → IsIn q (all_commits sets) → (u : ℕ) × (t ≤ u) × IsOf u q
-  later t [] h q i = absurd i
-  later t (x ∷ sets) h q i = elim (in_append q x.commits (all_commits sets) i) [
-    | inl here ↦ (t, omega arith, held_of_set t x h.0 q here)
-    | inr more ↦ let o = later (suc t) sets h.1 q more in let l = o.1 in (o.0, omega arith, o.2)
-  ]
-
-  uniq_from : (t : ℕ) (sets : Sets) → HeldFrom t sets → Uniq (all_commits sets)
-  uniq_from t [] h = tt
-  uniq_from t (x ∷ sets) h =
-      let own : Uniq x.commits = subst (λ (v : PendingSet). Uniq v.commits) (sym h.0.is) (uniq_set t x h.0 h.0.commits (λ g i. i) h.0.are.once) in
-      uniq_append x.commits (all_commits sets) own (uniq_from (suc t) sets h.1) (λ p q i l e.
-      let o = later (suc t) sets h.1 q l in
-      let same : t ≡ o.0 = (one_upload t o.0 p q (held_of_set t x h.0 p i) o.2 e).0 in
-      let low = o.1 in
-      absurd (omega arith))
-
   pub uploads_apart : (sets : Sets) → Reads w minimum m.publish_sent m.drawn sets → (i n : ℕ) → i < length (all_commits sets) → n < length (all_commits sets) → (nth (all_commits sets) i).upload ≡ (nth (all_commits sets) n).upload → i ≡ n
-  uploads_apart sets reads = uniq_nth (all_commits sets) (uniq_from 0 sets (held_from 0 sets (λ i h e. let z : i ≡ 0 + i = omega arith in subst (λ n. IsHeldSet w minimum m.publish_sent m.drawn n h) z (reads i h e))))
+  uploads_apart sets reads = uploads_uniq j f sets reads
 
   -- a completion of which no sending was lost
   pub turn_answered : (sets : Sets) (x : Turn) (xs : List Turn) (finished : List ℕ) → Reads w minimum m.publish_sent m.drawn sets → Tabled w (Completing sets x xs finished) → Turns m (Completing sets x xs finished) → x.lost ≡ false
@@ -148,31 +55,19 @@ module _ (w : Script) (minimum : ℕ) (s : Seen) (m : Told) (j : IsLegal w) (f :
   turn_answered sets x xs finished reads t turns fresh =
       let p = nth (all_commits sets) x.number in
       let low = t.within x (inl refl) in
-      let o = in_sets j sets p (nth_of (all_commits sets) x.number low) in
-      let v = held_of_set o.0 o.1.0 (reads o.0 o.1.0 o.1.1) p o.1.2 in
+      let v = (of_sets j f sets reads p (nth_of (all_commits sets) x.number low)).1.commit in
       let open_one : m.ended p.upload ≡ false = elim (true_or_false (m.ended p.upload)) [
         | inr out ↦ out
-        | inl ended ↦ elim (turns x.number low ended) [
-          | inl done ↦ absurd (t.undone x x.number (inl refl) (in_of x.number finished done) (0, refl))
+        | inl ended ↦ elim (turns.only x.number low ended) [
+          | inl done ↦ absurd (t.undone x x.number (inl refl) (to_in x.number finished done) (0, refl))
           | inr y ↦ elim y.1 [
             | inl is ↦ absurd (false_true fresh (ap (λ (z : Turn). z.lost) (sym is) ∙ y.3))
-            | inr i ↦ absurd (t.apart.0 y.0 x.number (turn_of y.0 xs i) (0, refl) (0, y.2))
+            | inr i ↦ absurd (t.apart.0 y.0 x.number (to_in y.0 xs i) (0, refl) (0, y.2))
           ]
         ]
       ] in
       let mine : m.ended v.written.drawn.upload ≡ false = ap m.ended (sym (ap (λ (z : Pending). z.upload) v.is)) ∙ open_one in
-      subst (λ (z : Pending). answer s.scene (completion z) ≡ Completed (joined_tag (map (λ t. t.tag) (named_from 1 z.tags)))) (sym v.is) (completed j f v.by v.file v.mine v.written mine (f.kept v.by v.sent))
-    where
-      in_of : (n : ℕ) (ns : List ℕ) → IsIn n ns → In n ns
-      in_of n [] i = absurd i
-      in_of n (k ∷ ns) (inl e) = inl (sym e)
-      in_of n (k ∷ ns) (inr i) = inr (in_of n ns i)
-
-      turn_of : (y : Turn) (ys : List Turn) → IsIn y ys → In y ys
-      turn_of y [] i = absurd i
-      turn_of y (z ∷ ys) (inl e) = inl (sym e)
-      turn_of y (z ∷ ys) (inr i) = inr (turn_of y ys i)
-
+      subst (λ (z : Pending). answer s.scene (completion z) ≡ Completed (joined_tag (map (λ t. t.tag) (named_from 1 z.tags)))) (sym v.is) (completed j f v.by v.file v.mine v.written mine (f.kept v.by v.has_sent))
 -- ---- entries
 
 either : (m : Told) (b : Bool) (c d : Commit) → Turns m c → Turns m d → Turns m (cond b c d)
@@ -183,14 +78,16 @@ turns_reverting : (m : Told) (rs : List Request) → Turns m (reverting rs)
 turns_reverting m [] = tt
 turns_reverting m (r ∷ rs) = tt
 
-turns_completing : (m : Told) (sets : Sets) (xs : List Turn) (finished : List ℕ) → ((n : ℕ) → n < length (all_commits sets) → m.ended (nth (all_commits sets) n).upload ≡ true → IsIn n finished ⊎ ((y : Turn) × IsIn y xs × (y.number ≡ n) × (y.lost ≡ true)))
-    → Turns m (completing sets xs finished)
+turns_completing : (m : Told) (sets : Sets) (xs : List Turn) (finished : List ℕ) → Turned m.ended sets xs finished → Turns m (completing sets xs finished)
 turns_completing m sets [] finished h = tt
 turns_completing m sets (x ∷ xs) finished h = h
 
+pub none_turned : (m : Told) → NoneEnded m → (sets : Sets) (xs : List Turn) → Turned m.ended sets xs []
+none_turned m none sets xs = record { only = λ n l e. absurd (false_true (none _) e); done = λ n i. absurd i }
+
 module _ (w : Script) (m : Told) (none : NoneEnded m) where
   none_replacing : (sets : Sets) (ps : List (List ℕ)) → Turns m (replacing w sets ps)
-  none_replacing sets [] = turns_completing m sets (dealt w.lanes (length (all_commits sets))) [] (λ n l e. absurd (false_true (none _) e))
+  none_replacing sets [] = turns_completing m sets (dealt w.lanes (length (all_commits sets))) [] (none_turned m none sets (dealt w.lanes (length (all_commits sets))))
   none_replacing sets (p ∷ ps) = none
 
   none_decided : (sets : Sets) (o : Option CommitEnd) → Turns m (decided w sets o)
@@ -213,19 +110,19 @@ module _ (w : Script) (m : Told) (none : NoneEnded m) where
   turns_start None = none_fetching []
 
 -- what ends nothing
-still_none : (m : Told) (r : Request) (o : Outcome) → ((id : ℕ) → ends r id ≡ false) → NoneEnded m → NoneEnded (tell_driver m r o)
+pub still_none : (m : Told) (r : Request) (o : Outcome) → ((id : ℕ) → ends r id ≡ false) → NoneEnded m → NoneEnded (tell_driver m r o)
 still_none m r o no_end h id = ap (λ b. b || (is_effective o && ends r id)) (h id) ∙ ap (λ b. is_effective o && b) (no_end id) ∙ and_false (is_effective o)
   where
     and_false : (b : Bool) → (b && false) ≡ false
     and_false true = refl
     and_false false = refl
 
-read_none : (c : Committer) (w : Script) (t id : ℕ) → ends (set_request c w t) id ≡ false
+pub read_none : (c : Committer) (w : Script) (t id : ℕ) → ends (set_request c w t) id ≡ false
 read_none Magic w t id = refl
 read_none Directory w t id = refl
 read_none Partitioned w t id = refl
 
-sweep_none : (w : Script) (p : List ℕ) (s : Sweep) (id : ℕ) → ends (sweep_asks w.dest.bucket p s) id ≡ false
+pub sweep_none : (w : Script) (p : List ℕ) (s : Sweep) (id : ℕ) → ends (sweep_asks w.dest.bucket p s) id ≡ false
 sweep_none w p (Listing keys) id = refl
 sweep_none w p (Deleting q qs) id = refl
 
@@ -248,31 +145,54 @@ module _ (w : Script) (minimum : ℕ) (s : Seen) (m : Told) (j : IsLegal w) (f :
             let both = and_parts (is_effective o) (ends r (nth (all_commits sets) n).upload) (sym (ap (λ b. b || (is_effective o && ends r (nth (all_commits sets) n).upload)) g) ∙ e) in
             inr (both.0, sym (uploads_apart w minimum s m j f sets reads n x.number low (t.within x (inl refl)) (eq_nat (nth (all_commits sets) n).upload (nth (all_commits sets) x.number).upload both.1)))
 
-    answered_turns : (y : Reply) → Turns (told (Answered y)) (completing sets (xs ++ follow w.lanes (length (all_commits sets)) x.number) (x.number ∷ finished))
-    answered_turns y = turns_completing (told (Answered y)) sets (xs ++ follow w.lanes (length (all_commits sets)) x.number) (x.number ∷ finished) (λ n low e. elim (ended_by (Answered y) n low e) [
-      | inr new ↦ inl (inl (sym new.1))
-      | inl old ↦ elim (turns n low old) [
-        | inl done ↦ inl (inr done)
-        | inr z ↦ elim z.1 [
-          | inl is ↦ inl (inl (sym z.2 ∙ ap (λ (v : Turn). v.number) is))
-          | inr i ↦ inr (z.0, in_front z.0 xs (follow w.lanes (length (all_commits sets)) x.number) i, z.2, z.3)
+    was_ended : (o : Outcome) (n : ℕ) → m.ended (nth (all_commits sets) n).upload ≡ true → (told o).ended (nth (all_commits sets) n).upload ≡ true
+    was_ended o n e = ap (λ b. b || (is_effective o && ends r (nth (all_commits sets) n).upload)) e
+
+    now_ended : (o : Outcome) → is_effective o ≡ true → (told o).ended (nth (all_commits sets) x.number).upload ≡ true
+    now_ended o e =
+        let u = (nth (all_commits sets) x.number).upload in
+        ap (λ b. m.ended u || (b && nat_eq u u)) e ∙ ap (λ b. m.ended u || b) (nat_true u u refl) ∙ or_true (m.ended u)
+
+    pub answered_turned : (y : Reply) → Turned (told (Answered y)).ended sets (xs ++ follow w.lanes (length (all_commits sets)) x.number) (x.number ∷ finished)
+    answered_turned y = record {
+      only = λ n low e. elim (ended_by (Answered y) n low e) [
+        | inr new ↦ inl (inl (sym new.1))
+        | inl old ↦ elim (turns.only n low old) [
+          | inl done ↦ inl (inr done)
+          | inr z ↦ elim z.1 [
+            | inl is ↦ inl (inl (sym z.2 ∙ ap (λ (v : Turn). v.number) is))
+            | inr i ↦ inr (z.0, in_front z.0 xs (follow w.lanes (length (all_commits sets)) x.number) i, z.2, z.3)
+          ]
         ]
-      ]
-    ])
+      ];
+      done = λ n i. elim i [
+        | inl is ↦ ap (λ k. (told (Answered y)).ended (nth (all_commits sets) k).upload) is ∙ now_ended (Answered y) refl
+        | inr old ↦ was_ended (Answered y) n (turns.done n old)
+      ];
+    }
+
+    pub missed_turned : (o : Outcome) (lost : Bool) → (is_effective o ≡ true → lost ≡ true) → Turned (told o).ended sets (xs ++ again x lost ∷ []) finished
+    missed_turned o lost so = record {
+      only = λ n low e. elim (ended_by o n low e) [
+        | inr new ↦ inr (again x lost, in_last (again x lost) xs, new.1, ap (λ b. x.lost || b) (so new.0) ∙ or_true x.lost)
+        | inl old ↦ elim (turns.only n low old) [
+          | inl done ↦ inl done
+          | inr z ↦ elim z.1 [
+            | inl is ↦ inr (again x lost, in_last (again x lost) xs, sym (ap (λ (v : Turn). v.number) is) ∙ z.2, ap (λ b. b || lost) (sym (ap (λ (v : Turn). v.lost) is) ∙ z.3))
+            | inr i ↦ inr (z.0, in_front z.0 xs (again x lost ∷ []) i, z.2, z.3)
+          ]
+        ]
+      ];
+      done = λ n i. was_ended o n (turns.done n i);
+    }
+
+    answered_turns : (y : Reply) → Turns (told (Answered y)) (completing sets (xs ++ follow w.lanes (length (all_commits sets)) x.number) (x.number ∷ finished))
+    answered_turns y = turns_completing (told (Answered y)) sets (xs ++ follow w.lanes (length (all_commits sets)) x.number) (x.number ∷ finished) (answered_turned y)
 
     missed_turns : (o : Outcome) (lost : Bool) → (is_effective o ≡ true → lost ≡ true) → Turns (told o) (commit_misses w (Completing sets x xs finished) lost)
     missed_turns o lost so =
         either (told o) (nat_lt x.missed w.retries) (completing sets (xs ++ again x lost ∷ []) finished) (worn_completion sets x xs finished)
-        (turns_completing (told o) sets (xs ++ again x lost ∷ []) finished (λ n low e. elim (ended_by o n low e) [
-          | inr new ↦ inr (again x lost, in_last (again x lost) xs, new.1, ap (λ b. x.lost || b) (so new.0) ∙ or_true x.lost)
-          | inl old ↦ elim (turns n low old) [
-            | inl done ↦ inl done
-            | inr z ↦ elim z.1 [
-              | inl is ↦ inr (again x lost, in_last (again x lost) xs, sym (ap (λ (v : Turn). v.number) is) ∙ z.2, ap (λ b. b || lost) (sym (ap (λ (v : Turn). v.lost) is) ∙ z.3))
-              | inr i ↦ inr (z.0, in_front z.0 xs (again x lost ∷ []) i, z.2, z.3)
-            ]
-          ]
-        ]))
+        (turns_completing (told o) sets (xs ++ again x lost ∷ []) finished (missed_turned o lost so))
         (turns_reverting (told o) (revert (all_commits sets) x.number xs finished))
 
     pub completion_turns : (o : Outcome) → Turns (told o) (commit_tells w (Completing sets x xs finished) o)

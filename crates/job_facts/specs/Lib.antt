@@ -10,4 +10,8 @@ pub mod SetupLaws
 pub mod Clearing
 pub mod Standing
 pub mod Turning
+pub mod Filed
+pub mod FiledLaws
+pub mod Runs
+pub mod RunLaws
 pub mod StandingLaws

@@ -1,5 +1,5 @@
 -- While the driver's commit completes the uploads of the sets that it holds: which of them it has ended.
-use Rattle.std.specs.Prelude.{◌≡◌, ℕ, ◌<◌, ◌⊎◌, true, false, map, length, List, ◌∷◌, Option, Some}
+use Rattle.std.specs.Prelude.{◌≡◌, ℕ, ◌<◌, ◌⊎◌, Bool, true, false, map, length, List, ◌∷◌, Option, Some}
 use Rattle.s3_types.specs.Answer.{answer}
 use Rattle.s3_types.specs.Blocks.{named_from}
 use Rattle.s3_types.specs.Tags.{joined_tag}
@@ -22,11 +22,16 @@ use Rattle.job_facts.specs.Driver.{Reads, FitsJobCommit}
 abbrev pub NoneEnded : Told → Type 0
 NoneEnded m = (id : ℕ) → m.ended id ≡ false
 
--- none is ended before the first completion; then each upload of the sets that is ended is done, or in turn with a sending of it lost
+-- each upload of the sets that is ended is done, or in turn with a sending of it lost; and each that is done is ended
+pub record Turned (ended : ℕ → Bool) (sets : Sets) (waiting : List Turn) (finished : List ℕ) : Type 0 where
+  pub only : (n : ℕ) → n < length (all_commits sets) → ended (nth (all_commits sets) n).upload ≡ true → IsIn n finished ⊎ ((y : Turn) × IsIn y waiting × (y.number ≡ n) × (y.lost ≡ true))
+  pub done : (n : ℕ) → IsIn n finished → ended (nth (all_commits sets) n).upload ≡ true
+
+-- none is ended before the first completion
 abbrev pub Turns : Told → Commit → Type 0
 Turns m (Fetching sets n) = NoneEnded m
 Turns m (Replacing sets p ps s n) = NoneEnded m
-Turns m (Completing sets x xs finished) = (n : ℕ) → n < length (all_commits sets) → m.ended (nth (all_commits sets) n).upload ≡ true → IsIn n finished ⊎ ((y : Turn) × IsIn y (x ∷ xs) × (y.number ≡ n) × (y.lost ≡ true))
+Turns m (Completing sets x xs finished) = Turned m.ended sets (x ∷ xs) finished
 Turns m (Marking sets n) = Unit {0}
 Turns m (Reverting r rs n) = Unit {0}
 Turns m (CommitOver end) = Unit {0}

@@ -6,6 +6,7 @@ ghost use Rattle.job_facts.specs.Laws.{AnswersFit, AttemptBegins, AttemptGoes, A
 ghost use Rattle.job_facts.specs.SetupLaws.{SetupGoes};
 ghost use Rattle.job_facts.specs.Clearing.{CleanClears};
 ghost use Rattle.job_facts.specs.Turning.{CommitTurns};
+ghost use Rattle.job_facts.specs.FiledLaws.{EndedAreGone, NeverBack, SetsDecide, WantedFiles};
 ghost use Rattle.job_facts.specs.StandingLaws.{DriverCloses, NothingGone};
 
 /// The driver's set-up, which ends where the facts begin.
@@ -48,6 +49,15 @@ pub fn standing()
 /// The uploads that the driver's commit completes.
 pub fn completions()
     ensures turns { CommitTurns }
+{}
+
+/// What stands where the job's files go while the driver's commit completes their uploads and where it
+/// reverts; an upload that the driver has ended is gone.
+pub fn wanted_files()
+    ensures decides { SetsDecide }
+    ensures gone { EndedAreGone }
+    ensures never_back { NeverBack }
+    ensures files { WantedFiles }
 {}
 
 /// What the driver's abort or clean of the job leaves where nobody else sends.

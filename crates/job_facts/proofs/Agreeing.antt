@@ -1,0 +1,197 @@
+-- The picks that are seen are those of the sets that the driver holds, as its commit goes on.
+use Rattle.std.proofs.Common.{◌≡◌, ℕ, zero, suc, ◌+◌, ◌<◌, ◌≤◌, ◌⊎◌, inl, inr, not, nat_lt, ◌&&◌, Bool, true, false, cond, List, [], ◌∷◌, ◌++◌, length, slice_get, Option, Some, None, refl, sym, ap, subst, ◌∙◌, arith}
+use Rattle.std.specs.Option.{option_map, is_some}
+use Rattle.std.proofs.lemmas.Bool.{ltb-false}
+use Rattle.s3_types.specs.Store.{Scene}
+use Rattle.s3_types.specs.declared.request.Request.{Request}
+use Rattle.s3_types.specs.declared.reply.Reply.{Reply}
+use Rattle.s3_types.specs.declared.journal.Outcome.{Outcome}
+use Rattle.s3_types.specs.declared.journal.Outcome.TheVariants.{Answered, Slow, RequestLost, ReplyLost}
+use Rattle.s3_types.specs.declared.request.Committer.{Committer}
+use Rattle.s3_types.specs.declared.request.Committer.TheVariants.{Magic, Directory, Partitioned}
+use Rattle.s3_types.specs.declared.request.Mode.{Mode}
+use Rattle.s3_types.specs.declared.request.Mode.TheVariants.{Replace, Append, Fail}
+use Rattle.path_keys.specs.Paths.{below}
+use Rattle.pending_json.specs.Pending.{Pending}
+use Rattle.pending_json.specs.declared.records.PendingSet.{PendingSet}
+use Rattle.job_model.specs.Legal.{IsLegal}
+use Rattle.job_model.specs.JobScript.{Script}
+use Rattle.job_model.specs.declared.ends.CommitEnd.{CommitEnd}
+use Rattle.job_model.specs.declared.ends.CommitEnd.TheVariants as ends_of
+use Rattle.job_model.specs.declared.ends.Stage.TheVariants as stages
+use Rattle.job_operations.specs.Outputs.{Picks, files, wanted_at, same_path, picked_below, is_picked, is_clash, is_decided}
+use Rattle.job_operations.specs.Conflicts.{keeps, keeps_of}
+use Rattle.job_operations.specs.Lanes.{Turn, nth, abort, deletion, again, follow, dealt, revert}
+use Rattle.job_operations.specs.JobCommits.{Sets, all_commits, picks_of, Commit, Fetching, Replacing, Completing, Marking, Reverting, CommitOver, commit_hears, commit_misses, commit_tells, commit_start, completing, replaced, replacing, decided, fetching, reverting, worn_completion}
+use Rattle.job_operations.specs.LaneTable.{Tabled}
+use Rattle.job_operations.proofs.Shared.{shared_found}
+use Rattle.job_promise.specs.OperationEnds.{is_untouched}
+use Rattle.request_frame.specs.Members.{IsIn}
+use Rattle.request_frame.specs.Frame.{changed_keys}
+use Rattle.request_frame.proofs.Members.{false_true}
+use Rattle.job_facts.specs.Told.{Told}
+use Rattle.job_facts.specs.Facts.{Facts}
+use Rattle.job_facts.specs.Driver.{Reads, FitsJobCommit}
+use Rattle.job_facts.specs.Filed.{AreDecided, Decides}
+use Rattle.job_facts.specs.RunLaws.{is_replacing, replaces}
+use Rattle.job_facts.proofs.Whose.{attempt}
+use Rattle.job_facts.proofs.Held.{of_sets, task_low}
+use Rattle.job_facts.proofs.Wanted.{wanted_here, same_wanted, same_picked, still_apart}
+use Rattle.job_facts.proofs.Numbered.{revert_each}
+
+-- ---- where nothing is replaced
+
+never_replaced : (c : Committer) (m : Mode) (w : Script) (picks : Picks) → is_replacing c m ≡ false → replaced c m w picks ≡ []
+never_replaced Magic m w picks h = refl
+never_replaced Directory Replace w picks h = absurd (false_true h refl)
+never_replaced Directory Append w picks h = refl
+never_replaced Directory Fail w picks h = refl
+never_replaced Partitioned Replace w picks h = absurd (false_true h refl)
+never_replaced Partitioned Append w picks h = refl
+never_replaced Partitioned Fail w picks h = refl
+
+all_kept : (c : Committer) (m : Mode) (dirs : List (List ℕ)) (p : List ℕ) → is_replacing c m ≡ false → keeps c m dirs p ≡ true
+all_kept Magic m dirs p h = refl
+all_kept Directory Replace dirs p h = absurd (false_true h refl)
+all_kept Directory Append dirs p h = refl
+all_kept Directory Fail dirs p h = refl
+all_kept Partitioned Replace dirs p h = absurd (false_true h refl)
+all_kept Partitioned Append dirs p h = refl
+all_kept Partitioned Fail dirs p h = refl
+
+pub keeps_all : (w : Script) → replaces w ≡ false → (picks : Picks) (p : List ℕ) → keeps_of w picks p ≡ true
+keeps_all w h picks p = all_kept w.committer w.mode _ p h
+
+-- ---- picks that are those of sets
+
+module _ (w : Script) (picks : Picks) where
+  -- so far
+  abbrev pub AgreeBelow : Sets → ℕ → Type 0
+  AgreeBelow sets n = (t : ℕ) → t < n → picks t ≡ picks_of sets t
+
+  read_all : (sets : Sets) (n : ℕ) → n ≤ length sets → AgreeBelow sets n → picked_below picks n ≡ true
+  read_all sets zero l h = refl
+  read_all sets (suc n) l h = ap (λ b. b && is_some (picks n)) (read_all sets n (omega arith) (λ t k. h t (omega arith))) ∙ ap is_some (h n (omega arith)) ∙ there sets n (omega arith)
+    where
+      there : (xs : Sets) (i : ℕ) → i < length xs → is_some (picks_of xs i) ≡ true
+      there [] i l = absurd (omega arith)
+      there (x ∷ xs) zero l = refl
+      there (x ∷ xs) (suc i) l = there xs i (omega arith)
+
+  -- once all are read each task has a pick, and no two write one path
+  pub picks_apart : (sets : Sets) → AreDecided w sets → AgreeBelow sets w.tasks → same_path w picks ≡ None
+  picks_apart sets d h = still_apart w (picks_of sets) picks h d.apart
+
+  pub picks_decided : (sets : Sets) → AreDecided w sets → AgreeBelow sets w.tasks → (is_picked w picks ≡ true) × (is_clash w picks ≡ false)
+  picks_decided sets d h = (
+    (let low : w.tasks ≤ length sets = high d.all in read_all sets w.tasks low h),
+    ap is_some (picks_apart sets d h),
+  )
+    where
+      high : {a b : ℕ} → a ≡ b → b ≤ a
+      high e = omega arith
+
+  pub decided_so : (sets : Sets) → AreDecided w sets → AgreeBelow sets w.tasks → is_decided w picks ≡ true
+  decided_so sets d h = let p = picks_decided sets d h in rw (p.0, p.1) refl
+
+  -- the keys that requests of a revert change are those of wanted files
+  abbrev pub OfWanted : Request → Type 0
+  OfWanted r = (k : List ℕ) → IsIn k (changed_keys r) → (q : List ℕ) × (b : List ℕ) × (k ≡ below w.dest.key q) × (wanted_at w picks q ≡ Some b)
+
+  abbrev pub Agrees : Commit → Type 0
+  Agrees (Fetching sets n) = AgreeBelow sets (length sets)
+  Agrees (Replacing sets p ps s n) = ⊥
+  Agrees (Completing sets x xs finished) = AgreeBelow sets w.tasks
+  Agrees (Marking sets n) = AgreeBelow sets w.tasks
+  Agrees (Reverting r rs n) = (is_decided w picks ≡ true) × ((y : Request) → IsIn y (r ∷ rs) → OfWanted y)
+  Agrees (CommitOver end) = is_untouched end ≡ false → is_decided w picks ≡ true
+
+  agrees_completing : (sets : Sets) (xs : List Turn) (finished : List ℕ) → AgreeBelow sets w.tasks → Agrees (completing sets xs finished)
+  agrees_completing sets [] finished h = h
+  agrees_completing sets (x ∷ xs) finished h = h
+
+  agrees_replacing : replaces w ≡ false → (sets : Sets) → AgreeBelow sets w.tasks → Agrees (replacing w sets (replaced w.committer w.mode w (picks_of sets)))
+  agrees_replacing h sets a = subst (λ ps. Agrees (replacing w sets ps)) (sym (never_replaced w.committer w.mode w (picks_of sets) h)) (agrees_completing sets (dealt w.lanes (length (all_commits sets))) [] a)
+
+  agrees_decided : replaces w ≡ false → (sets : Sets) (o : Option CommitEnd) → same_path w (picks_of sets) ≡ o → AgreeBelow sets w.tasks → Agrees (decided w sets o)
+  agrees_decided h sets (Some end) e a = let x = shared_found w (picks_of sets) end e in subst (λ v. Agrees (CommitOver v)) (sym x.3) (λ n. absurd cc)
+  agrees_decided h sets None e a = agrees_replacing h sets a
+
+  pub agrees_fetching : replaces w ≡ false → (sets : Sets) → length sets ≤ w.tasks → AgreeBelow sets (length sets) → Agrees (fetching w sets)
+  agrees_fetching h sets l a = by (nat_lt (length sets) w.tasks) refl
+    where
+      by : (b : Bool) → nat_lt (length sets) w.tasks ≡ b → Agrees (cond b (Fetching sets 0) (decided w sets (same_path w (picks_of sets))))
+      by true e = a
+      by false e = let high : w.tasks ≤ length sets = ltb-false (length sets) w.tasks e in agrees_decided h sets (same_path w (picks_of sets)) refl (λ t k. a t (omega arith))
+
+  agrees_reverting : (rs : List Request) → is_decided w picks ≡ true → ((y : Request) → IsIn y rs → OfWanted y) → Agrees (reverting rs)
+  agrees_reverting [] d h = λ e. d
+  agrees_reverting (r ∷ rs) d h = (d, h)
+
+  either : (b : Bool) (c d : Commit) → Agrees c → Agrees d → Agrees (cond b c d)
+  either true c d h g = h
+  either false c d h g = g
+
+  pub agrees_start : replaces w ≡ false → (missing : Option ℕ) → Agrees (commit_start w missing)
+  agrees_start h None = agrees_fetching h [] (omega arith) (λ t l. absurd (omega arith))
+  agrees_start h (Some t) = λ e. absurd cc
+
+  -- where the request is no read
+  module _ {minimum : ℕ} {s : Scene} {last : ℕ → Option ℕ} {m : Told} (j : IsLegal w) (f : Facts w minimum s last m) where
+    -- an upload of the sets goes to a wanted file
+    pub upload_wanted : (sets : Sets) → Reads w minimum m.publish_sent m.drawn sets → AreDecided w sets → AgreeBelow sets w.tasks → (p : Pending) → IsIn p (all_commits sets) → (q : List ℕ) × (b : List ℕ) × (p.destination ≡ below w.dest.key q) × (wanted_at w picks q ≡ Some b)
+    upload_wanted sets reads d a p i =
+        let o = of_sets j f sets reads p i in
+        let x = o.1.commit in
+        let low = task_low j f (picks_of sets) o.0 p o.1 in
+        let who : x.by ≡ attempt o.0 x.by.attempt = ap (λ n. attempt n x.by.attempt) o.1.task in
+        (
+          x.file.0,
+          x.file.1,
+          ap (λ (v : Pending). v.destination) x.is,
+          wanted_here w picks j (picks_apart sets d a) o.0 x.by.attempt low (a o.0 low ∙ o.1.picked) x.file (subst (λ v. IsIn x.file (files w v)) who x.mine),
+        )
+
+    agrees_missed : (c : Commit) → FitsJobCommit w minimum m.publish_sent m.drawn c → Tabled w c → Decides w minimum m.publish_sent m.drawn c → Agrees c → (lost : Bool) → Agrees (commit_misses w c lost)
+    agrees_missed (Fetching sets n) fits t d a lost = either (nat_lt n w.retries) (Fetching sets (n + 1)) (CommitOver (ends_of.StoreFault stages.Read)) a (λ e. absurd cc)
+    agrees_missed (Replacing sets p ps s n) fits t d a lost = absurd a
+    agrees_missed (Completing sets x xs finished) fits t d a lost =
+        either (nat_lt x.missed w.retries) (completing sets (xs ++ again x lost ∷ []) finished) (worn_completion sets x xs finished) (agrees_completing sets (xs ++ again x lost ∷ []) finished a)
+        (agrees_reverting (revert (all_commits sets) x.number xs finished) (decided_so sets d a) (λ y i k c.
+        let o = revert_each (all_commits sets) x.number xs finished (t.within x (inl refl)) t.done_within y i in
+        let u = upload_wanted sets fits d a o.0 o.1 in
+        elim o.2 [
+          | inl is ↦ absurd (subst (λ r. IsIn k (changed_keys r)) is c)
+          | inr is ↦ elim (subst (λ r. IsIn k (changed_keys r)) is c) [ inl e ↦ (u.0, u.1, e ∙ u.2, u.3) | inr none ↦ absurd none ]
+        ]))
+    agrees_missed (Marking sets n) fits t d a lost = either (nat_lt n w.retries) (Marking sets (n + 1)) (CommitOver (ends_of.StoreFault stages.Success)) a (λ e. decided_so sets d a)
+    agrees_missed (Reverting q qs n) fits t d a lost = either (nat_lt n w.retries) (Reverting q qs (n + 1)) (reverting qs) a (agrees_reverting qs a.0 (λ y i. a.1 y (inr i)))
+    agrees_missed (CommitOver end) fits t d a lost = a
+
+    abbrev is_fetching : Commit → Bool
+    is_fetching (Fetching sets n) = true
+    is_fetching _ = false
+
+    agrees_heard : (c : Commit) → is_fetching c ≡ false → Decides w minimum m.publish_sent m.drawn c → Agrees c → (x : Reply) → Agrees (commit_hears w c x)
+    agrees_heard (Fetching sets n) no_read d a x = absurd cc
+    agrees_heard (Replacing sets p ps s n) no_read d a x = absurd a
+    agrees_heard (Completing sets y ys finished) no_read d a x = agrees_completing sets (ys ++ follow w.lanes (length (all_commits sets)) y.number) (y.number ∷ finished) a
+    agrees_heard (Marking sets n) no_read d a x = λ e. decided_so sets d a
+    agrees_heard (Reverting q qs n) no_read d a x = agrees_reverting qs a.0 (λ y i. a.1 y (inr i))
+    agrees_heard (CommitOver end) no_read d a x = a
+
+    -- an answer to a read is told elsewhere
+    abbrev pub IsRead : Commit → Outcome → Type 0
+    IsRead (Fetching sets n) (Answered x) = Unit {0}
+    IsRead _ _ = ⊥
+
+    pub agrees_tells : (c : Commit) → FitsJobCommit w minimum m.publish_sent m.drawn c → Tabled w c → Decides w minimum m.publish_sent m.drawn c → Agrees c → (o : Outcome) → (IsRead c o → ⊥) → Agrees (commit_tells w c o)
+    agrees_tells (Fetching sets n) fits t d a (Answered x) no_read = absurd (no_read tt)
+    agrees_tells (Replacing sets p ps s n) fits t d a (Answered x) no_read = absurd a
+    agrees_tells (Completing sets y ys finished) fits t d a (Answered x) no_read = agrees_heard (Completing sets y ys finished) refl d a x
+    agrees_tells (Marking sets n) fits t d a (Answered x) no_read = agrees_heard (Marking sets n) refl d a x
+    agrees_tells (Reverting q qs n) fits t d a (Answered x) no_read = agrees_heard (Reverting q qs n) refl d a x
+    agrees_tells (CommitOver end) fits t d a (Answered x) no_read = a
+    agrees_tells c fits t d a Slow no_read = agrees_missed c fits t d a false
+    agrees_tells c fits t d a RequestLost no_read = agrees_missed c fits t d a true
+    agrees_tells c fits t d a ReplyLost no_read = agrees_missed c fits t d a true

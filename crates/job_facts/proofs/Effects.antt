@@ -1,0 +1,124 @@
+-- What the driver's completions, aborts and deletions leave of a file's key and of its upload.
+use Rattle.std.proofs.Common.{◌≡◌, ℕ, ◌<◌, ◌⊎◌, inl, inr, Bool, true, false, cond, List, [], ◌∷◌, Option, Some, None, refl, sym, ap, subst, ◌∙◌}
+use Rattle.std.specs.FinMap as fin
+use Rattle.std.specs.Ordering.{eq_by_cmp}
+use Rattle.proof_base.specs.Order.{text_eq, text_cmp, text_total}
+use Rattle.s3_types.specs.Store.{Content, Scene, Upload}
+use Rattle.s3_types.specs.Blocks.{named_from}
+use Rattle.s3_types.specs.Answer.{apply, apply_store, apply_at, with_objects}
+use Rattle.s3_types.specs.declared.object.Object.{Object}
+use Rattle.s3_types.specs.declared.request.Request.TheVariants.{DeleteObject, DeleteObjects, CompleteUpload, AbortUpload}
+use Rattle.pending_json.specs.Pending.{Pending}
+use Rattle.job_model.specs.Files.{File}
+use Rattle.job_model.specs.Attempts.{Who}
+use Rattle.job_model.specs.Legal.{IsLegal}
+use Rattle.job_model.specs.JobScript.{Script}
+use Rattle.job_model.specs.Known.{Drawn}
+use Rattle.job_operations.specs.Records.{file_key, file_record}
+use Rattle.job_operations.specs.Lanes.{completion, abort, deletion}
+use Rattle.request_frame.specs.Members.{IsIn}
+use Rattle.request_frame.specs.Held.{HasBucket}
+use Rattle.request_frame.proofs.Members.{some_is, none_or_some, text_gone, text_true}
+use Rattle.request_frame.proofs.Framed.{with_bucket, frame}
+use Rattle.job_facts.specs.Told.{Told}
+use Rattle.job_facts.specs.Stores.{at_key, at_id, end_left}
+use Rattle.job_facts.specs.Facts.{Facts}
+use Rattle.job_facts.specs.Filed.{IsCommit, Gone, whole_of}
+use Rattle.job_facts.proofs.Shapes.{key_after, abort_turns}
+use Rattle.job_facts.proofs.Undone.{deletes_drop}
+use Rattle.job_facts.proofs.Ended.{completes_key, completes_id, refused_key, gone_stays}
+use Rattle.job_facts.proofs.Replies.{held_of, file_joined}
+
+-- ---- deletions
+
+module _ (w : Script) (s : Scene) (there : HasBucket s.content w.dest.bucket) where
+  delete_is : (q : List ℕ) → apply_store s.content (DeleteObject w.dest.bucket q) ≡ with_bucket s.content w.dest.bucket (with_objects there.0 (fin.remove there.0.objects q)) s.content.next
+  delete_is q = ap (λ o. apply_at o s.content (DeleteObject w.dest.bucket q)) there.1
+
+  pub deleted : (q : List ℕ) → at_key w (apply s (DeleteObject w.dest.bucket q)).content q ≡ None
+  deleted q =
+      ap (λ c. at_key w c q) (delete_is q)
+      ∙ key_after w s there.0 there.1 (with_objects there.0 (fin.remove there.0.objects q)) s.content.next q
+      ∙ text_gone there.0.objects q q refl
+
+  -- a batch leaves what stands at a key, or nothing
+  pub deleted_or_not : (keys : List (List ℕ)) (k : List ℕ) → (at_key w (apply s (DeleteObjects w.dest.bucket keys)).content k ≡ at_key w s.content k) ⊎ (at_key w (apply s (DeleteObjects w.dest.bucket keys)).content k ≡ None)
+  deleted_or_not keys k = elim (none_or_some (at_key w (apply s (DeleteObjects w.dest.bucket keys)).content k)) [
+    | inl none ↦ inr none
+    | inr x ↦ inl (x.1 ∙ sym ((deletes_drop w s keys there).objects k x.0 x.1))
+  ]
+
+-- ---- of the uploads of sets that were read
+
+module _ {w : Script} {minimum : ℕ} {s : Scene} {last : ℕ → Option ℕ} {m : Told} (j : IsLegal w) (f : Facts w minimum s last m) (gone : Gone w s.content m) (p : Pending) (x : IsCommit w minimum m.publish_sent m.drawn p) where
+  upload_is : p.upload ≡ x.written.drawn.upload
+  upload_is = ap (λ (v : Pending). v.upload) x.is
+
+  pub dest_is : p.destination ≡ file_key w x.file
+  dest_is = ap (λ (v : Pending). v.destination) x.is
+
+  pub upload_low : p.upload < s.content.next
+  upload_low = subst (λ n. n < s.content.next) (sym upload_is) (f.ids.below x.by x.written.drawn x.written.known)
+
+  -- a completion of an upload that is not ended puts the file, and the upload is gone
+  pub completes_file : m.ended p.upload ≡ false → at_key w (apply s (completion p)).content p.destination ≡ Some (whole_of x.file.1)
+  completes_file e =
+      let d = x.written.drawn in
+      let whole = file_joined j f x.by x.file x.mine x.written (ap m.ended (sym upload_is) ∙ e) (f.kept x.by x.has_sent) in
+      let P : Pending → Type 0 = λ v. at_key w (apply s (completion v)).content v.destination ≡ Some (whole_of x.file.1) in
+      subst P (sym x.is) (completes_key w s f.there.0 f.there.1 (file_key w x.file) d.upload (named_from 1 d.tags) x.file.1 whole)
+
+  completes_upload : m.ended p.upload ≡ false → at_id w (apply s (completion p)).content p.upload ≡ None
+  completes_upload e =
+      let d = x.written.drawn in
+      let whole = file_joined j f x.by x.file x.mine x.written (ap m.ended (sym upload_is) ∙ e) (f.kept x.by x.has_sent) in
+      let P : Pending → Type 0 = λ v. at_id w (apply s (completion v)).content v.upload ≡ None in
+      subst P (sym x.is) (completes_id w s f.there.0 f.there.1 (file_key w x.file) d.upload (named_from 1 d.tags) x.file.1 whole)
+
+  -- of one that is ended it changes no key
+  pub completes_nothing : m.ended p.upload ≡ true → (k : List ℕ) → at_key w (apply s (completion p)).content k ≡ at_key w s.content k
+  completes_nothing e k =
+      let d = x.written.drawn in
+      let none : at_id w s.content d.upload ≡ None = ap (at_id w s.content) (sym upload_is) ∙ (gone p.upload e).1 in
+      let P : Pending → Type 0 = λ v. at_key w (apply s (completion v)).content k ≡ at_key w s.content k in
+      subst P (sym x.is) (refused_key w s f.there.0 f.there.1 (file_key w x.file) d.upload (named_from 1 d.tags) none k)
+
+  -- after a completion or an abort the upload is gone
+  pub completion_ends : at_id w (apply s (completion p)).content p.upload ≡ None
+  completion_ends = by (m.ended p.upload) refl
+    where
+      by : (b : Bool) → m.ended p.upload ≡ b → at_id w (apply s (completion p)).content p.upload ≡ None
+      by true e = gone_stays w s f.there p.upload upload_low (completion p) (gone p.upload e).1
+      by false e = completes_upload e
+
+  aborts_open : m.ended p.upload ≡ false → at_id w (apply s (abort p)).content p.upload ≡ None
+  aborts_open e =
+      let d = x.written.drawn in
+      let h = held_of j f x.by d x.file x.written.known x.mine x.written.key (ap m.ended (sym upload_is) ∙ e) (f.kept x.by x.has_sent) in
+      let t = abort_turns w s f.there.0 f.there.1 (file_key w x.file) d.upload in
+      let P : Pending → Type 0 = λ v. at_id w (apply s (abort v)).content v.upload ≡ None in
+      subst P (sym x.is) (t.here ∙ ap (end_left (file_key w x.file)) h.stands ∙ ap (λ b. cond b None (Some (record { key = d.key; parts = h.parts }))) (text_true d.key (file_key w x.file) x.written.key))
+
+  pub abort_ends : at_id w (apply s (abort p)).content p.upload ≡ None
+  abort_ends = by (m.ended p.upload) refl
+    where
+      by : (b : Bool) → m.ended p.upload ≡ b → at_id w (apply s (abort p)).content p.upload ≡ None
+      by true e = gone_stays w s f.there p.upload upload_low (abort p) (gone p.upload e).1
+      by false e = aborts_open e
+
+  pub deletion_is : deletion p ≡ DeleteObject w.dest.bucket p.destination
+  deletion_is = ap (λ (v : Pending). DeleteObject v.bucket p.destination) x.is
+
+  -- keys and uploads that are not the request's own
+  pub other_key : (k : List ℕ) → (k ≡ p.destination → ⊥) → at_key w (apply s (completion p)).content k ≡ at_key w s.content k
+  other_key k ne = (frame s w.dest.bucket (completion p) f.there).keys k (λ b i. elim i [ inl e ↦ ne e | inr none ↦ absurd none ])
+
+  pub abort_keys : (k : List ℕ) → at_key w (apply s (abort p)).content k ≡ at_key w s.content k
+  abort_keys k = (frame s w.dest.bucket (abort p) f.there).keys k (λ b i. absurd i)
+
+  -- a deletion leaves nothing at its key, and the others as they are
+  pub deletion_key : at_key w (apply s (deletion p)).content p.destination ≡ None
+  deletion_key = ap (λ r. at_key w (apply s r).content p.destination) deletion_is ∙ deleted w s f.there p.destination
+
+  pub deletion_other : (k : List ℕ) → (k ≡ p.destination → ⊥) → at_key w (apply s (deletion p)).content k ≡ at_key w s.content k
+  deletion_other k ne = (frame s w.dest.bucket (deletion p) f.there).keys k (λ b i. elim i [ inl e ↦ ne e | inr none ↦ absurd none ])

@@ -1,0 +1,107 @@
+-- Each upload that the driver has ended is gone; what stands where files go after each entry of its commit.
+use Rattle.std.proofs.Common.{◌≡◌, ℕ, ◌<◌, ◌≤◌, ◌⊎◌, inl, inr, ◌&&◌, ◌||◌, Bool, true, false, List, [], ◌∷◌, ◌++◌, length, Option, Some, None, refl, sym, ap, subst, ◌∙◌, arith}
+use Rattle.std.proofs.lemmas.Bool.{and_parts, false≢true}
+use Rattle.s3_types.specs.Store.{Scene}
+use Rattle.s3_types.specs.Answer.{apply}
+use Rattle.s3_types.specs.Moment.{effect, is_effective}
+use Rattle.s3_types.specs.declared.request.Request.{Request}
+use Rattle.s3_types.specs.declared.request.Committer.{Committer}
+use Rattle.s3_types.specs.declared.request.Committer.TheVariants.{Magic, Directory, Partitioned}
+use Rattle.s3_types.specs.declared.journal.Outcome.{Outcome}
+use Rattle.s3_types.specs.declared.journal.Outcome.TheVariants.{Answered, Slow, RequestLost, ReplyLost}
+use Rattle.pending_json.specs.Pending.{Pending}
+use Rattle.job_model.specs.Legal.{IsLegal}
+use Rattle.job_model.specs.JobScript.{Script}
+use Rattle.job_operations.specs.Walks.{Sweep, Listing, Deleting, sweep_asks}
+use Rattle.job_operations.specs.Lanes.{nth, completion, abort, deletion}
+use Rattle.job_operations.specs.JobCommits.{Sets, all_commits, Commit, Fetching, Replacing, Completing, Marking, Reverting, CommitOver, set_request, commit_asks}
+use Rattle.job_operations.specs.LaneTable.{Tabled}
+use Rattle.request_frame.specs.Members.{IsIn}
+use Rattle.request_frame.specs.Held.{HasBucket}
+use Rattle.request_frame.proofs.Members.{some_is, false_true, eq_nat}
+use Rattle.request_frame.proofs.Framed.{frame}
+use Rattle.job_facts.specs.Told.{Told, ends, nothing_told, tell_driver}
+use Rattle.job_facts.specs.Stores.{at_id}
+use Rattle.job_facts.specs.Facts.{Facts}
+use Rattle.job_facts.specs.Driver.{FitsJobCommit}
+use Rattle.job_facts.specs.Filed.{IsCommit, Gone, Decides}
+use Rattle.job_facts.proofs.Held.{nth_of, of_sets}
+use Rattle.job_facts.proofs.Ended.{gone_stays}
+use Rattle.job_facts.proofs.Effects.{upload_low, completion_ends, abort_ends}
+
+-- an upload that is gone stays so
+module _ (w : Script) (s : Scene) (there : HasBucket s.content w.dest.bucket) (id : ℕ) where
+  abbrev Out : Scene → Type 0
+  Out u = (id < u.content.next) × (at_id w u.content id ≡ None)
+
+  applied : (r : Request) → Out s → Out (apply s r)
+  applied r h = let later : s.content.next ≤ (apply s r).content.next = (frame s w.dest.bucket r there).later in let low = h.0 in (omega arith, gone_stays w s there id h.0 r h.1)
+
+  pub stays_gone : (r : Request) (o : Outcome) → Out s → Out (effect s r o)
+  stays_gone r (Answered y) h = applied r h
+  stays_gone r Slow h = h
+  stays_gone r RequestLost h = h
+  stays_gone r ReplyLost h = applied r h
+
+pub effective_is : (s : Scene) (r : Request) (o : Outcome) → is_effective o ≡ true → effect s r o ≡ apply s r
+effective_is s r (Answered y) e = refl
+effective_is s r Slow e = absurd (false≢true e)
+effective_is s r RequestLost e = absurd (false≢true e)
+effective_is s r ReplyLost e = refl
+
+module _ {w : Script} {minimum : ℕ} {s : Scene} {last : ℕ → Option ℕ} {m : Told} (j : IsLegal w) (f : Facts w minimum s last m) (gone : Gone w s.content m) where
+  -- a request ends nothing, or it is about the upload of a set that was read
+  abbrev pub Kind : Request → Type 0
+  Kind r = ((id : ℕ) → ends r id ≡ false) ⊎ ((p : Pending) × IsCommit w minimum m.publish_sent m.drawn p × ((r ≡ completion p) ⊎ ((r ≡ abort p) ⊎ (r ≡ deletion p))))
+
+  read_kind : (c : Committer) (t : ℕ) → Kind (set_request c w t)
+  read_kind Magic t = inl (λ id. refl)
+  read_kind Directory t = inl (λ id. refl)
+  read_kind Partitioned t = inl (λ id. refl)
+
+  sweep_kind : (p : List ℕ) (x : Sweep) → Kind (sweep_asks w.dest.bucket p x)
+  sweep_kind p (Listing keys) = inl (λ id. refl)
+  sweep_kind p (Deleting q qs) = inl (λ id. refl)
+
+  pub commit_kind : (c : Commit) → FitsJobCommit w minimum m.publish_sent m.drawn c → Tabled w c → Decides w minimum m.publish_sent m.drawn c → (r : Request) → commit_asks w c ≡ Some r → Kind r
+  commit_kind (Fetching sets n) fits t d r e = subst Kind (some_is e) (read_kind w.committer (length sets))
+  commit_kind (Replacing sets p ps x n) fits t d r e = subst Kind (some_is e) (sweep_kind p x)
+  commit_kind (Completing sets x xs finished) fits t d r e =
+      let p = nth (all_commits sets) x.number in
+      inr (p, (of_sets j f sets fits p (nth_of (all_commits sets) x.number (t.within x (inl refl)))).1.commit, inl (sym (some_is e)))
+  commit_kind (Marking sets n) fits t d r e = subst Kind (some_is e) (inl (λ id. refl))
+  commit_kind (Reverting q qs n) fits t d r e = let x = d q (inl refl) in inr (x.0, x.1, inr (elim x.2 [ inl h ↦ inl (sym (some_is e) ∙ h) | inr h ↦ inr (sym (some_is e) ∙ h) ]))
+  commit_kind (CommitOver end) fits t d r e = absurd cc
+
+  low : (p : Pending) → IsCommit w minimum m.publish_sent m.drawn p → (r : Request) → p.upload < (apply s r).content.next
+  low p x r = let later : s.content.next ≤ (apply s r).content.next = (frame s w.dest.bucket r f.there).later in let below = upload_low j f gone p x in omega arith
+
+  -- what such a request ends is gone
+  ends_now : (r : Request) → Kind r → (id : ℕ) → ends r id ≡ true → Out w s f.there id (apply s r)
+  ends_now r (inl none) id e = absurd (false_true (none id) e)
+  ends_now r (inr (p, x, inl is)) id e =
+      let same : id ≡ p.upload = eq_nat id p.upload (ap (λ y. ends y id) (sym is) ∙ e) in
+      let P : Request → Type 0 = λ y. Out w s f.there p.upload (apply s y) in
+      subst (λ v. Out w s f.there v (apply s r)) (sym same) (subst P (sym is) (low p x (completion p), completion_ends j f gone p x))
+  ends_now r (inr (p, x, inr (inl is))) id e =
+      let same : id ≡ p.upload = eq_nat id p.upload (ap (λ y. ends y id) (sym is) ∙ e) in
+      let P : Request → Type 0 = λ y. Out w s f.there p.upload (apply s y) in
+      subst (λ v. Out w s f.there v (apply s r)) (sym same) (subst P (sym is) (low p x (abort p), abort_ends j f gone p x))
+  ends_now r (inr (p, x, inr (inr is))) id e = absurd (false_true refl (ap (λ y. ends y id) (sym is) ∙ e))
+
+  pub commit_gone : (c : Commit) → FitsJobCommit w minimum m.publish_sent m.drawn c → Tabled w c → Decides w minimum m.publish_sent m.drawn c → (r : Request) → commit_asks w c ≡ Some r → (o : Outcome) → Gone w (effect s r o).content (tell_driver m r o)
+  commit_gone c fits t d r e o id h = by (m.ended id) refl
+    where
+      by : (b : Bool) → m.ended id ≡ b → Out w s f.there id (effect s r o)
+      by true g = stays_gone w s f.there id r o (gone id g)
+      by false g =
+          let both = and_parts (is_effective o) (ends r id) (sym (ap (λ b. b || (is_effective o && ends r id)) g) ∙ h) in
+          subst (Out w s f.there id) (sym (effective_is s r o both.0)) (ends_now r (commit_kind c fits t d r e) id both.1)
+
+pub first_gone : (w : Script) (s : Scene) → Gone w s.content nothing_told
+first_gone w s id e = absurd (false≢true e)
+
+-- a request that ends nothing leaves it so
+pub others_gone : (w : Script) (s : Scene) → HasBucket s.content w.dest.bucket → (ended : ℕ → Bool) → ((id : ℕ) → ended id ≡ true → (id < s.content.next) × (at_id w s.content id ≡ None)) → (r : Request) (o : Outcome)
+    → (id : ℕ) → ended id ≡ true → (id < (effect s r o).content.next) × (at_id w (effect s r o).content id ≡ None)
+others_gone w s there ended h r o id e = stays_gone w s there id r o (h id e)

@@ -1,0 +1,417 @@
+-- What stands where the files of the sets go, while the driver's commit completes their uploads and where it reverts.
+use Rattle.std.proofs.Common.{◌≡◌, ℕ, zero, suc, ◌+◌, ◌<◌, ◌≤◌, ◌⊎◌, inl, inr, nat_lt, nat_eq, ◌&&◌, ◌||◌, Bool, true, false, cond, List, [], ◌∷◌, ◌++◌, length, slice_get, Option, Some, None, refl, sym, ap, subst, ◌∙◌, arith}
+use Rattle.std.specs.Option.{option_map}
+use Rattle.std.proofs.lemmas.Bool.{and_parts, ltb-false}
+use Rattle.proof_base.proofs.Numbers.{below_is}
+use Rattle.s3_types.specs.Store.{Content, Scene}
+use Rattle.s3_types.specs.Answer.{apply}
+use Rattle.s3_types.specs.Moment.{effect, is_effective}
+use Rattle.s3_types.specs.declared.object.Object.{Object}
+use Rattle.s3_types.specs.declared.request.Request.{Request}
+use Rattle.s3_types.specs.declared.request.Request.TheVariants.{DeleteObject}
+use Rattle.s3_types.specs.declared.reply.Reply.{Reply}
+use Rattle.s3_types.specs.declared.journal.Outcome.{Outcome}
+use Rattle.s3_types.specs.declared.journal.Outcome.TheVariants.{Answered, Slow, RequestLost, ReplyLost}
+use Rattle.s3_types.specs.declared.journal.Entry.{Entry}
+use Rattle.path_keys.specs.Paths.{below}
+use Rattle.pending_json.specs.Pending.{Pending}
+use Rattle.pending_json.specs.declared.records.PendingSet.{PendingSet}
+use Rattle.sendings.specs.Worn.{was_answered, streak, IsWorn}
+use Rattle.sendings.proofs.Misses.{streak_same, worn_now, worn_more}
+use Rattle.sendings.proofs.SameRequest.{same_self}
+use Rattle.job_model.specs.Files.{File}
+use Rattle.job_model.specs.Legal.{IsLegal}
+use Rattle.job_model.specs.JobScript.{Script}
+use Rattle.job_model.specs.declared.ends.CommitEnd.{CommitEnd}
+use Rattle.job_model.specs.declared.ends.CommitEnd.TheVariants as ends_of
+use Rattle.job_model.specs.declared.ends.Stage.TheVariants as stages
+use Rattle.job_operations.specs.Outputs.{wanted_at, same_path, files}
+use Rattle.job_operations.specs.Records.{file_key}
+use Rattle.job_operations.specs.Walks.{Sweep, sweep_hears}
+use Rattle.job_operations.specs.Lanes.{Turn, nth, completion, abort, deletion, again, follow, dealt, revert}
+use Rattle.job_operations.specs.JobCommits.{Sets, all_commits, picks_of, Commit, Fetching, Replacing, Completing, Marking, Reverting, CommitOver, set_read, commit_hears, commit_misses, commit_tells, completing, is_no_magic, replaced, replacing, decided, fetching, fetched, swept, reverting, worn_completion}
+use Rattle.job_operations.specs.LaneTable.{In, Table, Tabled}
+use Rattle.job_operations.proofs.Tables.{table_dealt, table_answered, table_again, all_done}
+use Rattle.job_operations.proofs.Shared.{shared_found}
+use Rattle.request_frame.specs.Members.{IsIn}
+use Rattle.request_frame.specs.Frame.{changed_upload}
+use Rattle.request_frame.proofs.Members.{some_is, none_some, false_true, true_or_false, same_or_not, same_or_other, nat_false, nat_true, in_append}
+use Rattle.job_facts.specs.Told.{Told, driver_entry, tell_driver}
+use Rattle.job_facts.specs.Stores.{at_key}
+use Rattle.job_facts.specs.Facts.{Facts}
+use Rattle.job_facts.specs.Driver.{Reads, FitsJobCommit}
+use Rattle.job_facts.specs.Turning.{NoneEnded, Turned}
+use Rattle.job_facts.specs.Filed.{IsCommit, Gone, AreReverts, AreDecided, whole_of, IsBefore, deletes, Wants, FileStands}
+use Rattle.job_facts.proofs.Whose.{attempt, or_true, or_false}
+use Rattle.job_facts.proofs.Placed.{one_key}
+use Rattle.job_facts.proofs.Turning.{none_turned}
+use Rattle.job_facts.proofs.Held.{nth_of, number_of, of_sets, uploads_uniq, destinations_uniq, set_has, task_low, same_who}
+use Rattle.job_facts.proofs.Wanted.{wanted_of, wanted_here}
+use Rattle.job_facts.proofs.Numbered.{to_in, from_in, deletes_worn, deletes_tried, deletes_done}
+use Rattle.job_facts.proofs.Effects.{dest_is, completes_file, completes_nothing, other_key, abort_keys, deletion_is, deletion_key, deletion_other}
+
+-- the set of a task with a pick was read
+pick_read : (sets : Sets) (t n : ℕ) → picks_of sets t ≡ Some n → (h : PendingSet) × (slice_get sets t ≡ Some h) × (h.attempt ≡ n)
+pick_read sets t n e = by (slice_get sets t) refl e
+  where
+    by : (o : Option PendingSet) → slice_get sets t ≡ o → option_map (λ (h : PendingSet). h.attempt) o ≡ Some n → (h : PendingSet) × (slice_get sets t ≡ Some h) × (h.attempt ≡ n)
+    by None g k = absurd (none_some refl k)
+    by (Some h) g k = (h, g, some_is k)
+
+module _ {w : Script} {minimum : ℕ} {s : Scene} {last : ℕ → Option ℕ} {m : Told} (j : IsLegal w) (f : Facts w minimum s last m) (q b : List ℕ) where
+  abbrev key : List ℕ
+  key = below w.dest.key q
+
+  -- ---- the upload of a path that is wanted
+
+  pub record HasUpload (sets : Sets) : Type 0 where
+    pub upload : Pending
+    pub one_of : IsIn upload (all_commits sets)
+    pub goes_to : upload.destination ≡ key
+    pub number : ℕ
+    pub low : number < length (all_commits sets)
+    pub is : nth (all_commits sets) number ≡ upload
+
+  pub wanted_upload : (sets : Sets) → Reads w minimum m.publish_sent m.drawn sets → wanted_at w (picks_of sets) q ≡ Some b → HasUpload sets
+  wanted_upload sets reads e =
+      let x = wanted_of w (picks_of sets) q b e in
+      let h = pick_read sets x.from.task x.from.number x.from.picked in
+      let mine : IsIn x.file (files w (attempt x.from.task h.0.attempt)) = subst (λ n. IsIn x.file (files w (attempt x.from.task n))) (sym h.2) x.from.mine in
+      let p = set_has j f sets reads x.from.task h.0 h.1 x.file mine in
+      let n = number_of (all_commits sets) p.0 p.1 in
+      record { upload = p.0; one_of = p.1; goes_to = p.2 ∙ ap (below w.dest.key) (sym x.path); number = n.0; low = n.1; is = n.2 }
+
+  -- and the bytes of an upload that goes there are those that are wanted
+  pub wanted_bytes : (sets : Sets) → (reads : Reads w minimum m.publish_sent m.drawn sets) → same_path w (picks_of sets) ≡ None → wanted_at w (picks_of sets) q ≡ Some b → (p : Pending) → (i : IsIn p (all_commits sets)) → p.destination ≡ key
+      → (of_sets j f sets reads p i).1.commit.file.1 ≡ b
+  wanted_bytes sets reads apart e p i d =
+      let o = of_sets j f sets reads p i in
+      let x = o.1.commit in
+      let path : x.file.0 ≡ q = one_key j x.file (q, b) (sym (ap (λ (v : Pending). v.destination) x.is) ∙ d) in
+      let who : x.by ≡ attempt o.0 x.by.attempt = ap (λ n. attempt n x.by.attempt) o.1.task in
+      let want = wanted_here w (picks_of sets) j apart o.0 x.by.attempt (task_low j f (picks_of sets) o.0 p o.1) o.1.picked x.file (subst (λ a. IsIn x.file (files w a)) who x.mine) in
+      some_is (sym want ∙ ap (wanted_at w (picks_of sets)) path ∙ e)
+
+  -- ---- while it completes
+
+  abbrev pub Clause : Option Object → Sets → Option Object → (ℕ → Bool) → Type 0
+  Clause first sets now ended = (p : Pending) → IsIn p (all_commits sets) → p.destination ≡ key → ((ended p.upload ≡ true → now ≡ Some (whole_of b)) × (ended p.upload ≡ false → IsBefore first now))
+
+  module _ (first : Option Object) (es : List Entry) where
+    abbrev Stands : Option Object → (ℕ → Bool) → Commit → Type 0
+    Stands now ended c = FileStands w q b first es now ended c
+
+    -- where all are done it goes to the marker, and the whole file stands
+    stands_completing : (sets : Sets) (told : Told) (now : Option Object) (xs : List Turn) (finished : List ℕ) → Reads w minimum m.publish_sent m.drawn sets → wanted_at w (picks_of sets) q ≡ Some b
+        → Table w.lanes w.retries (length (all_commits sets)) xs finished → Turned told.ended sets xs finished → Clause first sets now told.ended → Stands now told.ended (completing sets xs finished)
+    stands_completing sets told now [] finished reads e t turned c =
+        let u = wanted_upload sets reads e in
+        let done = turned.done u.number (from_in u.number finished (all_done u.number u.low t)) in
+        (c u.upload u.one_of u.goes_to).0 (ap (λ (p : Pending). told.ended p.upload) (sym u.is) ∙ done)
+    stands_completing sets told now (x ∷ xs) finished reads e t turned c = c
+
+    fits_reads : (sets : Sets) (xs : List Turn) (finished : List ℕ) → FitsJobCommit w minimum m.publish_sent m.drawn (completing sets xs finished) → Reads w minimum m.publish_sent m.drawn sets
+    fits_reads sets [] finished h = h
+    fits_reads sets (x ∷ xs) finished h = h
+
+    wants_these : (sets : Sets) (xs : List Turn) (finished : List ℕ) → Wants w q b (completing sets xs finished) → wanted_at w (picks_of sets) q ≡ Some b
+    wants_these sets [] finished h = h
+    wants_these sets (x ∷ xs) finished h = h
+
+    -- as the completions begin
+    stands_replacing : (sets : Sets) (ps : List (List ℕ)) (told : Told) (now : Option Object) → NoneEnded told → IsBefore first now → FitsJobCommit w minimum m.publish_sent m.drawn (replacing w sets ps) → Wants w q b (replacing w sets ps) → Stands now told.ended (replacing w sets ps)
+    stands_replacing sets [] told now none before fits wants =
+        let xs = dealt w.lanes (length (all_commits sets)) in
+        let some : 0 < w.lanes = above j.one_lane in
+        stands_completing sets told now xs [] (fits_reads sets xs [] fits) (wants_these sets xs [] wants) (table_dealt w.lanes w.retries (length (all_commits sets)) some) (none_turned told none sets xs)
+        (λ p i e. ((λ g. absurd (false_true (none p.upload) g)), (λ g. before)))
+      where
+        above : {n : ℕ} → 1 ≤ n → 0 < n
+        above h = omega arith
+    stands_replacing sets (p ∷ ps) told now none before fits wants = before
+
+    stands_decided : (sets : Sets) (o : Option CommitEnd) → same_path w (picks_of sets) ≡ o → (told : Told) (now : Option Object) → NoneEnded told → now ≡ first → FitsJobCommit w minimum m.publish_sent m.drawn (decided w sets o) → Wants w q b (decided w sets o)
+        → Stands now told.ended (decided w sets o)
+    stands_decided sets (Some end) e told now none same fits wants = let x = shared_found w (picks_of sets) end e in subst (λ v. Stands now told.ended (CommitOver v)) (sym x.3) same
+    stands_decided sets None e told now none same fits wants = stands_replacing sets (replaced w.committer w.mode w (picks_of sets)) told now none (inl same) fits wants
+
+    abbrev Follows : Option Object → Told → Commit → Type 0
+    Follows now told c = FitsJobCommit w minimum m.publish_sent m.drawn c → Wants w q b c → Stands now told.ended c
+
+    pub stands_fetching : (sets : Sets) (told : Told) (now : Option Object) → NoneEnded told → now ≡ first → Follows now told (fetching w sets)
+    stands_fetching sets told now none same = by (nat_lt (length sets) w.tasks)
+      where
+        by : (t : Bool) → Follows now told (cond t (Fetching sets 0) (decided w sets (same_path w (picks_of sets))))
+        by true = λ fits wants. same
+        by false = stands_decided sets (same_path w (picks_of sets)) refl told now none same
+
+    stands_fetched : (sets : Sets) (o : Option PendingSet) (told : Told) (now : Option Object) → NoneEnded told → now ≡ first → Follows now told (fetched w sets o)
+    stands_fetched sets (Some h) told now none same = stands_fetching (sets ++ h ∷ []) told now none same
+    stands_fetched sets None told now none same = λ fits wants. same
+
+    stands_swept : (sets : Sets) (p : List ℕ) (ps : List (List ℕ)) (o : Option Sweep) (told : Told) (now : Option Object) → NoneEnded told → IsBefore first now → Follows now told (swept w sets p ps o)
+    stands_swept sets p ps (Some x) told now none before = λ fits wants. before
+    stands_swept sets p ps None told now none before = stands_replacing sets ps told now none before
+
+    either : (now : Option Object) (ended : ℕ → Bool) (t : Bool) (c d : Commit) → (t ≡ true → Stands now ended c) → (t ≡ false → Stands now ended d) → Stands now ended (cond t c d)
+    either now ended true c d h g = h refl
+    either now ended false c d h g = g refl
+
+    -- ---- each stage, where an entry leaves the key as it is or before
+
+    pub fetching_stands : (sets : Sets) (n : ℕ) (told : Told) (now : Option Object) → NoneEnded told → now ≡ first → (o : Outcome) → Follows now told (commit_tells w (Fetching sets n) o)
+    fetching_stands sets n told now none same (Answered y) fits wants = stands_fetched sets (set_read y) told now none same fits wants
+    fetching_stands sets n told now none same Slow fits wants = either now told.ended (nat_lt n w.retries) (Fetching sets (n + 1)) (CommitOver (ends_of.StoreFault stages.Read)) (λ e. same) (λ e. same)
+    fetching_stands sets n told now none same RequestLost fits wants = either now told.ended (nat_lt n w.retries) (Fetching sets (n + 1)) (CommitOver (ends_of.StoreFault stages.Read)) (λ e. same) (λ e. same)
+    fetching_stands sets n told now none same ReplyLost fits wants = either now told.ended (nat_lt n w.retries) (Fetching sets (n + 1)) (CommitOver (ends_of.StoreFault stages.Read)) (λ e. same) (λ e. same)
+
+    pub replacing_stands : (sets : Sets) (p : List ℕ) (ps : List (List ℕ)) (x : Sweep) (n : ℕ) (told : Told) (now : Option Object) → NoneEnded told → IsBefore first now → (o : Outcome) → Follows now told (commit_tells w (Replacing sets p ps x n) o)
+    replacing_stands sets p ps x n told now none same (Answered y) fits wants = stands_swept sets p ps (sweep_hears (is_no_magic w) x y) told now none same fits wants
+    replacing_stands sets p ps x n told now none same Slow fits wants = either now told.ended (nat_lt n w.retries) (Replacing sets p ps x (n + 1)) (CommitOver (ends_of.StoreFault stages.Delete)) (λ e. same) (λ e. same)
+    replacing_stands sets p ps x n told now none same RequestLost fits wants = either now told.ended (nat_lt n w.retries) (Replacing sets p ps x (n + 1)) (CommitOver (ends_of.StoreFault stages.Delete)) (λ e. same) (λ e. same)
+    replacing_stands sets p ps x n told now none same ReplyLost fits wants = either now told.ended (nat_lt n w.retries) (Replacing sets p ps x (n + 1)) (CommitOver (ends_of.StoreFault stages.Delete)) (λ e. same) (λ e. same)
+
+    pub marking_stands : (sets : Sets) (n : ℕ) (now : Option Object) (ended : ℕ → Bool) → now ≡ Some (whole_of b) → (o : Outcome) → Stands now ended (commit_tells w (Marking sets n) o)
+    marking_stands sets n now ended h (Answered y) = h
+    marking_stands sets n now ended h Slow = either now ended (nat_lt n w.retries) (Marking sets (n + 1)) (CommitOver (ends_of.StoreFault stages.Success)) (λ e. h) (λ e. h)
+    marking_stands sets n now ended h RequestLost = either now ended (nat_lt n w.retries) (Marking sets (n + 1)) (CommitOver (ends_of.StoreFault stages.Success)) (λ e. h) (λ e. h)
+    marking_stands sets n now ended h ReplyLost = either now ended (nat_lt n w.retries) (Marking sets (n + 1)) (CommitOver (ends_of.StoreFault stages.Success)) (λ e. h) (λ e. h)
+
+-- ---- a completion, and the requests of a revert
+
+module _ {w : Script} {minimum : ℕ} {s : Scene} {last : ℕ → Option ℕ} {m : Told} (j : IsLegal w) (f : Facts w minimum s last m) (gone : Gone w s.content m) (q b : List ℕ) (first : Option Object) (es : List Entry) (n : ℕ) where
+  abbrev at : List ℕ
+  at = below w.dest.key q
+
+  abbrev now : Option Object
+  now = at_key w s.content at
+
+  abbrev after : Request → Outcome → Option Object
+  after r o = at_key w (effect s r o).content at
+
+  abbrev more : Request → Outcome → List Entry
+  more r o = es ++ driver_entry n r o ∷ []
+
+  -- where an entry leaves the key as it was
+  same_after : (r : Request) → at_key w (apply s r).content at ≡ now → (o : Outcome) → after r o ≡ now
+  same_after r e (Answered y) = e
+  same_after r e Slow = refl
+  same_after r e RequestLost = refl
+  same_after r e ReplyLost = e
+
+  module _ (sets : Sets) (x : Turn) (xs : List Turn) (finished : List ℕ) (reads : Reads w minimum m.publish_sent m.drawn sets) (t : Tabled w (Completing sets x xs finished)) (turns : Turned m.ended sets (x ∷ xs) finished) (d : AreDecided w sets)
+      (wants : wanted_at w (picks_of sets) q ≡ Some b) (old : Clause j f q b first sets now m.ended) where
+    abbrev all : List Pending
+    all = all_commits sets
+
+    abbrev p : Pending
+    p = nth all x.number
+
+    abbrev told : Outcome → Told
+    told o = tell_driver m (completion p) o
+
+    low : x.number < length all
+    low = t.within x (inl refl)
+
+    abbrev mine : IsCommit w minimum m.publish_sent m.drawn p
+    mine = (of_sets j f sets reads p (nth_of all x.number low)).1.commit
+
+    -- this upload goes there
+    whole_now : p.destination ≡ at → at_key w (apply s (completion p)).content at ≡ Some (whole_of b)
+    whole_now e = by (m.ended p.upload) refl
+      where
+        by : (v : Bool) → m.ended p.upload ≡ v → at_key w (apply s (completion p)).content at ≡ Some (whole_of b)
+        by true g = completes_nothing j f gone p mine g at ∙ (old p (nth_of all x.number low) e).0 g
+        by false g =
+            ap (at_key w (apply s (completion p)).content) (sym e)
+            ∙ completes_file j f gone p mine g
+            ∙ ap (λ v. Some (whole_of v)) (wanted_bytes j f q b sets reads d.apart wants p (nth_of all x.number low) e)
+
+    ended_now : (m.ended p.upload || (true && nat_eq p.upload p.upload)) ≡ true
+    ended_now = ap (λ v. m.ended p.upload || v) (nat_true p.upload p.upload refl) ∙ or_true (m.ended p.upload)
+
+    abbrev Here : Outcome → Type 0
+    Here o = ((told o).ended p.upload ≡ true → after (completion p) o ≡ Some (whole_of b)) × ((told o).ended p.upload ≡ false → IsBefore first (after (completion p) o))
+
+    here : p.destination ≡ at → (o : Outcome) → Here o
+    here e (Answered y) = ((λ g. whole_now e), (λ g. absurd (false_true g ended_now)))
+    here e Slow = let h = old p (nth_of all x.number low) e in ((λ g. h.0 (sym (or_false (m.ended p.upload)) ∙ g)), (λ g. h.1 (sym (or_false (m.ended p.upload)) ∙ g)))
+    here e RequestLost = let h = old p (nth_of all x.number low) e in ((λ g. h.0 (sym (or_false (m.ended p.upload)) ∙ g)), (λ g. h.1 (sym (or_false (m.ended p.upload)) ∙ g)))
+    here e ReplyLost = ((λ g. whole_now e), (λ g. absurd (false_true g ended_now)))
+
+    -- another upload is as it was
+    and_false : (v : Bool) → (v && false) ≡ false
+    and_false true = refl
+    and_false false = refl
+
+    ended_same : (o : Outcome) (u : ℕ) → (u ≡ p.upload → ⊥) → (told o).ended u ≡ m.ended u
+    ended_same o u ne = ap (λ v. m.ended u || (is_effective o && v)) (nat_false u p.upload ne) ∙ ap (λ v. m.ended u || v) (and_false (is_effective o)) ∙ or_false (m.ended u)
+
+    clause_after : (o : Outcome) → Clause j f q b first sets (after (completion p) o) (told o).ended
+    clause_after o v i e =
+        let k = number_of all v i in
+        elim (same_or_not k.0 x.number) [
+          | inl is ↦
+              let one : p ≡ v = ap (nth all) (sym is) ∙ k.2 in
+              let P : Pending → Type 0 = λ z. ((told o).ended z.upload ≡ true → after (completion p) o ≡ Some (whole_of b)) × ((told o).ended z.upload ≡ false → IsBefore first (after (completion p) o)) in
+              subst P one (here (ap (λ (z : Pending). z.destination) one ∙ e) o)
+          | inr ne ↦
+              let upload : v.upload ≡ p.upload → ⊥ = λ g. ne (uploads_uniq j f sets reads k.0 x.number k.1 low (ap (λ (z : Pending). z.upload) k.2 ∙ g)) in
+              let away : at ≡ p.destination → ⊥ = λ g. ne (destinations_uniq j f sets reads d.apart k.0 x.number k.1 low (ap (λ (z : Pending). z.destination) k.2 ∙ e ∙ g)) in
+              let same = same_after (completion p) (other_key j f gone p mine at away) o in
+              let h = old v i e in
+              ((λ g. same ∙ h.0 (sym (ended_same o v.upload upload) ∙ g)), (λ g. subst (IsBefore first) (sym same) (h.1 (sym (ended_same o v.upload upload) ∙ g))))
+        ]
+
+    -- what becomes of the turn
+    abbrev Now : Outcome → Commit → Type 0
+    Now o c = FileStands w q b first (more (completion p) o) (after (completion p) o) (told o).ended c
+
+    answered : (y : Reply) → Turned (told (Answered y)).ended sets (xs ++ follow w.lanes (length all) x.number) (x.number ∷ finished) → Now (Answered y) (completing sets (xs ++ follow w.lanes (length all) x.number) (x.number ∷ finished))
+    answered y turned =
+        let some : 0 < w.lanes = above j.one_lane in
+        stands_completing j f q b first (more (completion p) (Answered y)) sets (told (Answered y)) (after (completion p) (Answered y)) (xs ++ follow w.lanes (length all) x.number) (x.number ∷ finished) reads wants (table_answered x some t) turned (clause_after (Answered y))
+      where
+        above : {k : ℕ} → 1 ≤ k → 0 < k
+        above h = omega arith
+
+    -- its deletion is to come, where it stands
+    deletes_it : (lost : Bool) (told : Told) → Turned told.ended sets (xs ++ again x lost ∷ []) finished → (k : ℕ) → k < length all → told.ended (nth all k).upload ≡ true → IsIn (deletion (nth all k)) (revert all x.number xs finished)
+    deletes_it lost told turned k l e = elim (turned.only k l e) [
+      | inl done ↦ deletes_done all x.number xs finished low t.done_within k (to_in k finished done)
+      | inr y ↦ elim (in_append y.0 xs (again x lost ∷ []) y.1) [
+        | inl i ↦
+            let z : In y.0 xs = to_in y.0 xs i in
+            let some : y.0.missed ≡ 0 → ⊥ = λ g. false_true (t.unsent y.0 (inr z) g) y.3 in
+            subst (λ v. IsIn (deletion (nth all v)) (revert all x.number xs finished)) y.2 (deletes_tried all x.number xs finished low t.done_within y.0 z some (t.within y.0 (inr z)))
+        | inr i ↦ elim i [
+          | inl is ↦
+              let number : x.number ≡ k = sym (ap (λ (v : Turn). v.number) is) ∙ y.2 in
+              subst (λ v. IsIn (deletion (nth all v)) (revert all x.number xs finished)) number (deletes_worn all x.number xs finished low t.done_within)
+          | inr none ↦ absurd none
+        ]
+      ]
+    ]
+
+    reverts : (o : Outcome) (lost : Bool) → Turned (told o).ended sets (xs ++ again x lost ∷ []) finished → Now o (worn_completion sets x xs finished)
+    reverts o lost turned =
+        let u = wanted_upload j f q b sets reads wants in
+        let c = clause_after o u.upload u.one_of u.goes_to in
+        (omega arith, elim (true_or_false ((told o).ended u.upload.upload)) [
+          | inr e ↦ inl (c.1 e)
+          | inl e ↦
+              let there : IsIn (deletion u.upload) (revert all x.number xs finished) =
+              subst (λ (v : Pending). IsIn (deletion v) (revert all x.number xs finished)) u.is (deletes_it lost (told o) turned u.number u.low (ap (λ (v : Pending). (told o).ended v.upload) u.is ∙ e)) in
+              let is : deletion u.upload ≡ deletes w q = deletion_is j f gone u.upload (of_sets j f sets reads u.upload u.one_of).1.commit ∙ ap (λ k. DeleteObject w.dest.bucket k) u.goes_to in
+              inr (c.0 e, inl (subst (λ r. IsIn r (revert all x.number xs finished)) is there))
+        ])
+
+    pub missed : (o : Outcome) (lost : Bool) → Turned (told o).ended sets (xs ++ again x lost ∷ []) finished → Now o (commit_misses w (Completing sets x xs finished) lost)
+    missed o lost turned = either j f q b first (more (completion p) o) (after (completion p) o) (told o).ended (nat_lt x.missed w.retries) (completing sets (xs ++ again x lost ∷ []) finished) (worn_completion sets x xs finished)
+        (λ e. stands_completing j f q b first (more (completion p) o) sets (told o) (after (completion p) o) (xs ++ again x lost ∷ []) finished reads wants (table_again x lost (below_is x.missed w.retries e) t) turned (clause_after o))
+        (λ e. reverts o lost turned)
+
+    pub completing_stands : ((y : Reply) → Turned (told (Answered y)).ended sets (xs ++ follow w.lanes (length all) x.number) (x.number ∷ finished)) → ((o : Outcome) (lost : Bool) → (is_effective o ≡ true → lost ≡ true) → Turned (told o).ended sets (xs ++ again x lost ∷ []) finished)
+        → (o : Outcome) → Now o (commit_tells w (Completing sets x xs finished) o)
+    completing_stands h g (Answered y) = answered y (h y)
+    completing_stands h g Slow = missed Slow false (g Slow false (λ e. absurd (false_true refl e)))
+    completing_stands h g RequestLost = missed RequestLost true (g RequestLost true (λ e. refl))
+    completing_stands h g ReplyLost = missed ReplyLost true (g ReplyLost true (λ e. refl))
+
+  -- ---- a revert
+
+  module _ (r : Request) (rs : List Request) (k : ℕ) (one : (p : Pending) × IsCommit w minimum m.publish_sent m.drawn p × ((r ≡ abort p) ⊎ (r ≡ deletion p))) where
+    -- the key is as it was, or nothing stands there; and nothing where this deletes it
+    record Taken (v : Option Object) : Type 0 where
+      pub or_gone : (v ≡ now) ⊎ (v ≡ None)
+      pub deleted : deletes w q ≡ r → v ≡ None
+
+    abbrev key_of : Request → List ℕ
+    key_of (DeleteObject bucket key) = key
+    key_of _ = []
+
+    took : Taken (at_key w (apply s r).content at)
+    took = elim one.2 [
+      | inl e ↦
+          let same = ap (λ y. at_key w (apply s y).content at) e ∙ abort_keys j f gone one.0 one.1 at in
+          record { or_gone = inl same; deleted = λ g. absurd (none_some refl (ap changed_upload (g ∙ e))) }
+      | inr e ↦ elim (same_or_other at one.0.destination) [
+        | inl is ↦
+            let none : at_key w (apply s r).content at ≡ None = ap (λ y. at_key w (apply s y).content at) e ∙ ap (at_key w (apply s (deletion one.0)).content) is ∙ deletion_key j f gone one.0 one.1 in
+            record { or_gone = inr none; deleted = λ g. none }
+        | inr ne ↦ record {
+          or_gone = inl (ap (λ y. at_key w (apply s y).content at) e ∙ deletion_other j f gone one.0 one.1 at ne);
+          deleted = λ g. absurd (ne (ap key_of (g ∙ e)));
+        }
+      ]
+    ]
+
+    abbrev Left : List Entry → Option Object → List Request → Type 0
+    Left es now qs = IsBefore first now ⊎ ((now ≡ Some (whole_of b)) × (IsIn (deletes w q) qs ⊎ IsWorn w.retries (deletes w q) es))
+
+    before_stays : {u v : Option Object} → (v ≡ u) ⊎ (v ≡ None) → IsBefore first u → IsBefore first v
+    before_stays (inr e) h = inr e
+    before_stays (inl e) (inl h) = inl (e ∙ h)
+    before_stays (inl e) (inr h) = inr (e ∙ h)
+
+    module _ (few : k ≤ streak r es) (left : Left es now (r ∷ rs)) where
+      -- it took effect: what is deleted is gone, and the list goes on
+      effective : (o : Outcome) → (qs : List Request) → ((y : Request) → IsIn y (r ∷ rs) → (y ≡ r) ⊎ IsIn y qs) → Left (more r o) (at_key w (apply s r).content at) qs
+      effective o qs goes = elim left [
+        | inl h ↦ inl (before_stays took.or_gone h)
+        | inr h ↦ elim took.or_gone [
+          | inr none ↦ inl (inr none)
+          | inl same ↦ elim h.1 [
+            | inl i ↦ elim (goes (deletes w q) i) [ inl is ↦ inl (inr (took.deleted is)) | inr on ↦ inr (same ∙ h.0, inl on) ]
+            | inr worn ↦ inr (same ∙ h.0, inr (worn_more w.retries (deletes w q) es (driver_entry n r o ∷ []) worn))
+          ]
+        ]
+      ]
+
+      -- it took none, and is in hand still
+      in_hand : (o : Outcome) → Left (more r o) now (r ∷ rs)
+      in_hand o = elim left [
+        | inl h ↦ inl h
+        | inr h ↦ elim h.1 [ inl i ↦ inr (h.0, inl i) | inr worn ↦ inr (h.0, inr (worn_more w.retries (deletes w q) es (driver_entry n r o ∷ []) worn)) ]
+      ]
+
+      -- or it wore out
+      passed : (o : Outcome) → IsWorn w.retries r (more r o) → Left (more r o) now rs
+      passed o worn_out = elim left [
+        | inl h ↦ inl h
+        | inr h ↦ elim h.1 [
+          | inl (inl is) ↦ inr (h.0, inr (subst (λ y. IsWorn w.retries y (more r o)) (sym is) worn_out))
+          | inl (inr i) ↦ inr (h.0, inl i)
+          | inr worn ↦ inr (h.0, inr (worn_more w.retries (deletes w q) es (driver_entry n r o ∷ []) worn))
+        ]
+      ]
+
+      abbrev So : Outcome → Option Object → Commit → Type 0
+      So o v c = FileStands w q b first (more r o) v (tell_driver m r o).ended c
+
+      so_reverting : (o : Outcome) (v : Option Object) (qs : List Request) → Left (more r o) v qs → So o v (reverting qs)
+      so_reverting o v [] (inl h) = inl h
+      so_reverting o v [] (inr (e, inl i)) = absurd i
+      so_reverting o v [] (inr (e, inr worn)) = inr (e, worn)
+      so_reverting o v (y ∷ ys) h = (omega arith, h)
+
+      grown : (o : Outcome) → was_answered o ≡ false → streak r (more r o) ≡ streak r es + 1
+      grown o e = streak_same r es (driver_entry n r o) (same_self r) ∙ ap (λ v. cond v 0 (streak r es + 1)) e
+
+      missed_so : (o : Outcome) (lost : Bool) (v : Option Object) → was_answered o ≡ false → Left (more r o) v (r ∷ rs) → (IsWorn w.retries r (more r o) → Left (more r o) v rs) → So o v (commit_misses w (Reverting r rs k) lost)
+      missed_so o lost v e here over = by (nat_lt k w.retries) refl
+        where
+          more_now : streak r (more r o) ≡ streak r es + 1
+          more_now = grown o e
+
+          by : (t : Bool) → nat_lt k w.retries ≡ t → So o v (cond t (Reverting r rs (k + 1)) (reverting rs))
+          by true g = (omega (arith, more_now, few), here)
+          by false g =
+              let high : w.retries ≤ k = ltb-false k w.retries g in
+              so_reverting o v rs (over (worn_now w.retries r (more r o) (omega (arith, more_now, few, high))))
+
+      pub reverting_stands : (o : Outcome) → So o (after r o) (commit_tells w (Reverting r rs k) o)
+      reverting_stands (Answered y) = so_reverting (Answered y) (at_key w (apply s r).content at) rs (effective (Answered y) rs (λ y i. i))
+      reverting_stands Slow = missed_so Slow false now refl (in_hand Slow) (passed Slow)
+      reverting_stands RequestLost = missed_so RequestLost true now refl (in_hand RequestLost) (passed RequestLost)
+      reverting_stands ReplyLost = missed_so ReplyLost true (at_key w (apply s r).content at) refl (effective ReplyLost (r ∷ rs) (λ y i. inr i)) (λ worn. effective ReplyLost rs (λ y i. i))

@@ -1,0 +1,131 @@
+-- The picks that are seen as the driver's commit reads the sets.
+use Rattle.std.proofs.Common.{◌≡◌, ℕ, zero, suc, ◌+◌, ◌<◌, ◌≤◌, ◌^◌, ◌⊎◌, inl, inr, ◌&&◌, Bool, true, false, cond, List, [], ◌∷◌, ◌++◌, length, slice_get, Option, Some, None, refl, sym, ap, subst, ◌∙◌, arith, length-append}
+use Rattle.std.specs.Option.{option_map}
+use Rattle.std.proofs.lemmas.Bool.{false≢true}
+use Rattle.proof_base.specs.Order.{text_eq}
+use Rattle.s3_types.specs.Store.{Scene}
+use Rattle.s3_types.specs.Answer.{answer}
+use Rattle.s3_types.specs.declared.request.Committer.{Committer}
+use Rattle.s3_types.specs.declared.request.Committer.TheVariants.{Magic, Directory, Partitioned}
+use Rattle.s3_types.specs.declared.reply.Reply.{Reply}
+use Rattle.magic_paths.specs.Layout as layout
+use Rattle.magic_paths.specs.Places.{SetPlace, StagedSetPlace}
+use Rattle.pending_json.specs.declared.records.PendingSet.{PendingSet}
+use Rattle.job_model.specs.Legal.{IsLegal}
+use Rattle.job_model.specs.JobScript.{Script}
+use Rattle.job_operations.specs.Outputs.{Picks}
+use Rattle.job_operations.specs.Records.{files_set}
+use Rattle.job_operations.specs.JobCommits.{Sets, picks_of, Commit, Fetching, set_request, set_read, fetched}
+use Rattle.job_promise.specs.Seen.{is_magic, is_staging, is_reading, picks_by}
+use Rattle.request_frame.proofs.Members.{false_true, text_true, text_false, same_or_not, some_is}
+use Rattle.job_facts.specs.Told.{Told}
+use Rattle.job_facts.specs.Facts.{Facts, knowing}
+use Rattle.job_facts.specs.RunLaws.{replaces}
+use Rattle.job_facts.proofs.Legal.{small_task}
+use Rattle.job_facts.proofs.Placed.{one_place, one_path}
+use Rattle.job_facts.proofs.Replies.{set_answered}
+use Rattle.job_facts.proofs.Agreeing.{AgreeBelow, Agrees, agrees_fetching}
+
+-- ---- which task a read is of
+
+module _ {w : Script} (j : IsLegal w) where
+  set_task : {a b : ℕ} → SetPlace a ≡ SetPlace b → a ≡ b
+  set_task e = cc
+
+  staged_task : {a b : ℕ} → StagedSetPlace a ≡ StagedSetPlace b → a ≡ b
+  staged_task e = cc
+
+  and_true : (a b c : Bool) → a ≡ true → b ≡ true → c ≡ true → (a && (b && c)) ≡ true
+  and_true a b c h g k = rw (h, g, k) refl
+
+  and_last : (a b c : Bool) → c ≡ false → (a && (b && c)) ≡ false
+  and_last true true c h = h
+  and_last true false c h = refl
+  and_last false b c h = refl
+
+  and_two : (a b : Bool) → a ≡ true → b ≡ true → (a && b) ≡ true
+  and_two a b h g = rw (h, g) refl
+
+  and_end : (a b : Bool) → b ≡ false → (a && b) ≡ false
+  and_end true b h = h
+  and_end false b h = refl
+
+  reads_by : (c : Committer) → w.committer ≡ c → (t : ℕ) → is_reading w t (set_request c w t) ≡ true
+  reads_by Magic e t = and_true _ _ _ (ap is_magic e) (text_true w.dest.bucket w.dest.bucket refl) (text_true (layout.set_key w.dest.key w.job t) (layout.set_key w.dest.key w.job t) refl)
+  reads_by Directory e t = and_two _ _ (ap is_staging e) (text_true (layout.staged_set_path w.job t) (layout.staged_set_path w.job t) refl)
+  reads_by Partitioned e t = and_two _ _ (ap is_staging e) (text_true (layout.staged_set_path w.job t) (layout.staged_set_path w.job t) refl)
+
+  pub reads_it : (t : ℕ) → is_reading w t (set_request w.committer w t) ≡ true
+  reads_it t = reads_by w.committer refl t
+
+  other_by : (c : Committer) → (t u : ℕ) → t < w.tasks → u < w.tasks → (t ≡ u → ⊥) → is_reading w t (set_request c w u) ≡ false
+  other_by Magic t u l k ne = and_last _ _ _ (text_false _ _ (λ e. ne (sym (set_task (one_place j (SetPlace u) (SetPlace t) (small_task j u k) (small_task j t l) e)))))
+  other_by Directory t u l k ne = and_end _ _ (text_false _ _ (λ e. ne (sym (staged_task (one_path j (StagedSetPlace u) (StagedSetPlace t) (small_task j u k) (small_task j t l) e)))))
+  other_by Partitioned t u l k ne = and_end _ _ (text_false _ _ (λ e. ne (sym (staged_task (one_path j (StagedSetPlace u) (StagedSetPlace t) (small_task j u k) (small_task j t l) e)))))
+
+  pub reads_other : (t u : ℕ) → t < w.tasks → u < w.tasks → (t ≡ u → ⊥) → is_reading w t (set_request w.committer w u) ≡ false
+  reads_other t u l k ne = other_by w.committer t u l k ne
+
+-- ---- the sets that were read, with one more
+
+slice_front : {X : Type 0} (xs : List X) (y : X) (n : ℕ) → n < length xs → slice_get (xs ++ y ∷ []) n ≡ slice_get xs n
+slice_front [] y n l = absurd (omega arith)
+slice_front (x ∷ xs) y zero l = refl
+slice_front (x ∷ xs) y (suc n) l = slice_front xs y n (omega arith)
+
+slice_last : {X : Type 0} (xs : List X) (y : X) → slice_get (xs ++ y ∷ []) (length xs) ≡ Some y
+slice_last [] y = refl
+slice_last (x ∷ xs) y = slice_last xs y
+
+module _ {w : Script} {minimum : ℕ} {s : Scene} {last : ℕ → Option ℕ} {m : Told} (j : IsLegal w) (plain : replaces w ≡ false) (f : Facts w minimum s last m) (few : s.content.next ≤ 2 ^ 64) (picks : Picks) (sets : Sets) (low : length sets < w.tasks) (agree : AgreeBelow w picks sets (length sets)) (begun : Bool) (has_begun : begun ≡ true) where
+  -- the picks after the answer
+  abbrev next : Picks
+  next = picks_by w begun last picks (set_request w.committer w (length sets))
+
+  next_other : (t : ℕ) → t < w.tasks → (t ≡ length sets → ⊥) → next t ≡ picks t
+  next_other t l ne = ap (λ b. cond (begun && b) (last t) (picks t)) (reads_other j t (length sets) l low ne) ∙ ap (λ b. cond b (last t) (picks t)) (no_task begun)
+    where
+      no_task : (b : Bool) → (b && false) ≡ false
+      no_task true = refl
+      no_task false = refl
+
+  next_here : next (length sets) ≡ last (length sets)
+  next_here = ap (λ b. cond (begun && b) (last (length sets)) (picks (length sets))) (reads_it j (length sets)) ∙ ap (λ b. cond (b && true) (last (length sets)) (picks (length sets))) has_begun
+
+  still_agree : AgreeBelow w next sets (length sets)
+  still_agree t l = next_other t (omega arith) (λ e. absurd (omega (arith, e))) ∙ agree t l
+
+  -- a set that was read is of the last publisher, which is the pick then
+  one_more : (h : PendingSet) → last (length sets) ≡ Some h.attempt → AgreeBelow w next (sets ++ h ∷ []) (length (sets ++ h ∷ []))
+  one_more h latest t l = elim (same_or_not t (length sets)) [
+    | inl is ↦
+        ap next is ∙ next_here ∙ latest
+        ∙ sym (ap (λ n. option_map (λ (v : PendingSet). v.attempt) (slice_get (sets ++ h ∷ []) n)) is ∙ ap (option_map (λ (v : PendingSet). v.attempt)) (slice_last sets h))
+    | inr ne ↦
+        let long : length (sets ++ h ∷ []) ≡ length sets + 1 = length-append sets (h ∷ []) in
+        let below : t < length sets = less t ne long l in
+        still_agree t below ∙ sym (ap (option_map (λ (v : PendingSet). v.attempt)) (slice_front sets h t below))
+  ]
+    where
+      less : (t : ℕ) → (t ≡ length sets → ⊥) → length (sets ++ h ∷ []) ≡ length sets + 1 → t < length (sets ++ h ∷ []) → t < length sets
+      less t ne long l = elim (order t (length sets)) [ inl b ↦ b | inr b ↦ absurd (ne (omega (arith, b, long, l))) ]
+        where
+          order : (a b : ℕ) → (a < b) ⊎ (b ≤ a)
+          order zero zero = inr (omega arith)
+          order zero (suc b) = inl (omega arith)
+          order (suc a) zero = inr (omega arith)
+          order (suc a) (suc b) = elim (order a b) [ inl h ↦ inl (omega arith) | inr h ↦ inr (omega arith) ]
+
+  pub agrees_read : (x : Reply) → x ≡ answer s (set_request w.committer w (length sets)) → Agrees w next (fetched w sets (set_read x))
+  agrees_read x e = elim (set_answered j f few (length sets) low) [
+    | inl none ↦ elim none [
+      | inl key ↦ subst (λ y. Agrees w next (fetched w sets (set_read y))) (sym (e ∙ key)) still_agree
+      | inr file ↦ subst (λ y. Agrees w next (fetched w sets (set_read y))) (sym (e ∙ file)) still_agree
+    ]
+    | inr there ↦
+        let o = there.set in
+        let h : PendingSet = files_set w o.by o.commits (knowing (m.drawn o.by)) in
+        let is : set_read x ≡ Some h = ap set_read e ∙ there.is_read in
+        let long : length (sets ++ h ∷ []) ≡ length sets + 1 = length-append sets (h ∷ []) in
+        subst (λ y. Agrees w next (fetched w sets y)) (sym is) (agrees_fetching w next plain (sets ++ h ∷ []) (omega (arith, long, low)) (one_more h o.latest))
+  ]

@@ -1,0 +1,342 @@
+-- What holds of a run's stand: before its set-up is done, while its commit goes on, and while it cleans up.
+use Rattle.std.proofs.Common.{◌≡◌, ℕ, ◌<◌, ◌≤◌, ◌⊎◌, inl, inr, ◌&&◌, ◌||◌, not, Bool, true, false, cond, List, [], ◌∷◌, Option, Some, None, refl, sym, ap, subst, ◌∙◌}
+use Rattle.std.specs.FinMap as fin
+use Rattle.std.specs.Option.{option_map, is_some}
+use Rattle.std.specs.Map.{lookup}
+use Rattle.proof_base.specs.Order.{text_eq}
+use Rattle.std.proofs.lemmas.Bool.{and_parts, not-true}
+use Rattle.s3_types.specs.Store.{Content, Scene, Upload}
+use Rattle.s3_types.specs.Pages.{begins}
+use Rattle.s3_types.specs.Moment.{effect}
+use Rattle.s3_types.specs.declared.object.Object.{Object}
+use Rattle.s3_types.specs.declared.request.Request.{Request}
+use Rattle.s3_types.specs.declared.journal.Outcome.{Outcome}
+use Rattle.s3_types.specs.declared.journal.Outcome.TheVariants.{Answered, Slow, RequestLost, ReplyLost}
+use Rattle.s3_types.specs.declared.journal.Entry.{Entry}
+use Rattle.path_keys.specs.Paths.{below}
+use Rattle.magic_paths.specs.Layout.{magic_prefix, success_key}
+use Rattle.magic_paths.specs.Places.{SuccessPlace}
+use Rattle.magic_paths.proofs.Tails.{key_magic}
+use Rattle.sendings.specs.Retries.{Retried}
+use Rattle.job_model.specs.Attempts.{Who}
+use Rattle.job_model.specs.Legal.{IsLegal}
+use Rattle.job_model.specs.JobScript.{Script}
+use Rattle.job_model.specs.declared.ends.CommitEnd.{CommitEnd}
+use Rattle.job_model.specs.declared.ends.CommitEnd.TheVariants as commits
+use Rattle.job_model.specs.declared.ends.Stage.TheVariants as stages
+use Rattle.job_model.specs.declared.ends.SetupEnd.TheVariants as setups
+use Rattle.job_operations.specs.Outputs.{Picks, wanted_at, is_decided, is_picked, is_clash}
+use Rattle.job_operations.specs.Conflicts.{keeps_of}
+use Rattle.job_operations.specs.Records.{mark_text}
+use Rattle.job_operations.specs.Setup.{Setup, SetupOver}
+use Rattle.job_operations.specs.View.{Shown, view, is_file_path, object_at}
+use Rattle.job_operations.specs.JobCommits.{Sets, picks_of, Commit, Fetching, Replacing, Completing, Marking, Reverting, CommitOver}
+use Rattle.job_operations.specs.LaneTable.{Tabled}
+use Rattle.job_operations.specs.Operations.{Setting, Operation, TheSetup, TheWrite, TheTaskCommit, TheTaskAbort, TheCommit, TheClean}
+use Rattle.job_promise.specs.Headline.{Same, Between, Whole, Kept, or_else, done}
+use Rattle.job_promise.specs.OperationEnds.{is_untouched, NoDeletionWorn, OnlyOpening}
+use Rattle.job_promise.specs.Seen.{Seen, is_marked}
+use Rattle.request_frame.specs.Held.{HasBucket}
+use Rattle.request_frame.proofs.Members.{some_is, none_some, false_true, true_or_false, none_or_some}
+use Rattle.request_frame.proofs.Framed.{frame}
+use Rattle.job_facts.specs.Told.{Told, known, nothing_told}
+use Rattle.job_facts.specs.Stores.{at_key, at_id}
+use Rattle.job_facts.specs.Facts.{IsAttempt, Facts, Hold}
+use Rattle.job_facts.specs.Fits.{Fits}
+use Rattle.job_facts.specs.Emptying.{SetsUp}
+use Rattle.job_facts.specs.Driver.{Reads, FitsClean, FitsJobCommit}
+use Rattle.job_facts.specs.Turning.{NoneEnded, Turns}
+use Rattle.job_facts.specs.Filed.{Gone, Decides, IsBefore, whole_of, FileStands, FileLeft}
+use Rattle.job_facts.specs.FiledLaws.{Commits}
+use Rattle.job_facts.specs.Runs.{Stand}
+use Rattle.job_facts.specs.RunLaws.{replaces}
+use Rattle.job_facts.proofs.Legal.{some_dest}
+use Rattle.job_facts.proofs.Shows.{shown_key, HidesAll}
+use Rattle.job_facts.proofs.Agreeing.{AgreeBelow, Agrees, keeps_all, picks_decided, decided_so}
+use Rattle.job_facts.proofs.Wanted.{same_wanted, wanted_of}
+use Rattle.job_facts.proofs.FilePaths.{file_path}
+use Rattle.job_facts.proofs.Filing.{wanted_upload}
+
+module _ (g : Setting) (opening : Content) where
+  abbrev pub w : Script
+  w = g.script
+
+  abbrev pub first_at : List ℕ → Option Object
+  first_at q = at_key w opening (below w.dest.key q)
+
+  abbrev pub now_at : Content → List ℕ → Option Object
+  now_at c q = at_key w c (below w.dest.key q)
+
+  -- where files are shown the opening's objects stand
+  abbrev pub Untouched : Content → Type 0
+  Untouched c = (q : List ℕ) → is_file_path q ≡ true → now_at c q ≡ first_at q
+
+  -- where its own marker stands, it says what was wanted
+  abbrev pub MarkSays : Content → Picks → Bool → Type 0
+  MarkSays c picks put = put ≡ true → (o : Object) → at_key w c (success_key w.dest.key) ≡ Some o → o.bytes ≡ mark_text w picks
+
+  abbrev pub MarkLeft : Content → Picks → Bool → CommitEnd → Type 0
+  MarkLeft c picks put commits.Committed = MarkSays c picks put
+  MarkLeft c picks put (commits.StoreFault stages.Success) = MarkSays c picks put
+  MarkLeft c picks put _ = put ≡ false
+
+  abbrev pub Marks : Content → Picks → Bool → Commit → Type 0
+  Marks c picks put (Fetching sets n) = put ≡ false
+  Marks c picks put (Replacing sets p ps s n) = put ≡ false
+  Marks c picks put (Completing sets x xs finished) = put ≡ false
+  Marks c picks put (Marking sets n) = MarkSays c picks put
+  Marks c picks put (Reverting r rs n) = put ≡ false
+  Marks c picks put (CommitOver end) = MarkLeft c picks put end
+
+  -- what is wanted stands as the commit says, and what is not wanted as at the opening
+  pub record Files (c : Content) (picks : Picks) (ended : ℕ → Bool) (es : List Entry) (op : Commit) : Type 0 where
+    pub wanted : (q : List ℕ) → is_file_path q ≡ true → (b : List ℕ) → wanted_at w picks q ≡ Some b → FileStands w q b (first_at q) es (now_at c q) ended op
+    pub others : (q : List ℕ) → is_file_path q ≡ true → wanted_at w picks q ≡ None → now_at c q ≡ first_at q
+
+  -- while the commit goes on, and where it is over
+  pub record InCommit (c : Content) (picks : Picks) (put begun : Bool) (m : Told) (es : List Entry) (op : Commit) : Type 0 where
+    pub fits : FitsJobCommit w g.minimum m.publish_sent m.drawn op
+    pub tabled : Tabled w op
+    pub turns : Turns m op
+    pub decides : Decides w g.minimum m.publish_sent m.drawn op
+    pub uncleaned : m.cleaned ≡ false
+    pub agrees : Agrees w picks op
+    pub marks : Marks c picks put op
+    pub early : begun ≡ false → Untouched c
+    pub files : Files c picks m.ended es op
+
+  -- before it begins
+  pub record Idle (s : Seen) (m : Told) : Type 0 where
+    pub untouched : Untouched s.scene.content
+    pub none : NoneEnded m
+    pub uncleaned : m.cleaned ≡ false
+    pub unmarked : s.put_mark ≡ false
+    pub unbegun : s.begun ≡ false
+    pub unpicked : (t : ℕ) → s.picks t ≡ None
+
+  abbrev pub At : Option Operation → Seen → Told → List Entry → Type 0
+  At None s m es = ⊥
+  At (Some (TheSetup t)) s m es = (t.operation ≡ SetupOver setups.Done) × Idle s m
+  At (Some (TheWrite t)) s m es = ⊥
+  At (Some (TheTaskCommit t)) s m es = ⊥
+  At (Some (TheTaskAbort t)) s m es = ⊥
+  At (Some (TheCommit op)) s m es = InCommit s.scene.content s.picks s.put_mark s.begun m es op
+  At (Some (TheClean t)) s m es = FitsClean w m.cleaned t.operation × Kept w opening s
+
+  -- while nobody but the driver's set-up has sent anything
+  pub record Early (x : Stand) : Type 0 where
+    pub told : x.told ≡ nothing_told
+    pub last : (t : ℕ) → x.seen.last t ≡ None
+    pub untouched : Untouched x.seen.scene.content
+    pub unmarked : x.seen.put_mark ≡ false
+    pub unbegun : x.seen.begun ≡ false
+    pub unpicked : (t : ℕ) → x.seen.picks t ≡ None
+    pub fresh : (id : ℕ) (y : Upload) → at_id w x.seen.scene.content id ≡ Some y → id < x.seen.scene.content.next
+    pub least : x.seen.scene.content.minimum ≡ g.minimum
+    pub none : (a : Who) → x.attempts a ≡ None
+    pub files : x.seen.scene.files ≡ fin.empty
+    pub setup : (x.driver ≡ None) ⊎ ((t : Retried Setup) × (x.driver ≡ Some (TheSetup t)) × SetsUp w x.seen.scene.content t.operation)
+
+  -- once the set-up is done
+  pub record Late (x : Stand) : Type 0 where
+    pub hold : Hold w g.minimum x.seen x.told
+    pub gone : Gone w x.seen.scene.content x.told
+    pub fine : (a : Who) (op : Operation) → x.attempts a ≡ Some op → IsAttempt w a × Fits w g.minimum a x.told op
+    pub new : (a : Who) → x.attempts a ≡ None → (known x.told a ≡ record { drawn = []; put_sent = false; publish_sent = false }) × (x.told.undone a ≡ false)
+    pub driver : At x.driver x.seen x.told x.commit
+
+  -- ---- what a reader is shown
+
+  shown_is : (c : Content) (q : List ℕ) → is_file_path q ≡ true → view w.dest c q ≡ option_map (λ (o : Object). o.bytes) (now_at c q)
+  shown_is c q h = ap (λ b. cond b (option_map (λ (o : Object). o.bytes) (now_at c q)) None) h
+
+  hidden_is : (c : Content) (q : List ℕ) → is_file_path q ≡ false → view w.dest c q ≡ None
+  hidden_is c q h = ap (λ b. cond b (option_map (λ (o : Object). o.bytes) (now_at c q)) None) h
+
+  pub untouched_shows : (c : Content) → Untouched c → Same (view w.dest c) (view w.dest opening)
+  untouched_shows c h q = elim (true_or_false (is_file_path q)) [
+    | inl e ↦ shown_is c q e ∙ ap (λ x. option_map (λ (o : Object). o.bytes) x) (h q e) ∙ sym (shown_is opening q e)
+    | inr e ↦ hidden_is c q e ∙ sym (hidden_is opening q e)
+  ]
+
+  same_between : (s : Seen) → Same (view w.dest s.scene.content) (view w.dest opening) → Between w (view w.dest opening) s.picks (view w.dest s.scene.content)
+  same_between s h = record {
+    untouched = λ e. h;
+    only = λ e p b q. inl (sym (h p) ∙ q);
+    kept = λ e p b q k n. h p ∙ q;
+  }
+
+  unmarked_not : (s : Seen) → s.put_mark ≡ false → is_marked w s ≡ true → ⊥
+  unmarked_not s e h = false_true e (and_parts s.put_mark _ h).0
+
+  pub kept_untouched : (s : Seen) → Untouched s.scene.content → s.put_mark ≡ false → Kept w opening s
+  kept_untouched s u e = let same = untouched_shows s.scene.content u in record { before = λ b. same; between = λ b. same_between s same; whole = λ h. absurd (unmarked_not s e h) }
+
+  -- ---- the commit
+
+  module _ (j : IsLegal w) (plain : replaces w ≡ false) (s : Seen) (m : Told) (h : Hold w g.minimum s m) (es : List Entry) (op : Commit) (i : InCommit s.scene.content s.picks s.put_mark s.begun m es op) where
+    abbrev picks : Picks
+    picks = s.picks
+
+    abbrev c : Content
+    c = s.scene.content
+
+    abbrev Mixed : List ℕ → List ℕ → Type 0
+    Mixed q b = IsBefore (first_at q) (now_at c q) ⊎ (now_at c q ≡ Some (whole_of b))
+
+    mixed_left : (q b : List ℕ) (end : CommitEnd) → FileLeft w q b (first_at q) es (now_at c q) end → Mixed q b
+    mixed_left q b commits.Committed f = inr f
+    mixed_left q b (commits.StoreFault stages.Success) f = inr f
+    mixed_left q b (commits.StoreFault stages.Complete) (inl f) = inl f
+    mixed_left q b (commits.StoreFault stages.Complete) (inr f) = inr f.0
+    mixed_left q b (commits.StoreFault stages.Delete) f = inl f
+    mixed_left q b (commits.StoreFault stages.Read) f = inl (inl f)
+    mixed_left q b (commits.Missing t) f = inl (inl f)
+    mixed_left q b (commits.SamePath p t u) f = inl (inl f)
+    mixed_left q b commits.NoMemory f = inl (inl f)
+
+    -- each wanted path shows what it showed, nothing, or the whole file
+    pub mixed : (q b : List ℕ) → wanted_at w picks q ≡ Some b → (d : Commit) → FitsJobCommit w g.minimum m.publish_sent m.drawn d → Agrees w picks d → FileStands w q b (first_at q) es (now_at c q) m.ended d → Mixed q b
+    mixed q b e (Fetching sets n) fits a f = inl (inl f)
+    mixed q b e (Replacing sets p ps x n) fits a f = absurd a
+    mixed q b e (Completing sets x xs finished) fits a f =
+        let want : wanted_at w (picks_of sets) q ≡ Some b = wants_so sets a q b e in
+        let u = wanted_upload j h q b sets fits want in
+        let v = f u.upload u.one_of u.goes_to in
+        elim (true_or_false (m.ended u.upload.upload)) [ inl y ↦ inr (v.0 y) | inr y ↦ inl (v.1 y) ]
+      where
+        wants_so : (sets : Sets) → AgreeBelow w picks sets w.tasks → (q b : List ℕ) → wanted_at w picks q ≡ Some b → wanted_at w (picks_of sets) q ≡ Some b
+        wants_so sets a q b e = ap (λ l. lookup (text_eq q) l) (sym (same_wanted w (picks_of sets) picks a)) ∙ e
+    mixed q b e (Marking sets n) fits a f = inr f
+    mixed q b e (Reverting r rs n) fits a (few, inl f) = inl f
+    mixed q b e (Reverting r rs n) fits a (few, inr f) = inr f.0
+    mixed q b e (CommitOver end) fits a f = mixed_left q b end f
+
+    -- a commit that ended so before its first completion has changed nothing
+    pub left_still : (end : CommitEnd) → CommitOver end ≡ op → is_untouched end ≡ true → Untouched c
+    left_still end is before q p = by (wanted_at w picks q) refl
+      where
+        same : (e : CommitEnd) (b : List ℕ) → is_untouched e ≡ true → FileLeft w q b (first_at q) es (now_at c q) e → now_at c q ≡ first_at q
+        same (commits.Missing t) b y f = f
+        same (commits.SamePath x t u) b y f = f
+        same (commits.StoreFault stages.Read) b y f = f
+        same (commits.StoreFault stages.Delete) b y f = absurd (false_true refl y)
+        same (commits.StoreFault stages.Complete) b y f = absurd (false_true refl y)
+        same (commits.StoreFault stages.Success) b y f = absurd (false_true refl y)
+        same commits.Committed b y f = absurd (false_true refl y)
+        same commits.NoMemory b y f = absurd (false_true refl y)
+
+        by : (o : Option (List ℕ)) → wanted_at w picks q ≡ o → now_at c q ≡ first_at q
+        by None y = i.files.others q p y
+        by (Some b) y = same end b before (subst (FileStands w q b (first_at q) es (now_at c q) m.ended) (sym is) (i.files.wanted q p b y))
+
+    -- before the first completion nothing has changed
+    pub still : is_decided w picks ≡ false → (d : Commit) → d ≡ op → Untouched c
+    still e (Fetching sets n) is = λ q p. by q p (wanted_at w picks q) refl
+      where
+        by : (q : List ℕ) → is_file_path q ≡ true → (o : Option (List ℕ)) → wanted_at w picks q ≡ o → now_at c q ≡ first_at q
+        by q p None y = i.files.others q p y
+        by q p (Some b) y = subst (FileStands w q b (first_at q) es (now_at c q) m.ended) (sym is) (i.files.wanted q p b y)
+    still e (Replacing sets p ps x n) is = absurd (subst (Agrees w picks) (sym is) i.agrees)
+    still e (Completing sets x xs finished) is = absurd (false_true e (decided_so w picks sets (subst (Decides w g.minimum m.publish_sent m.drawn) (sym is) i.decides) (subst (Agrees w picks) (sym is) i.agrees)))
+    still e (Marking sets n) is = absurd (false_true e (decided_so w picks sets (subst (Decides w g.minimum m.publish_sent m.drawn) (sym is) i.decides) (subst (Agrees w picks) (sym is) i.agrees)))
+    still e (Reverting r rs n) is = absurd (false_true e (subst (Agrees w picks) (sym is) i.agrees).0)
+    still e (CommitOver end) is = left_still end is (undecided (is_untouched end) refl)
+      where
+        undecided : (b : Bool) → is_untouched end ≡ b → is_untouched end ≡ true
+        undecided true y = y
+        undecided false y = absurd (false_true e ((subst (Agrees w picks) (sym is) i.agrees) y))
+
+    -- ---- and so the headline holds
+
+    shown_path : (q b : List ℕ) → wanted_at w picks q ≡ Some b → is_file_path q ≡ true
+    shown_path q b e = let x = wanted_of w picks q b e in ap is_file_path x.path ∙ file_path j _ x.file x.from.mine
+
+    abbrev bytes_at : Content → List ℕ → Option (List ℕ)
+    bytes_at d q = option_map (λ (o : Object). o.bytes) (now_at d q)
+
+    only_by : (q b : List ℕ) → is_file_path q ≡ true → bytes_at c q ≡ Some b → (o : Option (List ℕ)) → wanted_at w picks q ≡ o → (bytes_at opening q ≡ Some b) ⊎ (wanted_at w picks q ≡ Some b)
+    only_by q b p y None e = inl (ap (option_map (λ (o : Object). o.bytes)) (sym (i.files.others q p e)) ∙ y)
+    only_by q b p y (Some v) e = elim (mixed q v e op i.fits i.agrees (i.files.wanted q p v e)) [
+      | inl before ↦ elim before [
+        | inl same ↦ inl (ap (option_map (λ (o : Object). o.bytes)) (sym same) ∙ y)
+        | inr none ↦ absurd (none_some (ap (option_map (λ (o : Object). o.bytes)) none) y)
+      ]
+      | inr whole ↦ inr (e ∙ sym (ap (option_map (λ (o : Object). o.bytes)) whole) ∙ y)
+    ]
+
+    only_shown : (q b : List ℕ) → view w.dest c q ≡ Some b → (view w.dest opening q ≡ Some b) ⊎ (wanted_at w picks q ≡ Some b)
+    only_shown q b y = elim (true_or_false (is_file_path q)) [
+      | inr no_path ↦ absurd (none_some (hidden_is c q no_path) y)
+      | inl p ↦ elim (only_by q b p (sym (shown_is c q p) ∙ y) (wanted_at w picks q) refl) [ inl e ↦ inl (shown_is opening q p ∙ e) | inr e ↦ inr e ]
+    ]
+
+    other_shown : (q : List ℕ) → wanted_at w picks q ≡ None → view w.dest c q ≡ view w.dest opening q
+    other_shown q e = elim (true_or_false (is_file_path q)) [
+      | inr no_path ↦ hidden_is c q no_path ∙ sym (hidden_is opening q no_path)
+      | inl p ↦ shown_is c q p ∙ ap (option_map (λ (o : Object). o.bytes)) (i.files.others q p e) ∙ sym (shown_is opening q p)
+    ]
+
+    between_now : Between w (view w.dest opening) picks (view w.dest c)
+    between_now = record {
+      untouched = λ e. untouched_shows c (still e op refl);
+      only = λ e q b y. only_shown q b y;
+      kept = λ e q b y keep none. other_shown q none ∙ y;
+    }
+
+    -- where all wanted files stand
+    abbrev AllWhole : Type 0
+    AllWhole = (q b : List ℕ) → wanted_at w picks q ≡ Some b → now_at c q ≡ Some (whole_of b)
+
+    all_shown : AllWhole → Same (view w.dest c) (done w picks (view w.dest opening))
+    all_shown whole q = by (wanted_at w picks q) refl
+      where
+        by : (o : Option (List ℕ)) → wanted_at w picks q ≡ o → view w.dest c q ≡ or_else o (cond (keeps_of w picks q) (view w.dest opening q) None)
+        by (Some b) e = shown_is c q (shown_path q b e) ∙ ap (option_map (λ (o : Object). o.bytes)) (whole q b e)
+        by None e = other_shown q e ∙ ap (λ t. cond t (view w.dest opening q) None) (sym (keeps_all w plain picks q))
+
+    whole_now : is_decided w picks ≡ true → MarkSays c picks s.put_mark → AllWhole → is_marked w s ≡ true → Whole w (view w.dest opening) picks c
+    whole_now decided says whole marked =
+        let d = and_parts (is_picked w picks) (not (is_clash w picks)) decided in
+        record { picked = d.0; apart = not-true (is_clash w picks) d.1; files = all_shown whole; mark = says (and_parts s.put_mark _ marked).0 }
+
+    whole_left : (end : CommitEnd) → CommitOver end ≡ op → is_marked w s ≡ true → Whole w (view w.dest opening) picks c
+    whole_left commits.Committed is e = whole_now ((subst (Agrees w picks) (sym is) i.agrees) refl) (subst (Marks c picks s.put_mark) (sym is) i.marks) (λ q b y. subst (FileStands w q b (first_at q) es (now_at c q) m.ended) (sym is) (i.files.wanted q (shown_path q b y) b y)) e
+    whole_left (commits.StoreFault stages.Success) is e =
+        whole_now ((subst (Agrees w picks) (sym is) i.agrees) refl) (subst (Marks c picks s.put_mark) (sym is) i.marks) (λ q b y. subst (FileStands w q b (first_at q) es (now_at c q) m.ended) (sym is) (i.files.wanted q (shown_path q b y) b y)) e
+    whole_left (commits.StoreFault stages.Complete) is e = absurd (unmarked_not s (subst (Marks c picks s.put_mark) (sym is) i.marks) e)
+    whole_left (commits.StoreFault stages.Delete) is e = absurd (unmarked_not s (subst (Marks c picks s.put_mark) (sym is) i.marks) e)
+    whole_left (commits.StoreFault stages.Read) is e = absurd (unmarked_not s (subst (Marks c picks s.put_mark) (sym is) i.marks) e)
+    whole_left (commits.Missing t) is e = absurd (unmarked_not s (subst (Marks c picks s.put_mark) (sym is) i.marks) e)
+    whole_left (commits.SamePath p t u) is e = absurd (unmarked_not s (subst (Marks c picks s.put_mark) (sym is) i.marks) e)
+    whole_left commits.NoMemory is e = absurd (unmarked_not s (subst (Marks c picks s.put_mark) (sym is) i.marks) e)
+
+    whole_by : (d : Commit) → d ≡ op → is_marked w s ≡ true → Whole w (view w.dest opening) picks c
+    whole_by (Fetching sets n) is e = absurd (unmarked_not s (subst (Marks c picks s.put_mark) (sym is) i.marks) e)
+    whole_by (Replacing sets p ps x n) is e = absurd (unmarked_not s (subst (Marks c picks s.put_mark) (sym is) i.marks) e)
+    whole_by (Completing sets x xs finished) is e = absurd (unmarked_not s (subst (Marks c picks s.put_mark) (sym is) i.marks) e)
+    whole_by (Reverting r rs n) is e = absurd (unmarked_not s (subst (Marks c picks s.put_mark) (sym is) i.marks) e)
+    whole_by (Marking sets n) is e =
+        whole_now (decided_so w picks sets (subst (Decides w g.minimum m.publish_sent m.drawn) (sym is) i.decides) (subst (Agrees w picks) (sym is) i.agrees)) (subst (Marks c picks s.put_mark) (sym is) i.marks)
+        (λ q b y. subst (FileStands w q b (first_at q) es (now_at c q) m.ended) (sym is) (i.files.wanted q (shown_path q b y) b y)) e
+    whole_by (CommitOver end) is e = whole_left end is e
+
+    pub kept_commit : Kept w opening s
+    kept_commit = record { before = λ e. untouched_shows c (i.early e); between = λ e. between_now; whole = whole_by op refl }
+
+    -- a revert that is over, of which no deletion wore out
+    pub reverted_shows : CommitOver (commits.StoreFault stages.Complete) ≡ op → NoDeletionWorn w.retries es → OnlyOpening w opening c
+    reverted_shows is none q b y = elim (true_or_false (is_file_path q)) [
+      | inr no_path ↦ absurd (none_some (hidden_is c q no_path) y)
+      | inl p ↦ by p (wanted_at w picks q) refl
+    ]
+      where
+        by : is_file_path q ≡ true → (o : Option (List ℕ)) → wanted_at w picks q ≡ o → view w.dest opening q ≡ Some b
+        by p None e = sym (other_shown q e) ∙ y
+        by p (Some v) e = elim (subst (FileStands w q v (first_at q) es (now_at c q) m.ended) (sym is) (i.files.wanted q p v e)) [
+          | inr worn ↦ absurd (none w.dest.bucket (below w.dest.key q) worn.1)
+          | inl before ↦ elim before [
+            | inl same ↦ shown_is opening q p ∙ ap (option_map (λ (o : Object). o.bytes)) (sym same) ∙ sym (shown_is c q p) ∙ y
+            | inr gone ↦ absurd (none_some (shown_is c q p ∙ ap (option_map (λ (o : Object). o.bytes)) gone) y)
+          ]
+        ]

@@ -1,0 +1,149 @@
+-- The files that picks want, by task and attempt.
+use Rattle.std.proofs.Common.{◌≡◌, ℕ, zero, suc, ◌<◌, ◌≤◌, ◌⊎◌, inl, inr, ◌&&◌, Bool, true, false, cond, List, [], ◌∷◌, ◌++◌, length, slice_get, Option, Some, None, refl, sym, ap, subst, ◌∙◌, arith}
+use Rattle.std.specs.Option.{option_map, is_some}
+use Rattle.std.specs.Map.{lookup}
+use Rattle.proof_base.specs.Order.{text_eq}
+use Rattle.serde_json.specs.Written.{compact_text}
+use Rattle.pending_json.specs.Trees.{success_tree}
+use Rattle.job_model.specs.Files.{File}
+use Rattle.job_model.specs.Attempts.{Who}
+use Rattle.job_model.specs.Legal.{IsLegal}
+use Rattle.job_model.specs.JobScript.{Script}
+use Rattle.job_model.specs.declared.ends.CommitEnd.{CommitEnd}
+use Rattle.job_operations.specs.Outputs.{Picks, files, files_picked, wanted, wanted_below, wanted_at, paths_of, writes, same_path, picked_below, is_picked, is_clash}
+use Rattle.job_operations.specs.Records.{mark_text}
+use Rattle.job_operations.proofs.Shared.{shared_found, shared_none}
+use Rattle.request_frame.specs.Members.{IsIn}
+use Rattle.request_frame.proofs.Members.{some_is, none_some, same_or_not, text_is, text_true, in_append, in_front, in_back}
+use Rattle.job_facts.proofs.Whose.{attempt}
+use Rattle.job_facts.proofs.Legal.{same_file, is_attempt}
+use Rattle.job_facts.proofs.Held.{has_in}
+
+-- ---- a path among files
+
+pub record Found (fs : List File) (q b : List ℕ) : Type 0 where
+  pub file : File
+  pub mine : IsIn file fs
+  pub path : q ≡ file.0
+  pub bytes : file.1 ≡ b
+
+pub in_lookup : (fs : List File) (q b : List ℕ) → lookup (text_eq q) fs ≡ Some b → Found fs q b
+in_lookup [] q b h = absurd (none_some refl h)
+in_lookup (f ∷ fs) q b h = by (text_eq q f.0) refl (in_lookup fs q b)
+  where
+    by : (t : Bool) → text_eq q f.0 ≡ t → (lookup (text_eq q) fs ≡ Some b → Found fs q b) → Found (f ∷ fs) q b
+    by true e old = record { file = f; mine = inl refl; path = text_is q f.0 e; bytes = some_is (ap (λ t. cond t (Some f.1) (lookup (text_eq q) fs)) (sym e) ∙ h) }
+    by false e old = let o = old (ap (λ t. cond t (Some f.1) (lookup (text_eq q) fs)) (sym e) ∙ h) in record { file = o.file; mine = inr o.mine; path = o.path; bytes = o.bytes }
+
+some_found : (fs : List File) (g : File) → IsIn g fs → (b : List ℕ) × (lookup (text_eq g.0) fs ≡ Some b)
+some_found [] g i = absurd i
+some_found (f ∷ fs) g (inl e) = (f.1, ap (λ b. cond b (Some f.1) (lookup (text_eq g.0) fs)) (text_true g.0 f.0 (ap (λ (x : File). x.0) e)))
+some_found (f ∷ fs) g (inr i) = by (text_eq g.0 f.0) (some_found fs g i)
+  where
+    by : (t : Bool) → (b : List ℕ) × (lookup (text_eq g.0) fs ≡ Some b) → (b : List ℕ) × (cond t (Some f.1) (lookup (text_eq g.0) fs) ≡ Some b)
+    by true old = (f.1, refl)
+    by false old = old
+
+-- ---- the files of the picks
+
+module _ (w : Script) (picks : Picks) where
+  pub record IsPicked (n : ℕ) (g : File) : Type 0 where
+    pub task : ℕ
+    pub below : task < n
+    pub number : ℕ
+    pub picked : picks task ≡ Some number
+    pub mine : IsIn g (files w (attempt task number))
+
+  picked_in : (t : ℕ) (o : Option ℕ) (g : File) → IsIn g (files_picked w t o) → (a : ℕ) × (o ≡ Some a) × IsIn g (files w (attempt t a))
+  picked_in t None g i = absurd i
+  picked_in t (Some a) g i = (a, refl, i)
+
+  pub in_wanted : (n : ℕ) (g : File) → IsIn g (wanted_below w picks n) → IsPicked n g
+  in_wanted zero g i = absurd i
+  in_wanted (suc n) g i = elim (in_append g (wanted_below w picks n) (files_picked w n (picks n)) i) [
+    | inl h ↦ let old = in_wanted n g h in let l : old.task < n = old.below in record { task = old.task; below = omega arith; number = old.number; picked = old.picked; mine = old.mine }
+    | inr h ↦ let p = picked_in n (picks n) g h in record { task = n; below = omega arith; number = p.0; picked = p.1; mine = p.2 }
+  ]
+
+  pub wanted_in : (n t : ℕ) (g : File) → t < n → IsIn g (files_picked w t (picks t)) → IsIn g (wanted_below w picks n)
+  wanted_in zero t g l i = absurd (omega arith)
+  wanted_in (suc n) t g l i = elim (same_or_not t n) [
+    | inl is ↦ in_back g (wanted_below w picks n) (files_picked w n (picks n)) (subst (λ v. IsIn g (files_picked w v (picks v))) is i)
+    | inr ne ↦ in_front g (wanted_below w picks n) (files_picked w n (picks n)) (wanted_in n t g (omega arith) i)
+  ]
+
+  -- what is wanted at a path is the file of a pick
+  pub record IsWanted (q b : List ℕ) : Type 0 where
+    pub file : File
+    pub from : IsPicked w.tasks file
+    pub path : q ≡ file.0
+    pub bytes : file.1 ≡ b
+
+  pub wanted_of : (q b : List ℕ) → wanted_at w picks q ≡ Some b → IsWanted q b
+  wanted_of q b e = let o = in_lookup (wanted w picks) q b e in record { file = o.file; from = in_wanted w.tasks o.file o.mine; path = o.path; bytes = o.bytes }
+
+  picked_files : (t n : ℕ) (g : File) → picks t ≡ Some n → IsIn g (files w (attempt t n)) → IsIn g (files_picked w t (picks t))
+  picked_files t n g e i = subst (λ o. IsIn g (files_picked w t o)) (sym e) i
+
+  -- and such a file is wanted, where no two picks write one path
+  pub wanted_here : IsLegal w → same_path w picks ≡ None → (t n : ℕ) → t < w.tasks → picks t ≡ Some n → (g : File) → IsIn g (files w (attempt t n)) → wanted_at w picks g.0 ≡ Some g.1
+  wanted_here j apart t n low e g i =
+      let o = some_found (wanted w picks) g (wanted_in w.tasks t g low (picked_files t n g e i)) in
+      let x = wanted_of g.0 o.0 o.1 in
+      let h = x.from in
+      let mine : writes w picks g.0 t ≡ true = has_in (files_picked w t (picks t)) g (picked_files t n g e i) in
+      let other : writes w picks g.0 h.task ≡ true = ap (λ v. writes w picks v h.task) x.path ∙ has_in (files_picked w h.task (picks h.task)) x.file (picked_files h.task h.number x.file h.picked h.mine) in
+      let task : h.task ≡ t = elim (order h.task t) [
+        | inl is ↦ is
+        | inr ne ↦ elim ne [ inl l ↦ absurd (shared_none w picks apart g.0 h.task t l low other mine) | inr l ↦ absurd (shared_none w picks apart g.0 t h.task l h.below mine other) ]
+      ] in
+      let number : h.number ≡ n = some_is (sym h.picked ∙ ap picks task ∙ e) in
+      let who : attempt h.task h.number ≡ attempt t n = ap (λ v. attempt v h.number) task ∙ ap (λ v. attempt t v) number in
+      let same : x.file ≡ g = same_file j (attempt t n) x.file g (subst (λ a. IsIn x.file (files w a)) who h.mine) i (sym x.path) in
+      o.1 ∙ ap (λ v. Some v) (sym x.bytes ∙ ap (λ (v : File). v.1) same)
+    where
+      order : (a b : ℕ) → (a ≡ b) ⊎ ((a < b) ⊎ (b < a))
+      order zero zero = inl refl
+      order zero (suc b) = inr (inl (omega arith))
+      order (suc a) zero = inr (inr (omega arith))
+      order (suc a) (suc b) = elim (order a b) [ inl e ↦ inl (ap (λ n. suc n) e) | inr h ↦ inr (elim h [ inl l ↦ inl (omega arith) | inr l ↦ inr (omega arith) ]) ]
+
+-- ---- picks that agree below the number of tasks
+
+module _ (w : Script) (picks more : Picks) where
+  same_below : (n : ℕ) → ((t : ℕ) → t < n → more t ≡ picks t) → wanted_below w more n ≡ wanted_below w picks n
+  same_below zero h = refl
+  same_below (suc n) h = ap (λ l. l ++ files_picked w n (more n)) (same_below n (λ t l. h t (omega arith))) ∙ ap (λ o. wanted_below w picks n ++ files_picked w n o) (h n (omega arith))
+
+  picked_same : (n : ℕ) → ((t : ℕ) → t < n → more t ≡ picks t) → picked_below more n ≡ picked_below picks n
+  picked_same zero h = refl
+  picked_same (suc n) h = ap (λ b. b && is_some (more n)) (picked_same n (λ t l. h t (omega arith))) ∙ ap (λ o. picked_below picks n && is_some o) (h n (omega arith))
+
+  module _ (agree : (t : ℕ) → t < w.tasks → more t ≡ picks t) where
+    pub same_wanted : wanted w more ≡ wanted w picks
+    same_wanted = same_below w.tasks agree
+
+    pub same_picked : is_picked w more ≡ is_picked w picks
+    same_picked = picked_same w.tasks agree
+
+    pub same_mark : mark_text w more ≡ mark_text w picks
+    same_mark = ap (λ l. compact_text (success_tree (record { job = w.job; committer = w.committer; files = paths_of l; stamp = w.stamp }))) same_wanted
+
+    -- where no two of the one write one path, no two of the other do
+    pub still_apart : same_path w picks ≡ None → same_path w more ≡ None
+    still_apart e = by (same_path w more) refl
+      where
+        by : (o : Option CommitEnd) → same_path w more ≡ o → o ≡ None
+        by None g = refl
+        by (Some end) g =
+            let x = shared_found w more end g in
+            let s = x.4 in
+            let last : x.2 < w.tasks = s.last in
+            let first : x.1 < x.2 = s.first in
+            let low : x.1 < w.tasks = omega arith in
+            let a : writes w picks x.0 x.1 ≡ true = ap (λ o. has x.0 x.1 o) (sym (agree x.1 low)) ∙ s.writes_first in
+            let b : writes w picks x.0 x.2 ≡ true = ap (λ o. has x.0 x.2 o) (sym (agree x.2 last)) ∙ s.writes_last in
+            absurd (shared_none w picks e x.0 x.1 x.2 first last a b)
+          where
+            has : List ℕ → ℕ → Option ℕ → Bool
+            has p t o = writes w (λ v. o) p t

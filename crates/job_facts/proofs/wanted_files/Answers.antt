@@ -1,0 +1,30 @@
+use Rattle.std.proofs.Common.{refl}
+use Rattle.job_facts.proofs.Ended.{gone_stays}
+use Rattle.job_facts.proofs.EndedGone.{first_gone, commit_gone, others_gone}
+use Rattle.job_facts.proofs.Deciding.{d_start, decides_goes}
+use Rattle.job_facts.proofs.FilingLaws.{decides_beside, files_begin, files_go, attempt_same, stranger_same, left_before}
+use Rattle.job_facts.proofs.wanted_files.Goals as goal
+
+pub returns : goal.returns
+returns c = record {
+  decides = record {
+    begins = λ w minimum m. d_start w minimum m.publish_sent m.drawn;
+    goes = λ g j s m c h o. decides_goes j h.hold c h.fits h.tabled h.decides o;
+    beside = λ g m a op fits r e n o c h. decides_beside g m a op fits r e o c h;
+  };
+  gone = record {
+    begins = first_gone;
+    commit = λ g j s m c h r e n o. commit_gone j h.hold h.gone c h.fits h.tabled h.decides r e o;
+    attempts = λ g s m a h x n r o. others_gone g.script s.scene h.there m.ended x r o;
+    strangers = λ g s m h x n r o. others_gone g.script s.scene h.there m.ended x r o;
+  };
+  never_back = λ w s there id low r none. gone_stays w s there id low r none;
+  files = record {
+    begins = files_begin;
+    goes = files_go;
+    attempts = attempt_same;
+    strangers = λ w minimum s m h r o k free. stranger_same w s.scene h.there r o k free;
+    whole = λ w q b first now es m sets n h. h;
+    reverted = λ w q b first now es m. left_before w q b first now es;
+  };
+}

@@ -1,0 +1,102 @@
+-- The uploads of the sets that the driver holds, and what stands where their files go while its commit runs.
+use Rattle.std.specs.Prelude.{◌≡◌, ℕ, ◌<◌, ◌≤◌, ◌⊎◌, Bool, true, false, List, [], ◌∷◌, length, Option, Some, None}
+use Rattle.s3_types.specs.Store.{Content}
+use Rattle.s3_types.specs.declared.object.Object.{Object}
+use Rattle.s3_types.specs.declared.journal.Entry.{Entry}
+use Rattle.s3_types.specs.declared.request.Request.{Request}
+use Rattle.s3_types.specs.declared.request.Request.TheVariants.{DeleteObject}
+use Rattle.path_keys.specs.Paths.{below}
+use Rattle.pending_json.specs.Pending.{Pending}
+use Rattle.sendings.specs.Worn.{streak, IsWorn}
+use Rattle.job_model.specs.Files.{File}
+use Rattle.job_model.specs.Attempts.{Who}
+use Rattle.job_model.specs.JobScript.{Script}
+use Rattle.job_model.specs.Known.{Drawn}
+use Rattle.job_model.specs.declared.ends.CommitEnd.{CommitEnd}
+use Rattle.job_model.specs.declared.ends.CommitEnd.TheVariants as ends
+use Rattle.job_model.specs.declared.ends.Stage.TheVariants as stages
+use Rattle.job_operations.specs.Outputs.{files, wanted_at, same_path}
+use Rattle.job_operations.specs.Records.{file_record}
+use Rattle.job_operations.specs.Lanes.{abort, deletion}
+use Rattle.job_operations.specs.JobCommits.{Sets, all_commits, picks_of, Commit, Fetching, Replacing, Completing, Marking, Reverting, CommitOver}
+use Rattle.request_frame.specs.Members.{IsIn}
+use Rattle.job_facts.specs.Told.{Told}
+use Rattle.job_facts.specs.Stores.{at_id}
+use Rattle.job_facts.specs.Facts.{IsWritten}
+
+-- ---- uploads
+
+-- an upload of a set that was read: of a written file of an attempt that has sent its publishing request
+pub record IsCommit (w : Script) (minimum : ℕ) (sent : Who → Bool) (drawn : Who → List Drawn) (p : Pending) : Type 0 where
+  pub by : Who
+  pub file : File
+  pub mine : IsIn file (files w by)
+  pub written : IsWritten w minimum (drawn by) file
+  pub has_sent : sent by ≡ true
+  pub is : p ≡ file_record w by file written.drawn
+
+-- each upload that the driver has ended is gone, and its id was drawn
+abbrev pub Gone : Script → Content → Told → Type 0
+Gone w c m = (id : ℕ) → m.ended id ≡ true → (id < c.next) × (at_id w c id ≡ None)
+
+-- each of these requests aborts such an upload, or deletes its file's key
+abbrev pub AreReverts : Script → ℕ → (Who → Bool) → (Who → List Drawn) → List Request → Type 0
+AreReverts w minimum sent drawn rs = (r : Request) → IsIn r rs → (p : Pending) × IsCommit w minimum sent drawn p × ((r ≡ abort p) ⊎ (r ≡ deletion p))
+
+-- all sets are read, and no two of their attempts write one path
+pub record AreDecided (w : Script) (sets : Sets) : Type 0 where
+  pub all : length sets ≡ w.tasks
+  pub apart : same_path w (picks_of sets) ≡ None
+
+-- a commit that goes on with its sets has decided so, and a revert names their uploads alone
+abbrev pub Decides : Script → ℕ → (Who → Bool) → (Who → List Drawn) → Commit → Type 0
+Decides w minimum sent drawn (Fetching sets n) = length sets < w.tasks
+Decides w minimum sent drawn (Replacing sets p ps s n) = AreDecided w sets
+Decides w minimum sent drawn (Completing sets x xs finished) = AreDecided w sets
+Decides w minimum sent drawn (Marking sets n) = AreDecided w sets
+Decides w minimum sent drawn (Reverting r rs n) = AreReverts w minimum sent drawn (r ∷ rs)
+Decides w minimum sent drawn (CommitOver end) = Unit {0}
+
+-- ---- files
+
+-- the object that a completed file is
+abbrev pub whole_of : List ℕ → Object
+whole_of bytes = record { bytes = bytes; header = None }
+
+-- what stood there as the commit began, or nothing, which a replace mode and a revert leave
+abbrev pub IsBefore : Option Object → Option Object → Type 0
+IsBefore first now = (now ≡ first) ⊎ (now ≡ None)
+
+-- the request that deletes what stands at a path
+abbrev pub deletes : Script → List ℕ → Request
+deletes w q = DeleteObject w.dest.bucket (below w.dest.key q)
+
+-- these bytes are wanted at the path, where the commit goes on with its sets
+abbrev pub Wants : Script → List ℕ → List ℕ → Commit → Type 0
+Wants w q b (Fetching sets n) = Unit {0}
+Wants w q b (Replacing sets p ps s n) = wanted_at w (picks_of sets) q ≡ Some b
+Wants w q b (Completing sets x xs finished) = wanted_at w (picks_of sets) q ≡ Some b
+Wants w q b (Marking sets n) = wanted_at w (picks_of sets) q ≡ Some b
+Wants w q b (Reverting r rs n) = Unit {0}
+Wants w q b (CommitOver end) = Unit {0}
+
+-- how a commit that is over leaves it
+abbrev pub FileLeft : Script → List ℕ → List ℕ → Option Object → List Entry → Option Object → CommitEnd → Type 0
+FileLeft w q b first es now ends.Committed = now ≡ Some (whole_of b)
+FileLeft w q b first es now (ends.StoreFault stages.Success) = now ≡ Some (whole_of b)
+-- a file of the job is left only where its deletion wore out
+FileLeft w q b first es now (ends.StoreFault stages.Complete) = IsBefore first now ⊎ ((now ≡ Some (whole_of b)) × IsWorn w.retries (deletes w q) es)
+FileLeft w q b first es now (ends.StoreFault stages.Delete) = IsBefore first now
+FileLeft w q b first es now _ = now ≡ first
+
+-- What stands now at a path where these bytes are wanted and `first` stood as the commit began, by how far the commit has come,
+-- by its entries and by the uploads that the driver has ended.
+abbrev pub FileStands : Script → List ℕ → List ℕ → Option Object → List Entry → Option Object → (ℕ → Bool) → Commit → Type 0
+FileStands w q b first es now ended (Fetching sets n) = now ≡ first
+FileStands w q b first es now ended (Replacing sets p ps s n) = IsBefore first now
+-- the whole file, where its upload is ended, and else what was there before
+FileStands w q b first es now ended (Completing sets x xs finished) = (p : Pending) → IsIn p (all_commits sets) → p.destination ≡ below w.dest.key q → ((ended p.upload ≡ true → now ≡ Some (whole_of b)) × (ended p.upload ≡ false → IsBefore first now))
+FileStands w q b first es now ended (Marking sets n) = now ≡ Some (whole_of b)
+-- a whole file is still to be deleted, or its deletion wore out
+FileStands w q b first es now ended (Reverting r rs n) = (n ≤ streak r es) × (IsBefore first now ⊎ ((now ≡ Some (whole_of b)) × (IsIn (deletes w q) (r ∷ rs) ⊎ IsWorn w.retries (deletes w q) es)))
+FileStands w q b first es now ended (CommitOver end) = FileLeft w q b first es now end

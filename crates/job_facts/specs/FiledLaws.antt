@@ -1,0 +1,89 @@
+-- The laws of what stands where the job's files go, and of uploads that are ended.
+use Rattle.std.specs.Prelude.{◌≡◌, ℕ, ◌<◌, ◌≤◌, ◌^◌, Bool, true, false, List, [], ◌∷◌, ◌++◌, Option, Some, None}
+use Rattle.s3_types.specs.Store.{Scene}
+use Rattle.s3_types.specs.Answer.{apply, answer, bucket_of}
+use Rattle.s3_types.specs.Moment.{effect, IsHonestOutcome}
+use Rattle.s3_types.specs.declared.object.Object.{Object}
+use Rattle.s3_types.specs.declared.request.Request.{Request}
+use Rattle.s3_types.specs.declared.journal.Outcome.{Outcome}
+use Rattle.s3_types.specs.declared.journal.Entry.{Entry}
+use Rattle.path_keys.specs.Paths.{below}
+use Rattle.sendings.specs.Worn.{IsWorn}
+use Rattle.magic_paths.specs.Places.{is_open}
+use Rattle.job_model.specs.Attempts.{Who}
+use Rattle.job_model.specs.Legal.{IsLegal}
+use Rattle.job_model.specs.JobScript.{Script}
+use Rattle.job_model.specs.Known.{Drawn}
+use Rattle.job_model.specs.declared.ends.CommitEnd.TheVariants as ends
+use Rattle.job_model.specs.declared.ends.Stage.TheVariants as stages
+use Rattle.job_operations.specs.JobCommits.{Sets, picks_of, Commit, Marking, CommitOver, commit_start, commit_asks, commit_tells}
+use Rattle.job_operations.specs.LaneTable.{Tabled}
+use Rattle.job_operations.specs.Outputs.{wanted_at}
+use Rattle.job_operations.specs.Operations.{Setting, Operation, asks}
+use Rattle.job_promise.specs.Seen.{Seen}
+use Rattle.request_frame.specs.Members.{IsIn}
+use Rattle.request_frame.specs.Held.{HasBucket}
+use Rattle.request_frame.specs.Frame.{changed_keys}
+use Rattle.job_facts.specs.Told.{Told, known, nothing_told, tell, entry, driver_entry, strange_entry}
+use Rattle.job_facts.specs.Stores.{at_key, at_id}
+use Rattle.job_facts.specs.Foreign.{IsForeign}
+use Rattle.job_facts.specs.Facts.{IsAttempt, Hold}
+use Rattle.job_facts.specs.Fits.{Fits}
+use Rattle.job_facts.specs.Driver.{FitsJobCommit}
+use Rattle.job_facts.specs.Turning.{NoneEnded, Turns}
+use Rattle.job_facts.specs.Filed.{Gone, Decides, whole_of, IsBefore, deletes, Wants, FileStands}
+
+-- how far the driver's commit has come: with the sets that it holds, its lanes, and the uploads that it has ended
+pub record Commits (w : Script) (minimum : ℕ) (s : Seen) (m : Told) (c : Commit) : Type 0 where
+  pub hold : Hold w minimum s m
+  pub gone : Gone w s.scene.content m
+  pub fits : FitsJobCommit w minimum m.publish_sent m.drawn c
+  pub tabled : Tabled w c
+  pub turns : Turns m c
+  pub decides : Decides w minimum m.publish_sent m.drawn c
+
+-- ---- uploads that are ended
+
+-- an upload that is gone does not come back, whoever sends
+abbrev pub NeverBack : Type 0
+NeverBack = (w : Script) (s : Scene) → HasBucket s.content w.dest.bucket → (id : ℕ) → id < s.content.next → (r : Request) → at_id w s.content id ≡ None → at_id w (apply s r).content id ≡ None
+
+-- each upload that the driver has ended is gone: its completions and aborts end what they name, and nobody brings it back
+pub record EndedAreGone : Type 0 where
+  pub begins : (w : Script) (s : Scene) → Gone w s.content nothing_told
+  pub commit : (g : Setting) → IsLegal g.script → (s : Seen) (m : Told) (c : Commit) → Commits g.script g.minimum s m c → (r : Request) → commit_asks g.script c ≡ Some r → (n : ℕ) (o : Outcome)
+      → Gone g.script (effect s.scene r o).content (tell g.script m (driver_entry n r o))
+  -- of what ends nothing
+  pub attempts : (g : Setting) (s : Seen) (m : Told) (a : Who) → Hold g.script g.minimum s m → Gone g.script s.scene.content m → (n : ℕ) (r : Request) (o : Outcome) → Gone g.script (effect s.scene r o).content (tell g.script m (entry a n r o))
+  pub strangers : (g : Setting) (s : Seen) (m : Told) → Hold g.script g.minimum s m → Gone g.script s.scene.content m → (n : ℕ) (r : Request) (o : Outcome) → Gone g.script (effect s.scene r o).content (tell g.script m (strange_entry n r o))
+
+-- ---- how a commit goes on with its sets
+
+pub record SetsDecide : Type 0 where
+  pub begins : (w : Script) (minimum : ℕ) (m : Told) (missing : Option ℕ) → Decides w minimum m.publish_sent m.drawn (commit_start w missing)
+  pub goes : (g : Setting) → IsLegal g.script → (s : Seen) (m : Told) (c : Commit) → Commits g.script g.minimum s m c → (o : Outcome) → Decides g.script g.minimum m.publish_sent m.drawn (commit_tells g.script c o)
+  -- what an attempt sends leaves it as it is
+  pub beside : (g : Setting) (m : Told) (a : Who) (op : Operation) → Fits g.script g.minimum a m op → (r : Request) → asks g a (known m a) op ≡ Some r → (n : ℕ) (o : Outcome)
+      → let now = tell g.script m (entry a n r o) in (c : Commit) → Decides g.script g.minimum m.publish_sent m.drawn c → Decides g.script g.minimum now.publish_sent now.drawn c
+
+-- ---- files
+
+-- What stands where a wanted file goes, with every number of lanes, in every mode, while no stranger names its key: before its
+-- upload is asked for what was there, or nothing; once it is answered the whole file; where it was sent and got no answer one of
+-- these, by whether the upload is ended. Once the commit is at the marker every wanted file stands; after a revert none does but
+-- where its deletion wore out.
+pub record WantedFiles : Type 0 where
+  pub begins : (w : Script) (minimum : ℕ) → IsLegal w → (s : Seen) (m : Told) → Hold w minimum s m → NoneEnded m → (q b : List ℕ) (first now : Option Object) → now ≡ first → (missing : Option ℕ) → Wants w q b (commit_start w missing)
+      → FileStands w q b first [] now m.ended (commit_start w missing)
+  pub goes : (g : Setting) → IsLegal g.script → (s : Seen) (m : Told) (c : Commit) → Commits g.script g.minimum s m c → s.scene.content.next ≤ 2 ^ 64
+      → (q b : List ℕ) (first : Option Object) (es : List Entry) → Wants g.script q b c → FileStands g.script q b first es (at_key g.script s.scene.content (below g.script.dest.key q)) m.ended c
+      → (r : Request) → commit_asks g.script c ≡ Some r → (n : ℕ) (o : Outcome) → IsHonestOutcome o (answer s.scene r) → Wants g.script q b (commit_tells g.script c o)
+      → FileStands g.script q b first (es ++ driver_entry n r o ∷ []) (at_key g.script (effect s.scene r o).content (below g.script.dest.key q)) (tell g.script m (driver_entry n r o)).ended (commit_tells g.script c o)
+  -- an attempt's request, and a stranger's that does not name the key, leave what stands at a path, and end nothing
+  pub attempts : (g : Setting) → IsLegal g.script → (s : Seen) (m : Told) (a : Who) → Hold g.script g.minimum s m → IsAttempt g.script a → (op : Operation) → Fits g.script g.minimum a m op → (r : Request) → asks g a (known m a) op ≡ Some r → (o : Outcome)
+      → (q : List ℕ) → is_open q ≡ true → at_key g.script (effect s.scene r o).content (below g.script.dest.key q) ≡ at_key g.script s.scene.content (below g.script.dest.key q)
+  pub strangers : (w : Script) (minimum : ℕ) (s : Seen) (m : Told) → Hold w minimum s m → (r : Request) (o : Outcome) (k : List ℕ) → (bucket_of r ≡ w.dest.bucket → IsIn k (changed_keys r) → ⊥) → at_key w (effect s.scene r o).content k ≡ at_key w s.scene.content k
+  -- all lanes are answered
+  pub whole : (w : Script) (q b : List ℕ) (first now : Option Object) (es : List Entry) (m : Told) (sets : Sets) (n : ℕ) → FileStands w q b first es now m.ended (Marking sets n) → now ≡ Some (whole_of b)
+  -- a revert is over
+  pub reverted : (w : Script) (q b : List ℕ) (first now : Option Object) (es : List Entry) (m : Told) → FileStands w q b first es now m.ended (CommitOver (ends.StoreFault stages.Complete)) → (IsWorn w.retries (deletes w q) es → ⊥) → IsBefore first now

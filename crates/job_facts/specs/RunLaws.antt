@@ -1,0 +1,48 @@
+-- The laws of whole runs: what a reader of the destination may rely on, at each of their moments.
+use Rattle.std.specs.Prelude.{◌≡◌, ℕ, Bool, true, false, List, Option, Some}
+use Rattle.s3_types.specs.Store.{Content}
+use Rattle.s3_types.specs.declared.journal.Entry.{Entry}
+use Rattle.s3_types.specs.declared.request.Committer.{Committer}
+use Rattle.s3_types.specs.declared.request.Committer.TheVariants.{Directory, Partitioned}
+use Rattle.s3_types.specs.declared.request.Mode.{Mode}
+use Rattle.s3_types.specs.declared.request.Mode.TheVariants.{Replace}
+use Rattle.job_model.specs.Legal.{IsLegal}
+use Rattle.job_model.specs.JobScript.{Script}
+use Rattle.job_model.specs.declared.ends.CommitEnd.{CommitEnd}
+use Rattle.job_model.specs.declared.ends.CommitEnd.TheVariants as commits
+use Rattle.job_model.specs.declared.ends.Stage.TheVariants as stages
+use Rattle.job_operations.specs.View.{view}
+use Rattle.job_operations.specs.JobCommits.{CommitOver}
+use Rattle.job_operations.specs.Operations.{Setting, TheCommit}
+use Rattle.job_promise.specs.Headline.{Same, Always}
+use Rattle.job_promise.specs.OperationEnds.{is_untouched, NoDeletionWorn, OnlyOpening}
+use Rattle.job_promise.specs.Seen.{nothing_seen, see_all}
+use Rattle.job_facts.specs.Told.{nothing_told, tell_all}
+use Rattle.job_facts.specs.Facts.{Hold}
+use Rattle.job_facts.specs.Runs.{Stand, Runs, IsOpening, is_set}
+
+-- the commit deletes files that stood before the job
+abbrev pub is_replacing : Committer → Mode → Bool
+is_replacing Directory Replace = true
+is_replacing Partitioned Replace = true
+is_replacing _ _ = false
+
+abbrev pub replaces : Script → Bool
+replaces w = is_replacing w.committer w.mode
+
+-- a run of a job that replaces nothing, whose operations send what they ask and hear what is answered, in any order of its actors
+pub record RunsKeep (g : Setting) (k : Option ℕ) (opening : Content) (es : List Entry) (x : Stand) : Type 0 where
+  -- what it says of its stand is what its entries say
+  pub seen : x.seen ≡ see_all g.script k (nothing_seen opening) es
+  pub told : x.told ≡ tell_all g.script nothing_told es
+  -- from the end of the set-up on the facts hold
+  pub hold : is_set x.driver ≡ true → Hold g.script g.minimum x.seen x.told
+  -- at each moment a reader of the destination is shown what the headline says
+  pub always : Always g.script k opening es
+  -- where the commit ended before its first completion the opening files are shown
+  pub untouched : (end : CommitEnd) → x.driver ≡ Some (TheCommit (CommitOver end)) → is_untouched end ≡ true → Same (view g.script.dest x.seen.scene.content) (view g.script.dest opening)
+  -- and a revert of which no deletion wore out leaves no file of the job
+  pub reverted : x.driver ≡ Some (TheCommit (CommitOver (commits.StoreFault stages.Complete))) → NoDeletionWorn g.script.retries x.commit → OnlyOpening g.script opening x.seen.scene.content
+
+abbrev pub AllRunsKeep : Type 0
+AllRunsKeep = (g : Setting) → IsLegal g.script → replaces g.script ≡ false → (k : Option ℕ) (opening : Content) → IsOpening g opening → (es : List Entry) (x : Stand) → Runs g k opening es x → RunsKeep g k opening es x

@@ -1,0 +1,114 @@
+-- Runs of a job among no strangers, request by request, in any order of its actors. An operation may also stop at any time.
+use Rattle.std.specs.Prelude.{◌≡◌, ℕ, ◌≤◌, ◌<◌, ◌^◌, Bool, true, false, List, [], ◌∷◌, ◌++◌, Option, Some, None}
+use Rattle.s3_types.specs.Store.{Content, Upload}
+use Rattle.s3_types.specs.Answer.{answer}
+use Rattle.s3_types.specs.Moment.{IsHonestOutcome}
+use Rattle.s3_types.specs.declared.request.Actor.TheVariants.{Driver}
+use Rattle.s3_types.specs.declared.request.Request.{Request}
+use Rattle.s3_types.specs.declared.journal.Outcome.{Outcome}
+use Rattle.s3_types.specs.declared.journal.Entry.{Entry}
+use Rattle.sendings.specs.Retries.{fresh}
+use Rattle.job_model.specs.Attempts.{Who, actor_of}
+use Rattle.job_model.specs.Known.{Known}
+use Rattle.job_model.specs.declared.ends.SetupEnd.{SetupEnd}
+use Rattle.job_model.specs.declared.ends.SetupEnd.TheVariants as setups
+use Rattle.job_model.specs.declared.ends.TaskEnd.{TaskEnd}
+use Rattle.job_model.specs.declared.ends.TaskEnd.TheVariants as tasks
+use Rattle.job_operations.specs.Setup.{Setup, SetupOver, setup_start}
+use Rattle.job_operations.specs.Writes.{WriteOver, write_start}
+use Rattle.job_operations.specs.TaskCommits.{task_commit_start}
+use Rattle.job_operations.specs.TaskAborts.{task_abort_start}
+use Rattle.job_operations.specs.JobCommits.{commit_start}
+use Rattle.job_operations.specs.Cleanups.{clean_start}
+use Rattle.job_operations.specs.Operations.{Setting, Operation, TheSetup, TheWrite, TheTaskCommit, TheTaskAbort, TheCommit, TheClean, who, asks, tells}
+use Rattle.job_promise.specs.Seen.{Seen, see, is_begun, nothing_seen}
+use Rattle.job_facts.specs.Told.{Told, known, put_who, nothing_told, tell, entry, driver_entry}
+use Rattle.job_facts.specs.Stores.{at_id}
+use Rattle.job_facts.specs.Facts.{IsAttempt}
+
+-- where a run stands: what is seen and told, what each attempt and the driver began last and how far that has come, and what the driver's commit has sent
+pub record Stand : Type 0 where
+  pub seen : Seen
+  pub told : Told
+  pub attempts : Who → Option Operation
+  pub driver : Option Operation
+  pub commit : List Entry
+
+abbrev pub first_stand : Content → Stand
+first_stand opening = record { seen = nothing_seen opening; told = nothing_told; attempts = λ a. None; driver = None; commit = [] }
+
+-- an attempt is at this now
+abbrev pub with_attempt : Stand → Who → Operation → Stand
+with_attempt x a op = record { seen = x.seen; told = x.told; attempts = put_who x.attempts a (Some op); driver = x.driver; commit = x.commit }
+
+-- the driver is
+abbrev pub with_driver : Stand → Operation → Stand
+with_driver x op = record { seen = x.seen; told = x.told; attempts = x.attempts; driver = Some op; commit = x.commit }
+
+-- one more entry
+abbrev pub saw : Setting → Option ℕ → Stand → Entry → Stand
+saw g k x e = record { seen = see g.script k x.seen e; told = tell g.script x.told e; attempts = x.attempts; driver = x.driver; commit = x.commit }
+
+-- the driver's commit begins
+abbrev pub committing : Setting → Stand → Option ℕ → Stand
+committing g x missing = record { seen = x.seen; told = x.told; attempts = x.attempts; driver = Some (TheCommit (commit_start g.script missing)); commit = [] }
+
+-- what its commit has sent, with this entry where it is of the commit
+abbrev pub commit_with : Operation → List Entry → Entry → List Entry
+commit_with (TheCommit c) es e = es ++ e ∷ []
+commit_with _ es e = es
+
+abbrev pub with_commit : Stand → List Entry → Stand
+with_commit x es = record { seen = x.seen; told = x.told; attempts = x.attempts; driver = x.driver; commit = es }
+
+abbrev pub is_done : Setup → Bool
+is_done (SetupOver setups.Done) = true
+is_done _ = false
+
+-- the driver's set-up has ended Done
+abbrev pub is_set : Option Operation → Bool
+is_set None = false
+is_set (Some (TheSetup t)) = is_done t.operation
+is_set (Some (TheCommit c)) = true
+is_set (Some (TheClean t)) = true
+is_set (Some _) = false
+
+-- it is what the driver did last
+abbrev pub is_just_set : Option Operation → Bool
+is_just_set (Some (TheSetup t)) = is_done t.operation
+is_just_set _ = false
+
+-- the entries of a set-up are of events before that of the commit, and those of the commit of it or of later ones
+abbrev pub IsTimely : Option ℕ → ℕ → Operation → Type 0
+IsTimely k n (TheSetup t) = is_begun k n ≡ false
+IsTimely k n (TheCommit c) = is_begun k n ≡ true
+IsTimely k n _ = Unit {0}
+
+abbrev pub nothing_learnt : Known
+nothing_learnt = record { drawn = []; put_sent = false; publish_sent = false }
+
+-- A run over this content, whose commit is event k if it is any: its entries so far, and where it stands. An actor that stops sends
+-- no more; what it was at is then as far as it had come.
+pub data Runs (g : Setting) (k : Option ℕ) (opening : Content) : List Entry → Stand → Type 0 where
+  run_begins : Runs g k opening [] (first_stand opening)
+  -- the driver begins a set-up where none has ended Done
+  setup_begins : (es : List Entry) (x : Stand) → Runs g k opening es x → is_set x.driver ≡ false → Runs g k opening es (with_driver x (TheSetup (fresh g.script.retries setup_start)))
+  -- its commit, right after its set-up
+  commit_begins : (es : List Entry) (x : Stand) (missing : Option ℕ) → Runs g k opening es x → is_just_set x.driver ≡ true → Runs g k opening es (committing g x missing)
+  -- an abort or clean of the job, at any time after that
+  clean_begins : (es : List Entry) (x : Stand) → Runs g k opening es x → is_set x.driver ≡ true → Runs g k opening es (with_driver x (TheClean (fresh g.script.retries clean_start)))
+  driver_sends : (es : List Entry) (x : Stand) (op : Operation) (n : ℕ) (r : Request) (o : Outcome) → Runs g k opening es x → x.driver ≡ Some op → asks g (who Driver) nothing_learnt op ≡ Some r
+      → IsTimely k n op → x.seen.scene.content.next ≤ 2 ^ 64 → IsHonestOutcome o (answer x.seen.scene r)
+      → Runs g k opening (es ++ driver_entry n r o ∷ []) (with_commit (with_driver (saw g k x (driver_entry n r o)) (tells g (who Driver) op o)) (commit_with op x.commit (driver_entry n r o)))
+  -- an attempt begins its write where it has begun nothing, its commit where its write has ended Done, and an abort at any time
+  write_begins : (es : List Entry) (x : Stand) (a : Who) → Runs g k opening es x → is_set x.driver ≡ true → IsAttempt g.script a → x.attempts a ≡ None → Runs g k opening es (with_attempt x a (TheWrite (fresh g.script.retries (write_start g.script a))))
+  publish_begins : (es : List Entry) (x : Stand) (a : Who) (spare : ℕ) (repeated : Bool) → Runs g k opening es x → is_set x.driver ≡ true → x.attempts a ≡ Some (TheWrite (record { operation = WriteOver tasks.Done; spare = spare; repeated = repeated }))
+      → Runs g k opening es (with_attempt x a (TheTaskCommit (fresh g.script.retries (task_commit_start g.script a))))
+  abort_begins : (es : List Entry) (x : Stand) (a : Who) → Runs g k opening es x → is_set x.driver ≡ true → IsAttempt g.script a → Runs g k opening es (with_attempt x a (TheTaskAbort (fresh g.script.retries (task_abort_start g.script (known x.told a)))))
+  attempt_sends : (es : List Entry) (x : Stand) (a : Who) (op : Operation) (n : ℕ) (r : Request) (o : Outcome) → Runs g k opening es x → is_set x.driver ≡ true → x.attempts a ≡ Some op → asks g a (known x.told a) op ≡ Some r
+      → IsHonestOutcome o (answer x.seen.scene r) → Runs g k opening (es ++ entry a n r o ∷ []) (with_attempt (saw g k x (entry a n r o)) a (tells g a op o))
+
+-- a content that a run may begin with
+pub record IsOpening (g : Setting) (c : Content) : Type 0 where
+  pub least : c.minimum ≡ g.minimum
+  pub fresh : (id : ℕ) (x : Upload) → at_id g.script c id ≡ Some x → id < c.next
