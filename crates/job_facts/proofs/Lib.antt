@@ -52,3 +52,6 @@ pub mod Agreeing
 pub mod Running
 pub mod Reading
 pub mod Steps
+pub mod Keeping
+pub mod EveryRun
+pub mod Entries

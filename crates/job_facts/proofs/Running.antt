@@ -46,7 +46,7 @@ use Rattle.job_facts.specs.Fits.{Fits}
 use Rattle.job_facts.specs.Emptying.{SetsUp}
 use Rattle.job_facts.specs.Driver.{Reads, FitsClean, FitsJobCommit}
 use Rattle.job_facts.specs.Turning.{NoneEnded, Turns}
-use Rattle.job_facts.specs.Filed.{Gone, Decides, IsBefore, whole_of, FileStands, FileLeft}
+use Rattle.job_facts.specs.Filed.{Gone, Decides, Wants, IsBefore, whole_of, FileStands, FileLeft}
 use Rattle.job_facts.specs.FiledLaws.{Commits}
 use Rattle.job_facts.specs.Runs.{Stand}
 use Rattle.job_facts.specs.RunLaws.{replaces}
@@ -87,6 +87,34 @@ module _ (g : Setting) (opening : Content) where
   Marks c picks put (Marking sets n) = MarkSays c picks put
   Marks c picks put (Reverting r rs n) = put ≡ false
   Marks c picks put (CommitOver end) = MarkLeft c picks put end
+
+  -- one that was not put has no such stage
+  false_left : (x : Content) (p : Picks) (put : Bool) → put ≡ false → (end : CommitEnd) → MarkLeft x p put end
+  false_left x p put e commits.Committed = λ y. absurd (false_true e y)
+  false_left x p put e (commits.StoreFault stages.Success) = λ y. absurd (false_true e y)
+  false_left x p put e (commits.StoreFault stages.Read) = e
+  false_left x p put e (commits.StoreFault stages.Delete) = e
+  false_left x p put e (commits.StoreFault stages.Complete) = e
+  false_left x p put e (commits.Missing t) = e
+  false_left x p put e (commits.SamePath q t v) = e
+  false_left x p put e commits.NoMemory = e
+
+  pub false_marks : (x : Content) (p : Picks) (put : Bool) → put ≡ false → (d : Commit) → Marks x p put d
+  false_marks x p put e (Fetching sets y) = e
+  false_marks x p put e (Replacing sets q ps y z) = e
+  false_marks x p put e (Completing sets y ys finished) = e
+  false_marks x p put e (Marking sets y) = λ z. absurd (false_true e z)
+  false_marks x p put e (Reverting q qs y) = e
+  false_marks x p put e (CommitOver end) = false_left x p put e end
+
+  -- what the picks want the commit wants
+  pub wants_of : (p : Picks) (q b : List ℕ) → wanted_at w p q ≡ Some b → (d : Commit) → Agrees w p d → Wants w q b d
+  wants_of p q b e (Fetching sets x) a = tt
+  wants_of p q b e (Replacing sets o os x z) a = absurd a
+  wants_of p q b e (Completing sets x xs finished) a = ap (λ l. lookup (text_eq q) l) (sym (same_wanted w (picks_of sets) p a)) ∙ e
+  wants_of p q b e (Marking sets x) a = ap (λ l. lookup (text_eq q) l) (sym (same_wanted w (picks_of sets) p a)) ∙ e
+  wants_of p q b e (Reverting z zs x) a = tt
+  wants_of p q b e (CommitOver end) a = tt
 
   -- what is wanted stands as the commit says, and what is not wanted as at the opening
   pub record Files (c : Content) (picks : Picks) (ended : ℕ → Bool) (es : List Entry) (op : Commit) : Type 0 where
@@ -140,7 +168,8 @@ module _ (g : Setting) (opening : Content) where
   -- once the set-up is done
   pub record Late (x : Stand) : Type 0 where
     pub hold : Hold w g.minimum x.seen x.told
-    pub gone : Gone w x.seen.scene.content x.told
+    -- until the driver cleans up
+    pub gone : x.told.cleaned ≡ false → Gone w x.seen.scene.content x.told
     pub fine : (a : Who) (op : Operation) → x.attempts a ≡ Some op → IsAttempt w a × Fits w g.minimum a x.told op
     pub new : (a : Who) → x.attempts a ≡ None → (known x.told a ≡ record { drawn = []; put_sent = false; publish_sent = false }) × (x.told.undone a ≡ false)
     pub driver : At x.driver x.seen x.told x.commit

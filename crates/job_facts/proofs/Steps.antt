@@ -68,7 +68,7 @@ use Rattle.job_facts.proofs.EndedGone.{commit_gone}
 use Rattle.job_facts.proofs.FilingLaws.{files_go, stranger_same}
 use Rattle.job_facts.proofs.Agreeing.{AgreeBelow, OfWanted, Agrees, upload_wanted, IsRead, agrees_tells, decided_so}
 use Rattle.job_facts.proofs.Reading.{agrees_read}
-use Rattle.job_facts.proofs.Running.{first_at, now_at, Untouched, MarkSays, MarkLeft, Marks, Files, InCommit}
+use Rattle.job_facts.proofs.Running.{first_at, now_at, Untouched, MarkSays, Marks, Files, InCommit, false_marks, wants_of}
 
 -- a key outside the magic directory, where a request hides all it changes
 pub hidden_same : (w : Script) (s : Scene) → HasBucket s.content w.dest.bucket → (r : Request) → HidesAll w r → (o : Outcome) → (k : List ℕ) → begins (magic_prefix w.dest.key w.job) k ≡ false → at_key w (effect s r o).content k ≡ at_key w s.content k
@@ -221,24 +221,6 @@ module _ (g : Setting) (j : IsLegal g.script) (plain : replaces g.script ≡ fal
 
   -- ---- the marker
 
-  false_left : (x : Content) (p : Picks) (put : Bool) → put ≡ false → (end : CommitEnd) → MarkLeft g opening x p put end
-  false_left x p put e commits.Committed = λ y. absurd (false_true e y)
-  false_left x p put e (commits.StoreFault stages.Success) = λ y. absurd (false_true e y)
-  false_left x p put e (commits.StoreFault stages.Read) = e
-  false_left x p put e (commits.StoreFault stages.Delete) = e
-  false_left x p put e (commits.StoreFault stages.Complete) = e
-  false_left x p put e (commits.Missing t) = e
-  false_left x p put e (commits.SamePath q t v) = e
-  false_left x p put e commits.NoMemory = e
-
-  false_marks : (x : Content) (p : Picks) (put : Bool) → put ≡ false → (d : Commit) → Marks g opening x p put d
-  false_marks x p put e (Fetching sets y) = e
-  false_marks x p put e (Replacing sets q ps y z) = e
-  false_marks x p put e (Completing sets y ys finished) = e
-  false_marks x p put e (Marking sets y) = λ z. absurd (false_true e z)
-  false_marks x p put e (Reverting q qs y) = e
-  false_marks x p put e (CommitOver end) = false_left x p put e end
-
   marks_either : (x : Content) (p : Picks) (put b : Bool) (d e : Commit) → Marks g opening x p put d → Marks g opening x p put e → Marks g opening x p put (cond b d e)
   marks_either x p put true d e y z = y
   marks_either x p put false d e y z = z
@@ -250,7 +232,7 @@ module _ (g : Setting) (j : IsLegal g.script) (plain : replaces g.script ≡ fal
   marking_marks sets v x p put says ReplyLost = marks_either x p put (nat_lt v w.retries) (Marking sets (v + 1)) (CommitOver (commits.StoreFault stages.Success)) says says
 
   unmarked_next : (d : Commit) → is_mark_stage c ≡ false → s.put_mark ≡ false → (o : Outcome) → Marks g opening (u o).scene.content (u o).picks (u o).put_mark d
-  unmarked_next d z e o = false_marks (u o).scene.content (u o).picks (u o).put_mark (mark_same_by (no_mark_by c z i.agrees i.decides asked) o ∙ e) d
+  unmarked_next d z e o = false_marks g opening (u o).scene.content (u o).picks (u o).put_mark (mark_same_by (no_mark_by c z i.agrees i.decides asked) o ∙ e) d
 
   marks_at : (d : Commit) → d ≡ c → (o : Outcome) → Marks g opening (u o).scene.content (u o).picks (u o).put_mark (commit_tells w d o)
   marks_at (Fetching sets x) v o = unmarked_next (commit_tells w (Fetching sets x) o) (ap is_mark_stage (sym v)) (subst (Marks g opening s.scene.content s.picks s.put_mark) (sym v) i.marks) o
@@ -286,14 +268,6 @@ module _ (g : Setting) (j : IsLegal g.script) (plain : replaces g.script ≡ fal
 
   -- ---- files
 
-  wants_of : (p : Picks) (q b : List ℕ) → wanted_at w p q ≡ Some b → (d : Commit) → Agrees w p d → Wants w q b d
-  wants_of p q b e (Fetching sets x) a = tt
-  wants_of p q b e (Replacing sets o os x z) a = absurd a
-  wants_of p q b e (Completing sets x xs finished) a = ap (λ l. lookup (text_eq q) l) (sym (same_wanted w (picks_of sets) p a)) ∙ e
-  wants_of p q b e (Marking sets x) a = ap (λ l. lookup (text_eq q) l) (sym (same_wanted w (picks_of sets) p a)) ∙ e
-  wants_of p q b e (Reverting z zs x) a = tt
-  wants_of p q b e (CommitOver end) a = tt
-
   -- before the first completion all is as it was
   first_same : (sets : Sets) (x : ℕ) → Fetching sets x ≡ c → (q : List ℕ) → is_file_path q ≡ true → now_at g opening s.scene.content q ≡ first_at g opening q
   first_same sets x v q p = by (wanted_at w s.picks q) refl
@@ -305,7 +279,7 @@ module _ (g : Setting) (j : IsLegal g.script) (plain : replaces g.script ≡ fal
   stays : (d : Commit) → d ≡ c → is_read_stage d ≡ false → (o : Outcome) → (q b : List ℕ) → is_file_path q ≡ true → wanted_at w (u o).picks q ≡ Some b → FileStands w q b (first_at g opening q) es (now_at g opening s.scene.content q) m.ended d × Wants w q b d
   stays d v z o q b p e =
       let want : wanted_at w s.picks q ≡ Some b = ap (λ x. wanted_at w x q) (sym (picks_same (ap is_read_stage (sym v) ∙ z) o)) ∙ e in
-      (subst (FileStands w q b (first_at g opening q) es (now_at g opening s.scene.content q) m.ended) (sym v) (i.files.wanted q p b want), wants_of s.picks q b want d (subst (Agrees w s.picks) (sym v) i.agrees))
+      (subst (FileStands w q b (first_at g opening q) es (now_at g opening s.scene.content q) m.ended) (sym v) (i.files.wanted q p b want), wants_of g opening s.picks q b want d (subst (Agrees w s.picks) (sym v) i.agrees))
 
   -- so what stands is told of the picks afterwards too
   old_files : (d : Commit) → d ≡ c → (o : Outcome) → (q b : List ℕ) → is_file_path q ≡ true → wanted_at w (u o).picks q ≡ Some b → FileStands w q b (first_at g opening q) es (now_at g opening s.scene.content q) m.ended d × Wants w q b d
@@ -348,7 +322,7 @@ module _ (g : Setting) (j : IsLegal g.script) (plain : replaces g.script ≡ fal
         files = record {
           wanted = λ q p b e.
               let old = old_files c refl o q b p e in
-              let now = files_go g j s m c all few q b (first_at g opening q) es old.1 old.0 r asked n o honest (wants_of (u o).picks q b e (commit_tells w c o) agrees) in
+              let now = files_go g j s m c all few q b (first_at g opening q) es old.1 old.0 r asked n o honest (wants_of g opening (u o).picks q b e (commit_tells w c o) agrees) in
               subst (λ (x : Scene). FileStands w q b (first_at g opening q) (es ++ driver_entry n r o ∷ []) (now_at g opening x.content q) (tell_driver m r o).ended (commit_tells w c o)) (sym (scene_is o)) now;
           others = λ q p e. ap (λ (x : Scene). now_at g opening x.content q) (scene_is o) ∙ others_next c refl o q p e;
         };

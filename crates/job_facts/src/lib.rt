@@ -7,6 +7,7 @@ ghost use Rattle.job_facts.specs.SetupLaws.{SetupGoes};
 ghost use Rattle.job_facts.specs.Clearing.{CleanClears};
 ghost use Rattle.job_facts.specs.Turning.{CommitTurns};
 ghost use Rattle.job_facts.specs.FiledLaws.{EndedAreGone, NeverBack, SetsDecide, WantedFiles};
+ghost use Rattle.job_facts.specs.RunLaws.{AllRunsKeep};
 ghost use Rattle.job_facts.specs.StandingLaws.{DriverCloses, NothingGone};
 
 /// The driver's set-up, which ends where the facts begin.
@@ -63,6 +64,11 @@ pub fn wanted_files()
 /// What the driver's abort or clean of the job leaves where nobody else sends.
 pub fn cleans()
     ensures clears { CleanClears }
+{}
+
+/// A whole run among no strangers, in any order of its actors: what a reader of the destination is shown.
+pub fn whole_runs()
+    ensures keep { AllRunsKeep }
 {}
 
 /// The answers that are due.

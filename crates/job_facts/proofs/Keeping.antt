@@ -1,0 +1,254 @@
+-- What holds of a run's stand is kept by every step of the run.
+use Rattle.std.proofs.Common.{◌≡◌, ℕ, zero, suc, ◌+◌, ◌<◌, ◌≤◌, ◌⊎◌, inl, inr, ◌&&◌, ◌||◌, Bool, true, false, cond, List, [], ◌∷◌, ◌++◌, length, take, Option, Some, None, refl, sym, ap, subst, ◌∙◌, arith}
+use Rattle.std.specs.FinMap as fin
+use Rattle.std.specs.Option.{option_map, is_some}
+use Rattle.std.proofs.lemmas.Bool.{and_parts, or_parts, false≢true}
+use Rattle.s3_types.specs.Store.{Content, Scene, Upload}
+use Rattle.s3_types.specs.Pages.{begins}
+use Rattle.s3_types.specs.Answer.{answer, apply}
+use Rattle.s3_types.specs.Moment.{effect, is_effective, IsHonestOutcome}
+use Rattle.s3_types.specs.declared.object.Object.{Object}
+use Rattle.s3_types.specs.declared.request.Request.{Request}
+use Rattle.s3_types.specs.declared.journal.Outcome.{Outcome}
+use Rattle.s3_types.specs.declared.journal.Outcome.TheVariants.{Answered, Slow, RequestLost, ReplyLost}
+use Rattle.s3_types.specs.declared.journal.Entry.{Entry}
+use Rattle.path_keys.specs.Paths.{below}
+use Rattle.magic_paths.specs.Layout.{magic_prefix, success_key}
+use Rattle.magic_paths.specs.Places.{SuccessPlace}
+use Rattle.magic_paths.proofs.Tails.{key_magic}
+use Rattle.sendings.specs.Retries.{Retried, fresh, step}
+use Rattle.job_model.specs.Attempts.{Who}
+use Rattle.job_model.specs.Legal.{IsLegal}
+use Rattle.job_model.specs.JobScript.{Script}
+use Rattle.job_model.specs.Known.{Known}
+use Rattle.job_model.specs.declared.ends.CommitEnd.{CommitEnd}
+use Rattle.job_model.specs.declared.ends.CommitEnd.TheVariants as commits
+use Rattle.job_model.specs.declared.ends.Stage.TheVariants as stages
+use Rattle.job_operations.specs.Outputs.{Picks, wanted_at}
+use Rattle.job_operations.specs.Knowledge.{learn}
+use Rattle.job_operations.specs.View.{view, is_file_path}
+use Rattle.job_operations.specs.JobCommits.{Commit, Fetching, Replacing, Completing, Marking, Reverting, CommitOver, commit_start}
+use Rattle.job_operations.specs.Operations.{Setting, Operation, TheSetup, TheWrite, TheTaskCommit, TheTaskAbort, TheCommit, TheClean, asks}
+use Rattle.job_operations.proofs.LaneTables.{tabled_start}
+use Rattle.job_promise.specs.Headline.{Same, Between, Whole, Kept}
+use Rattle.job_promise.specs.Seen.{Seen, see, see_by, is_marked}
+use Rattle.request_frame.specs.Held.{HasBucket}
+use Rattle.request_frame.proofs.Members.{some_is, none_some, false_true, true_or_false}
+use Rattle.job_facts.specs.Told.{Told, known, put_who, entry, tell_attempt}
+use Rattle.job_facts.specs.Stores.{at_key}
+use Rattle.job_facts.specs.Facts.{IsAttempt, Facts, Hold}
+use Rattle.job_facts.specs.Fits.{Fits, FitsWrite, FitsCommit, FitsAbort}
+use Rattle.job_facts.specs.Driver.{FitsClean}
+use Rattle.job_facts.specs.Turning.{NoneEnded, Turns}
+use Rattle.job_facts.specs.Filed.{Gone, FileStands}
+use Rattle.job_facts.specs.RunLaws.{replaces}
+use Rattle.job_facts.proofs.Whose.{same_or_another, who_here, who_other}
+use Rattle.job_facts.proofs.Legal.{some_dest}
+use Rattle.job_facts.proofs.Shows.{shown_key, HidesAll, hidden_shows}
+use Rattle.job_facts.proofs.Beside.{beside, job_commit_begins}
+use Rattle.job_facts.proofs.Turning.{turns_start}
+use Rattle.job_facts.proofs.Deciding.{d_start}
+use Rattle.job_facts.proofs.FilingLaws.{decides_beside, files_begin}
+use Rattle.job_facts.proofs.Agreeing.{Agrees, agrees_start}
+use Rattle.job_facts.proofs.Running.{first_at, now_at, Untouched, MarkSays, MarkLeft, Marks, Files, InCommit, Idle, At, false_marks, wants_of, untouched_shows}
+use Rattle.job_facts.proofs.Steps.{hidden_same}
+
+-- ---- what is quiet
+
+-- outside the magic directory nothing changes, and of the commit nothing more is seen
+pub record Quiet (w : Script) (s u : Seen) : Type 0 where
+  pub keys : (k : List ℕ) → begins (magic_prefix w.dest.key w.job) k ≡ false → at_key w u.scene.content k ≡ at_key w s.scene.content k
+  pub picks : u.picks ≡ s.picks
+  pub mark : u.put_mark ≡ s.put_mark
+  pub begun : u.begun ≡ s.begun
+
+pub attempt_quiet : (w : Script) (k : Option ℕ) (s : Seen) (a : Who) (n : ℕ) (r : Request) → HasBucket s.scene.content w.dest.bucket → HidesAll w r → (o : Outcome) → Quiet w s (see w k s (entry a n r o))
+attempt_quiet w k s a n r there h (Answered y) = record { keys = hidden_same w s.scene there r h (Answered y); picks = refl; mark = refl; begun = refl }
+attempt_quiet w k s a n r there h Slow = record { keys = λ q e. refl; picks = refl; mark = refl; begun = refl }
+attempt_quiet w k s a n r there h RequestLost = record { keys = λ q e. refl; picks = refl; mark = refl; begun = refl }
+attempt_quiet w k s a n r there h ReplyLost = record { keys = hidden_same w s.scene there r h ReplyLost; picks = refl; mark = refl; begun = refl }
+
+module _ (g : Setting) (j : IsLegal g.script) (opening : Content) (s u : Seen) (q : Quiet g.script s u) where
+  abbrev w : Script
+  w = g.script
+
+  file_same : (p : List ℕ) → is_file_path p ≡ true → now_at g opening u.scene.content p ≡ now_at g opening s.scene.content p
+  file_same p h = q.keys (below w.dest.key p) (shown_key j p h)
+
+  success_same : at_key w u.scene.content (success_key w.dest.key) ≡ at_key w s.scene.content (success_key w.dest.key)
+  success_same = q.keys (success_key w.dest.key) (key_magic w.dest.key w.job SuccessPlace (some_dest j) tt)
+
+  untouched_still : Untouched g opening s.scene.content → Untouched g opening u.scene.content
+  untouched_still h p e = file_same p e ∙ h p e
+
+  says_still : (p : Picks) (put : Bool) → MarkSays g opening s.scene.content p put → MarkSays g opening u.scene.content p put
+  says_still p put says e o y = says e o (sym success_same ∙ y)
+
+  left_still : (p : Picks) (put : Bool) (end : CommitEnd) → MarkLeft g opening s.scene.content p put end → MarkLeft g opening u.scene.content p put end
+  left_still p put commits.Committed h = says_still p put h
+  left_still p put (commits.StoreFault stages.Success) h = says_still p put h
+  left_still p put (commits.StoreFault stages.Read) h = h
+  left_still p put (commits.StoreFault stages.Delete) h = h
+  left_still p put (commits.StoreFault stages.Complete) h = h
+  left_still p put (commits.Missing t) h = h
+  left_still p put (commits.SamePath x t v) h = h
+  left_still p put commits.NoMemory h = h
+
+  marks_still : (p : Picks) (put : Bool) (d : Commit) → Marks g opening s.scene.content p put d → Marks g opening u.scene.content p put d
+  marks_still p put (Fetching sets n) h = h
+  marks_still p put (Replacing sets x xs y n) h = h
+  marks_still p put (Completing sets x xs finished) h = h
+  marks_still p put (Marking sets n) h = says_still p put h
+  marks_still p put (Reverting r rs n) h = h
+  marks_still p put (CommitOver end) h = left_still p put end h
+
+  pub idle_still : (m n : Told) → ((id : ℕ) → n.ended id ≡ m.ended id) → n.cleaned ≡ m.cleaned → Idle g opening s m → Idle g opening u n
+  idle_still m n ended cleaned i = record {
+    untouched = untouched_still i.untouched;
+    none = λ id. ended id ∙ i.none id;
+    uncleaned = cleaned ∙ i.uncleaned;
+    unmarked = q.mark ∙ i.unmarked;
+    unbegun = q.begun ∙ i.unbegun;
+    unpicked = λ t. ap (λ p. p t) q.picks ∙ i.unpicked t;
+  }
+
+  files_still : (ended : ℕ → Bool) (es : List Entry) (d : Commit) → Files g opening s.scene.content s.picks ended es d → Files g opening u.scene.content s.picks ended es d
+  files_still ended es d f = record {
+    wanted = λ p e b h. subst (λ x. FileStands w p b (first_at g opening p) es x ended d) (sym (file_same p e)) (f.wanted p e b h);
+    others = λ p e h. file_same p e ∙ f.others p e h;
+  }
+
+-- what a reader is shown goes on so, where nothing that is shown changes
+pub kept_next : (g : Setting) (opening : Content) (s u : Seen) → Same (view g.script.dest u.scene.content) (view g.script.dest s.scene.content) → at_key g.script u.scene.content (success_key g.script.dest.key) ≡ at_key g.script s.scene.content (success_key g.script.dest.key)
+    → u.picks ≡ s.picks → u.put_mark ≡ s.put_mark → (s.begun ≡ true → u.begun ≡ true) → Kept g.script opening s → Kept g.script opening u
+kept_next g opening s u shows success picks mark begun kept = record {
+  before = λ e. before_so e;
+  between = λ e. subst (λ p. Between g.script (view g.script.dest opening) p (view g.script.dest u.scene.content)) (sym picks) (between_so (s.begun) refl);
+  whole = λ e. subst (λ p. Whole g.script (view g.script.dest opening) p u.scene.content) (sym picks) (whole_so e);
+}
+  where
+    not_begun : u.begun ≡ false → s.begun ≡ false
+    not_begun e = elim (true_or_false s.begun) [ inl y ↦ absurd (false_true e (begun y)) | inr y ↦ y ]
+
+    before_so : u.begun ≡ false → Same (view g.script.dest u.scene.content) (view g.script.dest opening)
+    before_so e q = shows q ∙ kept.before (not_begun e) q
+
+    between_so : (b : Bool) → s.begun ≡ b → Between g.script (view g.script.dest opening) s.picks (view g.script.dest u.scene.content)
+    between_so true e =
+        let old = kept.between e in
+        record { untouched = λ d q. shows q ∙ old.untouched d q; only = λ d q b y. old.only d q b (sym (shows q) ∙ y); kept = λ d q b y keep none. shows q ∙ old.kept d q b y keep none }
+    between_so false e =
+        let same : Same (view g.script.dest u.scene.content) (view g.script.dest opening) = λ q. shows q ∙ kept.before e q in
+        record { untouched = λ d. same; only = λ d q b y. inl (sym (same q) ∙ y); kept = λ d q b y keep none. same q ∙ y }
+
+    marked_so : is_marked g.script u ≡ true → is_marked g.script s ≡ true
+    marked_so e = ap (λ b. b && is_some (at_key g.script s.scene.content (success_key g.script.dest.key))) (sym mark) ∙ ap (λ o. u.put_mark && is_some o) (sym success) ∙ e
+
+    whole_so : is_marked g.script u ≡ true → Whole g.script (view g.script.dest opening) s.picks u.scene.content
+    whole_so e = let old = kept.whole (marked_so e) in record { picked = old.picked; apart = old.apart; files = λ q. shows q ∙ old.files q; mark = λ o y. old.mark o (sym success ∙ y) }
+
+-- ---- an attempt's entry, in the eyes of the driver
+
+module _ (g : Setting) (j : IsLegal g.script) (opening : Content) (k : Option ℕ) (s : Seen) (m : Told) (h : Hold g.script g.minimum s m) (a : Who) (n : ℕ) (op : Operation) (fits : Fits g.script g.minimum a m op) (r : Request) (asked : asks g a (known m a) op ≡ Some r) (hides : HidesAll g.script r) (o : Outcome) (es : List Entry) where
+  abbrev next : Seen
+  next = see g.script k s (entry a n r o)
+
+  abbrev told : Told
+  told = tell_attempt g.script m a r o
+
+  quiet : Quiet g.script s next
+  quiet = attempt_quiet g.script k s a n r h.there hides o
+
+  commit_beside : (c : Commit) → InCommit g opening s.scene.content s.picks s.put_mark s.begun m es c → InCommit g opening next.scene.content next.picks next.put_mark next.begun told es c
+  commit_beside c i =
+      let at_picks = subst (λ p. InCommit g opening next.scene.content p next.put_mark next.begun told es c) (sym quiet.picks) in
+      at_picks (record {
+        fits = beside g m a op fits r asked o c i.fits;
+        tabled = i.tabled;
+        turns = turns_beside c i.turns;
+        decides = decides_beside g m a op fits r asked o c i.decides;
+        uncleaned = i.uncleaned;
+        agrees = i.agrees;
+        marks = subst (λ b. Marks g opening next.scene.content s.picks b c) (sym quiet.mark) (marks_still g j opening s next quiet s.picks s.put_mark c i.marks);
+        early = λ e. untouched_still g j opening s next quiet (i.early (sym quiet.begun ∙ e));
+        files = files_still g j opening s next quiet m.ended es c i.files;
+      })
+    where
+      turns_beside : (c : Commit) → Turns m c → Turns told c
+      turns_beside (Fetching sets y) t = t
+      turns_beside (Replacing sets p ps x y) t = t
+      turns_beside (Completing sets x xs finished) t = t
+      turns_beside (Marking sets y) t = t
+      turns_beside (Reverting q qs y) t = t
+      turns_beside (CommitOver end) t = tt
+
+  pub at_beside : (d : Option Operation) → At g opening d s m es → At g opening d next told es
+  at_beside None y = y
+  at_beside (Some (TheSetup t)) y = (y.0, idle_still g j opening s next quiet m told (λ id. refl) refl y.1)
+  at_beside (Some (TheWrite t)) y = y
+  at_beside (Some (TheTaskCommit t)) y = y
+  at_beside (Some (TheTaskAbort t)) y = y
+  at_beside (Some (TheCommit c)) y = commit_beside c y
+  at_beside (Some (TheClean t)) y = (
+    y.0,
+    kept_next g opening s next (shows_by o) (success_same g j opening s next quiet) quiet.picks quiet.mark (λ e. quiet.begun ∙ e) y.1,
+  )
+    where
+      shows_by : (o : Outcome) → Same (view g.script.dest (see g.script k s (entry a n r o)).scene.content) (view g.script.dest s.scene.content)
+      shows_by (Answered x) = hidden_shows j s.scene r (Answered x) h.there hides
+      shows_by Slow = λ p. refl
+      shows_by RequestLost = λ p. refl
+      shows_by ReplyLost = hidden_shows j s.scene r ReplyLost h.there hides
+
+  -- other attempts know what they knew
+  pub other_fits : (b : Who) → (b ≡ a → ⊥) → (mine : Operation) → Fits g.script g.minimum b m mine → Fits g.script g.minimum b told mine
+  other_fits b ne mine f = by mine f
+    where
+      same : known m b ≡ known told b
+      same = λ i. record {
+        drawn = sym (who_other m.drawn a (learn g.script a (known m a) r o).drawn b ne) i;
+        put_sent = sym (who_other m.put_sent a (learn g.script a (known m a) r o).put_sent b ne) i;
+        publish_sent = sym (who_other m.publish_sent a (learn g.script a (known m a) r o).publish_sent b ne) i;
+      }
+
+      undone_same : told.undone b ≡ m.undone b
+      undone_same = who_other m.undone a _ b ne
+
+      by : (mine : Operation) → Fits g.script g.minimum b m mine → Fits g.script g.minimum b told mine
+      by (TheSetup t) f = f
+      by (TheWrite t) f = (undone_same ∙ f.0, subst (λ v. FitsWrite g.script g.minimum b v t.operation) same f.1)
+      by (TheTaskCommit t) f = (undone_same ∙ f.0, subst (λ v. FitsCommit g.script g.minimum b v t.operation) same f.1)
+      by (TheTaskAbort t) f = subst (λ v. FitsAbort g.script b v t.operation) same f
+      by (TheCommit c) f = f
+      by (TheClean t) f = f
+
+  pub other_known : (b : Who) → (b ≡ a → ⊥) → known told b ≡ known m b
+  other_known b ne = λ i. record {
+    drawn = who_other m.drawn a (learn g.script a (known m a) r o).drawn b ne i;
+    put_sent = who_other m.put_sent a (learn g.script a (known m a) r o).put_sent b ne i;
+    publish_sent = who_other m.publish_sent a (learn g.script a (known m a) r o).publish_sent b ne i;
+  }
+
+-- ---- the commit as it begins
+
+pub commit_starts : (g : Setting) → IsLegal g.script → replaces g.script ≡ false → (opening : Content) (s : Seen) (m : Told) → Hold g.script g.minimum s m → Idle g opening s m → (missing : Option ℕ)
+    → InCommit g opening s.scene.content s.picks s.put_mark s.begun m [] (commit_start g.script missing)
+commit_starts g j plain opening s m h i missing =
+    let agrees = agrees_start g.script s.picks plain missing in
+    record {
+      fits = job_commit_begins g.script g.minimum j m missing;
+      tabled = tabled_start g.script missing (some_lane j.one_lane);
+      turns = turns_start g.script m i.none missing;
+      decides = d_start g.script g.minimum m.publish_sent m.drawn missing;
+      uncleaned = i.uncleaned;
+      agrees = agrees;
+      marks = false_marks g opening s.scene.content s.picks s.put_mark i.unmarked (commit_start g.script missing);
+      early = λ e. i.untouched;
+      files = record {
+        wanted = λ q p b e. files_begin g.script g.minimum j s m h i.none q b (first_at g opening q) (now_at g opening s.scene.content q) (i.untouched q p) missing (wants_of g opening s.picks q b e (commit_start g.script missing) agrees);
+        others = λ q p e. i.untouched q p;
+      };
+    }
+  where
+    some_lane : {a : ℕ} → 1 ≤ a → 0 < a
+    some_lane y = omega arith
