@@ -1,10 +1,6 @@
-mod Quiet
-mod FourSet
 mod FourEntries
-mod Walks
 mod Reverted
 mod Lost
 mod Killed
 mod Aborted
-mod Strangers
 mod Twins

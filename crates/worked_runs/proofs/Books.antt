@@ -9,16 +9,15 @@ use Rattle.std.proofs.lemmas.Map.Lookups.{exact_pairs, exact_bytes, exact_unsign
 use Rattle.std.specs.Ordering.{nat_cmp, eq_by_cmp, is_lt}
 use Rattle.std.specs.declared.cmp.Ordering.{Ordering}
 use Rattle.std.specs.declared.cmp.Ordering.TheVariants.{Less, Equal, Greater}
-use Rattle.std.specs.FinMap.{insert, remove, get, empty, entries, from_entries, get-insert, get-empty, get-from_entries, slice_cmp-IsAntisymmetric, nat_cmp-IsAntisymmetric, IsAntisymmetric}
+use Rattle.std.specs.FinMap.{insert, remove, get, empty, entries, from_entries, get-insert, get-empty, get-from_entries, nat_cmp-IsAntisymmetric, IsAntisymmetric}
 use Rattle.std.specs.FinMap.Entries.{put, by_order, where_key, find, is_sorted}
 use Rattle.proof_base.specs.Order.{text_cmp, text_eq, text_total, text_ties}
-use Rattle.proof_base.proofs.Tree.{tied}
 use Rattle.s3_types.specs.Store.{Objects, Upload, Uploads, BucketContent, Buckets, Content, Files, Scene}
-use Rattle.s3_types.specs.Tags.{plain_tag}
+use Rattle.s3_types.specs.Tags.{Spelled, plain_tag}
 use Rattle.s3_types.specs.Pages as pages
 use Rattle.s3_types.specs.Pages.{begins}
 use Rattle.s3_types.specs.Multipart as uploads
-use Rattle.s3_types.specs.Multipart.{ref_cmp, live, with_key, with_part, is_part_number, is_none_named, rises, has_tag, joined}
+use Rattle.s3_types.specs.Multipart.{ref_cmp, live, with_key, with_part, is_part_number, is_none_named, rises, tag_eq, has_tag, joined}
 use Rattle.s3_types.specs.Answer.{answer, answer_at, answer_in, found, head, part_answer, complete_answer, abort_answer, apply, apply_at, apply_in, bucket_of, draws, without, part_put, completed, aborted, renamed, rename_answer, read_answer}
 use Rattle.s3_types.specs.declared.object.Object.{Object}
 use Rattle.s3_types.specs.declared.limits.TheConstants.{MOST_ENTRIES}
@@ -28,14 +27,13 @@ use Rattle.s3_types.specs.declared.request.Request.TheVariants.{MakeBucket, PutO
 use Rattle.s3_types.specs.declared.request.UploadRef.{UploadRef}
 use Rattle.s3_types.specs.declared.reply.PageEntry.{PageEntry}
 use Rattle.s3_types.specs.declared.reply.Reply.{Reply}
-use Rattle.s3_types.specs.declared.reply.Reply.TheVariants.{Stored, Deleted, Upload as Drawn, ClusterDone, ClusterNames, Refused}
+use Rattle.s3_types.specs.declared.reply.Reply.TheVariants.{Stored, Deleted, Upload as Drawn, Part, ClusterDone, ClusterNames, Refused}
 use Rattle.s3_types.specs.declared.reply.Refusal.{Refusal}
-use Rattle.s3_types.specs.declared.reply.Refusal.TheVariants.{NoSuchUpload, MalformedList, InvalidPartOrder, InvalidPart, EntityTooSmall, TooManyKeys, NoSuchBucket}
+use Rattle.s3_types.specs.declared.reply.Refusal.TheVariants.{NoSuchUpload, BadPartNumber, MalformedList, InvalidPartOrder, InvalidPart, EntityTooSmall, TooManyKeys, NoSuchBucket}
 use Rattle.worked_runs.specs.Jobs.{lake}
+use Rattle.worked_runs.proofs.Texts.{text_exact, same_text}
+use Rattle.worked_runs.proofs.Tagged.{told_tag, told_is}
 use Rattle.worked_runs.proofs.MapLists.{put_is, removed_is, get_put, put_twice, sorted_is, find_map}
-
-pub text_exact : IsAntisymmetric text_cmp
-text_exact = slice_cmp-IsAntisymmetric nat_cmp-IsAntisymmetric
 
 -- ---- a store as lists
 
@@ -163,12 +161,21 @@ live_by k (Some d) = by (text_eq d.key k)
 live_is : (es : List (ℕ × Draft)) (k : List ℕ) (id : ℕ) → live (uploads_of es) k id ≡ option_map upload_of (draft_at es k id)
 live_is es k id = ap (with_key k) (upload_found es id) ∙ live_by k (find nat_cmp id es)
 
--- the parts of an upload joined
-abbrev pub joined_by : (ℕ → Option (List ℕ)) → List NamedPart → ℕ → Result (List ℕ) Refusal
-joined_by g ns minimum =
+-- a part is there and has this tag
+abbrev pub is_tagged : Spelled → Option (List ℕ) → Bool
+is_tagged t None = false
+is_tagged t (Some bytes) = tag_eq (told_tag bytes) t
+
+tagged_is : (t : Spelled) (o : Option (List ℕ)) → has_tag t o ≡ is_tagged t o
+tagged_is t None = refl
+tagged_is t (Some bytes) = ap (λ x. tag_eq x t) (told_is bytes)
+
+-- the parts of an upload joined, where tags are tested so
+abbrev pub joined_by : (Spelled → Option (List ℕ) → Bool) → (ℕ → Option (List ℕ)) → List NamedPart → ℕ → Result (List ℕ) Refusal
+joined_by has g ns minimum =
     cond (is_none_named ns) (Err MalformedList)
     (cond (rises ns)
-    (cond (list_all (λ n. has_tag n.tag (g n.number)) ns)
+    (cond (list_all (λ n. has n.tag (g n.number)) ns)
     (cond (list_all (λ n. nat_le minimum (length (unwrap_or (g n.number) []))) (take (length ns - 1) ns))
     (Ok (flat_map (λ n. unwrap_or (g n.number) []) ns))
     (Err EntityTooSmall))
@@ -177,14 +184,14 @@ joined_by g ns minimum =
 
 abbrev pub joined_in : Option Draft → List NamedPart → ℕ → Result (List ℕ) Refusal
 joined_in None ns minimum = Err NoSuchUpload
-joined_in (Some d) ns minimum = joined_by (λ n. find nat_cmp n d.parts) ns minimum
+joined_in (Some d) ns minimum = joined_by is_tagged (λ n. find nat_cmp n d.parts) ns minimum
 
 parts_found : (ps : List (ℕ × List ℕ)) (n : ℕ) → get (from_entries {R = nat_cmp} ps) n ≡ find nat_cmp n ps
 parts_found ps n = get-from_entries nat_cmp_total ps n
 
 joined_is : (d : Option Draft) (ns : List NamedPart) (minimum : ℕ) → joined (option_map upload_of d) ns minimum ≡ joined_in d ns minimum
 joined_is None ns minimum = refl
-joined_is (Some d) ns minimum = ap (λ g. joined_by g ns minimum) (λ i n. parts_found d.parts n i)
+joined_is (Some d) ns minimum = ap (λ g. joined_by has_tag g ns minimum) (λ i n. parts_found d.parts n i) ∙ ap (λ t. joined_by t (λ n. find nat_cmp n d.parts) ns minimum) (λ i t o. tagged_is t o i)
 
 abbrev pub with_draft : List (ℕ × Draft) → ℕ → Option Draft → ℕ → List ℕ → List (ℕ × Draft)
 with_draft es id None n bytes = es
@@ -255,9 +262,6 @@ is_ours (ClusterGet path) = true
 is_ours (ClusterDelete path) = true
 is_ours (ClusterList p) = true
 is_ours r = text_eq (bucket_of r) lake
-
-same_text : (x y : List ℕ) → text_eq x y ≡ true → x ≡ y
-same_text x y h = text_exact x y (tied _ (sym (text_ties x y) ∙ h))
 
 stored : (b : Book) (r : Request) (d : Book) → bucket_of r ≡ lake → apply_in (bucket_in b) b.next 5242880 r ≡ bucket_in d → cond (draws r) (b.next + 1) b.next ≡ d.next → apply_at (get (content_of b).buckets (bucket_of r)) (content_of b) r ≡ content_of d
 unfolding content_of
@@ -342,6 +346,15 @@ listed_in p delimited x es = pages.folded_from None (filter (λ y. is_lt (text_c
 abbrev pub uploads_in : List ℕ → Option UploadRef → List (ℕ × Draft) → List UploadRef
 uploads_in p x es = filter (λ r. begins p r.key) (filter (uploads.is_behind x) (map (λ e. e.0) (map ref_in es)))
 
+-- a part's answer, with this tag
+abbrev pub part_reply : Option Draft → ℕ → Spelled → Reply
+part_reply None n tag = Refused NoSuchUpload
+part_reply (Some d) n tag = cond (is_part_number n) (Part tag) (Refused BadPartNumber)
+
+part_told : (d : Option Draft) (n : ℕ) (bytes : List ℕ) → part_answer (option_map upload_of d) n bytes ≡ part_reply d n (told_tag bytes)
+part_told None n bytes = refl
+part_told (Some d) n bytes = ap (part_reply (Some d) n) (told_is bytes)
+
 abbrev pub to_bucket : Book → Request → Reply
 to_bucket b (PutObject n k bytes header) = Stored (plain_tag bytes)
 to_bucket b (GetObject n k) = found (find text_cmp k b.objects)
@@ -350,7 +363,7 @@ to_bucket b (DeleteObject n k) = Deleted
 to_bucket b (DeleteObjects n ks) = cond (nat_lt MOST_ENTRIES (length ks)) (Refused TooManyKeys) Deleted
 to_bucket b (ListPage n p delimited x limit) = pages.page limit (listed_in p delimited x b.objects)
 to_bucket b (CreateUpload n k) = Drawn b.next
-to_bucket b (UploadPart n k id number bytes) = part_answer (option_map upload_of (draft_at b.uploads k id)) number bytes
+to_bucket b (UploadPart n k id number bytes) = part_reply (draft_at b.uploads k id) number (told_tag bytes)
 to_bucket b (CompleteUpload n k id ns) = complete_answer ns (joined_in (draft_at b.uploads k id) ns 5242880)
 to_bucket b (AbortUpload n k id) = abort_answer (option_map upload_of (draft_at b.uploads k id))
 to_bucket b (ListUploads n p x limit) = uploads.page limit (uploads_in p x b.uploads)
@@ -402,7 +415,7 @@ answers b (DeleteObjects n ks) h o = told b (DeleteObjects n ks) (same_text n la
 answers b (ListPage n p delimited x limit) h o = told b (ListPage n p delimited x limit) (same_text n lake h)
     ∙ ap (λ l. pages.page limit (listed_in p delimited x l)) (objects_listed b.objects o.objects)
 answers b (CreateUpload n k) h o = told b (CreateUpload n k) (same_text n lake h)
-answers b (UploadPart n k id number bytes) h o = told b (UploadPart n k id number bytes) (same_text n lake h) ∙ ap (λ u. part_answer u number bytes) (live_is b.uploads k id)
+answers b (UploadPart n k id number bytes) h o = told b (UploadPart n k id number bytes) (same_text n lake h) ∙ ap (λ u. part_answer u number bytes) (live_is b.uploads k id) ∙ part_told (draft_at b.uploads k id) number bytes
 answers b (CompleteUpload n k id ns) h o = told b (CompleteUpload n k id ns) (same_text n lake h)
     ∙ ap (λ u. complete_answer ns (joined u ns 5242880)) (live_is b.uploads k id) ∙ ap (complete_answer ns) (joined_is (draft_at b.uploads k id) ns 5242880)
 answers b (AbortUpload n k id) h o = told b (AbortUpload n k id) (same_text n lake h) ∙ ap abort_answer (live_is b.uploads k id)

@@ -1,5 +1,5 @@
--- What a store as lists shows, and what is owed at each moment, as tests that compute.
-use Rattle.std.proofs.Common.{◌≡◌, ℕ, Bool, true, false, cond, List, [], ◌∷◌, ◌++◌, take, drop, Option, Some, None, refl, sym, ap, ◌∙◌, codes}
+-- What a store as lists shows, and what a journal makes of it.
+use Rattle.std.proofs.Common.{◌≡◌, ℕ, Bool, true, false, ◌&&◌, cond, List, [], ◌∷◌, ◌++◌, take, drop, Option, Some, None, refl, sym, ap, ◌∙◌, codes}
 use Rattle.std.specs.List.{list_all, starts_with}
 use Rattle.std.specs.Option.{option_map}
 use Rattle.std.specs.Ordering.{eq_by_cmp}
@@ -8,7 +8,7 @@ use Rattle.std.proofs.lemmas.Bool.{and_parts, true≢false, false≢true}
 use Rattle.std.proofs.lemmas.Bool.Decides.{Decides-eqb}
 use Rattle.std.proofs.lemmas.Slice.Eq.{starts_is}
 use Rattle.std.specs.Prelude.{nat_eq}
-use Rattle.proof_base.specs.Order.{text_cmp}
+use Rattle.proof_base.specs.Order.{text_cmp, text_eq}
 use Rattle.proof_base.proofs.Tree.{tied}
 use Rattle.s3_types.specs.Moment.{effect, after_all, moment}
 use Rattle.s3_types.specs.declared.object.Object.{Object}
@@ -19,7 +19,8 @@ use Rattle.s3_types.specs.declared.journal.Entry.{Entry}
 use Rattle.path_keys.specs.Paths.{Path, below, relative_in}
 use Rattle.job_operations.specs.View.{is_file_path, object_in, object_at, view}
 use Rattle.worked_runs.specs.Jobs.{lake}
-use Rattle.worked_runs.proofs.Books.{Book, scene_of, content_of, files_of, text_exact, object_found, at_bucket, after, is_ours, applies}
+use Rattle.worked_runs.proofs.Texts.{text_exact, same_text}
+use Rattle.worked_runs.proofs.Books.{Book, scene_of, content_of, files_of, object_found, at_bucket, after, is_ours, applies}
 
 abbrev pub dest : Path
 dest = record { bucket = lake; key = codes "out" }
@@ -34,8 +35,25 @@ abbrev pub shown_by : Option (List ℕ) → List ℕ → List (List ℕ × List 
 shown_by None bytes rest = rest
 shown_by (Some p) bytes rest = shown_if (is_file_path p) p bytes rest
 
+abbrev pub Listed : Type 0
+Listed = List (List ℕ × List ℕ)
+
+abbrev pub same_files : Listed → Listed → Bool
+same_files [] [] = true
+same_files (x ∷ xs) (y ∷ ys) = text_eq x.0 y.0 && (text_eq x.1 y.1 && same_files xs ys)
+same_files _ _ = false
+
+pub files_are : (xs ys : Listed) → same_files xs ys ≡ true → xs ≡ ys
+files_are [] [] h = refl
+files_are [] (y ∷ ys) h = absurd (false≢true h)
+files_are (x ∷ xs) [] h = absurd (false≢true h)
+files_are (x ∷ xs) (y ∷ ys) h =
+    let p = and_parts (text_eq x.0 y.0) _ h in
+    let q = and_parts (text_eq x.1 y.1) _ p.1 in
+    λ i. (same_text x.0 y.0 p.0 i, same_text x.1 y.1 q.0 i) ∷ files_are xs ys q.1 i
+
 -- the files that are shown, by their paths below the destination
-abbrev pub visible : List (List ℕ × Object) → List (List ℕ × List ℕ)
+abbrev pub visible : List (List ℕ × Object) → Listed
 visible [] = []
 visible (e ∷ es) = shown_by (relative_in (codes "out") e.0) e.1.bytes (visible es)
 

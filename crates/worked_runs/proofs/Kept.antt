@@ -1,31 +1,64 @@
 -- What whole runs over a store as lists keep and show, by tests that compute.
 use Rattle.std.proofs.Common.{◌≡◌, ℕ, zero, suc, ◌+◌, Bool, true, false, cond, ◌&&◌, List, [], ◌∷◌, take, Option, Some, refl, sym, ap, subst, ◌∙◌}
 use Rattle.std.specs.List.{list_all}
+use Rattle.std.specs.Map.{lookup}
 use Rattle.std.specs.Ordering.{nat_cmp, eq_by_cmp}
 use Rattle.std.specs.Option.{option_map}
 use Rattle.std.specs.Cmp.{nat_cmp_total}
 use Rattle.std.specs.FinMap.{from_entries, get-from_entries}
 use Rattle.std.specs.FinMap.Entries.{find}
 use Rattle.std.proofs.lemmas.Bool.{and_parts, false≢true}
-use Rattle.proof_base.specs.Order.{text_cmp, text_eq}
+use Rattle.proof_base.specs.Order.{text_cmp, text_eq, text_ties}
 use Rattle.proof_base.proofs.Tree.{tied}
+use Rattle.s3_types.specs.Store.{Content}
 use Rattle.s3_types.specs.Fates.{fate_or, fate_at}
 use Rattle.s3_types.specs.Foretold.{AreForetold, fate_of}
-use Rattle.s3_types.specs.Moment.{moment}
+use Rattle.s3_types.specs.Moment.{moment, IsHonest}
 use Rattle.s3_types.specs.declared.fates.Fate.{Fate}
 use Rattle.s3_types.specs.declared.fates.Fate.TheVariants.{Answer, Slow, Before, After}
 use Rattle.s3_types.specs.declared.object.Object.{Object}
 use Rattle.s3_types.specs.declared.journal.Entry.{Entry}
 use Rattle.job_model.specs.JobScript.{Script}
 use Rattle.job_operations.specs.View.{view, object_at}
+use Rattle.job_promise.specs.Headline.{Always}
+use Rattle.job_promise.specs.Entries.{ZeroRename, OutsideStays}
 use Rattle.job_promise.specs.Scope.{upload_at, upload_in}
 use Rattle.worked_runs.specs.Jobs.{lake}
+use Rattle.worked_runs.specs.OneFile.{opening}
 use Rattle.worked_runs.specs.Runs.{Keeps}
-use Rattle.worked_runs.proofs.Books.{Book, content_of, text_exact, at_bucket, upload_of, upload_found}
-use Rattle.worked_runs.proofs.Checks.{dest, visible, views, objects_at, are_ours, without_files, effect_on, book_after, moment_is}
+use Rattle.worked_runs.proofs.Texts.{text_exact}
+use Rattle.worked_runs.proofs.Books.{Book, content_of, at_bucket, upload_of, upload_found}
+use Rattle.worked_runs.proofs.Checks.{Listed, same_files, files_are, dest, visible, views, objects_at, are_ours, without_files, effect_on, book_after, moment_is}
 use Rattle.worked_runs.proofs.Sights.{opens}
-use Rattle.worked_runs.proofs.Owed.{AllGood, always, same_text}
-use Rattle.worked_runs.proofs.Frames.{Steps, ours_some, honest, zero_rename, outside_stays}
+use Rattle.worked_runs.proofs.Owed.{all_good, always}
+use Rattle.worked_runs.proofs.Frames.{all_sound, due_outcomes, outcomes, ours_some, honest, zero_rename, outside_stays}
+use Rattle.worked_runs.proofs.Refusals.{empty_book, opening_is}
+
+-- ---- a journal as a walk
+
+-- what a store holds at the start of a run
+pub record Start : Type 0 where
+  pub book : Book
+  pub content : Content
+  pub starts : content_of (without_files book) ≡ content
+
+-- the one bucket, with nothing in it
+abbrev pub nothing : Start
+nothing = record { book = empty_book; content = opening; starts = opening_is }
+
+-- the store after so many entries
+abbrev pub book_at : Start → List Entry → ℕ → Book
+book_at s es m = book_after (without_files s.book) (take m es)
+
+-- each entry is one that may be sent, and was answered as was due
+pub record Path (s : Start) (es : List Entry) : Type 0 where
+  pub sound : all_sound (without_files s.book) es ≡ true
+  pub answered : due_outcomes (without_files s.book) es ≡ outcomes es
+
+-- and at each moment a reader is shown what he may rely on
+pub record Walk (w : Script) (k : Option ℕ) (s : Start) (es : List Entry) : Type 0 where
+  pub path : Path s es
+  pub good : all_good w k (visible s.book.objects) (opens (without_files s.book)) es ≡ true
 
 -- ---- fates
 
@@ -56,33 +89,29 @@ fated fs n (e ∷ es) h =
 
 -- ---- what is kept
 
-pub kept_by : (w : Script) → w.dest ≡ dest → (fs : List (ℕ × Fate)) → w.fates ≡ from_entries fs → (k : Option ℕ) (os : List (List ℕ × Object)) (b : Book) (es : List Entry)
-    → AllGood w k (visible b.objects) (opens (without_files b)) es → Steps os (without_files b) es → have_fates fs 1 es ≡ true → Keeps w k (content_of (without_files b)) es
-kept_by w to fs named k os b es g s f = record {
-  always = always w to k b es g;
-  sent = record { honest = honest os b es s; fated = subst (λ m. AreForetold (λ n. Some (fate_at m n)) 1 es) (sym named) (fated fs 1 es f) };
-  zero_rename = zero_rename w to os b es s;
-  outside = outside_stays w to os b es s;
-}
+module _ (s : Start) (es : List Entry) where
+  pub is_honest : Path s es → IsHonest s.content es
+  is_honest p = subst (λ c. IsHonest c es) s.starts (honest s.book es p.sound p.answered)
 
--- ---- what is shown at each moment
+  module _ (w : Script) (to : w.dest ≡ dest) where
+    pub no_rename : Path s es → ZeroRename w s.content es
+    no_rename p = subst (λ c. ZeroRename w c es) s.starts (zero_rename w to s.book es p.sound)
 
-abbrev Listed : Type 0
-Listed = List (List ℕ × List ℕ)
+    pub nothing_outside : Path s es → OutsideStays w s.content es
+    nothing_outside p = subst (λ c. OutsideStays w c es) s.starts (outside_stays w to s.book es p.sound)
 
-abbrev same_files : Listed → Listed → Bool
-same_files [] [] = true
-same_files (x ∷ xs) (y ∷ ys) = text_eq x.0 y.0 && (text_eq x.1 y.1 && same_files xs ys)
-same_files _ _ = false
+    pub always_kept : (k : Option ℕ) → Walk w k s es → Always w k s.content es
+    always_kept k h = subst (λ c. Always w k c es) s.starts (always w to k s.book es h.good)
 
-files_are : (xs ys : Listed) → same_files xs ys ≡ true → xs ≡ ys
-files_are [] [] h = refl
-files_are [] (y ∷ ys) h = absurd (false≢true h)
-files_are (x ∷ xs) [] h = absurd (false≢true h)
-files_are (x ∷ xs) (y ∷ ys) h =
-    let p = and_parts (text_eq x.0 y.0) _ h in
-    let q = and_parts (text_eq x.1 y.1) _ p.1 in
-    λ i. (same_text x.0 y.0 p.0 i, same_text x.1 y.1 q.0 i) ∷ files_are xs ys q.1 i
+    pub keeps : (k : Option ℕ) → Walk w k s es → (fs : List (ℕ × Fate)) → w.fates ≡ from_entries fs → have_fates fs 1 es ≡ true → Keeps w k s.content es
+    keeps k h fs named f = record {
+      always = always_kept k h;
+      sent = record { honest = is_honest h.path; fated = subst (λ m. AreForetold (λ n. Some (fate_at m n)) 1 es) (sym named) (fated fs 1 es f) };
+      zero_rename = no_rename h.path;
+      outside = nothing_outside h.path;
+    }
+
+-- ---- what is there at each moment
 
 -- these files are shown, and no others, from here on
 abbrev pub all_show : Listed → Book → List Entry → Bool
@@ -95,25 +124,38 @@ show_at vs b [] h (suc m) = files_are (visible b.objects) vs h
 show_at vs b (e ∷ es) h zero = files_are (visible b.objects) vs (and_parts (same_files (visible b.objects) vs) _ h).0
 show_at vs b (e ∷ es) h (suc m) = show_at vs (effect_on b e.request e.outcome) es (and_parts (same_files (visible b.objects) vs) _ h).1 m
 
-pub view_at : (b : Book) (es : List Entry) → are_ours es ≡ true → (m : ℕ) (p : List ℕ)
-    → view dest (moment (content_of (without_files b)) es m).content p ≡ find text_cmp p (visible (book_after (without_files b) (take m es)).objects)
-view_at b es h m p = ap (λ s. view dest s.content p) (moment_is b es m (ours_some es m h)) ∙ views (book_after (without_files b) (take m es)) p
+pub lookup_is : {X : Type 0} (fs : List (List ℕ × X)) (p : List ℕ) → find text_cmp p fs ≡ lookup (text_eq p) fs
+lookup_is [] p = refl
+lookup_is (f ∷ fs) p = ap (λ o. cond (eq_by_cmp text_cmp p f.0) (Some f.1) o) (lookup_is fs p) ∙ ap (λ b. cond b (Some f.1) (lookup (text_eq p) fs)) (sym (text_ties p f.0))
 
-pub shows_as : (b : Book) (vs : Listed) (es : List Entry) → are_ours es ≡ true → all_show vs (without_files b) es ≡ true → (m : ℕ) (p : List ℕ)
-    → view dest (moment (content_of (without_files b)) es m).content p ≡ find text_cmp p vs
-shows_as b vs es h s m p = view_at b es h m p ∙ ap (λ l. find text_cmp p l) (show_at vs (without_files b) es s m)
+module _ (s : Start) (es : List Entry) (ours : are_ours es ≡ true) where
+  -- the file at a path
+  pub file_then : (m : ℕ) (p : List ℕ) → view dest (moment s.content es m).content p ≡ find text_cmp p (visible (book_at s es m).objects)
+  file_then m p =
+      ap (λ c. view dest (moment c es m).content p) (sym s.starts)
+      ∙ ap (λ x. view dest x.content p) (moment_is s.book es m (ours_some es m ours))
+      ∙ views (book_at s es m) p
 
--- the live upload of an id at a moment
-pub draft_at : (b : Book) (es : List Entry) (m id : ℕ) → are_ours es ≡ true
-    → upload_at (moment (content_of (without_files b)) es m).content lake id ≡ option_map upload_of (find nat_cmp id (book_after (without_files b) (take m es)).uploads)
-draft_at b es m id h =
-    let c = book_after (without_files b) (take m es) in
-    ap (λ s. upload_at s.content lake id) (moment_is b es m (ours_some es m h)) ∙ ap (λ o. upload_in o id) (at_bucket c) ∙ upload_found c.uploads id
+  pub files_then : (m : ℕ) (p : List ℕ) → view dest (moment s.content es m).content p ≡ lookup (text_eq p) (visible (book_at s es m).objects)
+  files_then m p = file_then m p ∙ lookup_is (visible (book_at s es m).objects) p
 
--- the object at a key, at a moment
-pub object_then : (b : Book) (es : List Entry) (m : ℕ) (k : List ℕ) → are_ours es ≡ true
-    → object_at (moment (content_of (without_files b)) es m).content lake k ≡ find text_cmp k (book_after (without_files b) (take m es)).objects
-object_then b es m k h = ap (λ s. object_at s.content lake k) (moment_is b es m (ours_some es m h)) ∙ objects_at (book_after (without_files b) (take m es)) k
+  pub shows_as : (vs : Listed) → all_show vs (without_files s.book) es ≡ true → (m : ℕ) (p : List ℕ) → view dest (moment s.content es m).content p ≡ find text_cmp p vs
+  shows_as vs h m p = file_then m p ∙ ap (λ l. find text_cmp p l) (show_at vs (without_files s.book) es h m)
+
+  -- the object at a key
+  pub object_then : (m : ℕ) (k : List ℕ) → object_at (moment s.content es m).content lake k ≡ find text_cmp k (book_at s es m).objects
+  object_then m k =
+      ap (λ c. object_at (moment c es m).content lake k) (sym s.starts)
+      ∙ ap (λ x. object_at x.content lake k) (moment_is s.book es m (ours_some es m ours))
+      ∙ objects_at (book_at s es m) k
+
+  -- the live upload of an id
+  pub upload_then : (m id : ℕ) → upload_at (moment s.content es m).content lake id ≡ option_map upload_of (find nat_cmp id (book_at s es m).uploads)
+  upload_then m id =
+      ap (λ c. upload_at (moment c es m).content lake id) (sym s.starts)
+      ∙ ap (λ x. upload_at x.content lake id) (moment_is s.book es m (ours_some es m ours))
+      ∙ ap (λ o. upload_in o id) (at_bucket (book_at s es m))
+      ∙ upload_found (book_at s es m).uploads id
 
 -- a test that holds of each key holds of one that is found
 pub key_found : (test : List ℕ → Bool) (es : List (List ℕ × Object)) → list_all (λ e. test e.0) es ≡ true → (k : List ℕ) (o : Object) → find text_cmp k es ≡ Some o → test k ≡ true

@@ -1,3 +1,4 @@
+pub mod Texts
 pub mod Digits
 pub mod OneSet
 pub mod MapLists
@@ -9,12 +10,12 @@ pub mod Refusals
 pub mod RefusedEnds
 pub mod Owed
 pub mod Frames
+pub mod Kept
 pub mod OneMoments
 pub mod OnePlays
 pub mod OneEnds
 pub mod LostMarks
 pub mod StrayEntries
-pub mod Kept
 pub mod SharedPaths
 pub mod LostSets
 pub mod FourFileRuns

@@ -40,9 +40,7 @@ use Rattle.worked_runs.proofs.Books.{content_of, at_bucket}
 use Rattle.worked_runs.proofs.Checks.{objects_at}
 use Rattle.worked_runs.proofs.Sights.{Saw, opens, saw_all, sees}
 use Rattle.worked_runs.proofs.Refusals.{empty_book, opening_is, opens_is}
-use Rattle.worked_runs.proofs.Kept.{fated}
-use Rattle.worked_runs.proofs.Tagged.{hello_is}
-use Rattle.worked_runs.proofs.OneMoments.{always_kept, is_honest, no_rename, nothing_outside}
+use Rattle.worked_runs.proofs.OneMoments.{kept}
 use Rattle.worked_runs.proofs.OnePlays.{same_some, setup_doing, write_doing, task_doing, commit_doing, plays}
 
 -- ---- which operations ended
@@ -176,7 +174,7 @@ last = saw_all script (Some 4) (opens empty_book) journal
 
 mark_stands : is_some (find text_cmp (codes "out/_SUCCESS") last.book.objects) ≡ true
 unfolding digits
-mark_stands = rw hello_is refl
+mark_stands = refl
 
 marked_over : is_marked script (seen script (Some 4) (content_of empty_book) journal 13) ≡ true
 unfolding digits
@@ -227,11 +225,11 @@ picked = refl
 
 pub promised : Promised script opening journal the_picks the_ends
 promised = record {
-  always = λ own. always_kept;
+  always = λ own. kept.always;
   plays = plays;
   picks = ([], sym picked);
-  zero_rename = no_rename;
-  outside = nothing_outside;
+  zero_rename = kept.zero_rename;
+  outside = kept.outside;
   setups = setups_end;
   tasks = tasks_end;
   publishes = publishes;
@@ -243,7 +241,7 @@ pub one_finished : OneFileFinished
 one_finished = record {
   finished = record {
     promised = promised;
-    sent = record { honest = is_honest; fated = fated [] 1 journal refl };
+    sent = kept.sent;
     events = refl;
     picks = λ h. sym picked;
   };

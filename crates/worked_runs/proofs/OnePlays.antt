@@ -1,15 +1,16 @@
 -- The run of one attempt with one file plays as its script says.
-use Rattle.std.proofs.Common.{◌≡◌, ◌⊎◌, ℕ, zero, suc, ◌+◌, Bool, true, false, ◌&&◌, cond, List, [], ◌∷◌, take, Option, Some, None, refl, sym, ap, subst, inr, arith}
+use Rattle.std.proofs.Common.{◌≡◌, ◌⊎◌, ℕ, zero, suc, ◌+◌, Bool, true, false, ◌&&◌, cond, List, [], ◌∷◌, ◌∙◌, length, take, Option, Some, None, refl, sym, ap, subst, inr, arith}
 use Rattle.std.specs.Fmt.{digits}
 use Rattle.std.specs.List.{list_all, slice_get}
 use Rattle.std.specs.Prelude.{nat_le, nat_eq}
-use Rattle.std.proofs.lemmas.Bool.{and_parts}
+use Rattle.std.proofs.lemmas.Bool.{and_parts, true≢false}
 use Rattle.std.proofs.lemmas.Bool.Decides.{nat_tests}
 use Rattle.proof_base.proofs.Numbers.{at_most_is}
 use Rattle.s3_types.specs.Blocks.{block_of, parts_of}
 use Rattle.s3_types.specs.declared.request.Actor.{Actor}
 use Rattle.s3_types.specs.declared.request.Actor.TheVariants.{Driver, Attempt, Shell}
 use Rattle.s3_types.specs.declared.journal.Entry.{Entry}
+use Rattle.job_model.specs.declared.events.Op.{Op}
 use Rattle.job_model.specs.declared.events.Op.TheVariants as ops
 use Rattle.job_model.specs.declared.events.Event.{Event}
 use Rattle.job_model.specs.declared.events.Event.TheVariants.{Do}
@@ -21,9 +22,10 @@ use Rattle.job_model.specs.declared.ends.OpEnd.TheVariants as ends
 use Rattle.job_model.specs.declared.ends.ActorEnd.{ActorEnd}
 use Rattle.job_model.specs.declared.ends.EventEnd.{EventEnd}
 use Rattle.job_model.specs.declared.ends.EventEnd.TheVariants.{Ended}
+use Rattle.job_model.specs.declared.ends.EventFault.{EventFault}
 use Rattle.job_operations.specs.Operations.{Setting}
-use Rattle.job_promise.specs.States.{Doing, past, after_event}
-use Rattle.job_promise.specs.Turns.{own, until, by_actor, is_busy, is_memory, AllFrom, IsRising, AllUpTo}
+use Rattle.job_promise.specs.States.{Doing, past, refusal, after_event}
+use Rattle.job_promise.specs.Turns.{own, of_event, until, by_actor, AllBy, is_busy, is_memory, AllFrom, IsRising, AllUpTo}
 use Rattle.job_promise.specs.Follows.{OpFollows, op_over, Obeyed, AllObeyed, Plays}
 use Rattle.worked_runs.specs.Jobs.{worker}
 use Rattle.worked_runs.specs.OneFile.{script, setting, doing, journal, OneFileRuns}
@@ -95,85 +97,93 @@ one_over g after_it a end d es h o zero x e =
     subst (λ (z : ActorEnd). (is_memory z.end ≡ true) ⊎ ((c : Doing) × (after_it z.actor ≡ Some c) × (op_over g z.actor c (by_actor z.actor es) ≡ Some z.end))) k (inr (d, h, o))
 one_over g after_it a end d es h o (suc i) x e = absurd (cc)
 
+-- an event that does a whole operation, whose end comes with it, after which nobody is busy
+record Does (xs : List EventEnd) (es : List Entry) (a : Actor) (op : Op) (end : OpEnd) : Type 0 where
+  may : refusal (past script xs).state (Do a op) ≡ None
+  turns : AllBy a (of_event (length xs + 1) es)
+  follow : (x : Actor) (d : Doing) → (after_event script (past script xs) (Do a op) (Ended end)).doing x ≡ Some d → OpFollows setting x d (by_actor x es)
+  idle : (x : Actor) → is_busy ((after_event script (past script xs) (Do a op) (Ended end)).state x).life ≡ false
+  began : Doing
+  doing_is : (after_event script (past script xs) (Do a op) (Ended end)).doing a ≡ Some began
+  over : op_over setting a began (by_actor a es) ≡ Some end
+
+does : (xs : List EventEnd) (es : List Entry) (a : Actor) (op : Op) (end : OpEnd) → Does xs es a op end → Obeyed setting xs es (Do a op) (Ended end)
+does xs es a op end h = record {
+  refused = λ f e. absurd (cc);
+  refuses = λ f e. no_fault (sym h.may ∙ e);
+  silent = λ f e. absurd (cc);
+  turns = λ e. h.turns;
+  follow = h.follow;
+  goes_on = λ x d e u. absurd (true≢false (sym u ∙ h.idle x));
+  over = one_over setting (after_event script (past script xs) (Do a op) (Ended end)).doing a end h.began es h.doing_is h.over;
+}
+  where
+    no_fault : {Z : Type 0} {f : EventFault} → (let n : Option EventFault = None in n ≡ Some f) → Z
+    no_fault e = absurd (cc)
+
 first : Obeyed setting (take 0 the_ends) (until 1 journal) (Do Driver ops.Setup) (Ended (ends.Setup setups.Done))
 unfolding digits
-first = record {
-  refused = λ f e. absurd (cc);
-  refuses = λ f e. absurd (cc);
-  silent = λ f e. absurd (cc);
-  turns = λ e. (refl, (refl, (refl, tt)));
+first = does (take 0 the_ends) (until 1 journal) Driver ops.Setup (ends.Setup setups.Done) (record {
+  may = refl;
+  turns = (refl, (refl, (refl, tt)));
   follow = by_actors (λ (x : Actor). (d : Doing) → (after_event script (past script (take 0 the_ends)) (Do Driver ops.Setup) (Ended (ends.Setup setups.Done))).doing x ≡ Some d → OpFollows setting x d (by_actor x (until 1 journal)))
       (λ d e. at_doing (λ c. OpFollows setting Driver c (by_actor Driver (until 1 journal))) setup_doing d e goes.setup.0)
       (λ d e. absurd (cc))
       (λ t a h d e. absurd (cc))
       (λ d e. absurd (cc));
-  goes_on = by_actors (λ (x : Actor). (d : Doing) → (after_event script (past script (take 0 the_ends)) (Do Driver ops.Setup) (Ended (ends.Setup setups.Done))).doing x ≡ Some d → is_busy ((after_event script (past script (take 0 the_ends)) (Do Driver ops.Setup) (Ended (ends.Setup setups.Done))).state x).life ≡ true → op_over setting x d (by_actor x (until 1 journal)) ≡ None)
-      (λ d e u. absurd (cc))
-      (λ d e u. absurd (cc))
-      (λ t a h d e u. absurd (cc))
-      (λ d e u. absurd (cc));
-  over = one_over setting (after_event script (past script (take 0 the_ends)) (Do Driver ops.Setup) (Ended (ends.Setup setups.Done))).doing Driver (ends.Setup setups.Done) setup_doing (until 1 journal) refl goes.setup.1;
-}
+  idle = by_actors (λ (x : Actor). is_busy ((after_event script (past script (take 0 the_ends)) (Do Driver ops.Setup) (Ended (ends.Setup setups.Done))).state x).life ≡ false) refl refl (λ t a h. refl) refl;
+  began = setup_doing;
+  doing_is = refl;
+  over = goes.setup.1;
+})
 
 second : Obeyed setting (take 1 the_ends) (until 2 journal) (Do worker ops.Write) (Ended (ends.Task tasks.Done))
 unfolding digits
-second = record {
-  refused = λ f e. absurd (cc);
-  refuses = λ f e. absurd (cc);
-  silent = λ f e. absurd (cc);
-  turns = λ e. (refl, (refl, (refl, (refl, tt))));
+second = does (take 1 the_ends) (until 2 journal) worker ops.Write (ends.Task tasks.Done) (record {
+  may = refl;
+  turns = (refl, (refl, (refl, (refl, tt))));
   follow = by_actors (λ (x : Actor). (d : Doing) → (after_event script (past script (take 1 the_ends)) (Do worker ops.Write) (Ended (ends.Task tasks.Done))).doing x ≡ Some d → OpFollows setting x d (by_actor x (until 2 journal)))
       (λ d e. at_doing (λ c. OpFollows setting Driver c (by_actor Driver (until 2 journal))) setup_doing d e goes.setup.0)
       (λ d e. at_doing (λ c. OpFollows setting worker c (by_actor worker (until 2 journal))) write_doing d e goes.write.0)
       (λ t a h d e. no_doing (cond (nat_eq t 0 && nat_eq a 0) (Some write_doing) None) d (ap (λ b. cond b (Some write_doing) None) h) e)
       (λ d e. absurd (cc));
-  goes_on = by_actors (λ (x : Actor). (d : Doing) → (after_event script (past script (take 1 the_ends)) (Do worker ops.Write) (Ended (ends.Task tasks.Done))).doing x ≡ Some d → is_busy ((after_event script (past script (take 1 the_ends)) (Do worker ops.Write) (Ended (ends.Task tasks.Done))).state x).life ≡ true → op_over setting x d (by_actor x (until 2 journal)) ≡ None)
-      (λ d e u. absurd (cc))
-      (λ d e u. absurd (cc))
-      (λ t a h d e u. no_doing (cond (nat_eq t 0 && nat_eq a 0) (Some write_doing) None) d (ap (λ b. cond b (Some write_doing) None) h) e)
-      (λ d e u. absurd (cc));
-  over = one_over setting (after_event script (past script (take 1 the_ends)) (Do worker ops.Write) (Ended (ends.Task tasks.Done))).doing worker (ends.Task tasks.Done) write_doing (until 2 journal) refl goes.write.1;
-}
+  idle = by_actors (λ (x : Actor). is_busy ((after_event script (past script (take 1 the_ends)) (Do worker ops.Write) (Ended (ends.Task tasks.Done))).state x).life ≡ false) refl refl (λ t a h. rw h refl) refl;
+  began = write_doing;
+  doing_is = refl;
+  over = goes.write.1;
+})
 
 third : Obeyed setting (take 2 the_ends) (until 3 journal) (Do worker ops.Commit) (Ended (ends.Task tasks.Done))
 unfolding digits
-third = record {
-  refused = λ f e. absurd (cc);
-  refuses = λ f e. absurd (cc);
-  silent = λ f e. absurd (cc);
-  turns = λ e. (refl, (refl, (refl, tt)));
+third = does (take 2 the_ends) (until 3 journal) worker ops.Commit (ends.Task tasks.Done) (record {
+  may = refl;
+  turns = (refl, (refl, (refl, tt)));
   follow = by_actors (λ (x : Actor). (d : Doing) → (after_event script (past script (take 2 the_ends)) (Do worker ops.Commit) (Ended (ends.Task tasks.Done))).doing x ≡ Some d → OpFollows setting x d (by_actor x (until 3 journal)))
       (λ d e. at_doing (λ c. OpFollows setting Driver c (by_actor Driver (until 3 journal))) setup_doing d e goes.setup.0)
       (λ d e. at_doing (λ c. OpFollows setting worker c (by_actor worker (until 3 journal))) task_doing d e goes.task.0)
       (λ t a h d e. no_doing (cond (nat_eq t 0 && nat_eq a 0) (Some task_doing) (cond (nat_eq t 0 && nat_eq a 0) (Some write_doing) None)) d (ap (λ b. cond b (Some task_doing) (cond b (Some write_doing) None)) h) e)
       (λ d e. absurd (cc));
-  goes_on = by_actors (λ (x : Actor). (d : Doing) → (after_event script (past script (take 2 the_ends)) (Do worker ops.Commit) (Ended (ends.Task tasks.Done))).doing x ≡ Some d → is_busy ((after_event script (past script (take 2 the_ends)) (Do worker ops.Commit) (Ended (ends.Task tasks.Done))).state x).life ≡ true → op_over setting x d (by_actor x (until 3 journal)) ≡ None)
-      (λ d e u. absurd (cc))
-      (λ d e u. absurd (cc))
-      (λ t a h d e u. no_doing (cond (nat_eq t 0 && nat_eq a 0) (Some task_doing) (cond (nat_eq t 0 && nat_eq a 0) (Some write_doing) None)) d (ap (λ b. cond b (Some task_doing) (cond b (Some write_doing) None)) h) e)
-      (λ d e u. absurd (cc));
-  over = one_over setting (after_event script (past script (take 2 the_ends)) (Do worker ops.Commit) (Ended (ends.Task tasks.Done))).doing worker (ends.Task tasks.Done) task_doing (until 3 journal) refl goes.task.1;
-}
+  idle = by_actors (λ (x : Actor). is_busy ((after_event script (past script (take 2 the_ends)) (Do worker ops.Commit) (Ended (ends.Task tasks.Done))).state x).life ≡ false) refl refl (λ t a h. rw h refl) refl;
+  began = task_doing;
+  doing_is = refl;
+  over = goes.task.1;
+})
 
 fourth : Obeyed setting (take 3 the_ends) (until 4 journal) (Do Driver ops.Commit) (Ended (ends.Commit commits.Committed))
 unfolding digits
-fourth = record {
-  refused = λ f e. absurd (cc);
-  refuses = λ f e. absurd (cc);
-  silent = λ f e. absurd (cc);
-  turns = λ e. (refl, (refl, (refl, tt)));
+fourth = does (take 3 the_ends) (until 4 journal) Driver ops.Commit (ends.Commit commits.Committed) (record {
+  may = refl;
+  turns = (refl, (refl, (refl, tt)));
   follow = by_actors (λ (x : Actor). (d : Doing) → (after_event script (past script (take 3 the_ends)) (Do Driver ops.Commit) (Ended (ends.Commit commits.Committed))).doing x ≡ Some d → OpFollows setting x d (by_actor x (until 4 journal)))
       (λ d e. at_doing (λ c. OpFollows setting Driver c (by_actor Driver (until 4 journal))) commit_doing d e goes.commit.0)
       (λ d e. at_doing (λ c. OpFollows setting worker c (by_actor worker (until 4 journal))) task_doing d e goes.task.0)
       (λ t a h d e. no_doing (cond (nat_eq t 0 && nat_eq a 0) (Some task_doing) (cond (nat_eq t 0 && nat_eq a 0) (Some write_doing) None)) d (ap (λ b. cond b (Some task_doing) (cond b (Some write_doing) None)) h) e)
       (λ d e. absurd (cc));
-  goes_on = by_actors (λ (x : Actor). (d : Doing) → (after_event script (past script (take 3 the_ends)) (Do Driver ops.Commit) (Ended (ends.Commit commits.Committed))).doing x ≡ Some d → is_busy ((after_event script (past script (take 3 the_ends)) (Do Driver ops.Commit) (Ended (ends.Commit commits.Committed))).state x).life ≡ true → op_over setting x d (by_actor x (until 4 journal)) ≡ None)
-      (λ d e u. absurd (cc))
-      (λ d e u. absurd (cc))
-      (λ t a h d e u. no_doing (cond (nat_eq t 0 && nat_eq a 0) (Some task_doing) (cond (nat_eq t 0 && nat_eq a 0) (Some write_doing) None)) d (ap (λ b. cond b (Some task_doing) (cond b (Some write_doing) None)) h) e)
-      (λ d e u. absurd (cc));
-  over = one_over setting (after_event script (past script (take 3 the_ends)) (Do Driver ops.Commit) (Ended (ends.Commit commits.Committed))).doing Driver (ends.Commit commits.Committed) commit_doing (until 4 journal) refl goes.commit.1;
-}
+  idle = by_actors (λ (x : Actor). is_busy ((after_event script (past script (take 3 the_ends)) (Do Driver ops.Commit) (Ended (ends.Commit commits.Committed))).state x).life ≡ false) refl refl (λ t a h. rw h refl) refl;
+  began = commit_doing;
+  doing_is = refl;
+  over = goes.commit.1;
+})
 
 at_event : (k : ℕ) (ev dv : Event) (end dend : EventEnd) → Some dv ≡ Some ev → Some dend ≡ Some end → Obeyed setting (take k the_ends) (until (k + 1) journal) dv dend → Obeyed setting (take k the_ends) (until (k + 1) journal) ev end
 at_event k ev dv end dend e f o = subst (λ x. Obeyed setting (take k the_ends) (until (k + 1) journal) x end) (same_some dv ev e) (subst (λ x. Obeyed setting (take k the_ends) (until (k + 1) journal) dv x) (same_some dend end f) o)

@@ -7,6 +7,8 @@ use Rattle.std.specs.FinMap.Entries.{put, where_key, find, find-put, find-where_
 use Rattle.std.proofs.lemmas.Bool.{and_parts, true≢false, false≢true}
 use Rattle.proof_base.specs.Order.{text_cmp, text_eq, text_total, text_ties}
 use Rattle.proof_base.proofs.Tree.{tied}
+use Rattle.proof_base.proofs.Bools.{not_so}
+use Rattle.proof_base.proofs.Options.{some_is}
 use Rattle.s3_types.specs.declared.object.Object.{Object}
 use Rattle.s3_types.specs.declared.journal.Entry.{Entry}
 use Rattle.magic_paths.specs.Layout.{success_key}
@@ -17,22 +19,17 @@ use Rattle.job_operations.specs.Conflicts.{keeps_of}
 use Rattle.job_operations.specs.Records.{mark_text}
 use Rattle.job_promise.specs.Seen.{see_all}
 use Rattle.job_promise.specs.Headline.{Same, or_else, done, Kept, Always}
-use Rattle.worked_runs.proofs.Books.{Book, content_of, text_exact, is_ours}
-use Rattle.worked_runs.proofs.Checks.{dest, visible, views, objects_at, without_files}
+use Rattle.worked_runs.proofs.Texts.{text_exact, same_text}
+use Rattle.worked_runs.proofs.Books.{Book, content_of, is_ours}
+use Rattle.worked_runs.proofs.Checks.{Listed, same_files, files_are, dest, visible, views, objects_at, without_files}
 use Rattle.worked_runs.proofs.Sights.{Saw, seen_of, saw, sees_by, opens}
 use Rattle.worked_runs.proofs.Refusals.{opens_is}
-
-abbrev Listed : Type 0
-Listed = List (List ℕ × List ℕ)
 
 -- ---- tests of lists
 
 abbrev pub is_at : Option (List ℕ) → List ℕ → Bool
 is_at None b = false
 is_at (Some c) b = text_eq c b
-
-pub same_text : (x y : List ℕ) → text_eq x y ≡ true → x ≡ y
-same_text x y h = text_exact x y (tied _ (sym (text_ties x y) ∙ h))
 
 at_is : (o : Option (List ℕ)) (b : List ℕ) → is_at o b ≡ true → o ≡ Some b
 at_is None b h = absurd (false≢true h)
@@ -41,9 +38,6 @@ at_is (Some c) b h = ap Some (same_text c b h)
 either_is : (a b : Bool) → (a || b) ≡ true → (a ≡ true) ⊎ (b ≡ true)
 either_is true b h = inl refl
 either_is false b h = inr h
-
-some_is : (x y : List ℕ) → Some x ≡ Some y → x ≡ y
-some_is x y h = cc
 
 found_in : (test : List ℕ × List ℕ → Bool) (fs : Listed) → list_all test fs ≡ true → (p b : List ℕ) → find text_cmp p fs ≡ Some b → test (p, b) ≡ true
 found_in test [] h p b e = absurd (cc)
@@ -79,47 +73,61 @@ abbrev pub is_kept : Script → Picks → Listed → List ℕ × List ℕ → Bo
 is_kept w picks vs f = not (keeps_of w picks f.0) || (is_some (wanted_at w picks f.0) || is_at (find text_cmp f.0 vs) f.1)
 
 -- by whether the commit has begun and the picks are decided
-abbrev pub Viewed : Bool → Bool → Script → Listed → Picks → Listed → Type 0
-Viewed false d w os picks vs = vs ≡ os
-Viewed true false w os picks vs = vs ≡ os
-Viewed true true w os picks vs = (list_all (is_allowed w picks os) vs ≡ true) × (list_all (is_kept w picks vs) os ≡ true)
+abbrev pub is_viewed : Bool → Bool → Script → Listed → Picks → Listed → Bool
+is_viewed false d w os picks vs = same_files vs os
+is_viewed true false w os picks vs = same_files vs os
+is_viewed true true w os picks vs = list_all (is_allowed w picks os) vs && list_all (is_kept w picks vs) os
 
 abbrev pub done_list : Script → Picks → Listed → Listed
 done_list w picks os = sorted (wanted w picks ++ where_key text_cmp (keeps_of w picks) os)
 
-abbrev pub Says : Script → Picks → Option Object → Type 0
-Says w picks None = Unit {0}
-Says w picks (Some o) = o.bytes ≡ mark_text w picks
+abbrev pub says : Script → Picks → Option Object → Bool
+says w picks None = true
+says w picks (Some o) = text_eq o.bytes (mark_text w picks)
+
+abbrev pub marker_in : Saw → Option Object
+marker_in x = find text_cmp (success_key (codes "out")) x.book.objects
 
 -- by whether the marker stands
-abbrev pub Marked : Bool → Script → Listed → Saw → Type 0
-Marked false w os x = Unit {0}
-Marked true w os x = (is_picked w x.picks ≡ true) × (is_clash w x.picks ≡ false) × (visible x.book.objects ≡ done_list w x.picks os) × Says w x.picks (find text_cmp (success_key (codes "out")) x.book.objects)
+abbrev pub is_whole : Bool → Script → Listed → Saw → Bool
+is_whole false w os x = true
+is_whole true w os x = is_picked w x.picks && (not (is_clash w x.picks) && (same_files (visible x.book.objects) (done_list w x.picks os) && says w x.picks (marker_in x)))
 
-abbrev pub Good : Script → Listed → Saw → Type 0
-Good w os x = Viewed x.begun (is_decided w x.picks) w os x.picks (visible x.book.objects) × Marked (x.put_mark && is_some (find text_cmp (success_key (codes "out")) x.book.objects)) w os x
+abbrev pub is_good : Script → Listed → Saw → Bool
+is_good w os x = is_viewed x.begun (is_decided w x.picks) w os x.picks (visible x.book.objects) && is_whole (x.put_mark && is_some (marker_in x)) w os x
 
-unbegun : (b d : Bool) (w : Script) (os : Listed) (picks : Picks) (vs : Listed) → Viewed b d w os picks vs → b ≡ false → vs ≡ os
-unbegun false d w os picks vs h e = h
+unbegun : (b d : Bool) (w : Script) (os : Listed) (picks : Picks) (vs : Listed) → is_viewed b d w os picks vs ≡ true → b ≡ false → vs ≡ os
+unbegun false d w os picks vs h e = files_are vs os h
 unbegun true d w os picks vs h e = absurd (true≢false e)
 
-undecided : (b d : Bool) (w : Script) (os : Listed) (picks : Picks) (vs : Listed) → Viewed b d w os picks vs → d ≡ false → vs ≡ os
-undecided false d w os picks vs h e = h
-undecided true false w os picks vs h e = h
+undecided : (b d : Bool) (w : Script) (os : Listed) (picks : Picks) (vs : Listed) → is_viewed b d w os picks vs ≡ true → d ≡ false → vs ≡ os
+undecided false d w os picks vs h e = files_are vs os h
+undecided true false w os picks vs h e = files_are vs os h
 undecided true true w os picks vs h e = absurd (true≢false e)
 
-decided : (b d : Bool) (w : Script) (os : Listed) (picks : Picks) (vs : Listed) → Viewed b d w os picks vs → b ≡ true → d ≡ true → (list_all (is_allowed w picks os) vs ≡ true) × (list_all (is_kept w picks vs) os ≡ true)
+decided : (b d : Bool) (w : Script) (os : Listed) (picks : Picks) (vs : Listed) → is_viewed b d w os picks vs ≡ true → b ≡ true → d ≡ true → (list_all (is_allowed w picks os) vs ≡ true) × (list_all (is_kept w picks vs) os ≡ true)
 decided false d w os picks vs h e f = absurd (false≢true e)
 decided true false w os picks vs h e f = absurd (false≢true f)
-decided true true w os picks vs h e f = h
+decided true true w os picks vs h e f = and_parts (list_all (is_allowed w picks os) vs) _ h
 
-marked : (b : Bool) (w : Script) (os : Listed) (x : Saw) → Marked b w os x → b ≡ true → Marked true w os x
-marked false w os x h e = absurd (false≢true e)
-marked true w os x h e = h
+-- what a marker that stands says
+record Stands (w : Script) (os : Listed) (x : Saw) : Type 0 where
+  picked : is_picked w x.picks ≡ true
+  apart : is_clash w x.picks ≡ false
+  files : visible x.book.objects ≡ done_list w x.picks os
+  mark : says w x.picks (marker_in x) ≡ true
 
-says_is : (w : Script) (picks : Picks) (o : Option Object) (y : Object) → Says w picks o → o ≡ Some y → y.bytes ≡ mark_text w picks
+stands_so : (b : Bool) (w : Script) (os : Listed) (x : Saw) → is_whole b w os x ≡ true → b ≡ true → Stands w os x
+stands_so false w os x h e = absurd (false≢true e)
+stands_so true w os x h e =
+    let p = and_parts (is_picked w x.picks) _ h in
+    let q = and_parts (not (is_clash w x.picks)) _ p.1 in
+    let r = and_parts (same_files (visible x.book.objects) (done_list w x.picks os)) _ q.1 in
+    record { picked = p.0; apart = not_so _ q.0; files = files_are _ _ r.0; mark = r.1 }
+
+says_is : (w : Script) (picks : Picks) (o : Option Object) (y : Object) → says w picks o ≡ true → o ≡ Some y → y.bytes ≡ mark_text w picks
 says_is w picks None y h e = absurd (cc)
-says_is w picks (Some z) y h e = let k : z ≡ y = cc in ap (λ (v : Object). v.bytes) (sym k) ∙ h
+says_is w picks (Some z) y h e = ap (λ (v : Object). v.bytes) (sym (some_is z y e)) ∙ same_text z.bytes (mark_text w picks) h
 
 kept_is : (k m : Bool) (wanted found : Option (List ℕ)) (b : List ℕ) → (not k || (is_some wanted || is_at found b)) ≡ true → k ≡ true → wanted ≡ None → found ≡ Some b
 kept_is false m wanted found b h e n = absurd (false≢true e)
@@ -157,37 +165,41 @@ module _ (w : Script) (to : w.dest ≡ dest) (b : Book) where
       ∙ find_behind (wanted w x.picks) (where_key text_cmp (keeps_of w x.picks) os) p
       ∙ sym (find_sorted (wanted w x.picks ++ where_key text_cmp (keeps_of w x.picks) os) p)
 
-  pub kept : (x : Saw) → Good w os x → Kept w (content_of b) (seen_of x)
-  kept x g = record {
-    before = λ h. same x (unbegun x.begun (is_decided w x.picks) w os x.picks (visible x.book.objects) g.0 h);
-    between = λ h. record {
-      untouched = λ d. same x (undecided x.begun (is_decided w x.picks) w os x.picks (visible x.book.objects) g.0 d);
-      only = λ d. allowed x (decided x.begun (is_decided w x.picks) w os x.picks (visible x.book.objects) g.0 h d).0;
-      kept = λ d. stays x (decided x.begun (is_decided w x.picks) w os x.picks (visible x.book.objects) g.0 h d).1;
-    };
-    whole = λ h.
-        let m = marked (x.put_mark && is_some (find text_cmp (success_key (codes "out")) x.book.objects)) w os x g.1 (sym (ap (λ o. x.put_mark && is_some o) (stands x.book)) ∙ h) in
-        record {
-          picked = m.0;
-          apart = m.1;
-          files = λ p. shows x.book p ∙ ap (λ l. find text_cmp p l) m.2 ∙ sym (done_is x p);
-          mark = λ o e. says_is w x.picks (find text_cmp (success_key (codes "out")) x.book.objects) o m.3 (sym (stands x.book) ∙ e);
+  kept : (x : Saw) → is_good w os x ≡ true → Kept w (content_of b) (seen_of x)
+  kept x h =
+      let g = and_parts (is_viewed x.begun (is_decided w x.picks) w os x.picks (visible x.book.objects)) _ h in
+      record {
+        before = λ u. same x (unbegun x.begun (is_decided w x.picks) w os x.picks (visible x.book.objects) g.0 u);
+        between = λ u. record {
+          untouched = λ d. same x (undecided x.begun (is_decided w x.picks) w os x.picks (visible x.book.objects) g.0 d);
+          only = λ d. allowed x (decided x.begun (is_decided w x.picks) w os x.picks (visible x.book.objects) g.0 u d).0;
+          kept = λ d. stays x (decided x.begun (is_decided w x.picks) w os x.picks (visible x.book.objects) g.0 u d).1;
         };
-  }
+        whole = λ u.
+            let m = stands_so (x.put_mark && is_some (marker_in x)) w os x g.1 (sym (ap (λ o. x.put_mark && is_some o) (stands x.book)) ∙ u) in
+            record {
+              picked = m.picked;
+              apart = m.apart;
+              files = λ p. shows x.book p ∙ ap (λ l. find text_cmp p l) m.files ∙ sym (done_is x p);
+              mark = λ o e. says_is w x.picks (marker_in x) o m.mark (sym (stands x.book) ∙ e);
+            };
+      }
 
 -- ---- at all moments
 
-abbrev pub AllGood : Script → Option ℕ → Listed → Saw → List Entry → Type 0
-AllGood w k os x [] = Good w os x
-AllGood w k os x (e ∷ es) = Good w os x × (is_ours e.request ≡ true) × AllGood w k os (saw w k x e) es
+abbrev pub all_good : Script → Option ℕ → Listed → Saw → List Entry → Bool
+all_good w k os x [] = is_good w os x
+all_good w k os x (e ∷ es) = is_good w os x && (is_ours e.request && all_good w k os (saw w k x e) es)
 
-kept_from : (w : Script) (to : w.dest ≡ dest) (k : Option ℕ) (b : Book) (x : Saw) (es : List Entry) → AllGood w k (visible b.objects) x es → (m : ℕ) → m ≤ length es → Kept w (content_of b) (see_all w k (seen_of x) (take m es))
+kept_from : (w : Script) (to : w.dest ≡ dest) (k : Option ℕ) (b : Book) (x : Saw) (es : List Entry) → all_good w k (visible b.objects) x es ≡ true → (m : ℕ) → m ≤ length es → Kept w (content_of b) (see_all w k (seen_of x) (take m es))
 kept_from w to k b x [] h zero l = kept w to b x h
 kept_from w to k b x [] h (suc m) l = absurd (omega arith)
-kept_from w to k b x (e ∷ es) h zero l = kept w to b x h.0
+kept_from w to k b x (e ∷ es) h zero l = kept w to b x (and_parts (is_good w (visible b.objects) x) _ h).0
 kept_from w to k b x (e ∷ es) h (suc m) l =
-    let rest : Kept w (content_of b) (see_all w k (seen_of (saw w k x e)) (take m es)) = kept_from w to k b (saw w k x e) es h.2 m (omega arith) in
-    subst (λ s. Kept w (content_of b) (see_all w k s (take m es))) (sym (sees_by w k x e.event e.request e.outcome e.actor h.1)) rest
+    let p = and_parts (is_good w (visible b.objects) x) _ h in
+    let q = and_parts (is_ours e.request) _ p.1 in
+    let rest : Kept w (content_of b) (see_all w k (seen_of (saw w k x e)) (take m es)) = kept_from w to k b (saw w k x e) es q.1 m (omega arith) in
+    subst (λ s. Kept w (content_of b) (see_all w k s (take m es))) (sym (sees_by w k x e.event e.request e.outcome e.actor q.0)) rest
 
-pub always : (w : Script) (to : w.dest ≡ dest) (k : Option ℕ) (b : Book) (es : List Entry) → AllGood w k (visible b.objects) (opens (without_files b)) es → Always w k (content_of (without_files b)) es
+pub always : (w : Script) (to : w.dest ≡ dest) (k : Option ℕ) (b : Book) (es : List Entry) → all_good w k (visible b.objects) (opens (without_files b)) es ≡ true → Always w k (content_of (without_files b)) es
 always w to k b es h m l = subst (λ s. Kept w (content_of (without_files b)) (see_all w k s (take m es))) (sym (opens_is b)) (kept_from w to k (without_files b) (opens (without_files b)) es h m l)

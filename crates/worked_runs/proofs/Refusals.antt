@@ -14,7 +14,6 @@ use Rattle.worked_runs.specs.OneFile.{script, opening}
 use Rattle.worked_runs.specs.Refused.{old_opening, foreign, torn, early, unread, marked_early, kept_gone, Misshown, MisshownRuns}
 use Rattle.worked_runs.proofs.Books.{Book, objects_of, uploads_of, files_of, content_of}
 use Rattle.worked_runs.proofs.Checks.{views, objects_at, are_ours, without_files}
-use Rattle.worked_runs.proofs.Tagged.{hello_is}
 use Rattle.worked_runs.proofs.Sights.{Saw, seen_of, opens, saw_all, sees}
 
 -- the one bucket, with nothing in it, and with one file
@@ -83,13 +82,13 @@ early_in : Shows empty_book early → ⊥
 unfolding digits
 early_in a =
     let k = at_end script (Some 4) empty_book early refl a in
-    not_none (codes "hello") (k.before refl (codes "part-00000") ∙ views empty_book (codes "part-00000")) (views (end_of empty_book early).book (codes "part-00000") ∙ rw hello_is refl)
+    not_none (codes "hello") (k.before refl (codes "part-00000") ∙ views empty_book (codes "part-00000")) (views (end_of empty_book early).book (codes "part-00000"))
 
 unread_in : Shows empty_book unread → ⊥
 unfolding digits
 unread_in a =
     let k = at_end script (Some 4) empty_book unread refl a in
-    not_none (codes "hello") ((k.between refl).untouched refl (codes "part-00000") ∙ views empty_book (codes "part-00000")) (views (end_of empty_book unread).book (codes "part-00000") ∙ rw hello_is refl)
+    not_none (codes "hello") ((k.between refl).untouched refl (codes "part-00000") ∙ views empty_book (codes "part-00000")) (views (end_of empty_book unread).book (codes "part-00000"))
 
 marked_early_in : Shows empty_book marked_early → ⊥
 unfolding digits

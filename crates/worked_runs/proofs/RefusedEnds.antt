@@ -27,7 +27,6 @@ use Rattle.worked_runs.specs.RefusedEnds.{both_script, both_attempts, revert_scr
 use Rattle.worked_runs.proofs.Books.{content_of}
 use Rattle.worked_runs.proofs.Checks.{views, objects_at, moment_is, book_after}
 use Rattle.worked_runs.proofs.Sights.{Saw, seen_of, opens, saw_all}
-use Rattle.worked_runs.proofs.Tagged.{hello_is}
 use Rattle.worked_runs.proofs.Refusals.{empty_book, opening_is, at_end, not_none, owns_all}
 
 -- ---- two attempts of one task
@@ -39,9 +38,9 @@ both_in : Always both_script (Some 6) (content_of empty_book) both_attempts → 
 unfolding digits
 both_in a =
     let k = at_end both_script (Some 6) empty_book both_attempts refl a in
-    let mark : is_some (find text_cmp (codes "out/_SUCCESS") both_end.book.objects) ≡ true = rw hello_is (rw hello_is refl) in
+    let mark : is_some (find text_cmp (codes "out/_SUCCESS") both_end.book.objects) ≡ true = refl in
     let stands : is_marked both_script (seen_of both_end) ≡ true = ap (λ o. true && is_some o) (objects_at both_end.book (codes "out/_SUCCESS")) ∙ mark in
-    not_none (codes "hello") ((k.whole stands).files (codes "a") ∙ ap (λ o. o) (views empty_book (codes "a"))) (views both_end.book (codes "a") ∙ rw hello_is (rw hello_is refl))
+    not_none (codes "hello") ((k.whole stands).files (codes "a") ∙ ap (λ o. o) (views empty_book (codes "a"))) (views both_end.book (codes "a"))
 
 -- ---- a task that is reported after a restart
 
@@ -107,7 +106,7 @@ left_in h =
     ap (λ c. view revert_script.dest (moment c half_reverted 8).content (codes "a")) (sym opening_is)
     ∙ ap (λ s. view revert_script.dest s.content (codes "a")) (moment_is empty_book half_reverted 8 refl)
     ∙ views (book_after empty_book half_reverted) (codes "a")
-    ∙ rw hello_is (rw hello_is refl)))
+    ))
 
 pub misended : Misended
 misended = record {

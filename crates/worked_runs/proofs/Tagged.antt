@@ -1,11 +1,13 @@
 -- Tags of short contents, computed.
-use Rattle.std.proofs.Common.{◌≡◌, ℕ, zero, suc, ◌*◌, ◌/◌, List, refl, ap, ◌∙◌, take, drop, length, codes}
+use Rattle.std.proofs.Common.{◌≡◌, ℕ, zero, suc, ◌*◌, ◌/◌, Bool, true, false, cond, List, refl, ap, ◌∙◌, take, drop, length, codes}
 use Rattle.std.specs.Prelude.{slice_index}
 use Rattle.hex.specs.Hex.{encode_lower, encode_with}
+use Rattle.proof_base.specs.Order.{text_eq}
 use Rattle.md5.specs.Md5.{md5, initial_hash, round, rounds, step_fn, step_constants, step_shifts, word_place, compress, add_state, block_words, hash_after, digest_bytes, padded_message}
 use Rattle.s3_types.specs.Tags.{Spelled, plain_tag}
 use Rattle.worked_runs.specs.Jobs.{hello_tag}
 use Rattle.worked_runs.specs.TwoAttempts.{world}
+use Rattle.worked_runs.proofs.Texts.{same_text}
 
 -- ---- a digest, step by step: as `md5` says it, but that each step is worked out once
 
@@ -53,3 +55,15 @@ hello_is = tag_is (codes "hello") ∙ refl
 pub world_is : plain_tag (codes "world") ≡ world.tag
 unfolding digest_bytes block_words encode_with
 world_is = tag_is (codes "world") ∙ refl
+
+-- the tag of a content: told where it is one of these two
+abbrev pub told_tag : List ℕ → Spelled
+told_tag bytes = cond (text_eq bytes (codes "hello")) hello_tag (cond (text_eq bytes (codes "world")) world.tag (plain_tag bytes))
+
+pub told_is : (bytes : List ℕ) → plain_tag bytes ≡ told_tag bytes
+told_is bytes = by (text_eq bytes (codes "hello")) (text_eq bytes (codes "world")) refl refl
+  where
+    by : (h g : Bool) → text_eq bytes (codes "hello") ≡ h → text_eq bytes (codes "world") ≡ g → plain_tag bytes ≡ cond h hello_tag (cond g world.tag (plain_tag bytes))
+    by true g e f = ap plain_tag (same_text bytes (codes "hello") e) ∙ hello_is
+    by false true e f = ap plain_tag (same_text bytes (codes "world") f) ∙ world_is
+    by false false e f = refl

@@ -18,6 +18,7 @@ use Rattle.pending_json.specs.declared.records.PendingSet.{PendingSet}
 use Rattle.pending_json.specs.declared.records.SuccessMark.{SuccessMark}
 use Rattle.job_model.specs.JobScript.{Script}
 use Rattle.job_model.specs.declared.events.Op.TheVariants.{Setup, Write, Commit, Clean}
+use Rattle.job_model.specs.declared.events.Event.{Event}
 use Rattle.job_model.specs.declared.events.Event.TheVariants.{Do}
 use Rattle.job_model.specs.declared.ends.Pick.{Pick}
 use Rattle.job_model.specs.declared.ends.SetupEnd.TheVariants as setups
@@ -31,7 +32,7 @@ use Rattle.job_operations.specs.View.{view, object_at}
 use Rattle.job_promise.specs.Ends.{commit_due}
 use Rattle.job_promise.specs.Promise.{all_picks}
 use Rattle.job_promise.specs.Scope.{NothingLeft}
-use Rattle.job_promise.specs.Seen.{Seen, seen}
+use Rattle.job_promise.specs.Seen.{seen}
 use Rattle.job_promise.specs.States.{commit_event, verdict}
 use Rattle.job_promise.specs.Turns.{by_actor, since, until}
 use Rattle.worked_runs.specs.Jobs.{lake, job, attempt, worker, said}
@@ -44,10 +45,12 @@ world = record { bytes = codes "world"; tag = record { digits = codes "7d793037a
 abbrev pub other : Actor
 other = Attempt 0 1
 
+-- both attempts write the file `p`
+abbrev pub with_events : List Event → Script
+with_events events = job Magic Append 1 3 1 (attempt 0 0 ((codes "p", codes "hello") ∷ []) ∷ attempt 0 1 ((codes "p", codes "world") ∷ []) ∷ []) events
+
 abbrev pub script : Script
-script = job Magic Append 1 3 1
-    (attempt 0 0 ((codes "p", codes "hello") ∷ []) ∷ attempt 0 1 ((codes "p", codes "world") ∷ []) ∷ [])
-    (Do Driver Setup ∷ Do worker Write ∷ Do worker Commit ∷ Do other Write ∷ Do other Commit ∷ Do Driver Commit ∷ Do Driver Clean ∷ [])
+script = with_events (Do Driver Setup ∷ Do worker Write ∷ Do worker Commit ∷ Do other Write ∷ Do other Commit ∷ Do Driver Commit ∷ Do Driver Clean ∷ [])
 
 abbrev pub first_directory : List ℕ
 first_directory = codes "out/__magic/job-j1/tasks/0_0/__base/"
@@ -81,37 +84,46 @@ commits_task k a directory u s =
     ∷ puts_set k a set_key s
     ∷ []
 
-abbrev pub commit_entries : List Entry
-commit_entries =
-    reads_set 6 set_key second_set
-    ∷ said 6 Driver (CompleteUpload lake (codes "out/p") 2 (record { number = 1; tag = world.tag } ∷ [])) (Completed (joined_tag (world.tag ∷ [])))
-    ∷ puts 6 Driver (codes "out/_SUCCESS") (compact_text (success_tree the_mark))
+abbrev pub commit_entries : ℕ → List Entry
+commit_entries k =
+    reads_set k set_key second_set
+    ∷ said k Driver (CompleteUpload lake (codes "out/p") 2 (record { number = 1; tag = world.tag } ∷ [])) (Completed (joined_tag (world.tag ∷ [])))
+    ∷ puts k Driver (codes "out/_SUCCESS") (compact_text (success_tree the_mark))
     ∷ []
 
 -- the clean aborts the first attempt's upload and empties the job's magic directory
-abbrev pub clean_entries : List Entry
-clean_entries =
-    said 7 Driver (ListUploads lake (codes "out/") None 1000) (Uploads (record { key = codes "out/p"; upload = 1 } ∷ []) false)
-    ∷ said 7 Driver (AbortUpload lake (codes "out/p") 1) Aborted
-    ∷ lists 7 Driver (codes "out/__magic/job-j1/") (
+abbrev pub clean_entries : ℕ → List Entry
+clean_entries k =
+    said k Driver (ListUploads lake (codes "out/") None 1000) (Uploads (record { key = codes "out/p"; upload = 1 } ∷ []) false)
+    ∷ said k Driver (AbortUpload lake (codes "out/p") 1) Aborted
+    ∷ lists k Driver (codes "out/__magic/job-j1/") (
     Listed set_key 246
     ∷ Listed (first_directory ++ codes "p") 0
     ∷ Listed (first_directory ++ codes "p.pending") 168
     ∷ Listed (second_directory ++ codes "p") 0
     ∷ Listed (second_directory ++ codes "p.pending") 168
     ∷ [])
-    ∷ said 7 Driver (DeleteObjects lake (set_key ∷ (first_directory ++ codes "p") ∷ (first_directory ++ codes "p.pending") ∷ (second_directory ++ codes "p") ∷ (second_directory ++ codes "p.pending") ∷ [])) Deleted
+    ∷ said k Driver (DeleteObjects lake (set_key ∷ (first_directory ++ codes "p") ∷ (first_directory ++ codes "p.pending") ∷ (second_directory ++ codes "p") ∷ (second_directory ++ codes "p.pending") ∷ [])) Deleted
     ∷ []
 
-abbrev pub journal : List Entry
-journal =
+-- up to the end of the first attempt's commit
+abbrev pub first_entries : List Entry
+first_entries =
     setup_entries
     ++ writes hello 2 worker first_directory (codes "p") first_upload
     ++ commits_task 3 worker first_directory first_upload first_set
-    ++ writes world 4 other second_directory (codes "p") second_upload
-    ++ commits_task 5 other second_directory second_upload second_set
-    ++ commit_entries
-    ++ clean_entries
+
+-- all, where the second attempt's write and commit, the job's commit and the clean are these events
+abbrev pub journal_of : ℕ → ℕ → ℕ → ℕ → List Entry
+journal_of write task commit clean =
+    first_entries
+    ++ writes world write other second_directory (codes "p") second_upload
+    ++ commits_task task other second_directory second_upload second_set
+    ++ commit_entries commit
+    ++ clean_entries clean
+
+abbrev pub journal : List Entry
+journal = journal_of 4 5 6 7
 
 abbrev pub done_task : EventEnd
 done_task = Ended (ends.Task tasks.Done)
@@ -122,14 +134,31 @@ the_ends = Ended (ends.Setup setups.Done) ∷ done_task ∷ done_task ∷ done_t
 abbrev pub the_picks : List Pick
 the_picks = record { task = 0; attempt = 1 } ∷ []
 
--- what is seen after the first m entries
-abbrev pub at : ℕ → Seen
-at m = seen script (Some 6) opening journal m
+-- Of a journal of both attempts whose commit is event k: the later set replaces the earlier one, the job's commit picks and shows that one, and a clean leaves nothing behind.
+pub record Replaces (w : Script) (k : ℕ) (xs : List EventEnd) (journal : List Entry) : Type 0 where
+  pub sent : length journal ≡ 24
+  pub event : commit_event w xs ≡ Some k
+  pub keeps : Keeps w (Some k) opening journal
+  -- the second attempt's set replaces that of the first
+  pub first_published : (seen w (Some k) opening journal 10).last 0 ≡ Some 0
+  pub second_published : (seen w (Some k) opening journal 17).last 0 ≡ Some 1
+  -- the commit begins with the read of the set, and picks the attempt that published last
+  pub not_begun : (seen w (Some k) opening journal 17).begun ≡ false
+  pub begun : (seen w (Some k) opening journal 18).begun ≡ true
+  pub picked : (seen w (Some k) opening journal 18).picks 0 ≡ Some 1
+  pub picks : all_picks w opening journal xs ≡ the_picks
+  -- the marker is put by its last entry, and its end is the one that is due
+  pub unmarked : (seen w (Some k) opening journal 19).put_mark ≡ false
+  pub marked : (seen w (Some k) opening journal 20).put_mark ≡ true
+  pub due : commit_due w (seen w (Some k) opening journal 20).picks None (first_worn 3 (since k (by_actor Driver (until k journal)))) ≡ commits.Committed
+  -- no live upload is left, and no key in the job's magic directory; the file and the marker stand
+  pub nothing_left : NothingLeft Magic w (moment opening journal 24)
+  pub shown : view w.dest (moment opening journal 24).content (codes "p") ≡ Some (codes "world")
+  pub stands : object_at (moment opening journal 24).content lake (codes "out/_SUCCESS") ≡ Some (record { bytes = compact_text (success_tree the_mark); header = None })
+  pub verdict : verdict w xs ≡ 0
 
 pub record TwoAttempts : Type 0 where
-  pub sent : length journal ≡ 24
-  pub event : commit_event script the_ends ≡ Some 6
-  pub keeps : Keeps script (Some 6) opening journal
+  pub replaces : Replaces script 6 the_ends journal
   pub setup : Goes script the_ends journal Driver Setup 1 (Some 0) (ends.Setup setups.Done)
   pub first_write : Goes script the_ends journal worker Write 2 (Some 0) (ends.Task tasks.Done)
   pub first_task : Goes script the_ends journal worker Commit 3 (Some 0) (ends.Task tasks.Done)
@@ -137,20 +166,3 @@ pub record TwoAttempts : Type 0 where
   pub second_task : Goes script the_ends journal other Commit 5 None (ends.Task tasks.Done)
   pub commit : Goes script the_ends journal Driver Commit 6 None (ends.Commit commits.Committed)
   pub clean : Goes script the_ends journal Driver Clean 7 None (ends.Clean cleans.Done)
-  -- the second attempt's set replaces that of the first
-  pub first_published : (at 10).last 0 ≡ Some 0
-  pub second_published : (at 17).last 0 ≡ Some 1
-  -- the commit begins with the read of the set, and picks the attempt that published last
-  pub not_begun : (at 17).begun ≡ false
-  pub begun : (at 18).begun ≡ true
-  pub picked : (at 18).picks 0 ≡ Some 1
-  pub picks : all_picks script opening journal the_ends ≡ the_picks
-  -- the marker is put by its last entry, and its end is the one that is due
-  pub unmarked : (at 19).put_mark ≡ false
-  pub marked : (at 20).put_mark ≡ true
-  pub due : commit_due script (at 20).picks None (first_worn 3 (since 6 (by_actor Driver (until 6 journal)))) ≡ commits.Committed
-  -- no live upload is left, and no key in the job's magic directory; the file and the marker stand
-  pub nothing_left : NothingLeft Magic script (moment opening journal 24)
-  pub shown : view script.dest (moment opening journal 24).content (codes "p") ≡ Some (codes "world")
-  pub stands : object_at (moment opening journal 24).content lake (codes "out/_SUCCESS") ≡ Some (record { bytes = compact_text (success_tree the_mark); header = None })
-  pub verdict : verdict script the_ends ≡ 0
