@@ -20,4 +20,5 @@ pub mod SharedPaths
 pub mod LostSets
 pub mod FourFileRuns
 pub mod TwoAttemptRuns
+pub mod NewDrivers
 pub mod TakenRuns

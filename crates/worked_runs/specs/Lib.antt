@@ -15,3 +15,4 @@ pub mod LostSet
 pub mod FourFiles
 pub mod TwoAttempts
 pub mod Taken
+pub mod NewDriver

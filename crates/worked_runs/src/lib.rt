@@ -10,6 +10,7 @@ ghost use Rattle.worked_runs.specs.SharedPath.{SharedPath};
 ghost use Rattle.worked_runs.specs.LostSet.{LostSet};
 ghost use Rattle.worked_runs.specs.FourFiles.{FourFiles};
 ghost use Rattle.worked_runs.specs.TwoAttempts.{TwoAttempts};
+ghost use Rattle.worked_runs.specs.NewDriver.{NewDriver, Forgotten};
 ghost use Rattle.worked_runs.specs.Taken.{Taken};
 ghost use Rattle.worked_runs.specs.Lanes.{LanesRun};
 ghost use Rattle.worked_runs.specs.Refused.{Misshown, MisshownRuns};
@@ -81,6 +82,12 @@ pub fn four_files()
 /// Two attempts of one task that commit one after the other, and a clean.
 pub fn two_attempts()
     ensures { TwoAttempts }
+{}
+
+/// Two attempts of one task whose driver is killed and restarted between them.
+pub fn new_driver()
+    ensures run { NewDriver }
+    ensures forgotten { Forgotten }
 {}
 
 /// A staging attempt whose partition has a file already, in the mode fail.
