@@ -9,20 +9,20 @@ use Rattle.worked_lanes.proofs.FourEntries.{prepared}
 
 two_walk : Walk (script 2) (Some 4) nothing in_two
 unfolding digits escape_byte
-two_walk = record { path = record { sound = refl; answered = refl }; good = refl }
+two_walk = record { sendings = record { sound = refl; answered = refl }; good = refl }
 
 one_walk : Walk (script 1) (Some 4) nothing in_one
 unfolding digits escape_byte
-one_walk = record { path = record { sound = refl; answered = refl }; good = refl }
+one_walk = record { sendings = record { sound = refl; answered = refl }; good = refl }
 
 killed_two : KilledWith 2 in_two (codes "a" ∷ codes "b" ∷ codes "d" ∷ [])
 unfolding digits escape_byte
 killed_two = record {
   sent = refl;
   always = always_kept nothing in_two (script 2) refl (Some 4) two_walk;
-  honest = is_honest nothing in_two two_walk.path;
-  zero_rename = no_rename nothing in_two (script 2) refl two_walk.path;
-  outside = nothing_outside nothing in_two (script 2) refl two_walk.path;
+  honest = is_honest nothing in_two two_walk.sendings;
+  zero_rename = no_rename nothing in_two (script 2) refl two_walk.sendings;
+  outside = nothing_outside nothing in_two (script 2) refl two_walk.sendings;
   prepared = let p = prepared 3 2 (script 2).fates (drop 3 (script 2).events) in record { setup = p.setup; write = p.write; task = p.task };
   commit = (rw set_is_read (refl, (refl, (refl, (refl, (refl, tt))))), rw set_is_read refl);
   dead = refl;
@@ -39,9 +39,9 @@ unfolding digits escape_byte
 killed_one = record {
   sent = refl;
   always = always_kept nothing in_one (script 1) refl (Some 4) one_walk;
-  honest = is_honest nothing in_one one_walk.path;
-  zero_rename = no_rename nothing in_one (script 1) refl one_walk.path;
-  outside = nothing_outside nothing in_one (script 1) refl one_walk.path;
+  honest = is_honest nothing in_one one_walk.sendings;
+  zero_rename = no_rename nothing in_one (script 1) refl one_walk.sendings;
+  outside = nothing_outside nothing in_one (script 1) refl one_walk.sendings;
   prepared = let p = prepared 3 1 (script 1).fates (drop 3 (script 1).events) in record { setup = p.setup; write = p.write; task = p.task };
   commit = (rw set_is_read (refl, (refl, (refl, (refl, (refl, tt))))), rw set_is_read refl);
   dead = refl;

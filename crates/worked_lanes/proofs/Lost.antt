@@ -9,16 +9,16 @@ use Rattle.worked_lanes.proofs.FourEntries.{prepared}
 
 walk : Walk script (Some 4) nothing journal
 unfolding digits escape_byte
-walk = record { path = record { sound = refl; answered = refl }; good = refl }
+walk = record { sendings = record { sound = refl; answered = refl }; good = refl }
 
 pub lanes_lost : LanesLost
 unfolding digits escape_byte
 lanes_lost = record {
   sent = refl;
   always = always_kept nothing journal script refl (Some 4) walk;
-  honest = is_honest nothing journal walk.path;
-  zero_rename = no_rename nothing journal script refl walk.path;
-  outside = nothing_outside nothing journal script refl walk.path;
+  honest = is_honest nothing journal walk.sendings;
+  zero_rename = no_rename nothing journal script refl walk.sendings;
+  outside = nothing_outside nothing journal script refl walk.sendings;
   prepared = let p = prepared 3 2 script.fates (drop 3 script.events) in record { setup = p.setup; write = p.write; task = p.task };
   commit = (rw set_is_read (refl, (refl, (refl, (refl, (refl, (refl, (refl, tt))))))), rw set_is_read refl);
   worn = refl;

@@ -23,7 +23,7 @@ use Rattle.worked_runs.specs.OneFile.{doing}
 use Rattle.worked_runs.specs.Runs.{hello}
 use Rattle.worked_runs.proofs.Checks.{visible}
 use Rattle.worked_runs.proofs.OneSet.{small_utf8, key_by, pending_by}
-use Rattle.worked_runs.proofs.Kept.{Path, nothing, book_at, is_honest, no_rename, files_then, object_then}
+use Rattle.worked_runs.proofs.Kept.{Sendings, nothing, book_at, is_honest, no_rename, files_then, object_then}
 use Rattle.worked_lanes.specs.FourFiles.{setting, record_of, Shows}
 use Rattle.worked_lanes.specs.TwoJobs.{ja, jb, magic, set_key, below_attempt, pending, set_of, eyes, other_eyes, object_then as there, TwoJobs, TheOther}
 
@@ -54,9 +54,9 @@ other_is_read = set_text (set_of (codes "jb") (codes "y") 2) (record { job = sma
 
 -- ---- in the eyes of ja
 
-path : Path nothing eyes
+sendings : Sendings nothing eyes
 unfolding digits escape_byte
-path = record { sound = refl; answered = refl }
+sendings = record { sound = refl; answered = refl }
 
 other_clean : OpFollows (setting ja) Driver (doing ops.Clean 5 None) (by_actor Driver eyes) → ⊥
 unfolding digits
@@ -72,8 +72,8 @@ pub two_jobs : TwoJobs
 unfolding digits escape_byte block_of parts_of
 two_jobs = record {
   sent = refl;
-  honest = is_honest nothing eyes path;
-  zero_rename = no_rename nothing eyes ja refl path;
+  honest = is_honest nothing eyes sendings;
+  zero_rename = no_rename nothing eyes ja refl sendings;
   prepared = record {
     setup = ((refl, (refl, (refl, tt))), refl);
     write = ((refl, (refl, (refl, (refl, tt)))), refl);
@@ -111,14 +111,14 @@ two_jobs = record {
 
 -- ---- in the eyes of jb
 
-other_path : Path nothing other_eyes
+other_sendings : Sendings nothing other_eyes
 unfolding digits escape_byte
-other_path = record { sound = refl; answered = refl }
+other_sendings = record { sound = refl; answered = refl }
 
 pub the_other : TheOther
 unfolding digits escape_byte block_of parts_of
 the_other = record {
-  zero_rename = no_rename nothing other_eyes jb refl other_path;
+  zero_rename = no_rename nothing other_eyes jb refl other_sendings;
   prepared = record {
     setup = ((refl, (refl, (refl, tt))), refl);
     write = ((refl, (refl, (refl, (refl, tt)))), refl);

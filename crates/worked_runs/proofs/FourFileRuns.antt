@@ -16,7 +16,7 @@ use Rattle.worked_runs.proofs.Kept.{Walk, nothing, keeps, file_then, object_then
 
 walk : Walk script (Some 4) nothing journal
 unfolding digits escape_byte
-walk = record { path = record { sound = refl; answered = refl }; good = refl }
+walk = record { sendings = record { sound = refl; answered = refl }; good = refl }
 
 path_a : is_key_path (codes "out/a") ≡ true
 unfolding parts_from

@@ -104,7 +104,7 @@ abbrev shows_same : Book → Entry → Bool
 shows_same b e = same_files (visible (effect_on b e.request e.outcome).objects) (visible b.objects)
 
 -- one entry, over the store before it; a stranger's may show anything
-abbrev pub is_sound : Book → Entry → Bool
+abbrev is_sound : Book → Entry → Bool
 is_sound b e =
     is_ours e.request
     && (is_ordered b

@@ -51,13 +51,13 @@ abbrev pub book_at : Start → List Entry → ℕ → Book
 book_at s es m = book_after (without_files s.book) (take m es)
 
 -- each entry is one that may be sent, and was answered as was due
-pub record Path (s : Start) (es : List Entry) : Type 0 where
+pub record Sendings (s : Start) (es : List Entry) : Type 0 where
   pub sound : all_sound (without_files s.book) es ≡ true
   pub answered : due_outcomes (without_files s.book) es ≡ outcomes es
 
 -- and at each moment a reader is shown what he may rely on
 pub record Walk (w : Script) (k : Option ℕ) (s : Start) (es : List Entry) : Type 0 where
-  pub path : Path s es
+  pub sendings : Sendings s es
   pub good : all_good w k (visible s.book.objects) (opens (without_files s.book)) es ≡ true
 
 -- ---- fates
@@ -90,14 +90,14 @@ fated fs n (e ∷ es) h =
 -- ---- what is kept
 
 module _ (s : Start) (es : List Entry) where
-  pub is_honest : Path s es → IsHonest s.content es
+  pub is_honest : Sendings s es → IsHonest s.content es
   is_honest p = subst (λ c. IsHonest c es) s.starts (honest s.book es p.sound p.answered)
 
   module _ (w : Script) (to : w.dest ≡ dest) where
-    pub no_rename : Path s es → ZeroRename w s.content es
+    pub no_rename : Sendings s es → ZeroRename w s.content es
     no_rename p = subst (λ c. ZeroRename w c es) s.starts (zero_rename w to s.book es p.sound)
 
-    pub nothing_outside : Path s es → OutsideStays w s.content es
+    pub nothing_outside : Sendings s es → OutsideStays w s.content es
     nothing_outside p = subst (λ c. OutsideStays w c es) s.starts (outside_stays w to s.book es p.sound)
 
     pub always_kept : (k : Option ℕ) → Walk w k s es → Always w k s.content es
@@ -106,9 +106,9 @@ module _ (s : Start) (es : List Entry) where
     pub keeps : (k : Option ℕ) → Walk w k s es → (fs : List (ℕ × Fate)) → w.fates ≡ from_entries fs → have_fates fs 1 es ≡ true → Keeps w k s.content es
     keeps k h fs named f = record {
       always = always_kept k h;
-      sent = record { honest = is_honest h.path; fated = subst (λ m. AreForetold (λ n. Some (fate_at m n)) 1 es) (sym named) (fated fs 1 es f) };
-      zero_rename = no_rename h.path;
-      outside = nothing_outside h.path;
+      sent = record { honest = is_honest h.sendings; fated = subst (λ m. AreForetold (λ n. Some (fate_at m n)) 1 es) (sym named) (fated fs 1 es f) };
+      zero_rename = no_rename h.sendings;
+      outside = nothing_outside h.sendings;
     }
 
 -- ---- what is there at each moment

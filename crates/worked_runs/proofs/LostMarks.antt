@@ -8,15 +8,15 @@ use Rattle.worked_runs.proofs.Kept.{Walk, nothing, always_kept, is_honest, no_re
 
 walk : Walk script (Some 4) nothing journal
 unfolding digits escape_byte
-walk = record { path = record { sound = refl; answered = refl }; good = refl }
+walk = record { sendings = record { sound = refl; answered = refl }; good = refl }
 
 pub lost_mark : LostMark
 unfolding digits escape_byte
 lost_mark = record {
   always = always_kept nothing journal script refl (Some 4) walk;
-  honest = is_honest nothing journal walk.path;
-  zero_rename = no_rename nothing journal script refl walk.path;
-  outside = nothing_outside nothing journal script refl walk.path;
+  honest = is_honest nothing journal walk.sendings;
+  zero_rename = no_rename nothing journal script refl walk.sendings;
+  outside = nothing_outside nothing journal script refl walk.sendings;
   follows = rw set_is_read (refl, (refl, (refl, (refl, tt))));
   over = rw set_is_read refl;
   worn = refl;

@@ -9,7 +9,7 @@ use Rattle.worked_runs.proofs.Kept.{Walk, nothing, keeps, shows_as, object_then,
 
 walk : Walk script (Some 5) nothing journal
 unfolding digits escape_byte
-walk = record { path = record { sound = refl; answered = refl }; good = refl }
+walk = record { sendings = record { sound = refl; answered = refl }; good = refl }
 
 pub lost_set : LostSet
 unfolding digits escape_byte block_of parts_of

@@ -6,11 +6,11 @@ use Rattle.s3_types.specs.Blocks.{block_of, parts_of}
 use Rattle.worked_runs.specs.TwoAttempts.{set_key, first_entries, Replaces}
 use Rattle.worked_runs.specs.NewDriver.{script, journal, the_ends, early_script, NewDriver, Forgotten}
 use Rattle.worked_runs.proofs.Kept.{Walk, nothing, keeps, shows_as, file_then, object_then}
-use Rattle.worked_runs.proofs.TwoAttemptRuns.{set_is_read, path, nothing_left}
+use Rattle.worked_runs.proofs.TwoAttemptRuns.{set_is_read, sendings, nothing_left}
 
 walk : Walk script (Some 8) nothing journal
 unfolding digits escape_byte
-walk = record { path = path script.events 6 7 8 9; good = refl }
+walk = record { sendings = sendings script.events 6 7 8 9; good = refl }
 
 replaces : Replaces script 8 the_ends journal
 unfolding digits escape_byte
@@ -44,7 +44,7 @@ new_driver = record {
 
 early_walk : Walk early_script (Some 6) nothing first_entries
 unfolding digits escape_byte
-early_walk = record { path = record { sound = refl; answered = refl }; good = refl }
+early_walk = record { sendings = record { sound = refl; answered = refl }; good = refl }
 
 pub forgotten : Forgotten
 unfolding digits escape_byte block_of parts_of

@@ -8,7 +8,7 @@ use Rattle.worked_runs.proofs.Kept.{Walk, nothing, keeps}
 
 walk : Walk script (Some 4) nothing journal
 unfolding digits escape_byte
-walk = record { path = record { sound = refl; answered = refl }; good = refl }
+walk = record { sendings = record { sound = refl; answered = refl }; good = refl }
 
 pub kept : Keeps script (Some 4) opening journal
 kept = keeps nothing journal script refl (Some 4) walk [] refl refl

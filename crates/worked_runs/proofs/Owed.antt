@@ -110,7 +110,7 @@ decided false d w os picks vs h e f = absurd (false≢true e)
 decided true false w os picks vs h e f = absurd (false≢true f)
 decided true true w os picks vs h e f = and_parts (list_all (is_allowed w picks os) vs) _ h
 
--- what a marker that stands says
+-- what holds where the marker stands
 record Stands (w : Script) (os : Listed) (x : Saw) : Type 0 where
   picked : is_picked w x.picks ≡ true
   apart : is_clash w x.picks ≡ false

@@ -15,7 +15,7 @@ use Rattle.worked_runs.proofs.Kept.{Walk, nothing, keeps, shows_as, upload_then}
 
 walk : Walk script (Some 6) nothing journal
 unfolding digits escape_byte
-walk = record { path = record { sound = refl; answered = refl }; good = refl }
+walk = record { sendings = record { sound = refl; answered = refl }; good = refl }
 
 path : is_key_path (codes "out/p") ≡ true
 unfolding parts_from

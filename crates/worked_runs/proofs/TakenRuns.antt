@@ -17,7 +17,7 @@ abbrev start : Start
 start = record { book = book; content = opening; starts = opening_is }
 
 walk : Walk script (Some 5) start journal
-walk = record { path = record { sound = refl; answered = refl }; good = refl }
+walk = record { sendings = record { sound = refl; answered = refl }; good = refl }
 
 pub taken : Taken
 unfolding digits

@@ -19,7 +19,7 @@ use Rattle.job_promise.specs.Scope.{NothingLeft, NoneLive, NoMagicKey}
 use Rattle.worked_runs.specs.OneFile.{opening}
 use Rattle.worked_runs.specs.TwoAttempts.{world, with_events, script, second_upload, second_set, journal_of, journal, the_ends, Replaces, TwoAttempts}
 use Rattle.worked_runs.proofs.OneSet.{key_by, set_by, pending_by}
-use Rattle.worked_runs.proofs.Kept.{Path, Walk, nothing, book_at, keeps, file_then, object_then, upload_then, key_found}
+use Rattle.worked_runs.proofs.Kept.{Sendings, Walk, nothing, book_at, keeps, file_then, object_then, upload_then, key_found}
 
 path_is : is_key_path (codes "out/p") ≡ true
 unfolding parts_from
@@ -31,9 +31,9 @@ set_is_read = set_by 0 1 (second_upload ∷ []) (lit< tt) (lit< tt) (pending_by 
 -- ---- whatever the events are
 
 module _ (events : List Event) (write task commit clean : ℕ) where
-  pub path : Path nothing (journal_of write task commit clean)
+  pub sendings : Sendings nothing (journal_of write task commit clean)
   unfolding digits escape_byte
-  path = record { sound = refl; answered = refl }
+  sendings = record { sound = refl; answered = refl }
 
   none_live : NoneLive (with_events events) (moment opening (journal_of write task commit clean) 24).content
   unfolding digits
@@ -54,7 +54,7 @@ module _ (events : List Event) (write task commit clean : ℕ) where
 
 walk : Walk script (Some 6) nothing journal
 unfolding digits escape_byte
-walk = record { path = path script.events 4 5 6 7; good = refl }
+walk = record { sendings = sendings script.events 4 5 6 7; good = refl }
 
 replaces : Replaces script 6 the_ends journal
 unfolding digits escape_byte
