@@ -1,2 +1,2 @@
-mod CommitEnds
+pub mod CommitEnds
 mod Falling

@@ -1,0 +1,88 @@
+-- What a job's commit keeps true of its parts.
+use Rattle.std.specs.Prelude.{◌≡◌, ℕ, ◌+◌, ◌<◌, ◌≤◌, List, [], ◌∷◌, map, length, Option, Some, None}
+use Rattle.s3_types.specs.declared.request.Committer.TheVariants.{Magic}
+use Rattle.s3_types.specs.declared.request.Request.{Request}
+use Rattle.pending_json.specs.declared.records.PendingSet.{PendingSet}
+use Rattle.job_model.specs.Jobs.{Job}
+use Rattle.job_model.specs.declared.ends.Pick.{Pick}
+use Rattle.job_operations.specs.Lanes.{Turn}
+use Rattle.s3_types.specs.declared.reply.Reply.{Reply}
+use Rattle.s3_types.specs.declared.reply.Reply.TheVariants.{Object, ClusterBytes}
+use Rattle.s3_types.specs.declared.journal.Outcome.TheVariants.{Answered}
+use Rattle.job_operations.specs.JobCommits.{Sets, all_commits, Commit, commit_asks, commit_hears, commit_misses}
+use Rattle.job_operations.specs.LaneTable.{In}
+use Rattle.job_operations.specs.AtWork.{read_script, sets_in, sets_after, picked_after}
+use Rattle.commit_parts.specs.Tables.{LaneTable}
+use Rattle.commit_parts.specs.Undos.{NumbersWithin}
+use Rattle.job_commit.specs.Stages.{operation_of}
+use Rattle.commit_parts.specs.Places.{places_from}
+use Rattle.commit_parts.specs.ReadSets.{AreRead, HasAll}
+use Rattle.commit_parts.specs.declared.places.Place.{Place}
+use Rattle.commit_parts.specs.declared.undo.Undo.{Undo}
+use Rattle.job_commit.specs.declared.step.Step.{Step}
+use Rattle.job_commit.specs.declared.step.Step.TheVariants as steps
+use Rattle.job_commit.specs.declared.step.Next.{Next}
+
+-- picks of the tasks from this one on
+abbrev pub picks_from : ℕ → List ℕ → List Pick
+picks_from t [] = []
+picks_from t (a ∷ others) = record { task = t; attempt = a } ∷ picks_from (t + 1) others
+
+abbrev pub attempts_of : List Pick → List ℕ
+attempts_of picks = map (λ p. p.attempt) picks
+
+-- what is read still
+pub record Reads (j : Job) (sets : Sets) : Type 0 where
+  pub each : AreRead j sets
+  pub more : length sets < j.tasks
+
+-- the numbers of lanes are those of uploads
+pub record LanesWithin (sets : Sets) (l : LaneTable) : Type 0 where
+  pub turns : (x : Turn) → In x l.turns → x.number < length (all_commits sets)
+  pub done : (n : ℕ) → In n l.finished → n < length (all_commits sets)
+
+abbrev pub UndoWithin : Sets → List Undo → Type 0
+UndoWithin sets u = NumbersWithin (length (all_commits sets)) u
+
+pub record StepHolds (j : Job) (sets : Sets) (places : List Place) (step : Step) : Type 0 where
+  pub reads : (m : ℕ) → step ≡ steps.Fetching m → Reads j sets
+  pub all : (l : LaneTable) → step ≡ steps.Completing l → HasAll j sets places
+  pub lanes : (l : LaneTable) → step ≡ steps.Completing l → LanesWithin sets l
+  pub turns : (l : LaneTable) → step ≡ steps.Completing l → l.turns ≡ [] → ⊥
+  pub placed : (u : List Undo) (m : ℕ) → step ≡ steps.Reverting u m → places ≡ places_from 0 sets
+  pub undo : (u : List Undo) (m : ℕ) → step ≡ steps.Reverting u m → UndoWithin sets u
+  pub some : (u : List Undo) (m : ℕ) → step ≡ steps.Reverting u m → u ≡ [] → ⊥
+
+-- what is asked next
+abbrev pub asks : Job → Commit → Option Request
+asks j c = commit_asks (read_script j (sets_in c)) c
+
+-- picks are of the tasks from 0 on, and no more than the sets, of which there are no more than tasks
+pub record PicksHold (j : Job) (sets : Sets) (picks : List Pick) : Type 0 where
+  pub picked : picks ≡ picks_from 0 (attempts_of picks)
+  pub counted : length picks ≤ length sets
+  pub few : length sets ≤ j.tasks
+
+pub record Holds (j : Job) (sets : Sets) (places : List Place) (picks : List Pick) (step : Step) (asked : Option Request) : Type 0 where
+  pub magic : j.committer ≡ Magic
+  pub counts : PicksHold j sets picks
+  pub goes : StepHolds j sets places step
+  pub wants : asked ≡ asks j (operation_of sets step)
+
+-- this is what the machine does next, where its operation goes on so
+pub record IsNext (j : Job) (sets : Sets) (places : List Place) (c : Commit) (next : Next) : Type 0 where
+  pub is : operation_of sets next.step ≡ c
+  pub asked : next.asked ≡ asks j c
+  pub step : StepHolds j sets places next.step
+
+-- the same after an answer: the sets, the places and the picks became these
+pub record Heard (j : Job) (sets : Sets) (picks : List Pick) (c : Commit) (r : Reply) (sets' : Sets) (places' : List Place) (picks' : List Pick) (after : Next) : Type 0 where
+  pub next : IsNext j sets' places' (commit_hears (read_script j (sets_after c (Answered r))) c r) after
+  pub picked : attempts_of picks' ≡ picked_after (attempts_of picks) c (Answered r)
+
+
+-- the bytes that an answer brings
+abbrev pub bytes_in : Reply → Option (List ℕ)
+bytes_in (Object bytes header) = Some bytes
+bytes_in (ClusterBytes bytes) = Some bytes
+bytes_in _ = None

@@ -1,0 +1,4 @@
+pub mod Stages
+pub mod Turns
+pub mod Holds
+pub mod Missing

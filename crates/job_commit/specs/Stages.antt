@@ -1,0 +1,58 @@
+-- What a job's commit is doing, as the machine keeps it.
+use Rattle.std.specs.Prelude.{ℕ, ◌+◌, Bool, List, [], ◌∷◌, ◌++◌, map, None, length}
+use Rattle.s3_types.specs.declared.request.Request.{Request}
+use Rattle.job_model.specs.declared.ends.CommitEnd.TheVariants as ends
+use Rattle.job_model.specs.declared.ends.Stage.TheVariants as stages
+use Rattle.job_operations.specs.Lanes.{Turn, follow, again}
+use Rattle.job_operations.specs.JobCommits.{Sets, all_commits, Commit, Fetching, Marking, Reverting, CommitOver, completing, worn_completion}
+use Rattle.job_model.specs.Jobs.{Job}
+use Rattle.commit_parts.specs.Tables.{LaneTable, first_missed}
+use Rattle.commit_parts.specs.Undos.{undo_request}
+use Rattle.job_commit.specs.declared.step.Step.{Step}
+use Rattle.job_commit.specs.declared.step.Step.TheVariants as steps
+use Rattle.job_commit.specs.declared.step.Next.{Next}
+
+abbrev pub reverting_from : ℕ → List Request → Commit
+reverting_from m [] = CommitOver (ends.StoreFault stages.Complete)
+reverting_from m (r ∷ rs) = Reverting r rs m
+
+-- the operation, by the sets that were read and what the machine is doing
+abbrev pub operation_of : Sets → Step → Commit
+operation_of sets (steps.Fetching m) = Fetching sets m
+operation_of sets (steps.Completing l) = completing sets l.turns l.finished
+operation_of sets (steps.Marking m) = Marking sets m
+operation_of sets (steps.Reverting u m) = reverting_from m (map (undo_request (all_commits sets)) u)
+operation_of sets (steps.Over end) = CommitOver end
+
+-- ---- where the turn that is next leads: with an answer, without one, and where it wore out
+
+abbrev pub answered : Job → Sets → List Turn → List ℕ → Commit
+answered j sets [] finished = completing sets [] finished
+answered j sets (x ∷ xs) finished = completing sets (xs ++ follow j.lanes (length (all_commits sets)) x.number) (x.number ∷ finished)
+
+abbrev pub unanswered : Sets → Bool → List Turn → List ℕ → Commit
+unanswered sets lost [] finished = completing sets [] finished
+unanswered sets lost (x ∷ xs) finished = completing sets (xs ++ again x lost ∷ []) finished
+
+abbrev pub worn_out : Sets → List Turn → List ℕ → Commit
+worn_out sets [] finished = completing sets [] finished
+worn_out sets (x ∷ xs) finished = worn_completion sets x xs finished
+
+-- one more sending of a request that stays got no answer
+abbrev pub counted : Step → Step
+counted (steps.Fetching m) = steps.Fetching (m + 1)
+counted (steps.Completing l) = steps.Completing l
+counted (steps.Marking m) = steps.Marking (m + 1)
+counted (steps.Reverting u m) = steps.Reverting u (m + 1)
+counted (steps.Over end) = steps.Over end
+
+abbrev pub missed_in : Step → ℕ
+missed_in (steps.Fetching m) = m
+missed_in (steps.Completing l) = first_missed l.turns
+missed_in (steps.Marking m) = m
+missed_in (steps.Reverting u m) = m
+missed_in (steps.Over end) = 0
+
+-- memory was wanting
+abbrev pub wanting : Next
+wanting = record { step = steps.Over ends.NoMemory; asked = None }

@@ -1,0 +1,249 @@
+ghost use Rattle.std.specs.Prelude.{◌≡◌, ◌<◌, ◌≤◌, [], IfOk, OnOk, OnErr, IsSome};
+ghost use Rattle.std.specs.Option.{option_copied};
+ghost use Rattle.s3_types.specs.declared.request.Committer.TheVariants.{Magic};
+ghost use Rattle.job_operations.specs.JobCommits.{commit_start, commit_over};
+ghost use Rattle.job_operations.specs.AtWork.{read_script, commit_wants, commit_told};
+ghost use Rattle.commit_laws.specs.Fitting.{FitsCommit, FitsReply, missed_of, without_memory, least_missing};
+ghost use Rattle.job_commit.specs.Turns.{turn_of, turn_unanswered};
+ghost use Rattle.job_commit.specs.Holds.{picks_from, IsNext};
+ghost use Rattle.job_commit.specs.Missing.{missed};
+
+use crate::hearing::{again, heard, worn};
+use crate::stages::fetching;
+use crate::step::{Next, Step};
+use commit_parts::Place;
+use job_model::{CommitEnd, JobPlan, PickList, TaskSet};
+use machine::Turn;
+use pending_json::PendingSet;
+use s3_types::{Outcome, Reply, Request, Sequence, let_go};
+use std::alloc::{AllocError, Global};
+use std::marker::Model;
+
+/// The commit of a magic job, which counts the sendings of its own requests. It reads the set of each
+/// task, once, from task 0 on; then it completes all uploads, in lanes, and puts the marker. Where a
+/// completion wears out it aborts and deletes what it can, and a request of that which wears out is passed
+/// over. (Hadoop, S3A committer architecture: job commit.)
+#[derive(Drop)]
+pub struct CommitJob {
+    alloc: Global,
+    plan: JobPlan,
+    sets: Sequence<PendingSet>,
+    places: Sequence<Place>,
+    picks: PickList,
+    next: Next,
+}
+
+impl Model for CommitJob {
+    ghost use Rattle.job_operations.specs.AtWork.{Committing};
+
+    ghost Value = { Committing };
+
+    ghost use Rattle.job_commit.specs.Stages.{operation_of};
+    ghost use Rattle.job_commit.specs.Holds.{attempts_of, Holds};
+
+    ghost view = { λ c. record { plan = c.plan; picked = attempts_of c.picks; operation = operation_of c.sets c.next.step } };
+
+    ghost invariant = { λ c. Holds c.plan c.sets c.places c.picks c.next.step c.next.asked };
+}
+
+/// The least task that is not reported.
+fn missing(tasks: u32, reported: &TaskSet) -> Option<u32>
+    ensures { result ≡ least_missing tasks reported.now }
+{
+    for task in 0..tasks {
+        if !reported.has(task) {
+            return Some(task);
+        }
+    }
+    None
+}
+
+/// What is done first.
+fn begun(
+    alloc: Global,
+    plan: &JobPlan,
+    sets: &Sequence<PendingSet>,
+    places: &mut Sequence<Place>,
+    reported: &TaskSet,
+    next: &mut Next,
+) -> Result<(), AllocError>
+    requires magic { plan.now.committer ≡ Magic }
+    requires none { sets.now ≡ [] }
+    ensures { OnOk result (IsNext plan.now [] places.new (commit_start (read_script plan.now []) (least_missing plan.now.tasks reported.now)) next.new) }
+{
+    match missing(plan.tasks, reported) {
+        Some(task) => {
+            next.end(CommitEnd::Missing(task));
+            Ok(())
+        }
+        None => fetching(alloc, plan, sets, places, next),
+    }
+}
+
+impl CommitJob {
+    /// The commit of a job of which these tasks were reported. Where some task was not, it is over, Missing
+    /// with the least one, and nothing is sent.
+    pub fn new(alloc: Global, plan: JobPlan, reported: &TaskSet) -> Result<CommitJob, AllocError>
+        requires { plan.committer ≡ Magic }
+        ensures { IfOk result (λ m. m ≡ record { plan = plan; picked = []; operation = commit_start (read_script plan []) (least_missing plan.tasks reported.now) }) }
+    {
+        let sets = Sequence::new(alloc);
+        let mut places = Sequence::new(alloc);
+        let mut next = Next::wanting();
+        match begun(alloc, &plan, &sets, &mut places, reported, &mut next) {
+            Ok(()) => Ok(CommitJob {
+                alloc,
+                plan,
+                sets,
+                places,
+                picks: Sequence::new(alloc),
+                next,
+            }),
+            Err(error) => {
+                let_go(next);
+                Err(error)
+            }
+        }
+    }
+
+    /// The present request, or None where nothing more is asked. It stays the same until `take`. Takes no
+    /// memory.
+    pub fn request(&self) -> Option<&Request>
+        ensures { option_copied result ≡ commit_wants self.now }
+    {
+        self.next.asked.as_ref()
+    }
+
+    /// How it ended, or None while a request is asked. Takes no memory.
+    pub fn end(&self) -> Option<&CommitEnd>
+        ensures { option_copied result ≡ commit_over self.now.operation }
+    {
+        match &self.next.step {
+            Step::Over(end) => Some(end),
+            _ => None,
+        }
+    }
+
+    /// The attempts of the sets that were read, by task from 0 on. Takes no memory.
+    pub fn picks(&self) -> &PickList
+        ensures { result.now ≡ picks_from 0 self.now.picked }
+    {
+        &self.picks
+    }
+
+    /// What it knows of the job. Takes no memory.
+    pub fn plan(&self) -> &JobPlan
+        ensures { result.now ≡ self.now.plan }
+    {
+        &self.plan
+    }
+
+    /// Gives up what it knows of the job. Takes no memory.
+    pub fn into_plan(self) -> JobPlan
+        ensures { result ≡ self.plan }
+    {
+        let CommitJob {
+            alloc: _,
+            plan,
+            sets,
+            places,
+            picks,
+            next,
+        } = self;
+        let_go(sets);
+        let_go(places);
+        let_go(picks);
+        let_go(next);
+        plan
+    }
+
+    fn hear(&mut self, reply: &Reply) -> Result<(), AllocError>
+        requires { FitsReply self.old.plan self.old.operation reply.now }
+        ensures ok { OnOk result (self.new ≡ commit_told self.old (Outcome.Answered reply.now)) }
+        ensures err { OnErr result (self.new ≡ without_memory self.old) }
+    {
+        let step = self.next.taken();
+        heard(
+            self.alloc,
+            &self.plan,
+            &mut self.sets,
+            &mut self.places,
+            &mut self.picks,
+            step,
+            &mut self.next,
+            reply,
+        )
+    }
+
+    fn again(&mut self, lost: bool) -> Result<(), AllocError>
+        requires { missed_of self.old.operation < self.old.plan.retries }
+        ensures ok { OnOk result (self.new ≡ missed self.old lost) }
+        ensures err { OnErr result (self.new ≡ without_memory self.old) }
+    {
+        again(
+            self.alloc,
+            &self.plan,
+            &self.sets,
+            &self.places,
+            &mut self.next,
+            lost,
+        )
+    }
+
+    fn wear_out(&mut self, lost: bool) -> Result<(), AllocError>
+        requires { self.old.plan.retries ≤ missed_of self.old.operation }
+        ensures ok { OnOk result (self.new ≡ missed self.old lost) }
+        ensures err { OnErr result (self.new ≡ without_memory self.old) }
+    {
+        let step = self.next.taken();
+        worn(
+            self.alloc,
+            &self.plan,
+            &self.sets,
+            &self.places,
+            step,
+            &mut self.next,
+            lost,
+        )
+    }
+
+    /// How many sendings of the present request got no answer.
+    fn missed(&self) -> u32
+        ensures { result ≡ missed_of self.now.operation }
+    {
+        self.next.step.missed()
+    }
+
+    fn miss(&mut self, lost: bool) -> Result<Turn, AllocError>
+        ensures ok { OnOk result (self.new ≡ missed self.old lost) }
+        ensures turn { IfOk result (λ turn. turn ≡ turn_unanswered self.old) }
+        ensures err { OnErr result (self.new ≡ without_memory self.old) }
+    {
+        if self.missed() < self.plan.retries {
+            self.again(lost)?;
+            Ok(Turn::Again)
+        } else {
+            self.wear_out(lost)?;
+            Ok(Turn::WornOut)
+        }
+    }
+
+    /// Takes the outcome of a sending of the present request. After want of memory nothing more is asked,
+    /// its end is NoMemory, and its picks are as before.
+    pub fn take(&mut self, outcome: &Outcome) -> Result<Turn, AllocError>
+        requires asked { IsSome (commit_wants self.old) }
+        requires fits { FitsCommit self.old outcome.now }
+        ensures ok { OnOk result (self.new ≡ commit_told self.old outcome.now) }
+        ensures turn { IfOk result (λ turn. turn ≡ turn_of self.old outcome.now) }
+        ensures err { OnErr result (self.new ≡ without_memory self.old) }
+    {
+        match outcome {
+            Outcome::Answered(reply) => {
+                self.hear(reply)?;
+                Ok(Turn::Moved)
+            }
+            Outcome::Slow => self.miss(false),
+            Outcome::RequestLost | Outcome::ReplyLost => self.miss(true),
+        }
+    }
+}

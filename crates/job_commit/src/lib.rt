@@ -1,0 +1,11 @@
+//! The commit of a job as a machine: it reads the sets of the job's tasks, completes their uploads in
+//! lanes, and puts the marker of a committed job; where a completion wears out it takes all back. Of the
+//! magic committer. (Hadoop, S3A committer architecture: job commit.)
+#![tactic(auto)]
+
+mod commit;
+mod hearing;
+mod stages;
+mod step;
+
+pub use commit::CommitJob;

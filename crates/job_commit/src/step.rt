@@ -1,0 +1,99 @@
+ghost use Rattle.std.specs.Prelude.{◌≡◌, ◌+◌, ◌<◌, ◌^◌, Some, None};
+ghost use Rattle.job_commit.specs.Stages.{missed_in, counted, wanting};
+
+use commit_parts::{Lanes, UndoList};
+use job_model::CommitEnd;
+use s3_types::{Request, put};
+use std::mem;
+
+/// What a job's commit is doing. The numbers count the sendings of the present request that got no
+/// answer.
+#[derive(Drop)]
+pub enum Step {
+    /// Reads the next task's set.
+    Fetching(u32),
+    /// Completes uploads.
+    Completing(Lanes),
+    /// Puts the marker.
+    Marking(u32),
+    /// Takes back, since a completion wore out.
+    Reverting(UndoList, u32),
+    Over(CommitEnd),
+}
+
+/// What is done next, and the request that it asks.
+#[derive(Drop)]
+pub struct Next {
+    pub step: Step,
+    pub asked: Option<Request>,
+}
+
+impl Next {
+    /// Memory was wanting, and nothing more is asked.
+    pub fn wanting() -> Next
+        ensures { result ≡ wanting }
+    {
+        Next {
+            step: Step::Over(CommitEnd::NoMemory),
+            asked: None,
+        }
+    }
+
+    /// Goes on so.
+    pub fn go_on(&mut self, step: Step, asked: Request)
+        ensures { self.new ≡ record { step = step; asked = Some asked } }
+    {
+        put(&mut self.step, step);
+        put(&mut self.asked, Some(asked));
+    }
+
+    /// Ends so.
+    pub fn end(&mut self, end: CommitEnd)
+        ensures { self.new ≡ record { step = Step.Over end; asked = None } }
+    {
+        put(&mut self.step, Step::Over(end));
+        put(&mut self.asked, None);
+    }
+
+    /// Takes the step out, and leaves the want of memory in its place.
+    pub fn taken(&mut self) -> Step
+        ensures result { result ≡ self.old.step }
+        ensures rest { self.new ≡ wanting }
+    {
+        put(&mut self.asked, None);
+        mem::replace(&mut self.step, Step::Over(CommitEnd::NoMemory))
+    }
+}
+
+impl Step {
+    /// How many sendings of the present request got no answer. Takes no memory.
+    pub fn missed(&self) -> u32
+        ensures { result ≡ missed_in self.now }
+    {
+        match self {
+            Step::Fetching(missed) => *missed,
+            Step::Completing(lanes) => match lanes.first() {
+                Some(turn) => turn.missed(),
+                None => 0,
+            },
+            Step::Marking(missed) => *missed,
+            Step::Reverting(_, missed) => *missed,
+            Step::Over(_) => 0,
+        }
+    }
+
+    /// One more sending of the present request, which stays, got no answer; lanes count for themselves.
+    /// Takes no memory.
+    pub fn counted(self) -> Step
+        requires { missed_in self + 1 < 2 ^ 32 }
+        ensures { result ≡ counted self }
+    {
+        match self {
+            Step::Fetching(missed) => Step::Fetching(missed + 1),
+            Step::Completing(lanes) => Step::Completing(lanes),
+            Step::Marking(missed) => Step::Marking(missed + 1),
+            Step::Reverting(undo, missed) => Step::Reverting(undo, missed + 1),
+            Step::Over(end) => Step::Over(end),
+        }
+    }
+}
