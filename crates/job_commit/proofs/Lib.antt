@@ -2,5 +2,4 @@ pub mod Searches
 pub mod Steps
 pub mod Goings
 pub mod Tables
-pub mod Hears
 pub mod Whole

@@ -1,5 +1,5 @@
 -- the first number that passes a test
-use Rattle.std.proofs.Common.{◌≡◌, ℕ, zero, suc, ◌+◌, ◌<◌, ◌≤◌, ◌⊎◌, inl, inr, refl, ap, sym, ◌∙◌, Bool, true, false, not, cond, arith, Option, Some, None}
+use Rattle.std.proofs.Common.{◌≡◌, ℕ, zero, suc, ◌+◌, ◌<◌, ◌≤◌, ◌⊎◌, inl, inr, refl, ap, ◌∙◌, Bool, true, false, not, cond, arith, Some, None}
 use Rattle.job_operations.specs.Outputs.{first_where}
 
 least_or_later : (b t : ℕ) → b ≤ t → (b ≡ t) ⊎ (b + 1 ≤ t)

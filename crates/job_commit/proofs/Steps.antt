@@ -1,41 +1,34 @@
 -- what is done next
-use Rattle.std.proofs.Common.{◌≡◌, ℕ, zero, suc, ◌+◌, ◌<◌, ◌≤◌, ◌⊎◌, inl, inr, nat_lt, refl, ap, sym, subst, ◌∙◌, Bool, true, false, cond, arith, List, [], ◌∷◌, ◌++◌, map, length, drop, Option, Some, None, Result, IfOk, OnOk}
+use Rattle.std.proofs.Common.{◌≡◌, ℕ, ◌+◌, ◌<◌, ◌≤◌, inl, inr, nat_lt, refl, ap, sym, subst, ◌∙◌, Bool, true, false, cond, arith, List, [], ◌∷◌, ◌++◌, map, length, drop, Option, Some, None, Result, OnOk}
 use Rattle.std.specs.Prelude.{⊤}
-use Rattle.std.proofs.lemmas.Bool.Decides.{nat_tests}
-use Rattle.std.proofs.lemmas.Result.{IfOk-weaker, on_ok_weaker}
+use Rattle.std.proofs.lemmas.Result.{on_ok_weaker}
 use Rattle.s3_types.specs.declared.request.Request.{Request}
-use Rattle.s3_types.specs.declared.request.Committer.{Committer}
 use Rattle.s3_types.specs.declared.request.Committer.TheVariants.{Magic}
-use Rattle.s3_types.specs.declared.request.Mode.{Mode}
 use Rattle.path_keys.specs.Paths.{Path}
-use Rattle.pending_json.specs.Pending.{Pending}
 use Rattle.job_model.specs.Jobs.{Job}
-use Rattle.job_model.specs.JobScript.{Script}
 use Rattle.job_model.specs.declared.ends.CommitEnd.{CommitEnd}
 use Rattle.job_model.specs.declared.ends.CommitEnd.TheVariants as ends
-use Rattle.job_model.specs.declared.ends.Stage.TheVariants as stages
-use Rattle.job_operations.specs.Outputs.{Picks, same_path}
-use Rattle.job_operations.specs.Lanes.{Turn, fresh_turn, again, follow, dealt, nth, completion, abort, deletion, revert}
-use Rattle.job_operations.specs.JobCommits.{Sets, all_commits, Commit, Fetching, Marking, CommitOver, completing, reverting, fetching, decided, replacing, replaced, worn_completion, picks_of, set_request, commit_asks}
+use Rattle.job_operations.specs.Outputs.{same_path}
+use Rattle.job_operations.specs.Lanes.{Turn, fresh_turn, again, follow, dealt, revert}
+use Rattle.job_operations.specs.JobCommits.{Sets, all_commits, Commit, Fetching, completing, reverting, fetching, decided, worn_completion, picks_of, set_request}
 use Rattle.job_operations.specs.LaneTable.{In, Table}
 use Rattle.job_operations.specs.AtWork.{read_script, job_script}
 use Rattle.job_operations.proofs.Members.{in_push, in_append, some_is}
 use Rattle.job_operations.proofs.Tables.{table_dealt}
 use Rattle.proof_base.proofs.Numbers.{below_is, below_so}
-use Rattle.commit_parts.specs.Tables.{LaneTable, first_of, listed, next_turn, first_missed}
-use Rattle.commit_parts.specs.Undos.{undo_request, IsRevert, NumbersWithin, number_in}
+use Rattle.commit_parts.specs.Tables.{LaneTable, first_of, listed, next_turn}
+use Rattle.commit_parts.specs.Undos.{undo_request, IsRevert, NumbersWithin}
 use Rattle.commit_parts.specs.Places.{places_from}
 use Rattle.commit_parts.specs.Relatives.{relative_of}
 use Rattle.commit_parts.specs.Clashes.{items_from, IsBest}
-use Rattle.commit_parts.specs.ReadSets.{AreRead, HasAll}
+use Rattle.commit_parts.specs.ReadSets.{AreRead}
 use Rattle.commit_parts.specs.declared.places.Place.{Place}
 use Rattle.commit_parts.specs.declared.sharing.Clash.{Clash}
 use Rattle.commit_parts.specs.declared.undo.Undo.{Undo}
-use Rattle.commit_parts.specs.declared.undo.Undo.TheVariants.{Abort, Delete}
 use Rattle.commit_parts.proofs.Placing.{places_length}
 use Rattle.commit_parts.proofs.SamePaths.{same_path_is}
-use Rattle.job_commit.specs.Stages.{reverting_from, answered, unanswered, worn_out}
-use Rattle.job_commit.specs.Holds.{Reads, LanesWithin, UndoWithin, StepHolds, asks, IsNext}
+use Rattle.job_commit.specs.Stages.{reverting_from, answered, worn_out}
+use Rattle.job_commit.specs.Holds.{Reads, LanesWithin, UndoWithin, StepHolds, IsNext}
 use Rattle.job_commit.specs.declared.step.Step.TheVariants as steps
 use Rattle.job_commit.specs.declared.step.Next.{Next}
 
@@ -43,15 +36,6 @@ use Rattle.job_commit.specs.declared.step.Next.{Next}
 
 pub holds_fetching : (j : Job) (sets : Sets) (places : List Place) (m : ℕ) → Reads j sets → StepHolds j sets places (steps.Fetching m)
 holds_fetching j sets places m h = record { reads = λ k e. h; all = λ l e. absurd (cc); lanes = λ l e. absurd (cc); turns = λ l e. absurd (cc); placed = λ u k e. absurd (cc); undo = λ u k e. absurd (cc); some = λ u k e. absurd (cc) }
-
-lanes_same : {l k : LaneTable} → steps.Completing l ≡ steps.Completing k → l ≡ k
-lanes_same e = cc
-
-pub holds_completing : (j : Job) (sets : Sets) (places : List Place) (l : LaneTable) → HasAll j sets places → LanesWithin sets l → (l.turns ≡ [] → ⊥) → StepHolds j sets places (steps.Completing l)
-holds_completing j sets places l h w some =
-    let W : LaneTable → Type 0 = λ k. LanesWithin sets k in
-    let S : LaneTable → Type 0 = λ k. k.turns ≡ [] → ⊥ in
-    record { reads = λ k e. absurd (cc); all = λ k e. h; lanes = λ k e. subst W (lanes_same e) w; turns = λ k e. subst S (lanes_same e) some; placed = λ u k e. absurd (cc); undo = λ u k e. absurd (cc); some = λ u k e. absurd (cc) }
 
 pub holds_marking : (j : Job) (sets : Sets) (places : List Place) (m : ℕ) → StepHolds j sets places (steps.Marking m)
 holds_marking j sets places m = record { reads = λ k e. absurd (cc); all = λ l e. absurd (cc); lanes = λ l e. absurd (cc); turns = λ l e. absurd (cc); placed = λ u k e. absurd (cc); undo = λ u k e. absurd (cc); some = λ u k e. absurd (cc) }
@@ -68,37 +52,11 @@ holds_reverting j sets places u m p w some =
 pub holds_over : (j : Job) (sets : Sets) (places : List Place) (end : CommitEnd) → StepHolds j sets places (steps.Over end)
 holds_over j sets places end = record { reads = λ k e. absurd (cc); all = λ l e. absurd (cc); lanes = λ l e. absurd (cc); turns = λ l e. absurd (cc); placed = λ u k e. absurd (cc); undo = λ u k e. absurd (cc); some = λ u k e. absurd (cc) }
 
-pub next_over : (j : Job) (sets : Sets) (places : List Place) (end : CommitEnd) → IsNext j sets places (CommitOver end) (record { step = steps.Over end; asked = None })
-next_over j sets places end = record { is = refl; asked = refl; step = holds_over j sets places end }
-
 -- an operation that is the same
 pub next_same : {j : Job} {sets : Sets} {places : List Place} {next : Next} (c d : Commit) → c ≡ d → IsNext j sets places c next → IsNext j sets places d next
 next_same {j = j} {sets = sets} {places = places} {next = next} c d e h = let P : Commit → Type 0 = λ x. IsNext j sets places x next in subst P e h
 
 -- ---- completing
-
-lanes_next : (j : Job) (sets : Sets) (places : List Place) (xs : List Turn) (done : List ℕ) (x : Turn) (r : Request) → HasAll j sets places → LanesWithin sets (record { turns = xs; finished = done }) → first_of xs ≡ Some x → r ≡ completion (nth (all_commits sets) x.number)
-    → IsNext j sets places (completing sets xs done) (record { step = steps.Completing (record { turns = xs; finished = done }); asked = Some r })
-lanes_next j sets places [] done x r h w e is = absurd (cc)
-lanes_next j sets places (y ∷ ys) done x r h w e is =
-    let T : Turn → Type 0 = λ v. Some r ≡ Some (completion (nth (all_commits sets) v.number)) in
-    record { is = refl; asked = subst T (sym (some_is e)) (ap Some is); step = holds_completing j sets places (record { turns = y ∷ ys; finished = done }) h w (λ n. cc) }
-
--- a lane is in turn
-pub completing_next : (j : Job) (sets : Sets) (places : List Place) (l : LaneTable) (x : Turn) (r : Request) → HasAll j sets places → LanesWithin sets l → first_of l.turns ≡ Some x → r ≡ completion (nth (all_commits sets) x.number)
-    → IsNext j sets places (completing sets l.turns l.finished) (record { step = steps.Completing l; asked = Some r })
-completing_next j sets places l x r h w e is = lanes_next j sets places l.turns l.finished x r h w e is
-
-no_turns : (xs : List Turn) → first_of xs ≡ None → xs ≡ []
-no_turns [] e = refl
-no_turns (x ∷ xs) e = absurd (cc)
-
--- no lane is
-pub marking_next : (j : Job) (sets : Sets) (places : List Place) (l : LaneTable) (r : Request) → first_of l.turns ≡ None → Some r ≡ asks j (Marking sets 0)
-    → IsNext j sets places (completing sets l.turns l.finished) (record { step = steps.Marking 0; asked = Some r })
-marking_next j sets places l r e is =
-    next_same (Marking sets 0) (completing sets l.turns l.finished) (ap (λ v. completing sets v l.finished) (sym (no_turns l.turns e)))
-    (record { is = refl; asked = is; step = holds_marking j sets places 0 })
 
 -- the turn that is next is within
 pub first_within : (sets : Sets) (xs : List Turn) (done : List ℕ) (x : Turn) → LanesWithin sets (record { turns = xs; finished = done }) → first_of xs ≡ Some x → x.number < length (all_commits sets)
@@ -145,11 +103,6 @@ answered_within j sets places (y ∷ ys) done x l e p is w =
       done = λ n at. elim at [ inl f ↦ let b : x.number < length (all_commits sets) = w.turns x (inl i) in omega arith | inr k ↦ w.done n k ];
     })
 
--- after none
-pub again_lanes : (sets : Sets) (xs : List Turn) (done : List ℕ) (x : Turn) (lost : Bool) (l : LaneTable) → first_of xs ≡ Some x → l ≡ record { turns = drop 1 xs ++ listed (Some (again x lost)); finished = done } → completing sets l.turns l.finished ≡ unanswered sets lost xs done
-again_lanes sets [] done x lost l e is = absurd (cc)
-again_lanes sets (y ∷ ys) done x lost l e is = ap (λ (v : LaneTable). completing sets v.turns v.finished) is ∙ ap (λ (v : Turn). completing sets (ys ++ again v lost ∷ []) done) (sym (some_is e))
-
 pub again_within : (sets : Sets) (xs : List Turn) (done : List ℕ) (x : Turn) (lost : Bool) (l : LaneTable) → first_of xs ≡ Some x → l ≡ record { turns = drop 1 xs ++ listed (Some (again x lost)); finished = done } → LanesWithin sets (record { turns = xs; finished = done }) → LanesWithin sets l
 again_within sets [] done x lost l e is w = absurd (cc)
 again_within sets (y ∷ ys) done x lost l e is w =
@@ -160,40 +113,15 @@ again_within sets (y ∷ ys) done x lost l e is w =
       done = w.done;
     })
 
-pub missed_is : (xs : List Turn) (x : Turn) → first_of xs ≡ Some x → first_missed xs ≡ x.missed
-missed_is [] x e = absurd (cc)
-missed_is (y ∷ ys) x e = ap (λ (v : Turn). v.missed) (some_is e)
-
 -- ---- taking back
 
 pub reverting_is : (rs : List Request) → reverting rs ≡ reverting_from 0 rs
 reverting_is [] = refl
 reverting_is (r ∷ rs) = refl
 
-pub undo_next : (j : Job) (sets : Sets) (places : List Place) (u : List Undo) (x : Undo) (r : Request) → places ≡ places_from 0 sets → UndoWithin sets u → first_of u ≡ Some x → r ≡ undo_request (all_commits sets) x
-    → IsNext j sets places (reverting_from 0 (map (undo_request (all_commits sets)) u)) (record { step = steps.Reverting u 0; asked = Some r })
-undo_next j sets places [] x r p w e is = absurd (cc)
-undo_next j sets places (y ∷ ys) x r p w e is =
-    let T : Undo → Type 0 = λ v. Some r ≡ Some (undo_request (all_commits sets) v) in
-    record { is = refl; asked = subst T (sym (some_is e)) (ap Some is); step = holds_reverting j sets places (y ∷ ys) 0 p w (λ n. cc) }
-
-no_undo : (u : List Undo) → first_of u ≡ None → u ≡ []
-no_undo [] e = refl
-no_undo (x ∷ xs) e = absurd (cc)
-
-pub undone_next : (j : Job) (sets : Sets) (places : List Place) (u : List Undo) → first_of u ≡ None → IsNext j sets places (reverting_from 0 (map (undo_request (all_commits sets)) u)) (record { step = steps.Over (ends.StoreFault stages.Complete); asked = None })
-undone_next j sets places u e = next_same (CommitOver (ends.StoreFault stages.Complete)) (reverting_from 0 (map (undo_request (all_commits sets)) u)) (ap (λ v. reverting_from 0 (map (undo_request (all_commits sets)) v)) (sym (no_undo u e))) (next_over j sets places (ends.StoreFault stages.Complete))
-
-pub undo_first_within : (sets : Sets) (u : List Undo) (x : Undo) → UndoWithin sets u → first_of u ≡ Some x → number_in x < length (all_commits sets)
-undo_first_within sets [] x w e = absurd (cc)
-undo_first_within sets (y ∷ ys) x w e = w x (inl (some_is e))
-
 pub drop_within : (total : ℕ) (u : List Undo) → NumbersWithin total u → NumbersWithin total (drop 1 u)
 drop_within total [] w = w
 drop_within total (x ∷ xs) w = λ y i. w y (inr i)
-
-pub add_within : (total : ℕ) (u : List Undo) (x : Undo) → number_in x < total → NumbersWithin total u → NumbersWithin total (x ∷ u)
-add_within total u x h w = λ y i. elim i [ inl e ↦ let P : Undo → Type 0 = λ v. number_in v < total in subst P e h | inr k ↦ w y k ]
 
 nil_end : (xs : List Turn) → xs ++ [] ≡ xs
 nil_end [] = refl
@@ -206,10 +134,10 @@ worn_next j sets places [] done x l u next e p is r h = absurd (cc)
 worn_next j sets places (y ∷ ys) done x l u next e p is r h =
     let total : length (all_commits sets) ≡ length places = sym (ap length p ∙ places_length 0 sets) in
     let same : map (undo_request (all_commits sets)) u ≡ revert (all_commits sets) y.number ys done =
-      r (all_commits sets) total
-      ∙ ap (λ (v : LaneTable). revert (all_commits sets) x.number v.turns v.finished) is
-      ∙ ap (λ v. revert (all_commits sets) x.number v done) (nil_end ys)
-      ∙ ap (λ (v : Turn). revert (all_commits sets) v.number ys done) (sym (some_is e)) in
+    r (all_commits sets) total
+    ∙ ap (λ (v : LaneTable). revert (all_commits sets) x.number v.turns v.finished) is
+    ∙ ap (λ v. revert (all_commits sets) x.number v done) (nil_end ys)
+    ∙ ap (λ (v : Turn). revert (all_commits sets) v.number ys done) (sym (some_is e)) in
     next_same (reverting_from 0 (map (undo_request (all_commits sets)) u)) (worn_completion sets y ys done) (ap (reverting_from 0) same ∙ sym (reverting_is (revert (all_commits sets) y.number ys done))) h
 
 pub finished_within : (sets : Sets) (places : List Place) (xs : List Turn) (done : List ℕ) (l : LaneTable) → places ≡ places_from 0 sets → l ≡ record { turns = drop 1 xs ++ listed None; finished = done } → LanesWithin sets (record { turns = xs; finished = done }) → (n : ℕ) → In n l.finished → n < length places
@@ -227,15 +155,6 @@ next_as {j = j} {sets = sets} {places = places} {c = c} n m e h = let P : Next �
 -- the upload of the lane in turn is there
 pub turn_within : (sets : Sets) (l : LaneTable) (x : Turn) (n : ℕ) → LanesWithin sets l → Some x ≡ first_of l.turns → n ≡ x.number → n < length (all_commits sets)
 turn_within sets l x n w f e = let b : x.number < length (all_commits sets) = first_within sets l.turns l.finished x w (sym f) in omega arith
-
--- a lane is in turn
-pub completing_is : (j : Job) (sets : Sets) (places : List Place) (l : LaneTable) (x : Turn) (n : ℕ) (c : Pending) (r : Request) (next : Next) → HasAll j sets places → LanesWithin sets l → Some x ≡ first_of l.turns → n ≡ x.number → c ≡ nth (all_commits sets) n → r ≡ completion c
-    → next ≡ record { step = steps.Completing l; asked = Some r } → IsNext j sets places (completing sets l.turns l.finished) next
-completing_is j sets places l x n c r next h w f e g i k = next_as _ next k (completing_next j sets places l x r h w (sym f) (i ∙ ap completion (g ∙ ap (nth (all_commits sets)) e)))
-
--- no lane is
-pub marking_is : (j : Job) (sets : Sets) (places : List Place) (l : LaneTable) (r : Request) (next : Next) → None ≡ first_of l.turns → Some r ≡ commit_asks (read_script j sets) (Marking sets 0) → next ≡ record { step = steps.Marking 0; asked = Some r } → IsNext j sets places (completing sets l.turns l.finished) next
-marking_is j sets places l r next f e k = next_as _ next k (marking_next j sets places l r (sym f) e)
 
 best_of : (sets slice : Sets) (best o : Option Clash) → slice ≡ sets → best ≡ o → IsBest (items_from 0 slice) best → IsBest (items_from 0 sets) o
 best_of sets slice best o e f h =
@@ -269,29 +188,8 @@ dealt_next r j sets places l lanes n next a e p is h =
     let same : completing sets l.turns l.finished ≡ completing sets (dealt j.lanes (length (all_commits sets))) [] = ap (λ (v : LaneTable). completing sets v.turns v.finished) is ∙ (λ i. completing sets (dealt (a i) (total i)) []) in
     on_ok_weaker r (next_same _ _ same) h
 
-pub placed_all : (j : Job) (sets : Sets) (places : List Place) → AreRead j sets → length sets ≡ j.tasks → places ≡ places_from 0 sets → HasAll j sets places
-placed_all j sets places each all p = record { each = each; all = all; placed = p }
-
-none_replaced : (c : Committer) (m : Mode) (w : Script) (p : Picks) → c ≡ Magic → replaced c m w p ≡ []
-none_replaced c m w p e = ap (λ v. replaced v m w p) e
-
--- after the last read
-pub over_decided : (j : Job) (sets : Sets) (places : List Place) (end : CommitEnd) (o : Option CommitEnd) (next : Next) → Some end ≡ o → next ≡ record { step = steps.Over end; asked = None } → IsNext j sets places (decided (read_script j sets) sets o) next
-over_decided j sets places end o next e k = next_as _ next k (next_same (CommitOver end) (decided (read_script j sets) sets o) (ap (decided (read_script j sets) sets) e) (next_over j sets places end))
-
-pub dealt_decided : {E : Type 0} (r : Result ⊤ E) (j : Job) (sets : Sets) (places : List Place) (o : Option CommitEnd) (next : Next) → j.committer ≡ Magic → None ≡ o → OnOk r (IsNext j sets places (completing sets (dealt j.lanes (length (all_commits sets))) []) next) → OnOk r (IsNext j sets places (decided (read_script j sets) sets o) next)
-dealt_decided r j sets places o next magic e h =
-    let w = read_script j sets in
-    on_ok_weaker r (next_same _ _ (ap (replacing w sets) (sym (none_replaced j.committer j.mode w (picks_of sets) magic)) ∙ ap (decided w sets) e)) h
-
 fetching_yes : (j : Job) (sets : Sets) → length sets < j.tasks → Fetching sets 0 ≡ fetching (read_script j sets) sets
 fetching_yes j sets h = let P : Bool → Type 0 = λ v. Fetching sets 0 ≡ cond v (Fetching sets 0) (decided (read_script j sets) sets (same_path (read_script j sets) (picks_of sets))) in subst P (sym (below_so (length sets) j.tasks h)) refl
-
-fetching_no : (j : Job) (sets : Sets) → nat_lt (length sets) j.tasks ≡ false → decided (read_script j sets) sets (same_path (read_script j sets) (picks_of sets)) ≡ fetching (read_script j sets) sets
-fetching_no j sets h = let d = decided (read_script j sets) sets (same_path (read_script j sets) (picks_of sets)) in let P : Bool → Type 0 = λ v. d ≡ cond v (Fetching sets 0) d in subst P (sym h) refl
-
-pub not_below : (m n : ℕ) → n ≤ m → nat_lt m n ≡ false
-not_below m n h = grind (arith, nat_tests)
 
 -- a set is read
 pub fetching_is : (j : Job) (sets : Sets) (places : List Place) (count t : ℕ) (r : Request) (next : Next) → j.committer ≡ Magic → AreRead j sets → count ≡ length sets → t ≡ j.tasks → count < t → r ≡ set_request Magic (job_script j) count → next ≡ record { step = steps.Fetching 0; asked = Some r }
@@ -303,31 +201,3 @@ fetching_is j sets places count t r next magic each e f h q k =
       asked = ap Some (q ∙ ap (set_request Magic (read_script j sets)) e ∙ ap (λ c. set_request c (read_script j sets) (length sets)) (sym magic));
       step = holds_fetching j sets places 0 (record { each = each; more = more });
     }))
-
-pub all_read : (j : Job) (sets : Sets) (count t : ℕ) → count ≡ length sets → t ≡ j.tasks → t ≤ count → length sets ≤ j.tasks → length sets ≡ j.tasks
-all_read j sets count t e f h k = omega arith
-
--- none is left to read
-pub fetching_over : {E : Type 0} (r : Result ⊤ E) (j : Job) (sets : Sets) (places : List Place) (count t : ℕ) (next : Next) → count ≡ length sets → t ≡ j.tasks → t ≤ count → OnOk r (IsNext j sets places (decided (read_script j sets) sets (same_path (read_script j sets) (picks_of sets))) next) → OnOk r (IsNext j sets places (fetching (read_script j sets) sets) next)
-fetching_over r j sets places count t next e f h k = let le : j.tasks ≤ length sets = omega arith in on_ok_weaker r (next_same _ _ (fetching_no j sets (not_below (length sets) j.tasks le))) k
-
--- ---- what is taken back
-
-pub abort_is : {E : Type 0} (r : Result Request E) (all : List Pending) (u : Undo) (n : ℕ) (c : Pending) → u ≡ Abort n → c ≡ nth all n → IfOk r (λ q. q ≡ abort c) → IfOk r (λ q. q ≡ undo_request all u)
-abort_is r all u n c e f h = IfOk-weaker r (λ q. q ≡ abort c) (λ q. q ≡ undo_request all u) (λ q i. i ∙ ap abort f ∙ ap (undo_request all) (sym e)) h
-
-pub deletion_is : {E : Type 0} (r : Result Request E) (all : List Pending) (u : Undo) (n : ℕ) (c : Pending) → u ≡ Delete n → c ≡ nth all n → IfOk r (λ q. q ≡ deletion c) → IfOk r (λ q. q ≡ undo_request all u)
-deletion_is r all u n c e f h = IfOk-weaker r (λ q. q ≡ deletion c) (λ q. q ≡ undo_request all u) (λ q i. i ∙ ap deletion f ∙ ap (undo_request all) (sym e)) h
-
-pub number_within : (total : ℕ) (u x : Undo) (n : ℕ) → u ≡ x → number_in x ≡ n → number_in u < total → n < total
-number_within total u x n e f h = let g : number_in u ≡ n = ap number_in e ∙ f in omega arith
-
-pub undo_within : (sets : Sets) (u : List Undo) (x : Undo) → UndoWithin sets u → Some x ≡ first_of u → number_in x < length (all_commits sets)
-undo_within sets u x w e = undo_first_within sets u x w (sym e)
-
-pub undo_is : (j : Job) (sets : Sets) (places : List Place) (u : List Undo) (x : Undo) (r : Request) (next : Next) → places ≡ places_from 0 sets → UndoWithin sets u → Some x ≡ first_of u → r ≡ undo_request (all_commits sets) x → next ≡ record { step = steps.Reverting u 0; asked = Some r }
-    → IsNext j sets places (reverting_from 0 (map (undo_request (all_commits sets)) u)) next
-undo_is j sets places u x r next p w e i k = next_as _ next k (undo_next j sets places u x r p w (sym e) i)
-
-pub undone_is : (j : Job) (sets : Sets) (places : List Place) (u : List Undo) (next : Next) → None ≡ first_of u → next ≡ record { step = steps.Over (ends.StoreFault stages.Complete); asked = None } → IsNext j sets places (reverting_from 0 (map (undo_request (all_commits sets)) u)) next
-undone_is j sets places u next e k = next_as _ next k (undone_next j sets places u (sym e))

@@ -1,21 +1,21 @@
 -- lanes after an outcome, with what each call gave
-use Rattle.std.proofs.Common.{◌≡◌, ℕ, ◌+◌, ◌<◌, ◌≤◌, ◌^◌, refl, ap, sym, subst, ◌∙◌, Bool, arith, List, [], ◌∷◌, ◌++◌, map, length, drop, Option, Some, None, Result, OnOk}
+use Rattle.std.proofs.Common.{◌≡◌, ℕ, ◌<◌, refl, ap, sym, subst, ◌∙◌, Bool, arith, List, [], ◌∷◌, ◌++◌, map, length, drop, Option, Some, None, Result, OnOk}
 use Rattle.std.specs.Prelude.{⊤}
 use Rattle.std.proofs.lemmas.Result.{on_ok_weaker}
 use Rattle.job_model.specs.Jobs.{Job}
 use Rattle.job_operations.specs.Lanes.{Turn, again}
 use Rattle.job_operations.specs.LaneTable.{In}
 use Rattle.job_operations.specs.JobCommits.{Sets, all_commits, completing}
-use Rattle.commit_parts.specs.Tables.{LaneTable, first_of, listed, next_turn, first_missed}
+use Rattle.commit_parts.specs.Tables.{LaneTable, first_of, listed, next_turn}
 use Rattle.commit_parts.specs.Undos.{undo_request, IsRevert, NumbersWithin}
 use Rattle.commit_parts.specs.Places.{places_from}
 use Rattle.commit_parts.specs.declared.places.Place.{Place}
 use Rattle.commit_parts.specs.declared.undo.Undo.{Undo}
 use Rattle.commit_parts.proofs.Placing.{places_length}
-use Rattle.job_commit.specs.Stages.{reverting_from, answered, unanswered, worn_out}
+use Rattle.job_commit.specs.Stages.{reverting_from, answered, worn_out}
 use Rattle.job_commit.specs.Holds.{LanesWithin, UndoWithin, IsNext}
 use Rattle.job_commit.specs.declared.step.Next.{Next}
-use Rattle.job_commit.proofs.Steps.{next_same, answered_lanes, answered_within, again_lanes, again_within, missed_is, worn_next, finished_within, first_within}
+use Rattle.job_commit.proofs.Steps.{next_same, answered_lanes, answered_within, again_within, worn_next, finished_within, first_within}
 
 -- ---- after an answer
 
@@ -31,9 +31,9 @@ answered_table j sets places l l1 l2 x o n m lanes count f a b c d e g h = recor
   turn = x;
   first = f;
   is =
-    let D : Option Turn → LaneTable = λ v. record { turns = drop 1 l.turns ++ listed v; finished = x.number ∷ l.finished } in
-    let M : LaneTable → ℕ → LaneTable = λ v k. record { turns = v.turns; finished = k ∷ v.finished } in
-    h ∙ ap (λ k. M l1 k) b ∙ ap (λ v. M v x.number) g ∙ ap D (e ∙ (λ i. next_turn (c i) (d i) (a i)));
+      let D : Option Turn → LaneTable = λ v. record { turns = drop 1 l.turns ++ listed v; finished = x.number ∷ l.finished } in
+      let M : LaneTable → ℕ → LaneTable = λ v k. record { turns = v.turns; finished = k ∷ v.finished } in
+      h ∙ ap (λ k. M l1 k) b ∙ ap (λ v. M v x.number) g ∙ ap D (e ∙ (λ i. next_turn (c i) (d i) (a i)));
 }
 
 pub answered_still : (j : Job) (sets : Sets) (places : List Place) (l l1 l2 : LaneTable) (x : Turn) (o : Option Turn) (n m lanes count : ℕ) → Some x ≡ first_of l.turns → n ≡ x.number → m ≡ x.number → lanes ≡ j.lanes → count ≡ length places → o ≡ next_turn lanes count n
@@ -58,31 +58,13 @@ nothing_answered r j sets places l next e k = on_ok_weaker r (next_same _ _ (no_
 
 -- ---- after none
 
--- one more sending can be counted
-pub counts : (j : Job) (xs : List Turn) (x : Turn) (n : ℕ) → Some x ≡ first_of xs → first_missed xs < j.retries → n ≡ j.retries → n ≤ 9 → x.missed + 1 < 2 ^ 32
-counts j xs x n f h e k = let g : first_missed xs ≡ x.missed = missed_is xs x (sym f) in omega arith
-
 again_table : (l l1 : LaneTable) (x y : Turn) (lost : Bool) → y ≡ again x lost → l1 ≡ record { turns = drop 1 l.turns ++ listed (Some y); finished = l.finished } → l1 ≡ record { turns = drop 1 l.turns ++ listed (Some (again x lost)); finished = l.finished }
 again_table l l1 x y lost e h = h ∙ ap (λ v. let k : LaneTable = record { turns = drop 1 l.turns ++ listed (Some v); finished = l.finished } in k) e
 
 pub again_still : (sets : Sets) (l l1 : LaneTable) (x y : Turn) (lost : Bool) → Some x ≡ first_of l.turns → y ≡ again x lost → l1 ≡ record { turns = drop 1 l.turns ++ listed (Some y); finished = l.finished } → LanesWithin sets l → LanesWithin sets l1
 again_still sets l l1 x y lost f e h w = again_within sets l.turns l.finished x lost l1 (sym f) (again_table l l1 x y lost e h) w
 
-pub again_next : {E : Type 0} (r : Result ⊤ E) (j : Job) (sets : Sets) (places : List Place) (l l1 : LaneTable) (x y : Turn) (lost : Bool) (next : Next) → Some x ≡ first_of l.turns → y ≡ again x lost → l1 ≡ record { turns = drop 1 l.turns ++ listed (Some y); finished = l.finished }
-    → OnOk r (IsNext j sets places (completing sets l1.turns l1.finished) next) → OnOk r (IsNext j sets places (unanswered sets lost l.turns l.finished) next)
-again_next r j sets places l l1 x y lost next f e h k = on_ok_weaker r (next_same _ _ (again_lanes sets l.turns l.finished x lost l1 (sym f) (again_table l l1 x y lost e h))) k
-
-no_lane_again : (sets : Sets) (lost : Bool) (xs : List Turn) (done : List ℕ) → None ≡ first_of xs → completing sets xs done ≡ unanswered sets lost xs done
-no_lane_again sets lost [] done e = refl
-no_lane_again sets lost (x ∷ xs) done e = absurd (cc)
-
-pub nothing_again : {E : Type 0} (r : Result ⊤ E) (j : Job) (sets : Sets) (places : List Place) (l : LaneTable) (lost : Bool) (next : Next) → None ≡ first_of l.turns → OnOk r (IsNext j sets places (completing sets l.turns l.finished) next) → OnOk r (IsNext j sets places (unanswered sets lost l.turns l.finished) next)
-nothing_again r j sets places l lost next e k = on_ok_weaker r (next_same _ _ (no_lane_again sets lost l.turns l.finished e)) k
-
 -- ---- where a completion wore out
-
-out_table : (l l1 : LaneTable) (o : Option Turn) → o ≡ None → l1 ≡ record { turns = drop 1 l.turns ++ listed o; finished = l.finished } → l1 ≡ record { turns = drop 1 l.turns ++ listed None; finished = l.finished }
-out_table l l1 o e h = h ∙ ap (λ v. let k : LaneTable = record { turns = drop 1 l.turns ++ listed v; finished = l.finished } in k) e
 
 pub done_within : (sets : Sets) (places : List Place) (l l1 : LaneTable) (count : ℕ) → places ≡ places_from 0 sets → count ≡ length places → l1 ≡ record { turns = drop 1 l.turns ++ listed None; finished = l.finished } → LanesWithin sets l → (n : ℕ) → In n l1.finished → n < count
 done_within sets places l l1 count p c h w n i = let b : n < length places = finished_within sets places l.turns l.finished l1 p h w n i in omega arith
@@ -103,10 +85,3 @@ worn_on r j sets places l l1 x n count u next f e p c h v k =
     let W : ℕ → Type 0 = λ a. V a n in
     let v' : V (length places) x.number = subst (V (length places)) e (subst W c v) in
     on_ok_weaker r (λ i. worn_next j sets places l.turns l.finished x l1 u next (sym f) p h v' (i j)) k
-
-no_lane_worn : (sets : Sets) (xs : List Turn) (done : List ℕ) → None ≡ first_of xs → completing sets xs done ≡ worn_out sets xs done
-no_lane_worn sets [] done e = refl
-no_lane_worn sets (x ∷ xs) done e = absurd (cc)
-
-pub nothing_worn : {E : Type 0} (r : Result ⊤ E) (j : Job) (sets : Sets) (places : List Place) (l : LaneTable) (next : Next) → None ≡ first_of l.turns → OnOk r (IsNext j sets places (completing sets l.turns l.finished) next) → OnOk r (IsNext j sets places (worn_out sets l.turns l.finished) next)
-nothing_worn r j sets places l next e k = on_ok_weaker r (next_same _ _ (no_lane_worn sets l.turns l.finished e)) k

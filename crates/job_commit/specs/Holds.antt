@@ -2,14 +2,13 @@
 use Rattle.std.specs.Prelude.{◌≡◌, ℕ, ◌+◌, ◌<◌, ◌≤◌, List, [], ◌∷◌, map, length, Option, Some, None}
 use Rattle.s3_types.specs.declared.request.Committer.TheVariants.{Magic}
 use Rattle.s3_types.specs.declared.request.Request.{Request}
-use Rattle.pending_json.specs.declared.records.PendingSet.{PendingSet}
 use Rattle.job_model.specs.Jobs.{Job}
 use Rattle.job_model.specs.declared.ends.Pick.{Pick}
 use Rattle.job_operations.specs.Lanes.{Turn}
 use Rattle.s3_types.specs.declared.reply.Reply.{Reply}
 use Rattle.s3_types.specs.declared.reply.Reply.TheVariants.{Object, ClusterBytes}
 use Rattle.s3_types.specs.declared.journal.Outcome.TheVariants.{Answered}
-use Rattle.job_operations.specs.JobCommits.{Sets, all_commits, Commit, commit_asks, commit_hears, commit_misses}
+use Rattle.job_operations.specs.JobCommits.{Sets, all_commits, Commit, commit_asks, commit_hears}
 use Rattle.job_operations.specs.LaneTable.{In}
 use Rattle.job_operations.specs.AtWork.{read_script, sets_in, sets_after, picked_after}
 use Rattle.commit_parts.specs.Tables.{LaneTable}
@@ -79,7 +78,6 @@ pub record IsNext (j : Job) (sets : Sets) (places : List Place) (c : Commit) (ne
 pub record Heard (j : Job) (sets : Sets) (picks : List Pick) (c : Commit) (r : Reply) (sets' : Sets) (places' : List Place) (picks' : List Pick) (after : Next) : Type 0 where
   pub next : IsNext j sets' places' (commit_hears (read_script j (sets_after c (Answered r))) c r) after
   pub picked : attempts_of picks' ≡ picked_after (attempts_of picks) c (Answered r)
-
 
 -- the bytes that an answer brings
 abbrev pub bytes_in : Reply → Option (List ℕ)

@@ -6,7 +6,7 @@ use Rattle.job_model.specs.declared.ends.Stage.TheVariants as stages
 use Rattle.job_operations.specs.Lanes.{Turn, follow, again}
 use Rattle.job_operations.specs.JobCommits.{Sets, all_commits, Commit, Fetching, Marking, Reverting, CommitOver, completing, worn_completion}
 use Rattle.job_model.specs.Jobs.{Job}
-use Rattle.commit_parts.specs.Tables.{LaneTable, first_missed}
+use Rattle.commit_parts.specs.Tables.{first_missed}
 use Rattle.commit_parts.specs.Undos.{undo_request}
 use Rattle.job_commit.specs.declared.step.Step.{Step}
 use Rattle.job_commit.specs.declared.step.Step.TheVariants as steps

@@ -11,9 +11,9 @@ ghost use Rattle.commit_laws.specs.Fitting.{SpellsSet, FitsReply, missed_of};
 ghost use Rattle.commit_parts.specs.ReadSets.{HasAll};
 ghost use Rattle.job_commit.specs.Holds.{IsNext, asks, Heard, PicksHold, StepHolds, bytes_in, Reads, LanesWithin};
 
-use commit_parts::{Lanes, Place, next_turn, revert};
 use crate::stages::{completing, fetching, reverting};
 use crate::step::{Next, Step};
+use commit_parts::{Lanes, Place, next_turn, revert};
 use job_model::{CommitEnd, JobPlan, Pick, PickList, Stage};
 use pending_json::{PendingSet, RecordFault};
 use s3_types::{Bytes, Reply, Sequence, let_go, put};
@@ -198,9 +198,7 @@ pub fn heard(
 {
     match step {
         Step::Fetching(missed) => hear_set(alloc, plan, sets, places, picks, missed, next, reply),
-        Step::Completing(lanes) => {
-            hear_completion(alloc, plan, sets, places, lanes, next)
-        }
+        Step::Completing(lanes) => hear_completion(alloc, plan, sets, places, lanes, next),
         Step::Marking(_) => {
             next.end(CommitEnd::Committed);
             Ok(())

@@ -9,3 +9,4 @@ mod stages;
 mod step;
 
 pub use commit::CommitJob;
+pub use commit_laws::{ends_by_entries, falls};

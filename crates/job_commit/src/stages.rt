@@ -13,19 +13,8 @@ ghost use Rattle.job_commit.specs.Holds.{IsNext, LanesWithin, UndoWithin};
 
 use crate::step::{Next, Step};
 use commit_parts::{
-    Lanes,
-    Place,
-    Undo,
-    UndoList,
-    abort,
-    completion,
-    deletion,
-    mark_request,
-    placed,
-    relative,
-    set_request,
-    shared,
-    upload,
+    Lanes, Place, Undo, UndoList, abort, completion, deletion, mark_request, placed, relative,
+    set_request, shared, upload,
 };
 use job_model::{CommitEnd, JobPlan, Stage};
 use pending_json::{PendingSet, PendingUpload};

@@ -1,6 +1,6 @@
 use Rattle.std.proofs.Common.{ap, ◌∙◌}
 use Rattle.job_model.specs.Jobs.{Job}
-use Rattle.job_commit.proofs.Hears.{count_fits, again_counted}
+use Rattle.job_commit.proofs.Goings.{count_fits, again_counted}
 use Rattle.job_commit.proofs.hearing.again.Goals as goal
 
 pub counted-requires : goal.counted-requires

@@ -1,6 +1,6 @@
 use Rattle.std.proofs.Common.{ap}
 use Rattle.job_model.specs.Jobs.{Job}
-use Rattle.job_commit.proofs.Tables.{answered_still, answered_next, nothing_answered}
+use Rattle.job_commit.proofs.Tables.{answered_still, answered_next}
 use Rattle.job_commit.proofs.hearing.hear_completion.Goals as goal
 
 pub completing-requires-clause-within : goal.completing-requires-clause-within

@@ -1,5 +1,5 @@
 use Rattle.job_operations.specs.JobCommits.{set_read}
-use Rattle.job_commit.proofs.Hears.{more_read, picks_more_hold}
+use Rattle.job_commit.proofs.Goings.{more_read, picks_more_hold}
 use Rattle.job_commit.proofs.hearing.hear_set.Goals as goal
 
 pub fetching-requires-clause-each : goal.fetching-requires-clause-each

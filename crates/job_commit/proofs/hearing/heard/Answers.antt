@@ -1,4 +1,4 @@
-use Rattle.job_commit.proofs.Hears.{rest_within}
+use Rattle.job_commit.proofs.Goings.{rest_within}
 use Rattle.job_commit.proofs.hearing.heard.Goals as goal
 
 pub reverting-requires-clause-within : goal.reverting-requires-clause-within

@@ -1,4 +1,4 @@
-use Rattle.std.proofs.Common.{◌≡◌, ap, ◌∙◌}
+use Rattle.std.proofs.Common.{ap, ◌∙◌}
 use Rattle.job_model.specs.Jobs.{Job}
 use Rattle.commit_parts.specs.Places.{places_from}
 use Rattle.job_commit.proofs.Steps.{dealt_within, dealt_next}

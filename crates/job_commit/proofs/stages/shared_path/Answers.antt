@@ -1,4 +1,4 @@
-use Rattle.std.proofs.Common.{◌≡◌, ap}
+use Rattle.std.proofs.Common.{ap}
 use Rattle.job_model.specs.Jobs.{Job}
 use Rattle.job_commit.proofs.Steps.{shared_is, none_shared}
 use Rattle.job_commit.proofs.stages.shared_path.Goals as goal
