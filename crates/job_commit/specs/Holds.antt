@@ -27,6 +27,7 @@ abbrev pub picks_from : ℕ → List ℕ → List Pick
 picks_from t [] = []
 picks_from t (a ∷ others) = record { task = t; attempt = a } ∷ picks_from (t + 1) others
 
+-- their attempts
 abbrev pub attempts_of : List Pick → List ℕ
 attempts_of picks = map (λ p. p.attempt) picks
 
@@ -40,9 +41,11 @@ pub record LanesWithin (sets : Sets) (l : LaneTable) : Type 0 where
   pub turns : (x : Turn) → In x l.turns → x.number < length (all_commits sets)
   pub done : (n : ℕ) → In n l.finished → n < length (all_commits sets)
 
+-- what is left to take back is of uploads
 abbrev pub UndoWithin : Sets → List Undo → Type 0
 UndoWithin sets u = NumbersWithin (length (all_commits sets)) u
 
+-- a task is left to read; or all sets were read, and a lane or a request of the revert is in turn
 pub record StepHolds (j : Job) (sets : Sets) (places : List Place) (step : Step) : Type 0 where
   pub reads : (m : ℕ) → step ≡ steps.Fetching m → Reads j sets
   pub all : (l : LaneTable) → step ≡ steps.Completing l → HasAll j sets places
@@ -62,6 +65,7 @@ pub record PicksHold (j : Job) (sets : Sets) (picks : List Pick) : Type 0 where
   pub counted : length picks ≤ length sets
   pub few : length sets ≤ j.tasks
 
+-- what the machine keeps true
 pub record Holds (j : Job) (sets : Sets) (places : List Place) (picks : List Pick) (step : Step) (asked : Option Request) : Type 0 where
   pub magic : j.committer ≡ Magic
   pub counts : PicksHold j sets picks

@@ -12,6 +12,7 @@ use Rattle.job_commit.specs.declared.step.Step.{Step}
 use Rattle.job_commit.specs.declared.step.Step.TheVariants as steps
 use Rattle.job_commit.specs.declared.step.Next.{Next}
 
+-- these requests are left of the revert; the first was sent so often without an answer
 abbrev pub reverting_from : ℕ → List Request → Commit
 reverting_from m [] = CommitOver (ends.StoreFault stages.Complete)
 reverting_from m (r ∷ rs) = Reverting r rs m
@@ -46,6 +47,7 @@ counted (steps.Marking m) = steps.Marking (m + 1)
 counted (steps.Reverting u m) = steps.Reverting u (m + 1)
 counted (steps.Over end) = steps.Over end
 
+-- how many sendings of the present request got none
 abbrev pub missed_in : Step → ℕ
 missed_in (steps.Fetching m) = m
 missed_in (steps.Completing l) = first_missed l.turns

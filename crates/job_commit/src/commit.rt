@@ -19,10 +19,11 @@ use s3_types::{Outcome, Reply, Request, Sequence, let_go};
 use std::alloc::{AllocError, Global};
 use std::marker::Model;
 
-/// The commit of a magic job, which counts the sendings of its own requests. It reads the set of each
-/// task, once, from task 0 on; then it completes all uploads, in lanes, and puts the marker. Where a
-/// completion wears out it aborts and deletes what it can, and a request of that which wears out is passed
-/// over. (Hadoop, S3A committer architecture: job commit.)
+/// The commit of a magic job, which is told the outcome of each sending and counts the sendings of its
+/// requests itself. It reads the set of each task, once, from task 0 on; then it completes all uploads, in
+/// lanes, and puts the marker. Where two tasks write one path it ends before any completion. Where a
+/// completion wears out it aborts and deletes what was or may be completed and aborts the other uploads;
+/// a request of that which wears out is passed over. (Hadoop, S3A committer architecture: job commit.)
 #[derive(Drop)]
 pub struct CommitJob {
     alloc: Global,
@@ -81,8 +82,9 @@ fn begun(
 }
 
 impl CommitJob {
-    /// The commit of a job of which these tasks were reported. Where some task was not, it is over, Missing
-    /// with the least one, and nothing is sent.
+    /// The commit of a job of which these tasks reported that they committed, numbered from 0 on. Where
+    /// some task did not, it is over, Missing with the least one, and nothing is sent. AllocError comes where
+    /// memory ran out alone.
     pub fn new(alloc: Global, plan: JobPlan, reported: &TaskSet) -> Result<CommitJob, AllocError>
         requires { plan.committer ≡ Magic }
         ensures { IfOk result (λ m. m ≡ record { plan = plan; picked = []; operation = commit_start (read_script plan []) (least_missing plan.tasks reported.now) }) }
@@ -114,7 +116,8 @@ impl CommitJob {
         self.next.asked.as_ref()
     }
 
-    /// How it ended, or None while a request is asked. Takes no memory.
+    /// How it ended, or None while a request is asked: Missing; else StoreFault of the stage of the first
+    /// request that wore out; else SamePath; else Committed; or NoMemory. Takes no memory.
     pub fn end(&self) -> Option<&CommitEnd>
         ensures { option_copied result ≡ commit_over self.now.operation }
     {
@@ -157,6 +160,7 @@ impl CommitJob {
         plan
     }
 
+    /// Takes an answer.
     fn hear(&mut self, reply: &Reply) -> Result<(), AllocError>
         requires { FitsReply self.old.plan self.old.operation reply.now }
         ensures ok { OnOk result (self.new ≡ commit_told self.old (Outcome.Answered reply.now)) }
@@ -175,6 +179,7 @@ impl CommitJob {
         )
     }
 
+    /// Counts a sending that got no answer, of a request that is sent again.
     fn again(&mut self, lost: bool) -> Result<(), AllocError>
         requires { missed_of self.old.operation < self.old.plan.retries }
         ensures ok { OnOk result (self.new ≡ missed self.old lost) }
@@ -190,6 +195,7 @@ impl CommitJob {
         )
     }
 
+    /// Counts the last sending of a request that got no answer.
     fn wear_out(&mut self, lost: bool) -> Result<(), AllocError>
         requires { self.old.plan.retries ≤ missed_of self.old.operation }
         ensures ok { OnOk result (self.new ≡ missed self.old lost) }
@@ -214,6 +220,7 @@ impl CommitJob {
         self.next.step.missed()
     }
 
+    /// Counts a sending that got no answer; `lost` is whether it was lost, and not merely slow.
     fn miss(&mut self, lost: bool) -> Result<Turn, AllocError>
         ensures ok { OnOk result (self.new ≡ missed self.old lost) }
         ensures turn { IfOk result (λ turn. turn ≡ turn_unanswered self.old) }
@@ -228,8 +235,10 @@ impl CommitJob {
         }
     }
 
-    /// Takes the outcome of a sending of the present request. After want of memory nothing more is asked,
-    /// its end is NoMemory, and its picks are as before.
+    /// Takes the outcome of a sending of the present request, and tells whether it was answered (Moved), the
+    /// request or its lane's turn is to be sent again (Again), or it was the last of `retries + 1` sendings
+    /// (WornOut). AllocError comes where memory ran out alone: after it nothing more is asked, its end is
+    /// NoMemory, and its picks are as before.
     pub fn take(&mut self, outcome: &Outcome) -> Result<Turn, AllocError>
         requires asked { IsSome (commit_wants self.old) }
         requires fits { FitsCommit self.old outcome.now }

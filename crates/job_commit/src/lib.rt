@@ -1,6 +1,7 @@
 //! The commit of a job as a machine: it reads the sets of the job's tasks, completes their uploads in
 //! lanes, and puts the marker of a committed job; where a completion wears out it takes all back. Of the
-//! magic committer. (Hadoop, S3A committer architecture: job commit.)
+//! magic committer. With it the laws of its end and the set-up of a job. (Hadoop, S3A committer
+//! architecture: job setup, job commit.)
 #![tactic(auto)]
 
 mod commit;
@@ -10,3 +11,4 @@ mod step;
 
 pub use commit::CommitJob;
 pub use commit_laws::{ends_by_entries, falls};
+pub use job_setup::SetupJob;
