@@ -148,7 +148,7 @@ module _ (g : Setting) (m : Told) (a : Who) (op : Operation) (fits : Fits g.scri
   -- the driver's commit is as it was
   pub beside : (c : Commit) → FitsJobCommit g.script g.minimum m.publish_sent m.drawn c → FitsJobCommit g.script g.minimum now.publish_sent now.drawn c
   beside (Fetching sets n) h = (h.0, reads_still sets h.1)
-  beside (Replacing sets p ps s n) h = (reads_still sets h.0, h.1)
+  beside (Replacing sets p ps s n) h = (reads_still sets h.0, h.1, h.2)
   beside (Completing sets x xs finished) h = reads_still sets h
   beside (MarkingJob sets n) h = reads_still sets h
   beside (Reverting q qs n) h = h

@@ -24,7 +24,7 @@ use Rattle.job_facts.specs.Told.{Told}
 use Rattle.job_facts.specs.Stores.{at_key, at_id, end_left}
 use Rattle.job_facts.specs.Facts.{Facts}
 use Rattle.job_facts.specs.Filed.{IsCommit, Gone, whole_of}
-use Rattle.job_facts.proofs.Shapes.{key_after, abort_turns}
+use Rattle.job_facts.proofs.Shapes.{key_after, id_before, id_after, abort_turns}
 use Rattle.job_facts.proofs.Undone.{deletes_drop}
 use Rattle.job_facts.proofs.Ended.{completes_key, completes_id, refused_key, gone_stays}
 use Rattle.job_facts.proofs.Replies.{held_of, file_joined}
@@ -40,6 +40,12 @@ module _ (w : Script) (s : Scene) (there : HasBucket s.content w.dest.bucket) wh
       ap (λ c. at_key w c q) (delete_is q)
       ∙ key_after w s there.0 there.1 (with_objects there.0 (fin.remove there.0.objects q)) s.content.next q
       ∙ text_gone there.0.objects q q refl
+
+  pub deleted_uploads : (q : List ℕ) (id : ℕ) → at_id w (apply s (DeleteObject w.dest.bucket q)).content id ≡ at_id w s.content id
+  deleted_uploads q id =
+      ap (λ c. at_id w c id) (delete_is q)
+      ∙ id_after w s there.0 there.1 (with_objects there.0 (fin.remove there.0.objects q)) s.content.next id
+      ∙ sym (id_before w s there.0 there.1 id)
 
   -- a batch leaves what stands at a key, or nothing
   pub deleted_or_not : (keys : List (List ℕ)) (k : List ℕ) → (at_key w (apply s (DeleteObjects w.dest.bucket keys)).content k ≡ at_key w s.content k) ⊎ (at_key w (apply s (DeleteObjects w.dest.bucket keys)).content k ≡ None)

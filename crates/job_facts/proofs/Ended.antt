@@ -133,3 +133,32 @@ module _ (w : Script) (s : Scene) (there : HasBucket s.content w.dest.bucket) (i
       by : (o : Option Upload) → at_id w (apply s r).content id ≡ o → o ≡ None
       by None e = refl
       by (Some u) e = absurd (none_some none (stood_so r u e).stood)
+
+-- a completion leaves an upload as it is, or ends one with its key
+completed_left : (b : BucketContent) (key : List ℕ) (id : ℕ) (parts : List NamedPart) (minimum : ℕ) (o : Option Upload) → fin.get b.uploads id ≡ o → (x : Result (List ℕ) Refusal) → joined (with_key key o) parts minimum ≡ x
+    → (fin.get (completed b key id x).uploads id ≡ o) ⊎ (fin.get (completed b key id x).uploads id ≡ end_left key o)
+completed_left b key id parts minimum o e (Err r) j = inl e
+completed_left b key id parts minimum None e (Ok bytes) j = absurd cc
+completed_left b key id parts minimum (Some u) e (Ok bytes) j = by (text_eq u.key key) refl j
+  where
+    by : (t : Bool) → text_eq u.key key ≡ t → joined (cond t (Some u) None) parts minimum ≡ Ok bytes → (fin.get (fin.remove b.uploads id) id ≡ Some u) ⊎ (fin.get (fin.remove b.uploads id) id ≡ cond (text_eq u.key key) None (Some u))
+    by true g k = inr (nat_gone b.uploads id id refl ∙ ap (λ t. cond t None (Some u)) (sym g))
+    by false g k = absurd cc
+
+pub completed_uploads : (w : Script) (s : Scene) (b : BucketContent) (there : fin.get s.content.buckets w.dest.bucket ≡ Some b) (key : List ℕ) (id : ℕ) (parts : List NamedPart)
+    → ((at_id w (after w s b there key id parts) id ≡ at_id w s.content id) ⊎ (at_id w (after w s b there key id parts) id ≡ end_left key (at_id w s.content id)))
+    × ((u : ℕ) → (u ≡ id → ⊥) → at_id w (after w s b there key id parts) u ≡ at_id w s.content u)
+completed_uploads w s b there key id parts = (
+  elim (completed_left b key id parts s.content.minimum (fin.get b.uploads id) refl (joined (live b.uploads key id) parts s.content.minimum) refl) [
+    | inl same ↦ inl (now id ∙ same ∙ sym (id_before w s b there id))
+    | inr left ↦ inr (now id ∙ left ∙ ap (end_left key) (sym (id_before w s b there id)))
+  ],
+  λ u ne. now u ∙ others (joined (live b.uploads key id) parts s.content.minimum) u ne ∙ sym (id_before w s b there u),
+)
+  where
+    now : (u : ℕ) → at_id w (after w s b there key id parts) u ≡ fin.get (completed b key id (joined (live b.uploads key id) parts s.content.minimum)).uploads u
+    now u = ap (λ c. at_id w c u) (complete_is w s b there key id parts) ∙ id_after w s b there (completed b key id (joined (live b.uploads key id) parts s.content.minimum)) s.content.next u
+
+    others : (x : Result (List ℕ) Refusal) (u : ℕ) → (u ≡ id → ⊥) → fin.get (completed b key id x).uploads u ≡ fin.get b.uploads u
+    others (Ok bytes) u ne = nat_left b.uploads id u ne
+    others (Err r) u ne = refl

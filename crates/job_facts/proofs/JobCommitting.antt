@@ -1,8 +1,9 @@
 -- The driver's commit keeps the facts with each of its requests, holds the sets as it read them, and goes on as it should.
-use Rattle.std.proofs.Common.{◌≡◌, ℕ, zero, suc, ◌+◌, ◌<◌, ◌≤◌, ◌^◌, ◌⊎◌, inl, inr, nat_lt, Bool, true, false, cond, List, [], ◌∷◌, ◌++◌, map, drop, length, slice_get, Option, Some, None, refl, sym, ap, subst, ◌∙◌, codes, append_assoc}
+use Rattle.std.proofs.Common.{◌≡◌, ℕ, zero, suc, ◌+◌, ◌<◌, ◌≤◌, ◌^◌, ◌⊎◌, inl, inr, nat_eq, nat_lt, Bool, true, false, cond, List, [], ◌∷◌, ◌++◌, map, take, drop, length, slice_get, Option, Some, None, refl, sym, ap, subst, ◌∙◌, codes, append_assoc}
 use Rattle.std.specs.List.{filter}
-use Rattle.std.proofs.lemmas.Bool.{false≢true, not-true}
-use Rattle.s3_types.specs.Pages.{begins}
+use Rattle.std.proofs.lemmas.Bool.{and_parts, false≢true, not-true}
+use Rattle.s3_types.specs.Store.{Scene}
+use Rattle.s3_types.specs.Pages.{begins, listed}
 use Rattle.s3_types.specs.Names.{is_bucket}
 use Rattle.s3_types.specs.Answer.{answer}
 use Rattle.s3_types.specs.Moment.{IsHonestOutcome}
@@ -10,6 +11,16 @@ use Rattle.s3_types.specs.declared.request.Request.{Request}
 use Rattle.s3_types.specs.declared.request.Committer.{Committer}
 use Rattle.s3_types.specs.declared.request.Committer.TheVariants.{Magic, Directory, Partitioned}
 use Rattle.s3_types.specs.declared.reply.Reply.{Reply}
+use Rattle.s3_types.specs.declared.reply.Reply.TheVariants.{Page}
+use Rattle.s3_types.specs.declared.reply.PageEntry.{PageEntry}
+use Rattle.s3_types.specs.declared.request.Mode.{Mode}
+use Rattle.s3_types.specs.declared.request.Mode.TheVariants.{Replace, Append, Fail}
+use Rattle.path_keys.specs.Paths.{below}
+use Rattle.magic_paths.proofs.Tails.{begins_behind, below_is as paths_below}
+use Rattle.request_frame.specs.Held.{HasBucket}
+use Rattle.request_frame.proofs.Flat.{page_begins}
+use Rattle.job_operations.specs.Conflicts.{partitions}
+use Rattle.job_operations.specs.TaskCommits.{partition_prefix}
 use Rattle.s3_types.specs.declared.journal.Outcome.{Outcome}
 use Rattle.s3_types.specs.declared.journal.Outcome.TheVariants.{Answered, Slow, RequestLost, ReplyLost}
 use Rattle.magic_paths.specs.Layout.{magic_prefix}
@@ -27,23 +38,24 @@ use Rattle.job_model.specs.declared.ends.CommitEnd.{CommitEnd}
 use Rattle.job_model.specs.declared.ends.CommitEnd.TheVariants as ends
 use Rattle.job_model.specs.declared.ends.Stage.TheVariants as stages
 use Rattle.job_model.proofs.PathBounds.{placed_open}
-use Rattle.job_operations.specs.Outputs.{files, same_path}
+use Rattle.job_operations.specs.Outputs.{Picks, files, wanted_paths, same_path}
 use Rattle.job_model.specs.Known.{Drawn}
 use Rattle.job_operations.specs.Knowledge.{drawn_for}
 use Rattle.job_operations.specs.Records.{file_key, file_record, files_set}
 use Rattle.job_operations.specs.Setup.{dest_prefix}
-use Rattle.job_operations.specs.Walks.{Sweep, Listing, Deleting, Walked, More, Whole, walked, sweep_start, sweep_asks, sweep_hears, deleting, page_after}
+use Rattle.job_operations.specs.Walks.{Sweep, Listing, Deleting, Walked, More, Whole, walked, walked_by, last_of, keys_on, sweep_start, sweep_asks, sweep_hears, deleting, page_after}
 use Rattle.job_operations.specs.Walks as walks
 use Rattle.job_operations.specs.Lanes.{Turn, nth, nothing_pending, completion, abort, deletion, again, follow, dealt, chosen, undo, in_turn, is_tried, is_unsent, revert}
 use Rattle.job_operations.specs.JobCommits.{Sets, all_commits, picks_of, Commit, Fetching, Replacing, Completing, Marking, Reverting, CommitOver, set_request, set_read, commit_asks, commit_hears, commit_misses, commit_tells, completing, is_no_magic, replaced, replacing, decided, fetching, fetched, swept, reverting, worn_completion}
 use Rattle.job_promise.specs.Seen.{Seen}
 use Rattle.proof_base.proofs.Numbers.{below_is}
 use Rattle.request_frame.specs.Members.{IsIn}
-use Rattle.request_frame.proofs.Members.{some_is, none_some, false_true, true_or_false, nat_true, in_map, in_append, in_filter}
+use Rattle.request_frame.proofs.Members.{some_is, none_some, false_true, true_or_false, eq_nat, nat_true, in_map, in_append, in_filter}
 use Rattle.job_facts.specs.Told.{Told}
 use Rattle.job_facts.specs.Foreign.{IsDriving}
 use Rattle.job_facts.specs.Facts.{Hold, knowing}
-use Rattle.job_facts.specs.Driver.{IsHeldSet, Reads, FitsReplace, AllDriving, FitsJobCommit}
+use Rattle.job_facts.specs.Driver.{AllUnder, IsHeldSet, Reads, FitsReplace, AllDriving, FitsJobCommit}
+use Rattle.job_facts.proofs.Shapes.{answer_is}
 use Rattle.job_facts.proofs.Legal.{some_dest, from_script, given_of}
 use Rattle.job_facts.proofs.Driving.{reads_drive}
 use Rattle.job_facts.proofs.Aborting.{taken_in, dropped_in}
@@ -61,17 +73,37 @@ abbrev FitsOption : Script → Option Sweep → Type 0
 FitsOption w None = Unit {0}
 FitsOption w (Some s) = FitsReplace w s
 
-fits_deleting : (w : Script) (keys : List (List ℕ)) → ((k : List ℕ) → IsIn k keys → is_no_magic w k ≡ true) → FitsOption w (deleting keys)
+fits_deleting : (w : Script) (keys : List (List ℕ)) → ((k : List ℕ) → IsIn k keys → (is_no_magic w k ≡ true) × (begins (dest_prefix w) k ≡ true)) → FitsOption w (deleting keys)
 fits_deleting w [] h = tt
 fits_deleting w (q ∷ qs) h = h
 
-fits_listed : (w : Script) (x : Walked (List ℕ)) → FitsOption w (walks.swept (is_no_magic w) x)
-fits_listed w (More keys) = tt
-fits_listed w (Whole keys) = fits_deleting w (filter (is_no_magic w) keys) (λ k i. (in_filter (is_no_magic w) k keys i).1)
+fits_listed : (w : Script) (more : Bool) (keys : List (List ℕ)) → AllUnder (dest_prefix w) keys → FitsOption w (walks.swept (is_no_magic w) (walked_by more keys))
+fits_listed w true keys all = all
+fits_listed w false keys all = fits_deleting w (filter (is_no_magic w) keys) (λ k i. let f = in_filter (is_no_magic w) k keys i in (f.1, all k f.0))
 
-fits_heard : (w : Script) (s : Sweep) → FitsReplace w s → (r : Reply) → FitsOption w (sweep_hears (is_no_magic w) s r)
-fits_heard w (Listing keys) h r = fits_listed w (walked keys r)
-fits_heard w (Deleting q qs) h r = fits_deleting w (drop 1000 (q ∷ qs)) (λ k i. h k (dropped_in 1000 (q ∷ qs) k i))
+-- what begins so begins with less
+pub begins_through : (a b q : List ℕ) → begins a b ≡ true → begins b q ≡ true → begins a q ≡ true
+begins_through [] b q h g = refl
+begins_through (x ∷ a) [] q h g = absurd (false≢true h)
+begins_through (x ∷ a) (y ∷ b) [] h g = absurd (false≢true g)
+begins_through (x ∷ a) (y ∷ b) (z ∷ q) h g =
+    let p = and_parts (nat_eq x y) (begins a b) h in
+    let o = and_parts (nat_eq y z) (begins b q) g in
+    rw (nat_true x z (eq_nat x y p.0 ∙ eq_nat y z o.0), begins_through a b q p.1 o.1) refl
+
+module _ (w : Script) (s : Scene) (there : HasBucket s.content w.dest.bucket) where
+  -- after an answer to a listing below a prefix of the destination, or to a batch
+  pub fits_heard : (p : List ℕ) → begins (dest_prefix w) p ≡ true → (t : Sweep) → FitsReplace w t → (x : Reply) → x ≡ answer s (sweep_asks w.dest.bucket p t) → FitsOption w (sweep_hears (is_no_magic w) t x)
+  fits_heard p under (Listing keys) h x e =
+      let q = page_after w.dest.bucket p keys in
+      let xs : List PageEntry = listed p false (last_of keys) there.0.objects in
+      let due : answer s q ≡ Page (take 1000 xs) (nat_lt 1000 (length xs)) = answer_is w s there.0 there.1 q refl in
+      let all : AllUnder (dest_prefix w) (keys ++ keys_on (take 1000 xs)) = λ y i. elim (in_append y keys (keys_on (take 1000 xs)) i) [
+        | inl old ↦ h y old
+        | inr new ↦ begins_through (dest_prefix w) p y under (page_begins 1000 p (last_of keys) y there.0.objects new).0
+      ] in
+      subst (λ y. FitsOption w (walks.swept (is_no_magic w) (walked keys y))) (sym (e ∙ due)) (fits_listed w (nat_lt 1000 (length xs)) (keys ++ keys_on (take 1000 xs)) all)
+  fits_heard p under (Deleting q qs) h x e = fits_deleting w (drop 1000 (q ∷ qs)) (λ k i. h k (dropped_in 1000 (q ∷ qs) k i))
 
 -- what is not below the destination's magic directory is not below the job's
 no_magic : (w : Script) (k : List ℕ) → is_no_magic w k ≡ true → begins (magic_prefix w.dest.key w.job) k ≡ false
@@ -82,6 +114,24 @@ no_magic w k h = elim (true_or_false (begins (magic_prefix w.dest.key w.job) k))
       sym (append_assoc (dest_prefix w) (codes "__magic/") (codes "job-" ++ (w.job ++ codes "/")) ∙ append_assoc w.dest.key (codes "/") (codes "__magic/" ++ (codes "job-" ++ (w.job ++ codes "/")))) in
       absurd (false_true (not-true (begins (dest_prefix w ++ codes "__magic/") k) h) (begins_front (dest_prefix w ++ codes "__magic/") (codes "job-" ++ (w.job ++ codes "/")) k (ap (λ p. begins p k) (sym whole) ∙ yes_so)))
 ]
+
+begins_self : (p : List ℕ) → begins p p ≡ true
+begins_self [] = refl
+begins_self (x ∷ p) = rw (nat_true x x refl, begins_self p) refl
+
+-- what is below the destination begins with its prefix
+pub dest_below : {w : Script} → IsLegal w → (q : List ℕ) → begins (dest_prefix w) (below w.dest.key q) ≡ true
+dest_below {w = w} j q = ap (begins (dest_prefix w)) (paths_below w.dest.key q (some_dest j)) ∙ begins_behind w.dest.key (codes "/") (47 ∷ q)
+
+-- a replace mode deletes below such prefixes
+replaced_under : {w : Script} → IsLegal w → (c : Committer) (m : Mode) (picks : Picks) → AllUnder (dest_prefix w) (replaced c m w picks)
+replaced_under {w = w} j Directory Replace picks = λ q i. elim i [ inl is ↦ ap (begins (dest_prefix w)) is ∙ begins_self (dest_prefix w) | inr none ↦ absurd none ]
+replaced_under {w = w} j Partitioned Replace picks = λ q i. let o = in_map (partition_prefix w) q (partitions (wanted_paths w picks)) i in ap (begins (dest_prefix w)) o.2 ∙ dest_below j (o.0 ++ codes "/")
+replaced_under j Magic m picks = λ q i. absurd i
+replaced_under j Directory Append picks = λ q i. absurd i
+replaced_under j Directory Fail picks = λ q i. absurd i
+replaced_under j Partitioned Append picks = λ q i. absurd i
+replaced_under j Partitioned Fail picks = λ q i. absurd i
 
 module _ {w : Script} (j : IsLegal w) where
   pub file_open : (a : Who) (f : File) → IsIn f (files w a) → is_open f.0 ≡ true
@@ -196,13 +246,13 @@ module _ {w : Script} (j : IsLegal w) where
     fits_completing sets [] finished h = h
     fits_completing sets (x ∷ xs) finished h = h
 
-    fits_replacing : (sets : Sets) (ps : List (List ℕ)) → Reads w minimum sent drawn sets → FitsNow (replacing w sets ps)
-    fits_replacing sets [] h = fits_completing sets (dealt w.lanes (length (all_commits sets))) [] h
-    fits_replacing sets (p ∷ ps) h = (h, tt)
+    fits_replacing : (sets : Sets) (ps : List (List ℕ)) → Reads w minimum sent drawn sets → AllUnder (dest_prefix w) ps → FitsNow (replacing w sets ps)
+    fits_replacing sets [] h under = fits_completing sets (dealt w.lanes (length (all_commits sets))) [] h
+    fits_replacing sets (p ∷ ps) h under = (h, under, (λ q i. absurd i))
 
     fits_decided : (sets : Sets) (o : Option CommitEnd) → Reads w minimum sent drawn sets → FitsNow (decided w sets o)
     fits_decided sets (Some end) h = tt
-    fits_decided sets None h = fits_replacing sets (replaced w.committer w.mode w (picks_of sets)) h
+    fits_decided sets None h = fits_replacing sets (replaced w.committer w.mode w (picks_of sets)) h (replaced_under j w.committer w.mode (picks_of sets))
 
     pub fits_fetching : (sets : Sets) → Reads w minimum sent drawn sets → FitsNow (fetching w sets)
     fits_fetching sets h = by (nat_lt (length sets) w.tasks) refl
@@ -215,9 +265,9 @@ module _ {w : Script} (j : IsLegal w) where
     fits_reverting [] h = tt
     fits_reverting (r ∷ rs) h = h
 
-    fits_swept : (sets : Sets) (p : List ℕ) (ps : List (List ℕ)) (o : Option Sweep) → Reads w minimum sent drawn sets → FitsOption w o → FitsNow (swept w sets p ps o)
-    fits_swept sets p ps None h g = fits_replacing sets ps h
-    fits_swept sets p ps (Some s) h g = (h, g)
+    fits_swept : (sets : Sets) (p : List ℕ) (ps : List (List ℕ)) (o : Option Sweep) → Reads w minimum sent drawn sets → AllUnder (dest_prefix w) (p ∷ ps) → FitsOption w o → FitsNow (swept w sets p ps o)
+    fits_swept sets p ps None h under g = fits_replacing sets ps h (λ q i. under q (inr i))
+    fits_swept sets p ps (Some s) h under g = (h, under, g)
 
     -- sendings without an answer
     fits_missed : (c : Commit) (lost : Bool) → FitsNow c → FitsNow (commit_misses w c lost)
@@ -261,12 +311,12 @@ module _ (w : Script) (minimum : ℕ) (k : Option ℕ) (s : Seen) (m : Told) (n 
 
   sweep_drives : (p : List ℕ) (x : Sweep) → FitsReplace w x → IsDriving w (sweep_asks w.dest.bucket p x)
   sweep_drives p (Listing keys) f = reads_drive w (page_after w.dest.bucket p keys) refl
-  sweep_drives p (Deleting q qs) f = record { keys = λ e x i. no_magic w x (f x (taken_in 1000 (q ∷ qs) x i)); uploads = λ id e. absurd (none_some refl e); paths = λ y i. absurd i }
+  sweep_drives p (Deleting q qs) f = record { keys = λ e x i. no_magic w x (f x (taken_in 1000 (q ∷ qs) x i)).0; uploads = λ id e. absurd (none_some refl e); paths = λ y i. absurd i }
 
   -- each of its requests ends what uploads it changes, and changes nothing else of the job's own
   pub commit_drives : (c : Commit) → Fits c → (r : Request) → commit_asks w c ≡ Some r → IsDriving w r
   commit_drives (Fetching sets x) f r e = subst (IsDriving w) (some_is e) (read_drives w.committer (length sets))
-  commit_drives (Replacing sets p ps x y) f r e = subst (IsDriving w) (some_is e) (sweep_drives p x f.1)
+  commit_drives (Replacing sets p ps x y) f r e = subst (IsDriving w) (some_is e) (sweep_drives p x f.2)
   commit_drives (Completing sets x xs finished) f r e = subst (IsDriving w) (some_is e) (completion_drives j (nth (all_commits sets) x.number) (nth_sound j (all_commits sets) (all_sound j minimum m.publish_sent m.drawn sets f) x.number))
   commit_drives (Marking sets x) f r e =
       subst (IsDriving w) (some_is e) (record { keys = λ b y i. elim i [ inl is ↦ ap (begins (magic_prefix w.dest.key w.job)) is ∙ key_magic w.dest.key w.job SuccessPlace (some_dest j) tt | inr none ↦ absurd none ]; uploads = λ id z. absurd (none_some refl z); paths = λ y i. absurd i })
@@ -291,7 +341,7 @@ module _ (w : Script) (minimum : ℕ) (k : Option ℕ) (s : Seen) (m : Told) (n 
 
   fits_answered : (c : Commit) → Fits c → s.scene.content.next ≤ 2 ^ 64 → (r : Request) → commit_asks w c ≡ Some r → (x : Reply) → x ≡ answer s.scene r → Fits (commit_hears w c x)
   fits_answered (Fetching sets y) f few r e x honest = fits_fetched sets f.0 f.1 few x (honest ∙ ap (answer s.scene) (sym (some_is e)))
-  fits_answered (Replacing sets p ps y z) f few r e x honest = fits_swept j minimum m.publish_sent m.drawn sets p ps (sweep_hears (is_no_magic w) y x) f.0 (fits_heard w y f.1 x)
+  fits_answered (Replacing sets p ps y z) f few r e x honest = fits_swept j minimum m.publish_sent m.drawn sets p ps (sweep_hears (is_no_magic w) y x) f.0 f.1 (fits_heard w s.scene h.there p (f.1 p (inl refl)) y f.2 x (honest ∙ ap (answer s.scene) (sym (some_is e))))
   fits_answered (Completing sets y ys finished) f few r e x honest = fits_completing j minimum m.publish_sent m.drawn sets (ys ++ follow w.lanes (length (all_commits sets)) y.number) (y.number ∷ finished) f
   fits_answered (Marking sets y) f few r e x honest = tt
   fits_answered (Reverting q qs y) f few r e x honest = fits_reverting j minimum m.publish_sent m.drawn qs f.1

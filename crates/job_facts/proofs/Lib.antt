@@ -53,5 +53,7 @@ pub mod Running
 pub mod Reading
 pub mod Steps
 pub mod Keeping
+pub mod Outside
+pub mod OwnRequests
 pub mod EveryRun
 pub mod Entries

@@ -142,7 +142,7 @@ no_success {w = w} j p h e =
     let other = not-true (bytes_eq p (codes "_SUCCESS")) (and_parts (not (is_folder p) && not (begins (codes "__magic/") p)) (not (bytes_eq p (codes "_SUCCESS"))) h).1 in
     false_true other (ap (λ q. bytes_eq q (codes "_SUCCESS")) path)
 
-view_but : {w : Script} → IsLegal w → (c d : Content) → ((k : List ℕ) → (k ≡ success_key w.dest.key → ⊥) → at_key w d k ≡ at_key w c k) → Same (view w.dest d) (view w.dest c)
+pub view_but : {w : Script} → IsLegal w → (c d : Content) → ((k : List ℕ) → (k ≡ success_key w.dest.key → ⊥) → at_key w d k ≡ at_key w c k) → Same (view w.dest d) (view w.dest c)
 view_but {w = w} j c d same p = by (is_file_path p) refl
   where
     by : (b : Bool) → is_file_path p ≡ b → cond b (option_map (λ (o : Object). o.bytes) (at_key w d (below w.dest.key p))) None ≡ cond b (option_map (λ (o : Object). o.bytes) (at_key w c (below w.dest.key p))) None

@@ -18,9 +18,13 @@ use Rattle.job_operations.specs.Cleanups.{Clean, Walking, Aborting, Sweeping, Na
 use Rattle.job_facts.specs.Foreign.{IsDriving}
 use Rattle.job_facts.specs.Facts.{AreCommits, knowing}
 
+-- keys below a prefix
+abbrev pub AllUnder : List ℕ → List (List ℕ) → Type 0
+AllUnder p keys = (q : List ℕ) → IsIn q keys → begins p q ≡ true
+
 -- keys below the job's magic directory
 abbrev pub AllMagic : Script → List (List ℕ) → Type 0
-AllMagic w keys = (q : List ℕ) → IsIn q keys → begins (magic_prefix w.dest.key w.job) q ≡ true
+AllMagic w keys = AllUnder (magic_prefix w.dest.key w.job) keys
 
 -- paths below the job's directory in the cluster
 abbrev pub AllCluster : Script → List (List ℕ) → Type 0
@@ -59,10 +63,10 @@ pub record IsHeldSet (w : Script) (minimum : ℕ) (sent : Who → Bool) (drawn :
 abbrev pub Reads : Script → ℕ → (Who → Bool) → (Who → List Drawn) → Sets → Type 0
 Reads w minimum sent drawn sets = (t : ℕ) (s : PendingSet) → slice_get sets t ≡ Some s → IsHeldSet w minimum sent drawn t s
 
--- keys that a replace mode may delete
+-- keys that a replace mode may delete: below the destination, and not below its magic directory
 abbrev pub FitsReplace : Script → Sweep → Type 0
-FitsReplace w (Listing keys) = Unit {0}
-FitsReplace w (Deleting q qs) = (k : List ℕ) → IsIn k (q ∷ qs) → is_no_magic w k ≡ true
+FitsReplace w (Listing keys) = AllUnder (dest_prefix w) keys
+FitsReplace w (Deleting q qs) = (k : List ℕ) → IsIn k (q ∷ qs) → (is_no_magic w k ≡ true) × (begins (dest_prefix w) k ≡ true)
 
 abbrev pub AllDriving : Script → List Request → Type 0
 AllDriving w [] = Unit {0}
@@ -70,7 +74,7 @@ AllDriving w (r ∷ rs) = IsDriving w r × AllDriving w rs
 
 abbrev pub FitsJobCommit : Script → ℕ → (Who → Bool) → (Who → List Drawn) → Commit → Type 0
 FitsJobCommit w minimum sent drawn (Fetching sets n) = (length sets < w.tasks) × Reads w minimum sent drawn sets
-FitsJobCommit w minimum sent drawn (Replacing sets p ps s n) = Reads w minimum sent drawn sets × FitsReplace w s
+FitsJobCommit w minimum sent drawn (Replacing sets p ps s n) = Reads w minimum sent drawn sets × AllUnder (dest_prefix w) (p ∷ ps) × FitsReplace w s
 FitsJobCommit w minimum sent drawn (Completing sets x xs finished) = Reads w minimum sent drawn sets
 FitsJobCommit w minimum sent drawn (Marking sets n) = Reads w minimum sent drawn sets
 FitsJobCommit w minimum sent drawn (Reverting r rs n) = AllDriving w (r ∷ rs)

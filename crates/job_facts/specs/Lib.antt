@@ -12,6 +12,7 @@ pub mod Standing
 pub mod Turning
 pub mod Filed
 pub mod FiledLaws
+pub mod Within
 pub mod Runs
 pub mod RunLaws
 pub mod StandingLaws

@@ -8,6 +8,7 @@ ghost use Rattle.job_facts.specs.Clearing.{CleanClears};
 ghost use Rattle.job_facts.specs.Turning.{CommitTurns};
 ghost use Rattle.job_facts.specs.FiledLaws.{EndedAreGone, NeverBack, SetsDecide, WantedFiles};
 ghost use Rattle.job_facts.specs.RunLaws.{AllRunsKeep};
+ghost use Rattle.job_facts.specs.Within.{OwnChange};
 ghost use Rattle.job_facts.specs.StandingLaws.{DriverCloses, NothingGone};
 
 /// The driver's set-up, which ends where the facts begin.
@@ -39,6 +40,12 @@ pub fn driver()
     ensures keep { DrivingKeeps }
     ensures commit { CommitGoes }
     ensures clean { CleanGoes }
+{}
+
+/// What each request of the job's actors may change: nothing outside the destination, and what a reader is
+/// shown only where it completes or deletes for the driver's commit.
+pub fn requests()
+    ensures own { OwnChange }
 {}
 
 /// What stands until the driver's abort or clean of the job begins.
