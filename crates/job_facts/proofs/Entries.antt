@@ -15,7 +15,7 @@ use Rattle.job_promise.specs.OperationEnds.{is_untouched, NoDeletionWorn, OnlyOp
 use Rattle.job_promise.specs.Seen.{Seen, see, see_all, seen, nothing_seen}
 use Rattle.job_facts.specs.Told.{Told, entry, driver_entry, nothing_told, tell, tell_all}
 use Rattle.job_facts.specs.Runs.{Stand, Runs, run_begins, setup_begins, commit_begins, clean_begins, driver_sends, write_begins, publish_begins, abort_begins, attempt_sends, IsOpening, is_set}
-use Rattle.job_facts.specs.RunLaws.{replaces, RunsKeep, AllRunsKeep}
+use Rattle.job_facts.specs.RunLaws.{replaces}
 use Rattle.job_facts.proofs.Running.{At, Early, Late, untouched_shows, left_still, reverted_shows}
 use Rattle.job_facts.proofs.EveryRun.{good, kept_now, late}
 
@@ -29,7 +29,7 @@ tell_more : (w : Script) (m : Told) (es : List Entry) (e : Entry) → tell_all w
 tell_more w m [] e = refl
 tell_more w m (x ∷ es) e = tell_more w (tell w m x) es e
 
-take_front : (es fs : List Entry) (m : ℕ) → m ≤ length es → take m (es ++ fs) ≡ take m es
+pub take_front : (es fs : List Entry) (m : ℕ) → m ≤ length es → take m (es ++ fs) ≡ take m es
 take_front es fs zero l = none es fs
   where
     none : (es fs : List Entry) → take zero (es ++ fs) ≡ take zero es
@@ -39,7 +39,7 @@ take_front es fs zero l = none es fs
 take_front [] fs (suc m) l = absurd (omega arith)
 take_front (e ∷ es) fs (suc m) l = ap (λ xs. e ∷ xs) (take_front es fs m (omega arith))
 
-take_all : (es : List Entry) (m : ℕ) → length es ≤ m → take m es ≡ es
+pub take_all : (es : List Entry) (m : ℕ) → length es ≤ m → take m es ≡ es
 take_all [] zero l = refl
 take_all [] (suc m) l = refl
 take_all (e ∷ es) zero l = absurd (omega arith)
@@ -67,7 +67,7 @@ module _ (g : Setting) (k : Option ℕ) (opening : Content) (j : IsLegal g.scrip
 
   -- ---- what a run sees and tells
 
-  sees : (es : List Entry) (x : Stand) → Runs g k opening es x → x.seen ≡ all es
+  pub sees : (es : List Entry) (x : Stand) → Runs g k opening es x → x.seen ≡ all es
   sees es x (run_begins) = refl
   sees es x (setup_begins fs y run unset) = sees fs y run
   sees es x (commit_begins fs y missing run just) = sees fs y run
@@ -78,7 +78,7 @@ module _ (g : Setting) (k : Option ℕ) (opening : Content) (j : IsLegal g.scrip
   sees es x (abort_begins fs y a run set d) = sees fs y run
   sees es x (attempt_sends fs y a op n r o run set at asked honest) = ap (λ s. see w k s (entry a n r o)) (sees fs y run) ∙ sym (see_more w k (nothing_seen opening) fs (entry a n r o))
 
-  tells_so : (es : List Entry) (x : Stand) → Runs g k opening es x → x.told ≡ tell_all w nothing_told es
+  pub tells_so : (es : List Entry) (x : Stand) → Runs g k opening es x → x.told ≡ tell_all w nothing_told es
   tells_so es x (run_begins) = refl
   tells_so es x (setup_begins fs y run unset) = tells_so fs y run
   tells_so es x (commit_begins fs y missing run just) = tells_so fs y run
@@ -92,7 +92,7 @@ module _ (g : Setting) (k : Option ℕ) (opening : Content) (j : IsLegal g.scrip
   kept_all : (es : List Entry) (x : Stand) → Runs g k opening es x → Kept w opening (all es)
   kept_all es x run = subst (Kept w opening) (sees es x run) (kept_now g k opening j plain is_opening x (good g k opening j plain is_opening es x run))
 
-  always : (es : List Entry) (x : Stand) → Runs g k opening es x → Always w k opening es
+  pub always : (es : List Entry) (x : Stand) → Runs g k opening es x → Always w k opening es
   always es x (run_begins) m l = subst (λ xs. Kept w opening (see_all w k (nothing_seen opening) xs)) (sym (take_all [] m (omega arith))) (kept_all es x run_begins)
   always es x (setup_begins fs y run unset) m l = always fs y run m l
   always es x (commit_begins fs y missing run just) m l = always fs y run m l
@@ -105,27 +105,17 @@ module _ (g : Setting) (k : Option ℕ) (opening : Content) (j : IsLegal g.scrip
 
   -- ---- what its stand says
 
-  late_now : (es : List Entry) (x : Stand) → Runs g k opening es x → is_set x.driver ≡ true → Late g opening x
+  pub late_now : (es : List Entry) (x : Stand) → Runs g k opening es x → is_set x.driver ≡ true → Late g opening x
   late_now es x run set = late g k opening j plain is_opening x (good g k opening j plain is_opening es x run) set
 
-  untouched_now : (es : List Entry) (x : Stand) → Runs g k opening es x → (end : CommitEnd) → x.driver ≡ Some (TheCommit (CommitOver end)) → is_untouched end ≡ true → Same (view w.dest x.seen.scene.content) (view w.dest opening)
+  pub untouched_now : (es : List Entry) (x : Stand) → Runs g k opening es x → (end : CommitEnd) → x.driver ≡ Some (TheCommit (CommitOver end)) → is_untouched end ≡ true → Same (view w.dest x.seen.scene.content) (view w.dest opening)
   untouched_now es x run end d before =
       let l = late_now es x run (ap is_set d) in
       let i = subst (λ v. At g opening v x.seen x.told x.commit) d l.driver in
       untouched_shows g opening x.seen.scene.content (left_still g opening j plain x.seen x.told l.hold x.commit (CommitOver end) i end refl before)
 
-  reverted_now : (es : List Entry) (x : Stand) → Runs g k opening es x → x.driver ≡ Some (TheCommit (CommitOver (commits.StoreFault stages.Complete))) → NoDeletionWorn w.retries x.commit → OnlyOpening w opening x.seen.scene.content
+  pub reverted_now : (es : List Entry) (x : Stand) → Runs g k opening es x → x.driver ≡ Some (TheCommit (CommitOver (commits.StoreFault stages.Complete))) → NoDeletionWorn w.retries x.commit → OnlyOpening w opening x.seen.scene.content
   reverted_now es x run d none =
       let l = late_now es x run (ap is_set d) in
       let i = subst (λ v. At g opening v x.seen x.told x.commit) d l.driver in
       reverted_shows g opening j plain x.seen x.told l.hold x.commit (CommitOver (commits.StoreFault stages.Complete)) i refl none
-
-pub runs_keep : AllRunsKeep
-runs_keep g j plain k opening is_opening es x run = record {
-  seen = sees g k opening j plain is_opening es x run;
-  told = tells_so g k opening j plain is_opening es x run;
-  hold = λ set. (late_now g k opening j plain is_opening es x run set).hold;
-  always = always g k opening j plain is_opening es x run;
-  untouched = untouched_now g k opening j plain is_opening es x run;
-  reverted = reverted_now g k opening j plain is_opening es x run;
-}

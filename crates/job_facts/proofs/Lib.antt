@@ -57,3 +57,4 @@ pub mod Outside
 pub mod OwnRequests
 pub mod EveryRun
 pub mod Entries
+pub mod Changes

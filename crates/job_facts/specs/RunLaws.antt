@@ -1,6 +1,7 @@
 -- The laws of whole runs: what a reader of the destination may rely on, at each of their moments.
-use Rattle.std.specs.Prelude.{◌≡◌, ℕ, Bool, true, false, List, Option, Some}
+use Rattle.std.specs.Prelude.{◌≡◌, ℕ, ◌≤◌, Bool, true, false, List, length, Option, Some}
 use Rattle.s3_types.specs.Store.{Content}
+use Rattle.s3_types.specs.Moment.{moment}
 use Rattle.s3_types.specs.declared.journal.Entry.{Entry}
 use Rattle.s3_types.specs.declared.request.Committer.{Committer}
 use Rattle.s3_types.specs.declared.request.Committer.TheVariants.{Directory, Partitioned}
@@ -14,6 +15,8 @@ use Rattle.job_model.specs.declared.ends.Stage.TheVariants as stages
 use Rattle.job_operations.specs.View.{view}
 use Rattle.job_operations.specs.JobCommits.{CommitOver}
 use Rattle.job_operations.specs.Operations.{Setting, TheCommit}
+use Rattle.job_promise.specs.Entries.{ZeroRename}
+use Rattle.job_promise.specs.Scope.{SameOutside}
 use Rattle.job_promise.specs.Headline.{Same, Always}
 use Rattle.job_promise.specs.OperationEnds.{is_untouched, NoDeletionWorn, OnlyOpening}
 use Rattle.job_promise.specs.Seen.{nothing_seen, see_all}
@@ -39,6 +42,9 @@ pub record RunsKeep (g : Setting) (k : Option ℕ) (opening : Content) (es : Lis
   pub hold : is_set x.driver ≡ true → Hold g.script g.minimum x.seen x.told
   -- at each moment a reader of the destination is shown what the headline says
   pub always : Always g.script k opening es
+  -- no entry copies a file or changes anything outside the destination, the driver sends no data, and only its completions and deletions change what is shown
+  pub entries : ZeroRename g.script opening es
+  pub outside : (m : ℕ) → m ≤ length es → SameOutside g.script opening (moment opening es m).content
   -- where the commit ended before its first completion the opening files are shown
   pub untouched : (end : CommitEnd) → x.driver ≡ Some (TheCommit (CommitOver end)) → is_untouched end ≡ true → Same (view g.script.dest x.seen.scene.content) (view g.script.dest opening)
   -- and a revert of which no deletion wore out leaves no file of the job

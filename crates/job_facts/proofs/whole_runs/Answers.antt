@@ -1,5 +1,17 @@
-use Rattle.job_facts.proofs.Entries.{runs_keep}
+use Rattle.job_facts.proofs.Entries.{sees, tells_so, always, late_now, untouched_now, reverted_now}
+use Rattle.job_facts.proofs.Changes.{runs_rename, runs_outside}
 use Rattle.job_facts.proofs.whole_runs.Goals as goal
 
 pub returns : goal.returns
-returns c = record { keep = runs_keep }
+returns c = record {
+  keep = λ g j plain k opening is_opening es x run. record {
+    seen = sees g k opening j plain is_opening es x run;
+    told = tells_so g k opening j plain is_opening es x run;
+    hold = λ set. (late_now g k opening j plain is_opening es x run set).hold;
+    always = always g k opening j plain is_opening es x run;
+    entries = runs_rename g k opening j plain is_opening es x run;
+    outside = runs_outside g k opening j plain is_opening es x run;
+    untouched = untouched_now g k opening j plain is_opening es x run;
+    reverted = reverted_now g k opening j plain is_opening es x run;
+  };
+}
