@@ -191,7 +191,7 @@ module _ (g : Setting) (k : Option ℕ) (opening : Content) (j : IsLegal g.scrip
   less_or_more (suc a) zero = inr (omega arith)
   less_or_more (suc a) (suc b) = elim (less_or_more a b) [ inl h ↦ inl (omega arith) | inr h ↦ inr (omega arith) ]
 
-  slice_in : (es : List Entry) (e : Entry) (m : ℕ) → m < length es → slice_get (es ++ e ∷ []) m ≡ slice_get es m
+  pub slice_in : (es : List Entry) (e : Entry) (m : ℕ) → m < length es → slice_get (es ++ e ∷ []) m ≡ slice_get es m
   slice_in [] e m l = absurd (omega arith)
   slice_in (x ∷ es) e zero l = refl
   slice_in (x ∷ es) e (suc m) l = slice_in es e m (omega arith)

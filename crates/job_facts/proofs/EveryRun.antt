@@ -161,7 +161,7 @@ module _ (g : Setting) (k : Option ℕ) (opening : Content) (j : IsLegal g.scrip
 
   -- ---- an entry of the set-up
 
-  setup_ends : (op : Setup) (r : Request) → setup_asks w op ≡ Some r → (u : ℕ) → ends r u ≡ false
+  pub setup_ends : (op : Setup) (r : Request) → setup_asks w op ≡ Some r → (u : ℕ) → ends r u ≡ false
   setup_ends Heading r e u = ap (λ r. ends r u) (sym (some_is e))
   setup_ends (Checking keys) r e u = ap (λ r. ends r u) (sym (some_is e))
   setup_ends Clearing r e u = ap (λ r. ends r u) (sym (some_is e))

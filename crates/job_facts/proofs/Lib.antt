@@ -58,3 +58,4 @@ pub mod OwnRequests
 pub mod EveryRun
 pub mod Entries
 pub mod Changes
+pub mod Published

@@ -8,7 +8,7 @@ use Rattle.proof_base.specs.Order.{text_cmp, text_eq}
 use Rattle.s3_types.specs.Pages.{listed}
 use Rattle.s3_types.specs.Tags.{plain_tag}
 use Rattle.s3_types.specs.Answer.{answer, apply, found, rename_answer}
-use Rattle.s3_types.specs.Moment.{IsHonestOutcome}
+use Rattle.s3_types.specs.Moment.{is_effective, IsHonestOutcome}
 use Rattle.s3_types.specs.declared.object.Object.{Object}
 use Rattle.s3_types.specs.declared.request.Committer.{Committer}
 use Rattle.s3_types.specs.declared.request.Committer.TheVariants.{Magic, Directory, Partitioned}
@@ -49,7 +49,7 @@ use Rattle.job_facts.specs.Stores.{sets_at}
 use Rattle.job_facts.specs.Foreign.{IsForeign, IsDriving}
 use Rattle.job_facts.specs.Facts.{IsAttempt, IsSet, Hold}
 use Rattle.job_facts.specs.Fits.{IsOpen, Fits, FitsUpload, FitsWrite, FitsCommit}
-use Rattle.job_facts.specs.Standing.{Closed, HasRecord, HasRecords, HasTemporary, HasPublished, Listed, NotGone, WriteStands, CommitStands, Stands}
+use Rattle.job_facts.specs.Standing.{Closed, HasRecord, HasRecords, HasTemporary, HasPublished, Listed, NotGone, CommitStandsBy, WriteStands, CommitStands, Stands}
 use Rattle.job_facts.proofs.Placed.{path_below}
 use Rattle.job_facts.proofs.Shapes.{key_before, answer_is, puts}
 use Rattle.job_facts.proofs.Uploads.{drop_more, latest_in, asks_part}
@@ -69,26 +69,26 @@ module _ {w : Script} {a : Who} {s t : Seen} (h : Stood w a s t) where
   records_kept : (left : List File) → HasRecords w s a left → HasRecords w t a left
   records_kept left g f i = elim (g f i) [ inl l ↦ inl l | inr x ↦ inr (h.records f i x) ]
 
-  write_kept : (op : Write) → WriteStands w s a op → WriteStands w t a op
+  pub write_kept : (op : Write) → WriteStands w s a op → WriteStands w t a op
   write_kept (writes.Uploads f fs u) g = records_kept (f ∷ fs) g
   write_kept (Marking f fs) g = records_kept (f ∷ fs) g
   write_kept (Recording f fs) g = records_kept (f ∷ fs) g
   write_kept (WriteOver end) g = (g.0, λ e m. records_kept [] (g.1 e m))
 
-  commit_kept : (b : Bool) (op : TaskCommit) → CommitStands w s a b op → CommitStands w t a b op
-  commit_kept b (Looking keys) g = (records_kept [] g.0, g.1)
-  commit_kept b (Reading cs f fs) g = (records_kept [] g.0, g.1)
-  commit_kept b (Publishing cs) g = tt
-  commit_kept b (Checking p ps) g = tt
-  commit_kept b (commits.Uploads f fs u) g = tt
-  commit_kept b Storing g = tt
-  commit_kept b Renaming g = elim g [ inl x ↦ inl (h.temporary x) | inr x ↦ inr (x.0, h.last a.task x.1) ]
-  commit_kept b (TaskCommitOver end) g = (g.0, λ e. h.last a.task (g.1 e))
+  pub commit_kept_by : {P Q : Type 0} → (P → Q) → (b : Bool) (op : TaskCommit) → CommitStandsBy P w s a b op → CommitStandsBy Q w t a b op
+  commit_kept_by keeps b (Looking keys) g = (records_kept [] g.0, g.1)
+  commit_kept_by keeps b (Reading cs f fs) g = (records_kept [] g.0, g.1)
+  commit_kept_by keeps b (Publishing cs) g = tt
+  commit_kept_by keeps b (Checking p ps) g = tt
+  commit_kept_by keeps b (commits.Uploads f fs u) g = tt
+  commit_kept_by keeps b Storing g = tt
+  commit_kept_by keeps b Renaming g = elim g [ inl x ↦ inl (h.temporary x) | inr x ↦ inr (x.0, keeps x.1) ]
+  commit_kept_by keeps b (TaskCommitOver end) g = (g.0, λ e. keeps (g.1 e))
 
   pub stands_kept : (op : Operation) → Stands w s a op → Stands w t a op
   stands_kept (TheSetup x) g = tt
   stands_kept (TheWrite x) g = write_kept x.operation g
-  stands_kept (TheTaskCommit x) g = commit_kept x.repeated x.operation g
+  stands_kept (TheTaskCommit x) g = commit_kept_by (h.last a.task) x.repeated x.operation g
   stands_kept (TheTaskAbort x) g = tt
   stands_kept (TheCommit c) g = tt
   stands_kept (TheClean x) g = tt
@@ -223,21 +223,21 @@ write_begins w s a = by w.committer refl
     by Directory e = (tt, λ d m. absurd (false≢true (sym (ap is_magic e) ∙ m)))
     by Partitioned e = (tt, λ d m. absurd (false≢true (sym (ap is_magic e) ∙ m)))
 
-storing_stands : (w : Script) (s : Seen) (a : Who) (fs : List File) → CommitStands w s a false (storing fs)
-storing_stands w s a [] = tt
-storing_stands w s a (f ∷ fs) = tt
+storing_stands : (P : Type 0) (w : Script) (s : Seen) (a : Who) (fs : List File) → CommitStandsBy P w s a false (storing fs)
+storing_stands P w s a [] = tt
+storing_stands P w s a (f ∷ fs) = tt
 
-checking_stands : (w : Script) (s : Seen) (a : Who) (ds : List (List ℕ)) → CommitStands w s a false (checking w a ds)
-checking_stands w s a [] = storing_stands w s a (files w a)
-checking_stands w s a (d ∷ ds) = tt
+checking_stands : (P : Type 0) (w : Script) (s : Seen) (a : Who) (ds : List (List ℕ)) → CommitStandsBy P w s a false (checking w a ds)
+checking_stands P w s a [] = storing_stands P w s a (files w a)
+checking_stands P w s a (d ∷ ds) = tt
 
-pub commit_begins : (w : Script) → IsLegal w → (s : Seen) (a : Who) → WriteStands w s a (WriteOver tasks.Done) → CommitStands w s a false (task_commit_start w a)
-commit_begins w j s a h = by w.committer refl
+pub commit_begins : (P : Type 0) (w : Script) → IsLegal w → (s : Seen) (a : Who) → WriteStands w s a (WriteOver tasks.Done) → CommitStandsBy P w s a false (task_commit_start w a)
+commit_begins P w j s a h = by w.committer refl
   where
-    by : (c : Committer) → w.committer ≡ c → CommitStands w s a false (task_commit_start_by c w a)
+    by : (c : Committer) → w.committer ≡ c → CommitStandsBy P w s a false (task_commit_start_by c w a)
     by Magic e = (h.1 refl (ap is_magic e), λ f i. inr (magic_some w.dest.key _ (record_key w a f) (record_below j a f)))
-    by Directory e = checking_stands w s a (to_check w a)
-    by Partitioned e = checking_stands w s a (to_check w a)
+    by Directory e = checking_stands P w s a (to_check w a)
+    by Partitioned e = checking_stands P w s a (to_check w a)
 
 -- ---- listings
 
@@ -255,32 +255,33 @@ none_is_missing ks [] h = refl
 none_is_missing ks (k ∷ all) h =
     ap (λ b. cond b (least_missing ks all) (Some (least_of (least_missing ks all) k))) (there_any k ks (h k (inl refl))) ∙ none_is_missing ks all (λ q i. h q (inr i))
 
-reading_stands : (w : Script) (s : Seen) (a : Who) (cs fs : List File) → HasRecords w s a [] → ((g : File) → IsIn g fs → IsIn g (files w a)) → CommitStands w s a false (reading cs fs)
-reading_stands w s a cs [] h mine = tt
-reading_stands w s a cs (f ∷ fs) h mine = (h, mine)
+reading_stands : (P : Type 0) (w : Script) (s : Seen) (a : Who) (cs fs : List File) → HasRecords w s a [] → ((g : File) → IsIn g fs → IsIn g (files w a)) → CommitStandsBy P w s a false (reading cs fs)
+reading_stands P w s a cs [] h mine = tt
+reading_stands P w s a cs (f ∷ fs) h mine = (h, mine)
 
 module _ (w : Script) (s : Seen) (a : Who) where
-  looked_stands : (keys : List (List ℕ)) → HasRecords w s a [] → (more : Bool) → Listed w a keys → (more ≡ false → (f : File) → IsIn f (files w a) → IsIn (record_key w a f) keys) → CommitStands w s a false (looked w a (walked_by more keys))
-  looked_stands keys h true l all = (h, l)
-  looked_stands keys h false l all =
-      let none : least_missing keys (map (record_key w a) (files w a)) ≡ None = none_is_missing keys (map (record_key w a) (files w a))
-      (λ k i. let o = in_map (record_key w a) k (files w a) i in subst (λ q. IsIn q keys) (sym o.2) (all refl o.0 o.1)) in
-      subst (λ o. CommitStands w s a false (looked_at o (in_order w a keys))) (sym none) (reading_stands w s a (in_order w a keys) (in_order w a keys) h (λ g i. (order_each w a keys g i).0))
-
-  checked_stands : (d : List ℕ) (ds : List (List ℕ)) (x : Reply) → CommitStands w s a false (checked w a d ds x)
-  checked_stands d ds (Page [] more) = checking_stands w s a ds
-  checked_stands d ds (Page (y ∷ ys) more) = (tt, λ e. absurd cc)
-  checked_stands d ds _ = tt
-
-  uploaded_stands : (f : File) (fs : List File) (u : Uploaded) → StillThere u → CommitStands w s a false (commits.uploaded w f fs u)
-  uploaded_stands f fs (GoesOn u) h = tt
-  uploaded_stands f fs AllSent h = storing_stands w s a fs
-  uploaded_stands f fs IsGone h = absurd h
-
   written_stands : (f : File) (fs : List File) (u : Uploaded) → StillThere u → HasRecords w s a (f ∷ fs) → WriteStands w s a (writes.uploaded w f fs u)
   written_stands f fs (GoesOn u) h g = g
   written_stands f fs AllSent h g = g
   written_stands f fs IsGone h g = absurd h
+
+module _ (P : Type 0) (w : Script) (s : Seen) (a : Who) where
+  looked_stands : (keys : List (List ℕ)) → HasRecords w s a [] → (more : Bool) → Listed w a keys → (more ≡ false → (f : File) → IsIn f (files w a) → IsIn (record_key w a f) keys) → CommitStandsBy P w s a false (looked w a (walked_by more keys))
+  looked_stands keys h true l all = (h, l)
+  looked_stands keys h false l all =
+      let none : least_missing keys (map (record_key w a) (files w a)) ≡ None = none_is_missing keys (map (record_key w a) (files w a))
+      (λ k i. let o = in_map (record_key w a) k (files w a) i in subst (λ q. IsIn q keys) (sym o.2) (all refl o.0 o.1)) in
+      subst (λ o. CommitStandsBy P w s a false (looked_at o (in_order w a keys))) (sym none) (reading_stands P w s a (in_order w a keys) (in_order w a keys) h (λ g i. (order_each w a keys g i).0))
+
+  checked_stands : (d : List ℕ) (ds : List (List ℕ)) (x : Reply) → CommitStandsBy P w s a false (checked w a d ds x)
+  checked_stands d ds (Page [] more) = checking_stands P w s a ds
+  checked_stands d ds (Page (y ∷ ys) more) = (tt, λ e. absurd cc)
+  checked_stands d ds _ = tt
+
+  uploaded_stands : (f : File) (fs : List File) (u : Uploaded) → StillThere u → CommitStandsBy P w s a false (commits.uploaded w f fs u)
+  uploaded_stands f fs (GoesOn u) h = tt
+  uploaded_stands f fs AllSent h = storing_stands P w s a fs
+  uploaded_stands f fs IsGone h = absurd h
 
 renamed_done : (w : Script) (a : Who) (x : Reply) (b : Bool) → b ≡ true → renamed w a x b ≡ TaskCommitOver tasks.Done
 renamed_done w a (Refused NoSuchFile) b e = ap (λ c. TaskCommitOver (cond c tasks.Done (tasks.Gone (temporary_path w a)))) e
@@ -342,103 +343,116 @@ module _ (w : Script) (minimum : ℕ) (k : Option ℕ) (s : Seen) (m : Told) (a 
       by RequestLost = stands
       by ReplyLost = commit_keys w s.scene facts.there a (known m a) op r e (record_key w a f) stands
 
-  -- all but the rename
-  commit_by : (op : TaskCommit) (r : Request) (o : Outcome) → IsHonestOutcome o (answer s.scene r) → ((b : Bool) (v : Outcome) → CommitStands w (now r v) a b op)
-      → ((x : Reply) → x ≡ answer s.scene r → CommitStands w (now r (Answered x)) a false (task_commit_hears w minimum a op x repeated))
-      → let t = step retries (task_commit_after w minimum a) (at_commit op) o in CommitStands w (now r o) a t.repeated t.operation
-  commit_by op r o honest kept heard =
-      step_stands (λ b v. CommitStands w (now r o) a b v) retries (task_commit_after w minimum a) (at_commit op) o
-      (λ x y. subst (λ v. CommitStands w (now r v) a false (task_commit_hears w minimum a op x repeated)) (sym y) (heard x (due_of r o x y honest))) (λ y. kept repeated o) (λ y. kept true o) (tt, λ y. absurd cc)
+  module _ (P : Type 0) (Q : Request → Outcome → Type 0) (keeps : (r : Request) (v : Outcome) → P → Q r v) (published : (r : Request) → is_publishing w s.scene a.task r ≡ true → (v : Outcome) → is_effective v ≡ true → Q r v) where
+    -- all but the rename
+    commit_by : (op : TaskCommit) (r : Request) (o : Outcome) → IsHonestOutcome o (answer s.scene r) → ((b : Bool) (v : Outcome) → CommitStandsBy (Q r (v)) w (now r v) a b op)
+        → ((x : Reply) → x ≡ answer s.scene r → CommitStandsBy (Q r (Answered x)) w (now r (Answered x)) a false (task_commit_hears w minimum a op x repeated))
+        → let t = step retries (task_commit_after w minimum a) (at_commit op) o in CommitStandsBy (Q r (o)) w (now r o) a t.repeated t.operation
+    commit_by op r o honest kept heard =
+        step_stands (λ b v. CommitStandsBy (Q r (o)) w (now r o) a b v) retries (task_commit_after w minimum a) (at_commit op) o
+        (λ x y. subst (λ v. CommitStandsBy (Q r (v)) w (now r v) a false (task_commit_hears w minimum a op x repeated)) (sym y) (heard x (due_of r o x y honest))) (λ y. kept repeated o) (λ y. kept true o) (tt, λ y. absurd cc)
 
-  published : (r : Request) → is_publishing w s.scene a.task r ≡ true → (i : ℕ) × (last_by w s.scene s.last a.task a.attempt r a.task ≡ Some i)
-  published r e = (a.attempt, ap (λ b. cond b (Some a.attempt) (s.last a.task)) (ap (λ b. nat_eq a.task a.task && b) e ∙ ap (λ b. b && true) (nat_true a.task a.task refl)))
-
-  -- a page of its directory
-  looks : (keys : List (List ℕ)) → CommitStands w s a repeated (Looking keys) → (r : Request) → task_commit_asks w a (known m a) (Looking keys) ≡ Some r → (x : Reply) → x ≡ answer s.scene r → CommitStands w (now r (Answered x)) a false (looked w a (walked keys x))
-  looks keys h r e x due =
-      let there = facts.there in
-      let q = page_after w.dest.bucket (attempt_prefix w a) keys in
-      let xs : List PageEntry = listed (attempt_prefix w a) false (last_of keys) there.0.objects in
-      let is : x ≡ Page (take 1000 xs) (nat_lt 1000 (length xs)) = due ∙ ap (answer s.scene) (sym (some_is e)) ∙ answer_is w s.scene there.0 there.1 q refl in
-      let here : (f : File) → IsIn f (files w a) → (y : Object) × (fin.get there.0.objects (record_key w a f) ≡ Some y) = λ f i. elim (h.0 f i) [ inl none ↦ absurd none | inr y ↦ (y.0, sym (key_before w s.scene there.0 there.1 (record_key w a f)) ∙ y.1) ] in
-      let last_more : last_of (keys ++ keys_on (take 1000 xs)) ≡ last_from (last_of keys) (keys_on (take 1000 xs)) = last_so (keys ++ keys_on (take 1000 xs)) ∙ last_append [] keys (keys_on (take 1000 xs)) ∙ ap (λ t. last_from t (keys_on (take 1000 xs))) (sym (last_so keys)) in
-      let more : Listed w a (keys ++ keys_on (take 1000 xs)) = λ f i. elim (h.1 f i) [
-        | inl old ↦ inl (in_front (record_key w a f) keys (keys_on (take 1000 xs)) old)
-        | inr l ↦ elim (page_covers 1000 (attempt_prefix w a) (last_of keys) (record_key w a f) there.0.objects (here f i).0 (here f i).1 (record_own j a f) l) [
-          | inl new ↦ inl (in_back (record_key w a f) keys (keys_on (take 1000 xs)) new)
-          | inr g ↦ inr (ap (λ t. is_lt (text_cmp t (record_key w a f))) last_more ∙ g)
-        ]
-      ] in
-      let all : nat_lt 1000 (length xs) ≡ false → (f : File) → IsIn f (files w a) → IsIn (record_key w a f) (keys ++ keys_on (take 1000 xs)) = λ few f i. elim (h.1 f i) [
-        | inl old ↦ in_front (record_key w a f) keys (keys_on (take 1000 xs)) old
-        | inr l ↦ in_back (record_key w a f) keys (keys_on (take 1000 xs)) (page_all 1000 (attempt_prefix w a) (last_of keys) (record_key w a f) there.0.objects (here f i).0 few (here f i).1 (record_own j a f) l)
-      ] in
-      let t : Seen = now r (Answered x) in
-      subst (λ y. CommitStands w t a false (looked w a (walked keys y))) (sym is) (looked_stands w t a (keys ++ keys_on (take 1000 xs)) (records_now (Looking keys) r e (Answered x) h.0) (nat_lt 1000 (length xs)) more all)
-
-  -- a record that is read
-  reads : (cs : List File) (f : File) (fs : List File) → CommitStands w s a repeated (Reading cs f fs) → (r : Request) → task_commit_asks w a (known m a) (Reading cs f fs) ≡ Some r → (x : Reply) → x ≡ answer s.scene r
-      → CommitStands w (now r (Answered x)) a false (read_record w a cs f fs x)
-  reads cs f fs h r e x due = elim (h.0 f (h.1 f (inl refl))) [
-    | inl none ↦ absurd none
-    | inr y ↦
+    -- a page of its directory
+    looks : (keys : List (List ℕ)) → CommitStandsBy P w s a repeated (Looking keys) → (r : Request) → task_commit_asks w a (known m a) (Looking keys) ≡ Some r → (x : Reply) → x ≡ answer s.scene r → CommitStandsBy (Q r (Answered x)) w (now r (Answered x)) a false (looked w a (walked keys x))
+    looks keys h r e x due =
         let there = facts.there in
-        let q = GetObject w.dest.bucket (record_key w a f) in
-        let is : x ≡ found (Some y.0) = due ∙ ap (answer s.scene) (sym (some_is e)) ∙ answer_is w s.scene there.0 there.1 q refl ∙ ap found (sym (key_before w s.scene there.0 there.1 (record_key w a f)) ∙ y.1) in
+        let q = page_after w.dest.bucket (attempt_prefix w a) keys in
+        let xs : List PageEntry = listed (attempt_prefix w a) false (last_of keys) there.0.objects in
+        let is : x ≡ Page (take 1000 xs) (nat_lt 1000 (length xs)) = due ∙ ap (answer s.scene) (sym (some_is e)) ∙ answer_is w s.scene there.0 there.1 q refl in
+        let here : (f : File) → IsIn f (files w a) → (y : Object) × (fin.get there.0.objects (record_key w a f) ≡ Some y) = λ f i. elim (h.0 f i) [ inl none ↦ absurd none | inr y ↦ (y.0, sym (key_before w s.scene there.0 there.1 (record_key w a f)) ∙ y.1) ] in
+        let last_more : last_of (keys ++ keys_on (take 1000 xs)) ≡ last_from (last_of keys) (keys_on (take 1000 xs)) = last_so (keys ++ keys_on (take 1000 xs)) ∙ last_append [] keys (keys_on (take 1000 xs)) ∙ ap (λ t. last_from t (keys_on (take 1000 xs))) (sym (last_so keys)) in
+        let more : Listed w a (keys ++ keys_on (take 1000 xs)) = λ f i. elim (h.1 f i) [
+          | inl old ↦ inl (in_front (record_key w a f) keys (keys_on (take 1000 xs)) old)
+          | inr l ↦ elim (page_covers 1000 (attempt_prefix w a) (last_of keys) (record_key w a f) there.0.objects (here f i).0 (here f i).1 (record_own j a f) l) [
+            | inl new ↦ inl (in_back (record_key w a f) keys (keys_on (take 1000 xs)) new)
+            | inr g ↦ inr (ap (λ t. is_lt (text_cmp t (record_key w a f))) last_more ∙ g)
+          ]
+        ] in
+        let all : nat_lt 1000 (length xs) ≡ false → (f : File) → IsIn f (files w a) → IsIn (record_key w a f) (keys ++ keys_on (take 1000 xs)) = λ few f i. elim (h.1 f i) [
+          | inl old ↦ in_front (record_key w a f) keys (keys_on (take 1000 xs)) old
+          | inr l ↦ in_back (record_key w a f) keys (keys_on (take 1000 xs)) (page_all 1000 (attempt_prefix w a) (last_of keys) (record_key w a f) there.0.objects (here f i).0 few (here f i).1 (record_own j a f) l)
+        ] in
         let t : Seen = now r (Answered x) in
-        subst (λ v. CommitStands w t a false (read_record w a cs f fs v)) (sym is) (reading_stands w t a cs fs (records_now (Reading cs f fs) r e (Answered x) h.0) (λ g i. h.1 g (inr i)))
-  ]
+        subst (λ y. CommitStandsBy (Q r (Answered x)) w t a false (looked w a (walked keys y))) (sym is) (looked_stands (Q r (Answered x)) w t a (keys ++ keys_on (take 1000 xs)) (records_now (Looking keys) r e (Answered x) h.0) (nat_lt 1000 (length xs)) more all)
 
-  -- the rename
-  rename_stands : is_staging w.committer ≡ true → CommitStands w s a repeated Renaming → (r : Request) → task_commit_asks w a (known m a) Renaming ≡ Some r → (o : Outcome) → IsHonestOutcome o (answer s.scene r)
-      → let t = step retries (task_commit_after w minimum a) (at_commit Renaming) o in CommitStands w (now r o) a t.repeated t.operation
-  rename_stands staging h r e o honest = elim h [
-    | inl temporary ↦
-        let publishes : is_publishing w s.scene a.task r ≡ true =
-        ap (is_publishing w s.scene a.task) (sym (some_is e)) ∙ ap (λ b. b && (is_set_path w a.task (staged_set_path w.job a.task) && is_some (fin.get s.scene.files (temporary_path w a)))) staging
-        ∙ ap (λ b. b && is_some (fin.get s.scene.files (temporary_path w a))) (text_true (staged_set_path w.job a.task) (staged_set_path w.job a.task) refl) ∙ ap is_some temporary.1 in
-        step_stands (λ b v. CommitStands w (now r o) a b v) retries (task_commit_after w minimum a) (at_commit Renaming) o
-        (λ x y.
-        let is : x ≡ ClusterDone = due_of r o x y honest ∙ ap (answer s.scene) (sym (some_is e)) ∙ ap rename_answer temporary.1 in
-        let done : renamed w a x repeated ≡ TaskCommitOver tasks.Done = ap (λ v. renamed w a v repeated) is in
-        subst (λ v. CommitStands w (now r v) a false (renamed w a x repeated)) (sym y) (subst (λ v. CommitStands w (now r (Answered x)) a false v) (sym done) (tt, λ d. published r publishes)))
-        (λ y. subst (λ v. CommitStands w (now r v) a repeated Renaming) (sym y) (inl temporary))
-        (λ y. elim y [
-          | inl lost ↦ subst (λ v. CommitStands w (now r v) a true Renaming) (sym lost) (inl temporary)
-          | inr unheard ↦ subst (λ v. CommitStands w (now r v) a true Renaming) (sym unheard) (inr (refl, published r publishes))
-        ])
-        (tt, λ y. absurd cc)
-    | inr done ↦
-        let still : (v : Outcome) → HasPublished (now r v) a.task = last_kept r done.1 in
-        step_stands (λ b v. CommitStands w (now r o) a b v) retries (task_commit_after w minimum a) (at_commit Renaming) o
-        (λ x y. subst (λ v. CommitStands w (now r o) a false v) (sym (renamed_done w a x repeated done.0)) (tt, λ d. still o))
-        (λ y. inr (done.0, still o)) (λ y. inr (refl, still o)) (tt, λ y. absurd cc)
-  ]
-    where
-      last_kept : (r : Request) → HasPublished s a.task → (v : Outcome) → HasPublished (now r v) a.task
-      last_kept r h (Answered x) = some_last (nat_eq a.task a.task && is_publishing w s.scene a.task r) a.attempt (s.last a.task) h
-      last_kept r h Slow = h
-      last_kept r h RequestLost = h
-      last_kept r h ReplyLost = some_last (nat_eq a.task a.task && is_publishing w s.scene a.task r) a.attempt (s.last a.task) h
+    -- a record that is read
+    reads : (cs : List File) (f : File) (fs : List File) → CommitStandsBy P w s a repeated (Reading cs f fs) → (r : Request) → task_commit_asks w a (known m a) (Reading cs f fs) ≡ Some r → (x : Reply) → x ≡ answer s.scene r
+        → CommitStandsBy (Q r (Answered x)) w (now r (Answered x)) a false (read_record w a cs f fs x)
+    reads cs f fs h r e x due = elim (h.0 f (h.1 f (inl refl))) [
+      | inl none ↦ absurd none
+      | inr y ↦
+          let there = facts.there in
+          let q = GetObject w.dest.bucket (record_key w a f) in
+          let is : x ≡ found (Some y.0) = due ∙ ap (answer s.scene) (sym (some_is e)) ∙ answer_is w s.scene there.0 there.1 q refl ∙ ap found (sym (key_before w s.scene there.0 there.1 (record_key w a f)) ∙ y.1) in
+          let t : Seen = now r (Answered x) in
+          subst (λ v. CommitStandsBy (Q r (Answered x)) w t a false (read_record w a cs f fs v)) (sym is) (reading_stands (Q r (Answered x)) w t a cs fs (records_now (Reading cs f fs) r e (Answered x) h.0) (λ g i. h.1 g (inr i)))
+    ]
 
-  pub commit_stands : (op : TaskCommit) → FitsCommit w minimum a (known m a) op → CommitStands w s a repeated op → (r : Request) → task_commit_asks w a (known m a) op ≡ Some r → (o : Outcome) → IsHonestOutcome o (answer s.scene r)
-      → let t = step retries (task_commit_after w minimum a) (at_commit op) o in CommitStands w (now r o) a t.repeated t.operation
-  commit_stands (Looking keys) fits h r e o honest = commit_by (Looking keys) r o honest (λ b v. (records_now (Looking keys) r e v h.0, h.1)) (looks keys h r e)
-  commit_stands (Reading cs f fs) fits h r e o honest = commit_by (Reading cs f fs) r o honest (λ b v. (records_now (Reading cs f fs) r e v h.0, h.1)) (reads cs f fs h r e)
-  commit_stands (Publishing cs) fits h r e o honest =
-      let is_set : is_set_key w a.task w.dest.bucket (set_key w.dest.key w.job a.task) ≡ true = rw (text_true w.dest.bucket w.dest.bucket refl, text_true (set_key w.dest.key w.job a.task) (set_key w.dest.key w.job a.task) refl) refl in
-      let publishes : is_publishing w s.scene a.task r ≡ true = ap (is_publishing w s.scene a.task) (sym (some_is e)) ∙ ap (λ b. b && is_set_key w a.task w.dest.bucket (set_key w.dest.key w.job a.task)) fits.0 ∙ is_set in
-      commit_by (Publishing cs) r o honest (λ b v. tt) (λ x due. (tt, λ d. published r publishes))
-  commit_stands (Checking p ps) fits h r e o honest = commit_by (Checking p ps) r o honest (λ b v. tt) (λ x due. checked_stands w (now r (Answered x)) a p ps x)
-  commit_stands (commits.Uploads f fs u) fits h r e o honest =
-      commit_by (commits.Uploads f fs u) r o honest (λ b v. tt)
-      (λ x due. uploaded_stands w (now r (Answered x)) a f fs (upload_hears w minimum f u x) (upload_there w minimum s m a j facts closed before clean fits.1 f fs u fits.2 x (due ∙ ap (answer s.scene) (sym (some_is e)))))
-  commit_stands Storing fits h r e o honest = commit_by Storing r o honest (λ b v. tt) (λ x due. inl here)
-    where
-      here : HasPath (apply s.scene r) (temporary_path w a)
-      here = subst (λ q. HasPath (apply s.scene q) (temporary_path w a)) (some_is e) (_, text_here s.scene.files (temporary_path w a) (temporary_path w a) _ refl)
-  commit_stands Renaming fits h r e o honest = rename_stands fits.0 h r e o honest
-  commit_stands (TaskCommitOver end) fits h r e o honest = absurd cc
+    -- the rename
+    rename_stands : is_staging w.committer ≡ true → CommitStandsBy P w s a repeated Renaming → (r : Request) → task_commit_asks w a (known m a) Renaming ≡ Some r → (o : Outcome) → IsHonestOutcome o (answer s.scene r)
+        → let t = step retries (task_commit_after w minimum a) (at_commit Renaming) o in CommitStandsBy (Q r (o)) w (now r o) a t.repeated t.operation
+    rename_stands staging h r e o honest = elim h [
+      | inl temporary ↦
+          let publishes : is_publishing w s.scene a.task r ≡ true =
+          ap (is_publishing w s.scene a.task) (sym (some_is e)) ∙ ap (λ b. b && (is_set_path w a.task (staged_set_path w.job a.task) && is_some (fin.get s.scene.files (temporary_path w a)))) staging
+          ∙ ap (λ b. b && is_some (fin.get s.scene.files (temporary_path w a))) (text_true (staged_set_path w.job a.task) (staged_set_path w.job a.task) refl) ∙ ap is_some temporary.1 in
+          step_stands (λ b v. CommitStandsBy (Q r (o)) w (now r o) a b v) retries (task_commit_after w minimum a) (at_commit Renaming) o
+          (λ x y.
+          let is : x ≡ ClusterDone = due_of r o x y honest ∙ ap (answer s.scene) (sym (some_is e)) ∙ ap rename_answer temporary.1 in
+          let done : renamed w a x repeated ≡ TaskCommitOver tasks.Done = ap (λ v. renamed w a v repeated) is in
+          subst (λ v. CommitStandsBy (Q r (v)) w (now r v) a false (renamed w a x repeated)) (sym y) (subst (λ v. CommitStandsBy (Q r (Answered x)) w (now r (Answered x)) a false v) (sym done) (tt, λ d. published r publishes (Answered x) refl)))
+          (λ y. subst (λ v. CommitStandsBy (Q r (v)) w (now r v) a repeated Renaming) (sym y) (inl temporary))
+          (λ y. elim y [
+            | inl lost ↦ subst (λ v. CommitStandsBy (Q r (v)) w (now r v) a true Renaming) (sym lost) (inl temporary)
+            | inr unheard ↦ subst (λ v. CommitStandsBy (Q r (v)) w (now r v) a true Renaming) (sym unheard) (inr (refl, published r publishes ReplyLost refl))
+          ])
+          (tt, λ y. absurd cc)
+      | inr done ↦
+          let still : (v : Outcome) → Q r v = λ v. keeps r v done.1 in
+          step_stands (λ b v. CommitStandsBy (Q r (o)) w (now r o) a b v) retries (task_commit_after w minimum a) (at_commit Renaming) o
+          (λ x y. subst (λ v. CommitStandsBy (Q r (o)) w (now r o) a false v) (sym (renamed_done w a x repeated done.0)) (tt, λ d. still o))
+          (λ y. inr (done.0, still o)) (λ y. inr (refl, still o)) (tt, λ y. absurd cc)
+    ]
+
+    pub commit_stands : (op : TaskCommit) → FitsCommit w minimum a (known m a) op → CommitStandsBy P w s a repeated op → (r : Request) → task_commit_asks w a (known m a) op ≡ Some r → (o : Outcome) → IsHonestOutcome o (answer s.scene r)
+        → let t = step retries (task_commit_after w minimum a) (at_commit op) o in CommitStandsBy (Q r (o)) w (now r o) a t.repeated t.operation
+    commit_stands (Looking keys) fits h r e o honest = commit_by (Looking keys) r o honest (λ b v. (records_now (Looking keys) r e v h.0, h.1)) (looks keys h r e)
+    commit_stands (Reading cs f fs) fits h r e o honest = commit_by (Reading cs f fs) r o honest (λ b v. (records_now (Reading cs f fs) r e v h.0, h.1)) (reads cs f fs h r e)
+    commit_stands (Publishing cs) fits h r e o honest =
+        let is_set : is_set_key w a.task w.dest.bucket (set_key w.dest.key w.job a.task) ≡ true = rw (text_true w.dest.bucket w.dest.bucket refl, text_true (set_key w.dest.key w.job a.task) (set_key w.dest.key w.job a.task) refl) refl in
+        let publishes : is_publishing w s.scene a.task r ≡ true = ap (is_publishing w s.scene a.task) (sym (some_is e)) ∙ ap (λ b. b && is_set_key w a.task w.dest.bucket (set_key w.dest.key w.job a.task)) fits.0 ∙ is_set in
+        commit_by (Publishing cs) r o honest (λ b v. tt) (λ x due. (tt, λ d. published r publishes (Answered x) refl))
+    commit_stands (Checking p ps) fits h r e o honest = commit_by (Checking p ps) r o honest (λ b v. tt) (λ x due. checked_stands (Q r (Answered x)) w (now r (Answered x)) a p ps x)
+    commit_stands (commits.Uploads f fs u) fits h r e o honest =
+        commit_by (commits.Uploads f fs u) r o honest (λ b v. tt)
+        (λ x due. uploaded_stands (Q r (Answered x)) w (now r (Answered x)) a f fs (upload_hears w minimum f u x) (upload_there w minimum s m a j facts closed before clean fits.1 f fs u fits.2 x (due ∙ ap (answer s.scene) (sym (some_is e)))))
+    commit_stands Storing fits h r e o honest = commit_by Storing r o honest (λ b v. tt) (λ x due. inl here)
+      where
+        here : HasPath (apply s.scene r) (temporary_path w a)
+        here = subst (λ q. HasPath (apply s.scene q) (temporary_path w a)) (some_is e) (_, text_here s.scene.files (temporary_path w a) (temporary_path w a) _ refl)
+    commit_stands Renaming fits h r e o honest = rename_stands fits.0 h r e o honest
+    commit_stands (TaskCommitOver end) fits h r e o honest = absurd cc
+
+-- ---- the last publisher of its task
+
+module _ (w : Script) (k : Option ℕ) (s : Seen) (a : Who) (n : ℕ) where
+  abbrev seen_now : Request → Outcome → Seen
+  seen_now r o = see w k s (entry a n r o)
+
+  last_kept : (r : Request) (v : Outcome) → HasPublished s a.task → HasPublished (seen_now r v) a.task
+  last_kept r (Answered x) h = some_last (nat_eq a.task a.task && is_publishing w s.scene a.task r) a.attempt (s.last a.task) h
+  last_kept r Slow h = h
+  last_kept r RequestLost h = h
+  last_kept r ReplyLost h = some_last (nat_eq a.task a.task && is_publishing w s.scene a.task r) a.attempt (s.last a.task) h
+
+  last_published : (r : Request) → is_publishing w s.scene a.task r ≡ true → (i : ℕ) × (last_by w s.scene s.last a.task a.attempt r a.task ≡ Some i)
+  last_published r e = (a.attempt, ap (λ b. cond b (Some a.attempt) (s.last a.task)) (ap (λ b. nat_eq a.task a.task && b) e ∙ ap (λ b. b && true) (nat_true a.task a.task refl)))
+
+  publishes_last : (r : Request) → is_publishing w s.scene a.task r ≡ true → (v : Outcome) → is_effective v ≡ true → HasPublished (seen_now r v) a.task
+  publishes_last r e (Answered x) took = last_published r e
+  publishes_last r e Slow took = absurd (false≢true took)
+  publishes_last r e RequestLost took = absurd (false≢true took)
+  publishes_last r e ReplyLost took = last_published r e
 
 -- ---- all operations
 
@@ -446,7 +460,7 @@ pub own_stands : (g : Setting) → IsLegal g.script → (k : Option ℕ) (s : Se
     → (r : Request) → asks g a (known m a) op ≡ Some r → (o : Outcome) → IsHonestOutcome o (answer s.scene r) → Stands g.script (see g.script k s (entry a n r o)) a (tells g a op o)
 own_stands g j k s m a n facts closed before (TheSetup t) fits h r e o honest = tt
 own_stands g j k s m a n facts closed before (TheWrite t) fits h r e o honest = write_stands g.script g.minimum k s m a n j facts closed before fits.0 g.script.retries t.spare t.repeated t.operation fits.1 h r e o honest
-own_stands g j k s m a n facts closed before (TheTaskCommit t) fits h r e o honest = commit_stands g.script g.minimum k s m a n j facts closed before fits.0 g.script.retries t.spare t.repeated t.operation fits.1 h r e o honest
+own_stands g j k s m a n facts closed before (TheTaskCommit t) fits h r e o honest = commit_stands g.script g.minimum k s m a n j facts closed before fits.0 g.script.retries t.spare t.repeated (HasPublished s a.task) (λ q v. HasPublished (seen_now g.script k s a n q v) a.task) (last_kept g.script k s a n) (publishes_last g.script k s a n) t.operation fits.1 h r e o honest
 own_stands g j k s m a n facts closed before (TheTaskAbort t) fits h r e o honest = tt
 own_stands g j k s m a n facts closed before (TheCommit c) fits h r e o honest = tt
 own_stands g j k s m a n facts closed before (TheClean t) fits h r e o honest = tt

@@ -13,12 +13,15 @@ use Rattle.job_model.specs.declared.ends.CommitEnd.{CommitEnd}
 use Rattle.job_model.specs.declared.ends.CommitEnd.TheVariants as commits
 use Rattle.job_model.specs.declared.ends.Stage.TheVariants as stages
 use Rattle.job_operations.specs.View.{view}
+use Rattle.job_model.specs.Attempts.{Who}
+use Rattle.job_model.specs.declared.ends.TaskEnd.TheVariants as tasks
+use Rattle.job_operations.specs.TaskCommits.{TaskCommitOver}
 use Rattle.job_operations.specs.JobCommits.{CommitOver}
-use Rattle.job_operations.specs.Operations.{Setting, TheCommit}
+use Rattle.job_operations.specs.Operations.{Setting, TheTaskCommit, TheCommit}
 use Rattle.job_promise.specs.Entries.{ZeroRename}
 use Rattle.job_promise.specs.Scope.{SameOutside}
 use Rattle.job_promise.specs.Headline.{Same, Always}
-use Rattle.job_promise.specs.OperationEnds.{is_untouched, NoDeletionWorn, OnlyOpening}
+use Rattle.job_promise.specs.OperationEnds.{WasPublished, is_untouched, NoDeletionWorn, OnlyOpening}
 use Rattle.job_promise.specs.Seen.{nothing_seen, see_all}
 use Rattle.job_facts.specs.Told.{nothing_told, tell_all}
 use Rattle.job_facts.specs.Facts.{Hold}
@@ -45,6 +48,9 @@ pub record RunsKeep (g : Setting) (k : Option ℕ) (opening : Content) (es : Lis
   -- no entry copies a file or changes anything outside the destination, the driver sends no data, and only its completions and deletions change what is shown
   pub entries : ZeroRename g.script opening es
   pub outside : (m : ℕ) → m ≤ length es → SameOutside g.script opening (moment opening es m).content
+  -- until the driver cleans up, an attempt's commit that is done has published its own set
+  pub published : x.told.cleaned ≡ false → (a : Who) (spare : ℕ) (repeated : Bool) → x.attempts a ≡ Some (TheTaskCommit (record { operation = TaskCommitOver tasks.Done; spare = spare; repeated = repeated }))
+      → (n : ℕ) × WasPublished g.script opening es a.task a.attempt n
   -- where the commit ended before its first completion the opening files are shown
   pub untouched : (end : CommitEnd) → x.driver ≡ Some (TheCommit (CommitOver end)) → is_untouched end ≡ true → Same (view g.script.dest x.seen.scene.content) (view g.script.dest opening)
   -- and a revert of which no deletion wore out leaves no file of the job

@@ -80,17 +80,21 @@ WriteStands w s a (Marking f fs) = HasRecords w s a (f ∷ fs)
 WriteStands w s a (Recording f fs) = HasRecords w s a (f ∷ fs)
 WriteStands w s a (WriteOver end) = NotGone end × (end ≡ tasks.Done → is_magic w.committer ≡ true → HasRecords w s a [])
 
--- by whether a sending of the present request was lost
-abbrev pub CommitStands : Script → Seen → Who → Bool → TaskCommit → Type 0
-CommitStands w s a repeated (Looking keys) = HasRecords w s a [] × Listed w a keys
-CommitStands w s a repeated (Reading cs f fs) = HasRecords w s a [] × ((g : File) → IsIn g (f ∷ fs) → IsIn g (files w a))
-CommitStands w s a repeated (Publishing cs) = Unit {0}
-CommitStands w s a repeated (Checking d ds) = Unit {0}
-CommitStands w s a repeated (commits.Uploads f fs u) = Unit {0}
-CommitStands w s a repeated Storing = Unit {0}
+-- by what it is to have published, and by whether a sending of the present request was lost
+abbrev pub CommitStandsBy : Type 0 → Script → Seen → Who → Bool → TaskCommit → Type 0
+CommitStandsBy P w s a repeated (Looking keys) = HasRecords w s a [] × Listed w a keys
+CommitStandsBy P w s a repeated (Reading cs f fs) = HasRecords w s a [] × ((g : File) → IsIn g (f ∷ fs) → IsIn g (files w a))
+CommitStandsBy P w s a repeated (Publishing cs) = Unit {0}
+CommitStandsBy P w s a repeated (Checking d ds) = Unit {0}
+CommitStandsBy P w s a repeated (commits.Uploads f fs u) = Unit {0}
+CommitStandsBy P w s a repeated Storing = Unit {0}
 -- the rename is yet to take effect, or it has, and its reply was lost
-CommitStands w s a repeated Renaming = HasTemporary w s a ⊎ ((repeated ≡ true) × HasPublished s a.task)
-CommitStands w s a repeated (TaskCommitOver end) = NotGone end × (end ≡ tasks.Done → HasPublished s a.task)
+CommitStandsBy P w s a repeated Renaming = HasTemporary w s a ⊎ ((repeated ≡ true) × P)
+CommitStandsBy P w s a repeated (TaskCommitOver end) = NotGone end × (end ≡ tasks.Done → P)
+
+-- where the task has a last publisher
+abbrev pub CommitStands : Script → Seen → Who → Bool → TaskCommit → Type 0
+CommitStands w s a repeated t = CommitStandsBy (HasPublished s a.task) w s a repeated t
 
 abbrev pub Stands : Script → Seen → Who → Operation → Type 0
 Stands w s a (TheSetup t) = Unit {0}

@@ -1,4 +1,5 @@
 use Rattle.std.proofs.lemmas.Bool.{false≢true}
+use Rattle.job_facts.specs.Standing.{HasPublished}
 use Rattle.job_facts.proofs.Closing.{reverts_start, commit_closes, clean_closes, attempt_closes, attempt_reverts}
 use Rattle.job_facts.proofs.JobCommitting.{commit_drives}
 use Rattle.job_facts.proofs.Remaining.{stands_kept, other_stood, driver_stood, strange_stood, write_begins, commit_begins, own_stands, write_never, commit_never, commit_done}
@@ -15,7 +16,7 @@ returns c = record {
   };
   gone = record {
     write = write_begins;
-    commit = commit_begins;
+    commit = λ w j s a. commit_begins (HasPublished s a.task) w j s a;
     goes = own_stands;
     others = λ g j k s m a b n h d e ne op fits r x o. stands_kept (other_stood g j k s m a b n h.there d e ne op fits r x o);
     driver = λ g j k s m a n h c fits r e o. stands_kept (driver_stood g.script j k s a n h.there r (commit_drives g.script g.minimum k s m n j h c fits r e) o);

@@ -1,5 +1,6 @@
 use Rattle.job_facts.proofs.Entries.{sees, tells_so, always, late_now, untouched_now, reverted_now}
 use Rattle.job_facts.proofs.Changes.{runs_rename, runs_outside}
+use Rattle.job_facts.proofs.Published.{has_published}
 use Rattle.job_facts.proofs.whole_runs.Goals as goal
 
 pub returns : goal.returns
@@ -11,6 +12,7 @@ returns c = record {
     always = always g k opening j plain is_opening es x run;
     entries = runs_rename g k opening j plain is_opening es x run;
     outside = runs_outside g k opening j plain is_opening es x run;
+    published = has_published g k opening j plain is_opening es x run;
     untouched = untouched_now g k opening j plain is_opening es x run;
     reverted = reverted_now g k opening j plain is_opening es x run;
   };
