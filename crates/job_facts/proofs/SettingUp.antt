@@ -22,7 +22,8 @@ use Rattle.s3_types.specs.declared.reply.Reply.TheVariants.{Page}
 use Rattle.s3_types.specs.declared.journal.Outcome.{Outcome}
 use Rattle.s3_types.specs.declared.journal.Outcome.TheVariants.{Answered, Slow, RequestLost, ReplyLost}
 use Rattle.sendings.specs.Retries.{Retried, step}
-use Rattle.magic_paths.specs.Layout.{magic_prefix, success_key}
+use Rattle.magic_paths.specs.Layout.{magic_prefix, success_key, cluster_prefix}
+use Rattle.proof_base.specs.Order.{text_cmp}
 use Rattle.job_model.specs.Attempts.{Who}
 use Rattle.job_model.specs.Legal.{IsLegal}
 use Rattle.job_model.specs.JobScript.{Script}
@@ -37,7 +38,7 @@ use Rattle.job_promise.specs.Scope.{NoClusterFile}
 use Rattle.job_promise.specs.Seen.{is_magic, is_staging}
 use Rattle.request_frame.specs.Members.{IsIn}
 use Rattle.request_frame.specs.Held.{HasBucket}
-use Rattle.request_frame.proofs.Members.{some_is, false_true, none_or_some}
+use Rattle.request_frame.proofs.Members.{some_is, false_true, none_or_some, none_some, true_or_false}
 use Rattle.request_frame.proofs.Framed.{with_bucket, frame}
 use Rattle.request_frame.proofs.Reading.{reads_nothing}
 use Rattle.job_facts.specs.Stores.{at_key, at_id}
@@ -230,3 +231,30 @@ setup_done w s h none =
         paths = λ m p b. elim (none_or_some (fin.get s.files p)) [ inl e ↦ e | inr x ↦ absurd (false_true (none m p x.0 x.1) b) ];
       },
     )
+
+-- ---- the job's files in the cluster
+
+pub empty_none : (w : Script) (s : Scene) → s.files ≡ fin.empty → NoClusterFile w s
+empty_none w s e p bytes y = absurd (none_some (ap (λ f. fin.get f p) e ∙ fin.get-empty text_cmp p) y)
+
+files_same : (w : Script) (s t : Scene) → t.files ≡ s.files → NoClusterFile w s → NoClusterFile w t
+files_same w s t e h p bytes y = h p bytes (ap (λ f. fin.get f p) (sym e) ∙ y)
+
+pub setup_no_file : (w : Script) → IsLegal w → (s : Scene) (t : Setup) → SetsUp w s.content t → (r : Request) → setup_asks w t ≡ Some r → (o : Outcome) → NoClusterFile w s → NoClusterFile w (effect s r o)
+setup_no_file w j s t h r e o = files_same w s (effect s r o) (setup_alone w j s t h r e o).files
+
+-- a path of the job is none that a stranger changes
+pub strange_no_file : (w : Script) (drawn : Who → List Drawn) (s : Scene) → HasBucket s.content w.dest.bucket → (r : Request) → IsForeign w drawn r → (o : Outcome) → NoClusterFile w s → NoClusterFile w (effect s r o)
+strange_no_file w drawn s there r f o h = by o
+  where
+    acts : NoClusterFile w (apply s r)
+    acts p bytes y = elim (true_or_false (begins (cluster_prefix w.job) p)) [
+      | inr free ↦ free
+      | inl own ↦ h p bytes (sym ((frame s w.dest.bucket r there).files p (λ i. false_true (f.paths p i) own)) ∙ y)
+    ]
+
+    by : (o : Outcome) → NoClusterFile w (effect s r o)
+    by (Answered x) = acts
+    by Slow = h
+    by RequestLost = h
+    by ReplyLost = acts

@@ -1,5 +1,6 @@
 -- The laws of the driver's set-up.
 use Rattle.std.specs.Prelude.{◌≡◌, ℕ, true, false, List, Some}
+use Rattle.std.specs.FinMap as fin
 use Rattle.s3_types.specs.Store.{Scene}
 use Rattle.s3_types.specs.Pages.{begins}
 use Rattle.s3_types.specs.Answer.{answer}
@@ -39,5 +40,9 @@ pub record SetupGoes : Type 0 where
   pub alone : (w : Script) → IsLegal w → (s : Scene) (t : Setup) → SetsUp w s.content t → (r : Request) → setup_asks w t ≡ Some r → (o : Outcome) → ClearsAlone w s (effect s r o)
   -- what a stranger sends leaves it as it is
   pub beside : (w : Script) (drawn : Who → List Drawn) (s : Scene) (t : Setup) → SetsUp w s.content t → (r : Request) → IsForeign w drawn r → (o : Outcome) → SetsUp w (effect s r o).content t
-  -- where it ends Done the job's facts can begin; of the staging committers it is for the cluster to have no file of the job, of which a set-up sends nothing
+  -- a cluster without files has none of the job's, and neither a set-up nor a stranger puts one there
+  pub empty : (w : Script) (s : Scene) → s.files ≡ fin.empty → NoClusterFile w s
+  pub no_file : (w : Script) → IsLegal w → (s : Scene) (t : Setup) → SetsUp w s.content t → (r : Request) → setup_asks w t ≡ Some r → (o : Outcome) → NoClusterFile w s → NoClusterFile w (effect s r o)
+  pub no_file_beside : (w : Script) (drawn : Who → List Drawn) (s : Scene) → HasBucket s.content w.dest.bucket → (r : Request) → IsForeign w drawn r → (o : Outcome) → NoClusterFile w s → NoClusterFile w (effect s r o)
+  -- where it ends Done the job's facts can begin; of the staging committers it is for the cluster to have had no file of the job
   pub done : (w : Script) (s : Scene) → SetsUp w s.content (SetupOver ends.Done) → (is_staging w.committer ≡ true → NoClusterFile w s) → HasBucket s.content w.dest.bucket × IsBare w s

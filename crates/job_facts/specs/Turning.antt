@@ -6,6 +6,7 @@ use Rattle.s3_types.specs.Tags.{joined_tag}
 use Rattle.s3_types.specs.declared.request.Request.{Request}
 use Rattle.s3_types.specs.declared.reply.Reply.TheVariants.{Completed}
 use Rattle.s3_types.specs.declared.journal.Outcome.{Outcome}
+use Rattle.job_model.specs.Attempts.{Who}
 use Rattle.job_model.specs.Legal.{IsLegal}
 use Rattle.job_model.specs.JobScript.{Script}
 use Rattle.job_operations.specs.Lanes.{Turn, nth, completion}
@@ -14,7 +15,7 @@ use Rattle.job_operations.specs.LaneTable.{Tabled}
 use Rattle.job_operations.specs.Operations.{Setting}
 use Rattle.job_promise.specs.Seen.{Seen}
 use Rattle.request_frame.specs.Members.{IsIn}
-use Rattle.job_facts.specs.Told.{Told, tell, driver_entry}
+use Rattle.job_facts.specs.Told.{Told, nothing_told, tell, entry, driver_entry, strange_entry}
 use Rattle.job_facts.specs.Facts.{Hold}
 use Rattle.job_facts.specs.Driver.{Reads, FitsJobCommit}
 
@@ -41,6 +42,9 @@ pub record CommitTurns : Type 0 where
   -- the uploads of the sets that it holds are apart
   pub apart : (w : Script) (minimum : ℕ) (s : Seen) (m : Told) → IsLegal w → Hold w minimum s m → (sets : Sets) → Reads w minimum m.publish_sent m.drawn sets
       → (i n : ℕ) → i < length (all_commits sets) → n < length (all_commits sets) → (nth (all_commits sets) i).upload ≡ (nth (all_commits sets) n).upload → i ≡ n
+  -- before the commit the driver ends none, and nobody else does: so none is ended as it begins, where no abort or clean of the job came before it
+  pub first : NoneEnded nothing_told
+  pub others : (w : Script) (m : Told) → NoneEnded m → (a : Who) (n : ℕ) (r : Request) (o : Outcome) → NoneEnded (tell w m (entry a n r o)) × NoneEnded (tell w m (strange_entry n r o))
   pub begins : (w : Script) (m : Told) (missing : Option ℕ) → NoneEnded m → Turns m (commit_start w missing)
   pub goes : (g : Setting) → IsLegal g.script → (s : Seen) (m : Told) → Hold g.script g.minimum s m → (c : Commit) → FitsJobCommit g.script g.minimum m.publish_sent m.drawn c → Tabled g.script c → Turns m c
       → (r : Request) → commit_asks g.script c ≡ Some r → (n : ℕ) (o : Outcome) → Turns (tell g.script m (driver_entry n r o)) (commit_tells g.script c o)

@@ -1,3 +1,4 @@
+use Rattle.std.proofs.Common.{refl}
 use Rattle.job_facts.proofs.Turning.{uploads_apart, turns_start, commit_turns, turn_answered}
 use Rattle.job_facts.proofs.completions.Goals as goal
 
@@ -5,6 +6,8 @@ pub returns : goal.returns
 returns c = record {
   turns = record {
     apart = uploads_apart;
+    first = λ id. refl;
+    others = λ w m none a n r o. (none, none);
     begins = λ w m missing none. turns_start w m none missing;
     goes = λ g j s m h c f t v r e n o. commit_turns g j s m h c f t v r e o;
     answered = turn_answered;

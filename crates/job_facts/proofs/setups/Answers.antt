@@ -1,4 +1,4 @@
-use Rattle.job_facts.proofs.SettingUp.{setup_goes, setup_alone, setup_beside, setup_done}
+use Rattle.job_facts.proofs.SettingUp.{setup_goes, setup_alone, setup_beside, setup_done, empty_none, setup_no_file, strange_no_file}
 use Rattle.job_facts.proofs.setups.Goals as goal
 
 pub returns : goal.returns
@@ -8,6 +8,9 @@ returns c = record {
     goes = λ w s retries t h r e o. setup_goes w s retries t.spare t.repeated t.operation h r e o;
     alone = setup_alone;
     beside = setup_beside;
+    empty = empty_none;
+    no_file = setup_no_file;
+    no_file_beside = strange_no_file;
     done = setup_done;
   };
 }

@@ -1,4 +1,3 @@
-use Rattle.std.proofs.Common.{refl}
 use Rattle.job_facts.proofs.Ended.{gone_stays}
 use Rattle.job_facts.proofs.EndedGone.{first_gone, commit_gone, others_gone}
 use Rattle.job_facts.proofs.Deciding.{d_start, decides_goes}
