@@ -4,7 +4,8 @@ use Rattle.std.specs.Fmt.{digits}
 use Rattle.s3_types.specs.Blocks.{block_of, parts_of}
 use Rattle.s3_types.specs.Fates.{FateMap}
 use Rattle.job_model.specs.declared.events.Event.{Event}
-use Rattle.worked_lanes.specs.FourFiles.{script, attempt_entries, Prepared}
+use Rattle.worked_runs.specs.FourFiles.{attempt_entries}
+use Rattle.worked_lanes.specs.FourFiles.{script, Prepared}
 
 pub prepared : (retries lanes : ℕ) (fates : FateMap) (events : List Event) → Prepared (script retries lanes fates events) attempt_entries
 unfolding digits block_of parts_of

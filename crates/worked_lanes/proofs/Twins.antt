@@ -20,11 +20,12 @@ use Rattle.job_promise.specs.Follows.{OpFollows}
 use Rattle.job_promise.specs.Turns.{by_actor}
 use Rattle.worked_runs.specs.Jobs.{lake}
 use Rattle.worked_runs.specs.OneFile.{doing}
-use Rattle.worked_runs.specs.Runs.{hello}
+use Rattle.worked_runs.specs.FourFiles.{of_file}
+use Rattle.worked_runs.specs.Runs.{hello, setting}
 use Rattle.worked_runs.proofs.Checks.{visible}
 use Rattle.worked_runs.proofs.OneSet.{small_utf8, key_by, pending_by}
 use Rattle.worked_runs.proofs.Kept.{Sendings, nothing, book_at, is_honest, no_rename, files_then, object_then}
-use Rattle.worked_lanes.specs.FourFiles.{setting, record_of, Shows}
+use Rattle.worked_lanes.specs.FourFiles.{Shows}
 use Rattle.worked_lanes.specs.TwoJobs.{ja, jb, magic, set_key, below_attempt, pending, set_of, eyes, other_eyes, object_then as there, TwoJobs, TheOther}
 
 -- ---- the sets
@@ -37,10 +38,10 @@ other_key : is_key_path (codes "out/y") ≡ true
 unfolding parts_from
 other_key = refl
 
-is_record : IsPending (record_of (codes "x") 1)
+is_record : IsPending (of_file (codes "x") 1)
 is_record = pending_by hello 0 0 (codes "x") 1 refl (lit< tt) (lit< tt) (lit< tt) (key_by (codes "out/x") refl first_key)
 
-other_record : IsPending (record_of (codes "y") 2)
+other_record : IsPending (of_file (codes "y") 2)
 other_record = pending_by hello 0 0 (codes "y") 2 refl (lit< tt) (lit< tt) (lit< tt) (key_by (codes "out/y") refl other_key)
 
 abbrev IsRead : PendingSet → Type 0

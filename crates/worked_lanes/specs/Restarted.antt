@@ -27,8 +27,9 @@ use Rattle.job_promise.specs.Seen.{Seen, seen}
 use Rattle.job_promise.specs.States.{past, refusal, idle, commit_event, verdict}
 use Rattle.worked_runs.specs.Jobs.{lake, worker, said}
 use Rattle.worked_runs.specs.OneFile.{opening}
+use Rattle.worked_runs.specs.FourFiles.{set_key}
 use Rattle.worked_lanes.specs.FourFiles as files
-use Rattle.worked_lanes.specs.FourFiles.{out, below_attempt, pending, set_key, set_bytes, read_entries, completes, done_events, Shows, hellos, Goes, Prepared}
+use Rattle.worked_lanes.specs.FourFiles.{out, below_attempt, pending, set_bytes, read_entries, completes, done_events, Shows, hellos, Goes, Prepared}
 
 -- three retries are the default, and one lane
 abbrev pub script : Script

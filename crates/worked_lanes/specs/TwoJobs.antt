@@ -35,7 +35,9 @@ use Rattle.job_promise.specs.States.{verdict}
 use Rattle.job_promise.specs.Turns.{until, since, by_actor}
 use Rattle.worked_runs.specs.Jobs.{lake, job, attempt, worker, said, hello_tag}
 use Rattle.worked_runs.specs.OneFile.{opening, doing}
-use Rattle.worked_lanes.specs.FourFiles.{setting, out, record_of, record_bytes, Shows, hellos, Goes, Prepared, done_events}
+use Rattle.worked_runs.specs.Runs.{setting}
+use Rattle.worked_runs.specs.FourFiles.{of_file}
+use Rattle.worked_lanes.specs.FourFiles.{out, record_bytes, Shows, hellos, Goes, Prepared, done_events}
 
 -- ---- the jobs
 
@@ -63,7 +65,7 @@ abbrev pub set_key : List ℕ → List ℕ
 set_key id = magic id ++ codes "sets/task_0.pendingset"
 
 abbrev pub set_of : List ℕ → List ℕ → ℕ → PendingSet
-set_of id name upload = record { job = id; task = 0; attempt = 0; commits = record_of name upload ∷ [] }
+set_of id name upload = record { job = id; task = 0; attempt = 0; commits = of_file name upload ∷ [] }
 
 abbrev pub set_bytes : List ℕ → List ℕ → ℕ → List ℕ
 set_bytes id name upload = compact_text (set_tree (set_of id name upload))

@@ -51,9 +51,9 @@ the_set = set_of 0 0 (of_file (codes "a") 1 ∷ of_file (codes "b") 2 ∷ of_fil
 abbrev pub listed : List ℕ → List PageEntry → List PageEntry
 listed path others = Listed (directory ++ path) 0 ∷ Listed (directory ++ path ++ codes ".pending") 168 ∷ others
 
--- the attempt writes and commits, and the driver reads its set and completes two uploads in the step of its commit
-abbrev pub journal : List Entry
-journal =
+-- the set-up, and what the attempt sends until its commit has ended
+abbrev pub attempt_entries : List Entry
+attempt_entries =
     setup_entries
     ++ writes hello 2 worker directory (codes "a") (of_file (codes "a") 1)
     ++ writes hello 2 worker directory (codes "b") (of_file (codes "b") 2)
@@ -65,10 +65,11 @@ journal =
     ∷ reads_record 3 worker directory (codes "c") (of_file (codes "c") 3)
     ∷ reads_record 3 worker directory (codes "d") (of_file (codes "d") 4)
     ∷ puts_set 3 worker set_key the_set
-    ∷ reads_set 5 set_key the_set
-    ∷ completes 5 (codes "out/a") 1
-    ∷ completes 5 (codes "out/b") 2
     ∷ []
+
+-- the driver reads the set and completes two uploads in the step of its commit
+abbrev pub journal : List Entry
+journal = attempt_entries ++ reads_set 5 set_key the_set ∷ completes 5 (codes "out/a") 1 ∷ completes 5 (codes "out/b") 2 ∷ []
 
 abbrev pub the_ends : List EventEnd
 the_ends = Ended (ends.Setup setups.Done) ∷ Ended (ends.Task tasks.Done) ∷ Ended (ends.Task tasks.Done) ∷ Done ∷ Done ∷ Done ∷ []
