@@ -1,7 +1,7 @@
 -- The picks that are seen are those of the sets that the driver holds, as its commit goes on.
-use Rattle.std.proofs.Common.{◌≡◌, ℕ, zero, suc, ◌+◌, ◌<◌, ◌≤◌, ◌⊎◌, inl, inr, not, nat_lt, ◌&&◌, Bool, true, false, cond, List, [], ◌∷◌, ◌++◌, length, slice_get, Option, Some, None, refl, sym, ap, subst, ◌∙◌, arith}
-use Rattle.std.specs.Option.{option_map, is_some}
-use Rattle.std.proofs.lemmas.Bool.{ltb-false}
+use Rattle.std.proofs.Common.{◌≡◌, ℕ, zero, suc, ◌+◌, ◌<◌, ◌≤◌, inl, inr, not, nat_lt, ◌&&◌, ◌||◌, Bool, true, false, cond, List, [], ◌∷◌, ◌++◌, length, Option, Some, None, refl, sym, ap, subst, ◌∙◌, arith, codes}
+use Rattle.std.specs.Option.{is_some}
+use Rattle.std.proofs.lemmas.Bool.{ltb-false, not-false}
 use Rattle.s3_types.specs.Store.{Scene}
 use Rattle.s3_types.specs.declared.request.Request.{Request}
 use Rattle.s3_types.specs.declared.reply.Reply.{Reply}
@@ -11,56 +11,97 @@ use Rattle.s3_types.specs.declared.request.Committer.{Committer}
 use Rattle.s3_types.specs.declared.request.Committer.TheVariants.{Magic, Directory, Partitioned}
 use Rattle.s3_types.specs.declared.request.Mode.{Mode}
 use Rattle.s3_types.specs.declared.request.Mode.TheVariants.{Replace, Append, Fail}
+use Rattle.s3_types.specs.Pages.{begins}
 use Rattle.path_keys.specs.Paths.{below}
+use Rattle.magic_paths.proofs.Tails.{begins_behind, below_is as paths_below}
+use Rattle.job_operations.specs.Setup.{dest_prefix}
+use Rattle.job_operations.specs.TaskCommits.{partition_prefix}
+use Rattle.job_operations.specs.Walks.{Sweep, sweep_hears}
+use Rattle.job_facts.proofs.Legal.{some_dest}
+use Rattle.job_facts.proofs.JobCommitting.{dest_below}
 use Rattle.pending_json.specs.Pending.{Pending}
-use Rattle.pending_json.specs.declared.records.PendingSet.{PendingSet}
 use Rattle.job_model.specs.Legal.{IsLegal}
 use Rattle.job_model.specs.JobScript.{Script}
 use Rattle.job_model.specs.declared.ends.CommitEnd.{CommitEnd}
 use Rattle.job_model.specs.declared.ends.CommitEnd.TheVariants as ends_of
 use Rattle.job_model.specs.declared.ends.Stage.TheVariants as stages
-use Rattle.job_operations.specs.Outputs.{Picks, files, wanted_at, same_path, picked_below, is_picked, is_clash, is_decided}
-use Rattle.job_operations.specs.Conflicts.{keeps, keeps_of}
-use Rattle.job_operations.specs.Lanes.{Turn, nth, abort, deletion, again, follow, dealt, revert}
-use Rattle.job_operations.specs.JobCommits.{Sets, all_commits, picks_of, Commit, Fetching, Replacing, Completing, Marking, Reverting, CommitOver, commit_hears, commit_misses, commit_tells, commit_start, completing, replaced, replacing, decided, fetching, reverting, worn_completion}
+use Rattle.job_operations.specs.Outputs.{Picks, files, wanted_paths, wanted_at, same_path, picked_below, is_picked, is_clash, is_decided}
+use Rattle.job_operations.specs.Conflicts.{keeps, keeps_of, is_below_any, partitions}
+use Rattle.job_operations.specs.Lanes.{Turn, again, follow, dealt, revert}
+use Rattle.job_operations.specs.JobCommits.{Sets, all_commits, picks_of, Commit, Fetching, Replacing, Completing, Marking, Reverting, CommitOver, commit_hears, commit_misses, commit_tells, commit_start, completing, is_no_magic, replaced, replacing, swept, decided, fetching, reverting, worn_completion}
 use Rattle.job_operations.specs.LaneTable.{Tabled}
 use Rattle.job_operations.proofs.Shared.{shared_found}
 use Rattle.job_promise.specs.OperationEnds.{is_untouched}
 use Rattle.request_frame.specs.Members.{IsIn}
 use Rattle.request_frame.specs.Frame.{changed_keys}
-use Rattle.request_frame.proofs.Members.{false_true}
+use Rattle.request_frame.proofs.Members.{false_true, in_map, map_in}
 use Rattle.job_facts.specs.Told.{Told}
 use Rattle.job_facts.specs.Facts.{Facts}
 use Rattle.job_facts.specs.Driver.{Reads, FitsJobCommit}
 use Rattle.job_facts.specs.Filed.{AreDecided, Decides}
-use Rattle.job_facts.specs.RunLaws.{is_replacing, replaces}
-use Rattle.job_facts.proofs.Whose.{attempt}
+use Rattle.job_facts.proofs.Whose.{attempt, or_true}
 use Rattle.job_facts.proofs.Held.{of_sets, task_low}
-use Rattle.job_facts.proofs.Wanted.{wanted_here, same_wanted, same_picked, still_apart}
+use Rattle.job_facts.proofs.Wanted.{wanted_here, still_apart}
 use Rattle.job_facts.proofs.Numbered.{revert_each}
 
--- ---- where nothing is replaced
+-- ---- what a replace mode deletes is what it does not keep
 
-never_replaced : (c : Committer) (m : Mode) (w : Script) (picks : Picks) → is_replacing c m ≡ false → replaced c m w picks ≡ []
-never_replaced Magic m w picks h = refl
-never_replaced Directory Replace w picks h = absurd (false_true h refl)
-never_replaced Directory Append w picks h = refl
-never_replaced Directory Fail w picks h = refl
-never_replaced Partitioned Replace w picks h = absurd (false_true h refl)
-never_replaced Partitioned Append w picks h = refl
-never_replaced Partitioned Fail w picks h = refl
+-- some directory has the path
+below_some : (dirs : List (List ℕ)) (q : List ℕ) → is_below_any dirs q ≡ true → (d : List ℕ) × IsIn d dirs × (begins (d ++ 47 ∷ []) q ≡ true)
+below_some [] q h = absurd (false_true refl h)
+below_some (d ∷ dirs) q h = by (begins (d ++ 47 ∷ []) q) refl (below_some dirs q)
+  where
+    by : (t : Bool) → begins (d ++ 47 ∷ []) q ≡ t → (is_below_any dirs q ≡ true → (e : List ℕ) × IsIn e dirs × (begins (e ++ 47 ∷ []) q ≡ true)) → (e : List ℕ) × IsIn e (d ∷ dirs) × (begins (e ++ 47 ∷ []) q ≡ true)
+    by true e old = (d, inl refl, e)
+    by false e old = let o = old (sym (ap (λ b. b || is_below_any dirs q) e) ∙ h) in (o.0, inr o.1, o.2)
 
-all_kept : (c : Committer) (m : Mode) (dirs : List (List ℕ)) (p : List ℕ) → is_replacing c m ≡ false → keeps c m dirs p ≡ true
-all_kept Magic m dirs p h = refl
-all_kept Directory Replace dirs p h = absurd (false_true h refl)
-all_kept Directory Append dirs p h = refl
-all_kept Directory Fail dirs p h = refl
-all_kept Partitioned Replace dirs p h = absurd (false_true h refl)
-all_kept Partitioned Append dirs p h = refl
-all_kept Partitioned Fail dirs p h = refl
+below_one : (dirs : List (List ℕ)) (q d : List ℕ) → IsIn d dirs → begins (d ++ 47 ∷ []) q ≡ true → is_below_any dirs q ≡ true
+below_one [] q d i h = absurd i
+below_one (e ∷ dirs) q d (inl is) h = ap (λ x. begins (x ++ 47 ∷ []) q || is_below_any dirs q) (sym is) ∙ ap (λ b. b || is_below_any dirs q) h
+below_one (e ∷ dirs) q d (inr i) h = ap (λ b. begins (e ++ 47 ∷ []) q || b) (below_one dirs q d i h) ∙ or_true (begins (e ++ 47 ∷ []) q)
 
-pub keeps_all : (w : Script) → replaces w ≡ false → (picks : Picks) (p : List ℕ) → keeps_of w picks p ≡ true
-keeps_all w h picks p = all_kept w.committer w.mode _ p h
+-- below a partition's prefix is what is below the partition
+partition_is : {w : Script} → IsLegal w → (d q : List ℕ) → begins (partition_prefix w d) (below w.dest.key q) ≡ begins (d ++ 47 ∷ []) q
+partition_is {w = w} j d q =
+    ap (λ p. begins p (below w.dest.key q)) (paths_below w.dest.key (d ++ codes "/") (some_dest j))
+    ∙ ap (begins (w.dest.key ++ 47 ∷ (d ++ codes "/"))) (paths_below w.dest.key q (some_dest j))
+    ∙ begins_behind w.dest.key (47 ∷ (d ++ codes "/")) (47 ∷ q)
+
+module _ {w : Script} (j : IsLegal w) (picks : Picks) where
+  abbrev Prefixes : Committer → Mode → List (List ℕ)
+  Prefixes c m = replaced c m w picks
+
+  abbrev Keeps : Committer → Mode → List ℕ → Bool
+  Keeps c m q = keeps c m (partitions (wanted_paths w picks)) q
+
+  prefix_of : (c : Committer) (m : Mode) (q : List ℕ) → Keeps c m q ≡ false → (p : List ℕ) × IsIn p (Prefixes c m) × (begins p (below w.dest.key q) ≡ true)
+  prefix_of Directory Replace q h = (dest_prefix w, inl refl, dest_below j q)
+  prefix_of Partitioned Replace q h =
+      let o = below_some (partitions (wanted_paths w picks)) q (not-false (is_below_any (partitions (wanted_paths w picks)) q) h) in
+      (partition_prefix w o.0, map_in (partition_prefix w) o.0 (partitions (wanted_paths w picks)) o.1, partition_is j o.0 q ∙ o.2)
+  prefix_of Magic m q h = absurd (false_true h refl)
+  prefix_of Directory Append q h = absurd (false_true h refl)
+  prefix_of Directory Fail q h = absurd (false_true h refl)
+  prefix_of Partitioned Append q h = absurd (false_true h refl)
+  prefix_of Partitioned Fail q h = absurd (false_true h refl)
+
+  not_kept : (c : Committer) (m : Mode) (q p : List ℕ) → IsIn p (Prefixes c m) → begins p (below w.dest.key q) ≡ true → Keeps c m q ≡ false
+  not_kept Directory Replace q p i h = refl
+  not_kept Partitioned Replace q p i h =
+      let o = in_map (partition_prefix w) p (partitions (wanted_paths w picks)) i in
+      ap not (below_one (partitions (wanted_paths w picks)) q o.0 o.1 (sym (partition_is j o.0 q) ∙ ap (λ x. begins x (below w.dest.key q)) (sym o.2) ∙ h))
+  not_kept Magic m q p i h = absurd i
+  not_kept Directory Append q p i h = absurd i
+  not_kept Directory Fail q p i h = absurd i
+  not_kept Partitioned Append q p i h = absurd i
+  not_kept Partitioned Fail q p i h = absurd i
+
+  -- what is not kept is below a prefix that is emptied
+  pub unkept_prefix : (q : List ℕ) → keeps_of w picks q ≡ false → (p : List ℕ) × IsIn p (replaced w.committer w.mode w picks) × (begins p (below w.dest.key q) ≡ true)
+  unkept_prefix q h = prefix_of w.committer w.mode q h
+
+  pub prefix_unkept : (q p : List ℕ) → IsIn p (replaced w.committer w.mode w picks) → begins p (below w.dest.key q) ≡ true → keeps_of w picks q ≡ false
+  prefix_unkept q p i h = not_kept w.committer w.mode q p i h
 
 -- ---- picks that are those of sets
 
@@ -100,7 +141,7 @@ module _ (w : Script) (picks : Picks) where
 
   abbrev pub Agrees : Commit → Type 0
   Agrees (Fetching sets n) = AgreeBelow sets (length sets)
-  Agrees (Replacing sets p ps s n) = ⊥
+  Agrees (Replacing sets p ps s n) = AgreeBelow sets w.tasks
   Agrees (Completing sets x xs finished) = AgreeBelow sets w.tasks
   Agrees (Marking sets n) = AgreeBelow sets w.tasks
   Agrees (Reverting r rs n) = (is_decided w picks ≡ true) × ((y : Request) → IsIn y (r ∷ rs) → OfWanted y)
@@ -110,19 +151,24 @@ module _ (w : Script) (picks : Picks) where
   agrees_completing sets [] finished h = h
   agrees_completing sets (x ∷ xs) finished h = h
 
-  agrees_replacing : replaces w ≡ false → (sets : Sets) → AgreeBelow sets w.tasks → Agrees (replacing w sets (replaced w.committer w.mode w (picks_of sets)))
-  agrees_replacing h sets a = subst (λ ps. Agrees (replacing w sets ps)) (sym (never_replaced w.committer w.mode w (picks_of sets) h)) (agrees_completing sets (dealt w.lanes (length (all_commits sets))) [] a)
+  agrees_replacing : (sets : Sets) (ps : List (List ℕ)) → AgreeBelow sets w.tasks → Agrees (replacing w sets ps)
+  agrees_replacing sets [] a = agrees_completing sets (dealt w.lanes (length (all_commits sets))) [] a
+  agrees_replacing sets (p ∷ ps) a = a
 
-  agrees_decided : replaces w ≡ false → (sets : Sets) (o : Option CommitEnd) → same_path w (picks_of sets) ≡ o → AgreeBelow sets w.tasks → Agrees (decided w sets o)
-  agrees_decided h sets (Some end) e a = let x = shared_found w (picks_of sets) end e in subst (λ v. Agrees (CommitOver v)) (sym x.3) (λ n. absurd cc)
-  agrees_decided h sets None e a = agrees_replacing h sets a
+  agrees_swept : (sets : Sets) (p : List ℕ) (ps : List (List ℕ)) (o : Option Sweep) → AgreeBelow sets w.tasks → Agrees (swept w sets p ps o)
+  agrees_swept sets p ps (Some t) a = a
+  agrees_swept sets p ps None a = agrees_replacing sets ps a
 
-  pub agrees_fetching : replaces w ≡ false → (sets : Sets) → length sets ≤ w.tasks → AgreeBelow sets (length sets) → Agrees (fetching w sets)
-  agrees_fetching h sets l a = by (nat_lt (length sets) w.tasks) refl
+  agrees_decided : (sets : Sets) (o : Option CommitEnd) → same_path w (picks_of sets) ≡ o → AgreeBelow sets w.tasks → Agrees (decided w sets o)
+  agrees_decided sets (Some end) e a = let x = shared_found w (picks_of sets) end e in subst (λ v. Agrees (CommitOver v)) (sym x.3) (λ n. absurd cc)
+  agrees_decided sets None e a = agrees_replacing sets (replaced w.committer w.mode w (picks_of sets)) a
+
+  pub agrees_fetching : (sets : Sets) → length sets ≤ w.tasks → AgreeBelow sets (length sets) → Agrees (fetching w sets)
+  agrees_fetching sets l a = by (nat_lt (length sets) w.tasks) refl
     where
       by : (b : Bool) → nat_lt (length sets) w.tasks ≡ b → Agrees (cond b (Fetching sets 0) (decided w sets (same_path w (picks_of sets))))
       by true e = a
-      by false e = let high : w.tasks ≤ length sets = ltb-false (length sets) w.tasks e in agrees_decided h sets (same_path w (picks_of sets)) refl (λ t k. a t (omega arith))
+      by false e = let high : w.tasks ≤ length sets = ltb-false (length sets) w.tasks e in agrees_decided sets (same_path w (picks_of sets)) refl (λ t k. a t (omega arith))
 
   agrees_reverting : (rs : List Request) → is_decided w picks ≡ true → ((y : Request) → IsIn y rs → OfWanted y) → Agrees (reverting rs)
   agrees_reverting [] d h = λ e. d
@@ -132,9 +178,9 @@ module _ (w : Script) (picks : Picks) where
   either true c d h g = h
   either false c d h g = g
 
-  pub agrees_start : replaces w ≡ false → (missing : Option ℕ) → Agrees (commit_start w missing)
-  agrees_start h None = agrees_fetching h [] (omega arith) (λ t l. absurd (omega arith))
-  agrees_start h (Some t) = λ e. absurd cc
+  pub agrees_start : (missing : Option ℕ) → Agrees (commit_start w missing)
+  agrees_start None = agrees_fetching [] (omega arith) (λ t l. absurd (omega arith))
+  agrees_start (Some t) = λ e. absurd cc
 
   -- where the request is no read
   module _ {minimum : ℕ} {s : Scene} {last : ℕ → Option ℕ} {m : Told} (j : IsLegal w) (f : Facts w minimum s last m) where
@@ -144,8 +190,7 @@ module _ (w : Script) (picks : Picks) where
         let o = of_sets j f sets reads p i in
         let x = o.1.commit in
         let low = task_low j f (picks_of sets) o.0 p o.1 in
-        let who : x.by ≡ attempt o.0 x.by.attempt = ap (λ n. attempt n x.by.attempt) o.1.task in
-        (
+        let who : x.by ≡ attempt o.0 x.by.attempt = ap (λ n. attempt n x.by.attempt) o.1.task in (
           x.file.0,
           x.file.1,
           ap (λ (v : Pending). v.destination) x.is,
@@ -154,7 +199,7 @@ module _ (w : Script) (picks : Picks) where
 
     agrees_missed : (c : Commit) → FitsJobCommit w minimum m.publish_sent m.drawn c → Tabled w c → Decides w minimum m.publish_sent m.drawn c → Agrees c → (lost : Bool) → Agrees (commit_misses w c lost)
     agrees_missed (Fetching sets n) fits t d a lost = either (nat_lt n w.retries) (Fetching sets (n + 1)) (CommitOver (ends_of.StoreFault stages.Read)) a (λ e. absurd cc)
-    agrees_missed (Replacing sets p ps s n) fits t d a lost = absurd a
+    agrees_missed (Replacing sets p ps x n) fits t d a lost = either (nat_lt n w.retries) (Replacing sets p ps x (n + 1)) (CommitOver (ends_of.StoreFault stages.Delete)) a (λ e. decided_so sets d a)
     agrees_missed (Completing sets x xs finished) fits t d a lost =
         either (nat_lt x.missed w.retries) (completing sets (xs ++ again x lost ∷ []) finished) (worn_completion sets x xs finished) (agrees_completing sets (xs ++ again x lost ∷ []) finished a)
         (agrees_reverting (revert (all_commits sets) x.number xs finished) (decided_so sets d a) (λ y i k c.
@@ -174,7 +219,7 @@ module _ (w : Script) (picks : Picks) where
 
     agrees_heard : (c : Commit) → is_fetching c ≡ false → Decides w minimum m.publish_sent m.drawn c → Agrees c → (x : Reply) → Agrees (commit_hears w c x)
     agrees_heard (Fetching sets n) no_read d a x = absurd cc
-    agrees_heard (Replacing sets p ps s n) no_read d a x = absurd a
+    agrees_heard (Replacing sets p ps y n) no_read d a x = agrees_swept sets p ps (sweep_hears (is_no_magic w) y x) a
     agrees_heard (Completing sets y ys finished) no_read d a x = agrees_completing sets (ys ++ follow w.lanes (length (all_commits sets)) y.number) (y.number ∷ finished) a
     agrees_heard (Marking sets n) no_read d a x = λ e. decided_so sets d a
     agrees_heard (Reverting q qs n) no_read d a x = agrees_reverting qs a.0 (λ y i. a.1 y (inr i))
@@ -187,7 +232,7 @@ module _ (w : Script) (picks : Picks) where
 
     pub agrees_tells : (c : Commit) → FitsJobCommit w minimum m.publish_sent m.drawn c → Tabled w c → Decides w minimum m.publish_sent m.drawn c → Agrees c → (o : Outcome) → (IsRead c o → ⊥) → Agrees (commit_tells w c o)
     agrees_tells (Fetching sets n) fits t d a (Answered x) no_read = absurd (no_read tt)
-    agrees_tells (Replacing sets p ps s n) fits t d a (Answered x) no_read = absurd a
+    agrees_tells (Replacing sets p ps y n) fits t d a (Answered x) no_read = agrees_heard (Replacing sets p ps y n) refl d a x
     agrees_tells (Completing sets y ys finished) fits t d a (Answered x) no_read = agrees_heard (Completing sets y ys finished) refl d a x
     agrees_tells (Marking sets n) fits t d a (Answered x) no_read = agrees_heard (Marking sets n) refl d a x
     agrees_tells (Reverting q qs n) fits t d a (Answered x) no_read = agrees_heard (Reverting q qs n) refl d a x

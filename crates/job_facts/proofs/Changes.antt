@@ -1,5 +1,5 @@
 -- What the entries of a run change, one by one and together.
-use Rattle.std.proofs.Common.{◌≡◌, ℕ, zero, suc, ◌+◌, ◌<◌, ◌≤◌, ◌⊎◌, inl, inr, Bool, true, false, List, [], ◌∷◌, ◌++◌, length, take, slice_get, Option, Some, None, refl, sym, ap, subst, ◌∙◌, arith, length-append}
+use Rattle.std.proofs.Common.{◌≡◌, ℕ, zero, suc, ◌+◌, ◌<◌, ◌≤◌, ◌⊎◌, inl, inr, true, false, List, [], ◌∷◌, ◌++◌, length, slice_get, Option, Some, None, refl, sym, ap, subst, ◌∙◌, arith, length-append}
 use Rattle.std.specs.FinMap as fin
 use Rattle.proof_base.specs.Order.{text_eq}
 use Rattle.s3_types.specs.Store.{Content, Scene, Upload, opening as opening_scene}
@@ -17,8 +17,7 @@ use Rattle.job_operations.specs.View.{object_at}
 use Rattle.job_operations.specs.Operations.{Setting, Operation, TheSetup, TheWrite, TheTaskCommit, TheTaskAbort, TheCommit, TheClean, who, asks}
 use Rattle.job_promise.specs.Entries.{IsZeroRename, ZeroRename}
 use Rattle.job_promise.specs.Scope.{upload_at, SameOutsideUpload, SameOutside}
-use Rattle.job_promise.specs.Seen.{Seen, see, see_all, nothing_seen}
-use Rattle.job_promise.specs.Turns.{is_own}
+use Rattle.job_promise.specs.Seen.{see}
 use Rattle.request_frame.specs.Held.{HasBucket}
 use Rattle.request_frame.proofs.Members.{some_is, none_some, false_true, true_or_false}
 use Rattle.job_model.specs.Attempts.{Who}
@@ -26,13 +25,11 @@ use Rattle.job_facts.specs.Told.{known, entry, driver_entry}
 use Rattle.job_facts.specs.Stores.{at_id}
 use Rattle.job_facts.proofs.Ended.{stood_so}
 use Rattle.job_facts.proofs.SettingUp.{setup_alone}
-use Rattle.job_facts.specs.FiledLaws.{Commits}
 use Rattle.job_facts.specs.Runs.{Stand, Runs, run_begins, setup_begins, commit_begins, clean_begins, driver_sends, write_begins, publish_begins, abort_begins, attempt_sends, IsOpening, is_set, nothing_learnt}
-use Rattle.job_facts.specs.RunLaws.{replaces}
-use Rattle.job_facts.proofs.Running.{At, Early, Late}
+use Rattle.job_facts.proofs.Running.{At, Late}
 use Rattle.job_facts.proofs.OwnRequests.{setup_changes, attempt_changes, commit_changes, clean_changes}
 use Rattle.job_facts.proofs.EveryRun.{good, late}
-use Rattle.job_facts.proofs.Entries.{sees, take_front, take_all}
+use Rattle.job_facts.proofs.Entries.{take_front, take_all}
 
 -- ---- contents that are the same outside
 
@@ -106,7 +103,7 @@ module _ (w : Script) where
 
 -- ---- runs
 
-module _ (g : Setting) (k : Option ℕ) (opening : Content) (j : IsLegal g.script) (plain : replaces g.script ≡ false) (is_opening : IsOpening g opening) where
+module _ (g : Setting) (k : Option ℕ) (opening : Content) (j : IsLegal g.script) (is_opening : IsOpening g opening) where
   abbrev w : Script
   w = g.script
 
@@ -128,7 +125,7 @@ module _ (g : Setting) (k : Option ℕ) (opening : Content) (j : IsLegal g.scrip
   }
 
   driver_change : (es : List Entry) (x : Stand) → Runs g k opening es x → (op : Operation) → x.driver ≡ Some op → (n : ℕ) (r : Request) → asks g (who Driver) nothing_learnt op ≡ Some r → (o : Outcome) → Step x (driver_entry n r o) r o
-  driver_change es x run op d n r asked o = elim (good g k opening j plain is_opening es x run) [
+  driver_change es x run op d n r asked o = elim (good g k opening j is_opening es x run) [
     | inr l ↦ late_change x l op (subst (λ v. At g opening v x.seen x.told x.commit) d l.driver) n r asked o
     | inl e ↦ elim e.setup [
       | inl none ↦ absurd (none_some none d)
@@ -144,7 +141,7 @@ module _ (g : Setting) (k : Option ℕ) (opening : Content) (j : IsLegal g.scrip
 
   attempt_change : (es : List Entry) (x : Stand) → Runs g k opening es x → is_set x.driver ≡ true → (a : Who) (op : Operation) → x.attempts a ≡ Some op → (n : ℕ) (r : Request) → asks g a (known x.told a) op ≡ Some r → (o : Outcome) → Step x (entry a n r o) r o
   attempt_change es x run set a op at n r asked o =
-      let l = late g k opening j plain is_opening x (good g k opening j plain is_opening es x run) set in
+      let l = late g k opening j is_opening x (good g k opening j is_opening es x run) set in
       let f = l.fine a op at in
       record { rename = attempt_changes g j x.seen x.told l.hold a f.0 op f.1 r asked n o; keys = keys_stay w x.seen.scene l.hold.there l.hold.ids.fresh r o }
 

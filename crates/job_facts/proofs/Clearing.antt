@@ -42,7 +42,7 @@ use Rattle.job_facts.proofs.Live.{find_in, last_more, page_covers, page_all}
 -- ---- as it ends
 
 nothing_magic : (c : Committer) (w : Script) (s : Scene) → is_magic c ≡ true → NoneLive w s.content → OnlyThese w s.content [] → NothingLeft c w s
-nothing_magic Magic w s m none bare = (none, λ k x e. elim (true_or_false (begins (magic_prefix w.dest.key w.job) k)) [ inl b ↦ absurd (bare k x b e) | inr b ↦ b ])
+nothing_magic Magic w s m none bare = (none, λ k x e. elim (true_or_false (begins (magic_prefix w.dest.key w.job) k)) [ inl b ↦ absurd (bare k x b refl e) | inr b ↦ b ])
 nothing_magic Directory w s m none bare = absurd cc
 nothing_magic Partitioned w s m none bare = absurd cc
 

@@ -1,24 +1,17 @@
 -- What the driver's completions, aborts and deletions leave of a file's key and of its upload.
-use Rattle.std.proofs.Common.{◌≡◌, ℕ, ◌<◌, ◌⊎◌, inl, inr, Bool, true, false, cond, List, [], ◌∷◌, Option, Some, None, refl, sym, ap, subst, ◌∙◌}
+use Rattle.std.proofs.Common.{◌≡◌, ℕ, ◌<◌, ◌⊎◌, inl, inr, Bool, true, false, cond, List, Option, Some, None, refl, sym, ap, subst, ◌∙◌}
 use Rattle.std.specs.FinMap as fin
-use Rattle.std.specs.Ordering.{eq_by_cmp}
-use Rattle.proof_base.specs.Order.{text_eq, text_cmp, text_total}
-use Rattle.s3_types.specs.Store.{Content, Scene, Upload}
+use Rattle.s3_types.specs.Store.{Scene}
 use Rattle.s3_types.specs.Blocks.{named_from}
 use Rattle.s3_types.specs.Answer.{apply, apply_store, apply_at, with_objects}
-use Rattle.s3_types.specs.declared.object.Object.{Object}
-use Rattle.s3_types.specs.declared.request.Request.TheVariants.{DeleteObject, DeleteObjects, CompleteUpload, AbortUpload}
+use Rattle.s3_types.specs.declared.request.Request.TheVariants.{DeleteObject, DeleteObjects}
 use Rattle.pending_json.specs.Pending.{Pending}
-use Rattle.job_model.specs.Files.{File}
-use Rattle.job_model.specs.Attempts.{Who}
 use Rattle.job_model.specs.Legal.{IsLegal}
 use Rattle.job_model.specs.JobScript.{Script}
-use Rattle.job_model.specs.Known.{Drawn}
-use Rattle.job_operations.specs.Records.{file_key, file_record}
+use Rattle.job_operations.specs.Records.{file_key}
 use Rattle.job_operations.specs.Lanes.{completion, abort, deletion}
-use Rattle.request_frame.specs.Members.{IsIn}
 use Rattle.request_frame.specs.Held.{HasBucket}
-use Rattle.request_frame.proofs.Members.{some_is, none_or_some, text_gone, text_true}
+use Rattle.request_frame.proofs.Members.{none_or_some, text_gone, text_true}
 use Rattle.request_frame.proofs.Framed.{with_bucket, frame}
 use Rattle.job_facts.specs.Told.{Told}
 use Rattle.job_facts.specs.Stores.{at_key, at_id, end_left}

@@ -29,8 +29,8 @@ use Rattle.request_frame.proofs.Framed.{with_bucket, frame}
 use Rattle.request_frame.proofs.Flat.{page_begins, page_covers, page_all, last_append}
 use Rattle.request_frame.proofs.Reading.{reads_nothing}
 use Rattle.job_facts.specs.Stores.{at_key}
-use Rattle.job_facts.specs.Driver.{AllMagic, FitsSweep}
-use Rattle.job_facts.specs.Emptying.{OnlyThese, TheseOrBehind, Empties}
+use Rattle.job_facts.specs.Driver.{AllUnder, SweepsUnder, FitsSweep}
+use Rattle.job_facts.specs.Emptying.{OnlyThose, ThoseOrBehind, EmptiesBy, Empties}
 use Rattle.job_facts.proofs.Shapes.{key_before, key_after, answer_is}
 use Rattle.job_facts.proofs.Aborting.{dropped_in}
 use Rattle.job_facts.proofs.Undone.{stood_before}
@@ -92,23 +92,26 @@ magic_some p r (x ∷ k) h = refl
 
 -- as it begins
 pub sweep_begins : (w : Script) (c : Content) → Empties w c (Listing [])
-sweep_begins w c k x h e = inr (magic_some w.dest.key _ k h)
+sweep_begins w c k x h go e = inr (magic_some w.dest.key _ k h)
 
 -- a sweep that goes on, or is done
+abbrev pub EmptiedBy : Script → List ℕ → (List ℕ → Bool) → Content → Option Sweep → Type 0
+EmptiedBy w p goes c None = OnlyThose w p goes c []
+EmptiedBy w p goes c (Some t) = SweepsUnder p t × EmptiesBy w p goes c t
+
 abbrev pub Emptied : Script → Content → Option Sweep → Type 0
-Emptied w c None = OnlyThese w c []
-Emptied w c (Some t) = FitsSweep w t × Empties w c t
+Emptied w c t = EmptiedBy w (magic_prefix w.dest.key w.job) all_go c t
 
-deletes_on : (w : Script) (c : Content) (keys : List (List ℕ)) → AllMagic w keys → OnlyThese w c keys → Emptied w c (deleting keys)
-deletes_on w c [] all h = h
-deletes_on w c (k ∷ ks) all h = (all, h)
+deletes_on : (w : Script) (p : List ℕ) (goes : List ℕ → Bool) (c : Content) (keys : List (List ℕ)) → AllUnder p keys → OnlyThose w p goes c keys → EmptiedBy w p goes c (deleting keys)
+deletes_on w p goes c [] all h = h
+deletes_on w p goes c (k ∷ ks) all h = (all, h)
 
-module _ (w : Script) (s : Scene) (there : HasBucket s.content w.dest.bucket) where
+module _ (w : Script) (s : Scene) (there : HasBucket s.content w.dest.bucket) (prefix : List ℕ) (goes : List ℕ → Bool) where
   -- ---- a page
 
-  module _ (keys : List (List ℕ)) (all : AllMagic w keys) (cover : TheseOrBehind w s.content keys) where
+  module _ (keys : List (List ℕ)) (all : AllUnder prefix keys) (cover : ThoseOrBehind w prefix goes s.content keys) where
     abbrev rest : List PageEntry
-    rest = listed (magic_prefix w.dest.key w.job) false (last_of keys) there.0.objects
+    rest = listed prefix false (last_of keys) there.0.objects
 
     abbrev more_keys : List (List ℕ)
     more_keys = keys ++ keys_on (take 1000 rest)
@@ -119,40 +122,40 @@ module _ (w : Script) (s : Scene) (there : HasBucket s.content w.dest.bucket) wh
     last_more : last_of more_keys ≡ last_from (last_of keys) (keys_on (take 1000 rest))
     last_more = last_so more_keys ∙ last_append [] keys (keys_on (take 1000 rest)) ∙ ap (λ t. last_from t (keys_on (take 1000 rest))) (sym (last_so keys))
 
-    cover_more : TheseOrBehind w s.content more_keys
-    cover_more k x h e = elim (cover k x h e) [
+    cover_more : ThoseOrBehind w prefix goes s.content more_keys
+    cover_more k x h go e = elim (cover k x h go e) [
       | inl i ↦ inl (in_front k keys (keys_on (take 1000 rest)) i)
-      | inr l ↦ elim (page_covers 1000 (magic_prefix w.dest.key w.job) (last_of keys) k there.0.objects x (here k x e) h l) [
+      | inr l ↦ elim (page_covers 1000 prefix (last_of keys) k there.0.objects x (here k x e) h l) [
         | inl i ↦ inl (in_back k keys (keys_on (take 1000 rest)) i)
         | inr g ↦ inr (ap (λ t. is_lt (text_cmp t k)) last_more ∙ g)
       ]
     ]
 
-    cover_all : nat_lt 1000 (length rest) ≡ false → OnlyThese w s.content more_keys
-    cover_all few k x h e = elim (cover k x h e) [
+    cover_all : nat_lt 1000 (length rest) ≡ false → OnlyThose w prefix goes s.content more_keys
+    cover_all few k x h go e = elim (cover k x h go e) [
       | inl i ↦ in_front k keys (keys_on (take 1000 rest)) i
-      | inr l ↦ in_back k keys (keys_on (take 1000 rest)) (page_all 1000 (magic_prefix w.dest.key w.job) (last_of keys) k there.0.objects x few (here k x e) h l)
+      | inr l ↦ in_back k keys (keys_on (take 1000 rest)) (page_all 1000 prefix (last_of keys) k there.0.objects x few (here k x e) h l)
     ]
 
-    all_more : AllMagic w more_keys
+    all_more : AllUnder prefix more_keys
     all_more k i = elim (in_append k keys (keys_on (take 1000 rest)) i) [
       | inl h ↦ all k h
-      | inr h ↦ (page_begins 1000 (magic_prefix w.dest.key w.job) (last_of keys) k there.0.objects h).0
+      | inr h ↦ (page_begins 1000 prefix (last_of keys) k there.0.objects h).0
     ]
 
-    paged : (more : Bool) → nat_lt 1000 (length rest) ≡ more → Emptied w s.content (swept all_go (walked_by more more_keys))
+    paged : (more : Bool) → nat_lt 1000 (length rest) ≡ more → EmptiedBy w prefix goes s.content (swept goes (walked_by more more_keys))
     paged true e = (all_more, cover_more)
-    paged false e = deletes_on w s.content (filter all_go more_keys) (λ k i. all_more k (in_filter all_go k more_keys i).0) (λ k x h g. filter_in all_go k more_keys (cover_all e k x h g) refl)
+    paged false e = deletes_on w prefix goes s.content (filter goes more_keys) (λ k i. all_more k (in_filter goes k more_keys i).0) (λ k x h go g. filter_in goes k more_keys (cover_all e k x h go g) go)
 
-    pub page_empties : (x : Reply) → x ≡ answer s (page_after w.dest.bucket (magic_prefix w.dest.key w.job) keys) → Emptied w s.content (swept all_go (walked keys x))
+    pub page_empties : (x : Reply) → x ≡ answer s (page_after w.dest.bucket prefix keys) → EmptiedBy w prefix goes s.content (swept goes (walked keys x))
     page_empties x e =
-        let q = page_after w.dest.bucket (magic_prefix w.dest.key w.job) keys in
+        let q = page_after w.dest.bucket prefix keys in
         let due : answer s q ≡ Page (take 1000 rest) (nat_lt 1000 (length rest)) = answer_is w s there.0 there.1 q refl in
-        subst (λ y. Emptied w s.content (swept all_go (walked keys y))) (sym (e ∙ due)) (paged (nat_lt 1000 (length rest)) refl)
+        subst (λ y. EmptiedBy w prefix goes s.content (swept goes (walked keys y))) (sym (e ∙ due)) (paged (nat_lt 1000 (length rest)) refl)
 
   -- ---- a batch
 
-  module _ (keys : List (List ℕ)) (all : AllMagic w keys) (cover : OnlyThese w s.content keys) where
+  module _ (keys : List (List ℕ)) (all : AllUnder prefix keys) (cover : OnlyThose w prefix goes s.content keys) where
     abbrev first : List (List ℕ)
     first = take 1000 keys
 
@@ -170,38 +173,45 @@ module _ (w : Script) (s : Scene) (there : HasBucket s.content w.dest.bucket) wh
     stood_at : (k : List ℕ) (x : Object) → at_key w (apply s batch).content k ≡ Some x → at_key w s.content k ≡ Some x
     stood_at k x e = key_before w s there.0 there.1 k ∙ stood_before there.0.objects first k x (sym (left_at k) ∙ e)
 
-    cover_left : OnlyThese w (apply s batch).content (drop 1000 keys)
-    cover_left k x h e = elim (split_in 1000 keys k (cover k x h (stood_at k x e))) [
+    cover_left : OnlyThose w prefix goes (apply s batch).content (drop 1000 keys)
+    cover_left k x h go e = elim (split_in 1000 keys k (cover k x h go (stood_at k x e))) [
       | inl i ↦ absurd (none_some (left_at k ∙ deleted_gone there.0.objects first k i) e)
       | inr i ↦ i
     ]
 
-    batch_empties : Emptied w (apply s batch).content (deleting (drop 1000 keys))
-    batch_empties = deletes_on w (apply s batch).content (drop 1000 keys) (λ k i. all k (dropped_in 1000 keys k i)) cover_left
+    batch_empties : EmptiedBy w prefix goes (apply s batch).content (deleting (drop 1000 keys))
+    batch_empties = deletes_on w prefix goes (apply s batch).content (drop 1000 keys) (λ k i. all k (dropped_in 1000 keys k i)) cover_left
 
-    batch_still : OnlyThese w (apply s batch).content keys
-    batch_still k x h e = cover k x h (stood_at k x e)
+    batch_still : OnlyThose w prefix goes (apply s batch).content keys
+    batch_still k x h go e = cover k x h go (stood_at k x e)
 
   -- ---- both
 
   abbrev asked : Sweep → Request
-  asked t = sweep_asks w.dest.bucket (magic_prefix w.dest.key w.job) t
+  asked t = sweep_asks w.dest.bucket prefix t
 
   -- after its answer
-  pub sweep_empties : (t : Sweep) → FitsSweep w t → Empties w s.content t → (x : Reply) → x ≡ answer s (asked t) → Emptied w (apply s (asked t)).content (sweep_hears all_go t x)
-  sweep_empties (Listing keys) all h x e =
-      subst (λ (u : Scene). Emptied w u.content (swept all_go (walked keys x))) (sym (reads_nothing s (page_after w.dest.bucket (magic_prefix w.dest.key w.job) keys) refl)) (page_empties keys all h x e)
-  sweep_empties (Deleting q qs) all h x e = batch_empties (q ∷ qs) all h
+  pub swept_by : (t : Sweep) → SweepsUnder prefix t → EmptiesBy w prefix goes s.content t → (x : Reply) → x ≡ answer s (asked t) → EmptiedBy w prefix goes (apply s (asked t)).content (sweep_hears goes t x)
+  swept_by (Listing keys) all h x e =
+      subst (λ (u : Scene). EmptiedBy w prefix goes u.content (swept goes (walked keys x))) (sym (reads_nothing s (page_after w.dest.bucket prefix keys) refl)) (page_empties keys all h x e)
+  swept_by (Deleting q qs) all h x e = batch_empties (q ∷ qs) all h
 
   -- as it is, also where its request took effect
-  pub sweep_still : (t : Sweep) → FitsSweep w t → Empties w s.content t → (o : Outcome) → Empties w (effect s (asked t) o).content t
-  sweep_still (Listing keys) all h o = subst (λ (u : Scene). Empties w u.content (Listing keys)) (sym (reads_same s (page_after w.dest.bucket (magic_prefix w.dest.key w.job) keys) o refl)) h
-  sweep_still (Deleting q qs) all h (Answered x) = batch_still (q ∷ qs) all h
-  sweep_still (Deleting q qs) all h Slow = h
-  sweep_still (Deleting q qs) all h RequestLost = h
-  sweep_still (Deleting q qs) all h ReplyLost = batch_still (q ∷ qs) all h
+  pub still_by : (t : Sweep) → SweepsUnder prefix t → EmptiesBy w prefix goes s.content t → (o : Outcome) → EmptiesBy w prefix goes (effect s (asked t) o).content t
+  still_by (Listing keys) all h o = subst (λ (u : Scene). EmptiesBy w prefix goes u.content (Listing keys)) (sym (reads_same s (page_after w.dest.bucket prefix keys) o refl)) h
+  still_by (Deleting q qs) all h (Answered x) = batch_still (q ∷ qs) all h
+  still_by (Deleting q qs) all h Slow = h
+  still_by (Deleting q qs) all h RequestLost = h
+  still_by (Deleting q qs) all h ReplyLost = batch_still (q ∷ qs) all h
+
+-- of the job's magic directory
+pub sweep_empties : (w : Script) (s : Scene) (there : HasBucket s.content w.dest.bucket) (t : Sweep) → FitsSweep w t → Empties w s.content t → (x : Reply) → let r = sweep_asks w.dest.bucket (magic_prefix w.dest.key w.job) t in x ≡ answer s r → Emptied w (apply s r).content (sweep_hears all_go t x)
+sweep_empties w s there t all h x e = swept_by w s there (magic_prefix w.dest.key w.job) all_go t all h x e
+
+pub sweep_still : (w : Script) (s : Scene) (there : HasBucket s.content w.dest.bucket) (t : Sweep) → FitsSweep w t → Empties w s.content t → (o : Outcome) → Empties w (effect s (sweep_asks w.dest.bucket (magic_prefix w.dest.key w.job) t) o).content t
+sweep_still w s there t all h o = still_by w s there (magic_prefix w.dest.key w.job) all_go t all h o
 
 -- the same keys below the directory
 pub sweep_same : (w : Script) (c d : Content) (t : Sweep) → ((k : List ℕ) → begins (magic_prefix w.dest.key w.job) k ≡ true → at_key w d k ≡ at_key w c k) → Empties w c t → Empties w d t
-sweep_same w c d (Listing keys) same h = λ k x b e. h k x b (sym (same k b) ∙ e)
-sweep_same w c d (Deleting q qs) same h = λ k x b e. h k x b (sym (same k b) ∙ e)
+sweep_same w c d (Listing keys) same h = λ k x b go e. h k x b go (sym (same k b) ∙ e)
+sweep_same w c d (Deleting q qs) same h = λ k x b go e. h k x b go (sym (same k b) ∙ e)

@@ -2,17 +2,16 @@
 use Rattle.std.proofs.Common.{◌≡◌, ℕ, ◌<◌, ◌⊎◌, inl, inr, ◌&&◌, Bool, true, false, cond, List, Option, Some, None, Result, Ok, Err, refl, sym, ap, subst, ◌∙◌}
 use Rattle.std.specs.FinMap as fin
 use Rattle.proof_base.specs.Order.{text_eq}
-use Rattle.s3_types.specs.Store.{BucketContent, Content, Scene, Upload, Uploads}
+use Rattle.s3_types.specs.Store.{BucketContent, Content, Scene, Upload}
 use Rattle.s3_types.specs.Multipart.{live, with_key, is_part_number, with_part, joined}
 use Rattle.s3_types.specs.Answer.{apply, apply_store, apply_at, bucket_of, completed}
-use Rattle.s3_types.specs.declared.object.Object.{Object}
 use Rattle.s3_types.specs.declared.request.Request.{Request}
 use Rattle.s3_types.specs.declared.request.Request.TheVariants.{UploadPart, CompleteUpload, AbortUpload}
 use Rattle.s3_types.specs.declared.request.NamedPart.{NamedPart}
 use Rattle.s3_types.specs.declared.reply.Refusal.{Refusal}
 use Rattle.job_model.specs.JobScript.{Script}
 use Rattle.request_frame.specs.Held.{HasBucket}
-use Rattle.request_frame.proofs.Members.{some_is, none_some, same_or_not, same_or_other, nat_gone, nat_left, text_here, text_true}
+use Rattle.request_frame.proofs.Members.{some_is, none_some, same_or_not, same_or_other, nat_gone, nat_left, text_here}
 use Rattle.request_frame.proofs.Framed.{with_bucket, frame}
 use Rattle.job_facts.specs.Stores.{at_key, at_id, part_left, end_left}
 use Rattle.job_facts.proofs.Shapes.{key_before, key_after, id_before, id_after, part_turns, abort_turns}

@@ -1,5 +1,5 @@
 -- Each upload that the driver has ended is gone; what stands where files go after each entry of its commit.
-use Rattle.std.proofs.Common.{◌≡◌, ℕ, ◌<◌, ◌≤◌, ◌⊎◌, inl, inr, ◌&&◌, ◌||◌, Bool, true, false, List, [], ◌∷◌, ◌++◌, length, Option, Some, None, refl, sym, ap, subst, ◌∙◌, arith}
+use Rattle.std.proofs.Common.{◌≡◌, ℕ, ◌<◌, ◌≤◌, ◌⊎◌, inl, inr, ◌&&◌, ◌||◌, Bool, true, false, List, length, Option, Some, None, refl, sym, ap, subst, ◌∙◌, arith}
 use Rattle.std.proofs.lemmas.Bool.{and_parts, false≢true}
 use Rattle.s3_types.specs.Store.{Scene}
 use Rattle.s3_types.specs.Answer.{apply}
@@ -14,9 +14,8 @@ use Rattle.job_model.specs.Legal.{IsLegal}
 use Rattle.job_model.specs.JobScript.{Script}
 use Rattle.job_operations.specs.Walks.{Sweep, Listing, Deleting, sweep_asks}
 use Rattle.job_operations.specs.Lanes.{nth, completion, abort, deletion}
-use Rattle.job_operations.specs.JobCommits.{Sets, all_commits, Commit, Fetching, Replacing, Completing, Marking, Reverting, CommitOver, set_request, commit_asks}
+use Rattle.job_operations.specs.JobCommits.{all_commits, Commit, Fetching, Replacing, Completing, Marking, Reverting, CommitOver, set_request, commit_asks}
 use Rattle.job_operations.specs.LaneTable.{Tabled}
-use Rattle.request_frame.specs.Members.{IsIn}
 use Rattle.request_frame.specs.Held.{HasBucket}
 use Rattle.request_frame.proofs.Members.{some_is, false_true, eq_nat}
 use Rattle.request_frame.proofs.Framed.{frame}

@@ -1,5 +1,5 @@
 -- What a run's entries say, at each of its moments.
-use Rattle.std.proofs.Common.{◌≡◌, ℕ, zero, suc, ◌+◌, ◌<◌, ◌≤◌, ◌⊎◌, inl, inr, Bool, true, false, List, [], ◌∷◌, ◌++◌, length, take, Option, Some, None, refl, sym, ap, subst, ◌∙◌, arith, length-append}
+use Rattle.std.proofs.Common.{◌≡◌, ℕ, zero, suc, ◌+◌, ◌<◌, ◌≤◌, ◌⊎◌, inl, inr, true, List, [], ◌∷◌, ◌++◌, length, take, Option, Some, refl, sym, ap, subst, ◌∙◌, arith, length-append}
 use Rattle.s3_types.specs.Store.{Content}
 use Rattle.s3_types.specs.declared.journal.Entry.{Entry}
 use Rattle.job_model.specs.Legal.{IsLegal}
@@ -9,14 +9,13 @@ use Rattle.job_model.specs.declared.ends.CommitEnd.TheVariants as commits
 use Rattle.job_model.specs.declared.ends.Stage.TheVariants as stages
 use Rattle.job_operations.specs.View.{view}
 use Rattle.job_operations.specs.JobCommits.{CommitOver}
-use Rattle.job_operations.specs.Operations.{Setting, Operation, TheCommit}
+use Rattle.job_operations.specs.Operations.{Setting, TheCommit}
 use Rattle.job_promise.specs.Headline.{Same, Kept, Always}
 use Rattle.job_promise.specs.OperationEnds.{is_untouched, NoDeletionWorn, OnlyOpening}
-use Rattle.job_promise.specs.Seen.{Seen, see, see_all, seen, nothing_seen}
+use Rattle.job_promise.specs.Seen.{Seen, see, see_all, nothing_seen}
 use Rattle.job_facts.specs.Told.{Told, entry, driver_entry, nothing_told, tell, tell_all}
 use Rattle.job_facts.specs.Runs.{Stand, Runs, run_begins, setup_begins, commit_begins, clean_begins, driver_sends, write_begins, publish_begins, abort_begins, attempt_sends, IsOpening, is_set}
-use Rattle.job_facts.specs.RunLaws.{replaces}
-use Rattle.job_facts.proofs.Running.{At, Early, Late, untouched_shows, left_still, reverted_shows}
+use Rattle.job_facts.proofs.Running.{At, Late, untouched_shows, left_still, reverted_shows}
 use Rattle.job_facts.proofs.EveryRun.{good, kept_now, late}
 
 -- ---- one more entry
@@ -45,7 +44,7 @@ take_all [] (suc m) l = refl
 take_all (e ∷ es) zero l = absurd (omega arith)
 take_all (e ∷ es) (suc m) l = ap (λ xs. e ∷ xs) (take_all es m (omega arith))
 
-module _ (g : Setting) (k : Option ℕ) (opening : Content) (j : IsLegal g.script) (plain : replaces g.script ≡ false) (is_opening : IsOpening g opening) where
+module _ (g : Setting) (k : Option ℕ) (opening : Content) (j : IsLegal g.script) (is_opening : IsOpening g opening) where
   abbrev w : Script
   w = g.script
 
@@ -90,7 +89,7 @@ module _ (g : Setting) (k : Option ℕ) (opening : Content) (j : IsLegal g.scrip
   tells_so es x (attempt_sends fs y a op n r o run set at asked honest) = ap (λ m. tell w m (entry a n r o)) (tells_so fs y run) ∙ sym (tell_more w nothing_told fs (entry a n r o))
 
   kept_all : (es : List Entry) (x : Stand) → Runs g k opening es x → Kept w opening (all es)
-  kept_all es x run = subst (Kept w opening) (sees es x run) (kept_now g k opening j plain is_opening x (good g k opening j plain is_opening es x run))
+  kept_all es x run = subst (Kept w opening) (sees es x run) (kept_now g k opening j is_opening x (good g k opening j is_opening es x run))
 
   pub always : (es : List Entry) (x : Stand) → Runs g k opening es x → Always w k opening es
   always es x (run_begins) m l = subst (λ xs. Kept w opening (see_all w k (nothing_seen opening) xs)) (sym (take_all [] m (omega arith))) (kept_all es x run_begins)
@@ -106,16 +105,16 @@ module _ (g : Setting) (k : Option ℕ) (opening : Content) (j : IsLegal g.scrip
   -- ---- what its stand says
 
   pub late_now : (es : List Entry) (x : Stand) → Runs g k opening es x → is_set x.driver ≡ true → Late g opening x
-  late_now es x run set = late g k opening j plain is_opening x (good g k opening j plain is_opening es x run) set
+  late_now es x run set = late g k opening j is_opening x (good g k opening j is_opening es x run) set
 
   pub untouched_now : (es : List Entry) (x : Stand) → Runs g k opening es x → (end : CommitEnd) → x.driver ≡ Some (TheCommit (CommitOver end)) → is_untouched end ≡ true → Same (view w.dest x.seen.scene.content) (view w.dest opening)
   untouched_now es x run end d before =
       let l = late_now es x run (ap is_set d) in
       let i = subst (λ v. At g opening v x.seen x.told x.commit) d l.driver in
-      untouched_shows g opening x.seen.scene.content (left_still g opening j plain x.seen x.told l.hold x.commit (CommitOver end) i end refl before)
+      untouched_shows g opening x.seen.scene.content (left_still g opening j x.seen x.told l.hold x.commit (CommitOver end) i end refl before)
 
   pub reverted_now : (es : List Entry) (x : Stand) → Runs g k opening es x → x.driver ≡ Some (TheCommit (CommitOver (commits.StoreFault stages.Complete))) → NoDeletionWorn w.retries x.commit → OnlyOpening w opening x.seen.scene.content
   reverted_now es x run d none =
       let l = late_now es x run (ap is_set d) in
       let i = subst (λ v. At g opening v x.seen x.told x.commit) d l.driver in
-      reverted_shows g opening j plain x.seen x.told l.hold x.commit (CommitOver (commits.StoreFault stages.Complete)) i refl none
+      reverted_shows g opening j x.seen x.told l.hold x.commit (CommitOver (commits.StoreFault stages.Complete)) i refl none

@@ -1,7 +1,6 @@
 -- Every run keeps the headline at each of its moments.
-use Rattle.std.proofs.Common.{◌≡◌, ℕ, zero, suc, ◌+◌, ◌<◌, ◌≤◌, ◌^◌, ◌⊎◌, inl, inr, ◌&&◌, ◌||◌, Bool, true, false, cond, List, [], ◌∷◌, ◌++◌, length, take, Option, Some, None, refl, sym, ap, subst, ◌∙◌, arith, length-append}
+use Rattle.std.proofs.Common.{◌≡◌, ℕ, ◌<◌, ◌≤◌, ◌^◌, ◌⊎◌, inl, inr, ◌&&◌, ◌||◌, Bool, true, false, cond, List, [], Option, Some, None, refl, sym, ap, subst, ◌∙◌}
 use Rattle.std.specs.FinMap as fin
-use Rattle.std.proofs.lemmas.Bool.{or_parts, false≢true}
 use Rattle.proof_base.specs.Order.{text_cmp}
 use Rattle.s3_types.specs.Store.{Content, Scene, Upload}
 use Rattle.s3_types.specs.Pages.{begins}
@@ -22,43 +21,33 @@ use Rattle.job_model.specs.Attempts.{Who}
 use Rattle.job_model.specs.Legal.{IsLegal}
 use Rattle.job_model.specs.JobScript.{Script}
 use Rattle.job_model.specs.Known.{Known}
-use Rattle.job_model.specs.declared.ends.CommitEnd.{CommitEnd}
-use Rattle.job_model.specs.declared.ends.CommitEnd.TheVariants as commits
-use Rattle.job_model.specs.declared.ends.Stage.TheVariants as stages
 use Rattle.job_model.specs.declared.ends.SetupEnd.{SetupEnd}
 use Rattle.job_model.specs.declared.ends.SetupEnd.TheVariants as setups
-use Rattle.job_model.specs.declared.ends.TaskEnd.TheVariants as tasks
-use Rattle.job_operations.specs.Outputs.{Picks}
-use Rattle.job_operations.specs.View.{view, is_file_path}
 use Rattle.job_operations.specs.Setup.{Setup, Heading, Checking, Clearing, Sweeping, SetupOver, setup_start, setup_asks, setup_after}
-use Rattle.job_operations.specs.Walks.{Sweep, Listing, Deleting}
-use Rattle.job_operations.specs.Writes.{WriteOver, write_start}
+use Rattle.job_operations.specs.Walks.{Listing, Deleting}
+use Rattle.job_operations.specs.Writes.{write_start}
 use Rattle.job_operations.specs.TaskCommits.{task_commit_start}
 use Rattle.job_operations.specs.TaskAborts.{task_abort_start}
-use Rattle.job_operations.specs.JobCommits.{Commit, CommitOver, commit_start}
 use Rattle.job_operations.specs.Cleanups.{Clean, Walking, Aborting, Removing, Naming, CleanOver, clean_start, clean_asks, clean_after}
 use Rattle.job_operations.specs.Cleanups as cleanups
 use Rattle.job_operations.specs.Operations.{Setting, Operation, TheSetup, TheWrite, TheTaskCommit, TheTaskAbort, TheCommit, TheClean, who, asks, tells}
 use Rattle.job_promise.specs.Ends.{lists_uploads}
-use Rattle.job_promise.specs.Headline.{Same, Kept, Always}
-use Rattle.job_promise.specs.OperationEnds.{is_untouched, NoDeletionWorn, OnlyOpening}
+use Rattle.job_promise.specs.Headline.{Kept}
 use Rattle.job_promise.specs.Scope.{NoClusterFile}
-use Rattle.job_promise.specs.Seen.{Seen, see, see_all, seen, nothing_seen, is_begun, is_marking, is_reading, picks_by}
+use Rattle.job_promise.specs.Seen.{Seen, see, is_begun, is_marking, is_reading, picks_by}
 use Rattle.request_frame.specs.Held.{HasBucket}
-use Rattle.request_frame.proofs.Members.{some_is, none_some, false_true, true_or_false}
+use Rattle.request_frame.proofs.Members.{some_is, none_some, false_true}
 use Rattle.request_frame.proofs.Framed.{frame}
 use Rattle.request_frame.proofs.Reading.{reads_nothing}
 use Rattle.job_facts.specs.SetupLaws.{ClearsAlone}
-use Rattle.job_facts.specs.Told.{Told, known, put_who, entry, driver_entry, ends, nothing_told, tell, tell_all, tell_driver, tell_attempt}
-use Rattle.job_facts.specs.Stores.{at_key, at_id}
+use Rattle.job_facts.specs.Told.{Told, known, put_who, entry, driver_entry, ends, nothing_told, tell_driver, tell_attempt}
+use Rattle.job_facts.specs.Stores.{at_id}
 use Rattle.job_facts.specs.Facts.{IsAttempt, Facts, Hold}
 use Rattle.job_facts.specs.Fits.{Fits}
 use Rattle.job_facts.specs.Emptying.{SetsUp}
-use Rattle.job_facts.specs.Driver.{FitsClean}
 use Rattle.job_facts.specs.Filed.{Gone}
-use Rattle.job_facts.specs.Runs.{Stand, Runs, run_begins, setup_begins, commit_begins, clean_begins, driver_sends, write_begins, publish_begins, abort_begins, attempt_sends, IsOpening, first_stand, with_attempt, with_driver, saw, committing, commit_with, with_commit, is_done, is_set, is_just_set, IsTimely, nothing_learnt}
-use Rattle.job_facts.specs.RunLaws.{replaces, RunsKeep, AllRunsKeep}
-use Rattle.job_facts.proofs.Whose.{same_or_another, who_here, who_other, or_true, or_false}
+use Rattle.job_facts.specs.Runs.{Stand, Runs, run_begins, setup_begins, commit_begins, clean_begins, driver_sends, write_begins, publish_begins, abort_begins, attempt_sends, IsOpening, first_stand, with_attempt, with_driver, saw, commit_with, with_commit, is_done, is_set, is_just_set, IsTimely, nothing_learnt}
+use Rattle.job_facts.proofs.Whose.{same_or_another, who_here, who_other, or_false}
 use Rattle.job_facts.proofs.Legal.{some_dest}
 use Rattle.job_facts.proofs.Shows.{shown_key, HidesAll, hidden_shows}
 use Rattle.job_facts.proofs.Starting.{facts_begin}
@@ -72,11 +61,11 @@ use Rattle.job_facts.proofs.Closing.{clean_begun}
 use Rattle.job_facts.proofs.Driving.{driving_keeps}
 use Rattle.job_facts.proofs.JobCommitting.{commit_drives}
 use Rattle.job_facts.proofs.EndedGone.{first_gone, commit_gone, others_gone}
-use Rattle.job_facts.proofs.Running.{first_at, now_at, Untouched, Idle, InCommit, At, Early, Late, untouched_shows, kept_untouched, kept_commit, left_still, reverted_shows}
+use Rattle.job_facts.proofs.Running.{Untouched, Idle, At, Early, Late, kept_untouched, kept_commit}
 use Rattle.job_facts.proofs.Steps.{hidden_same, commit_next}
 use Rattle.job_facts.proofs.Keeping.{kept_next, at_beside, other_fits, other_known, commit_starts}
 
-module _ (g : Setting) (k : Option ℕ) (opening : Content) (j : IsLegal g.script) (plain : replaces g.script ≡ false) (is_opening : IsOpening g opening) where
+module _ (g : Setting) (k : Option ℕ) (opening : Content) (j : IsLegal g.script) (is_opening : IsOpening g opening) where
   abbrev w : Script
   w = g.script
 
@@ -379,7 +368,7 @@ module _ (g : Setting) (k : Option ℕ) (opening : Content) (j : IsLegal g.scrip
         gone = λ c. gone_by o gone;
         fine = l.fine;
         new = l.new;
-        driver = commit_next g j plain opening k x.seen x.told n timely few l.hold gone x.commit c y r asked o honest;
+        driver = commit_next g j opening k x.seen x.told n timely few l.hold gone x.commit c y r asked o honest;
       }
     where
       gone_by : (o : Outcome) → Gone w x.seen.scene.content x.told → Gone w (see w k x.seen (driver_entry n r o)).scene.content (tell_driver x.told r o)
@@ -419,7 +408,7 @@ module _ (g : Setting) (k : Option ℕ) (opening : Content) (j : IsLegal g.scrip
   late_kept (Some (TheWrite t)) s m es h y = absurd y
   late_kept (Some (TheTaskCommit t)) s m es h y = absurd y
   late_kept (Some (TheTaskAbort t)) s m es h y = absurd y
-  late_kept (Some (TheCommit c)) s m es h y = kept_commit g opening j plain s m h es c y
+  late_kept (Some (TheCommit c)) s m es h y = kept_commit g opening j s m h es c y
   late_kept (Some (TheClean t)) s m es h y = y.1
 
   pub kept_now : (x : Stand) → Good x → Kept w opening x.seen
@@ -464,7 +453,7 @@ module _ (g : Setting) (k : Option ℕ) (opening : Content) (j : IsLegal g.scrip
   good es x (setup_begins fs y run unset) = setup_anew y (good fs y run) unset
   good es x (commit_begins fs y missing run just) =
       let l = late y (good fs y run) (just_set y.driver just) in
-      inr (record { hold = l.hold; gone = l.gone; fine = l.fine; new = l.new; driver = commit_starts g j plain opening y.seen y.told l.hold (just_idle y.driver y.seen y.told y.commit l.driver just) missing })
+      inr (record { hold = l.hold; gone = l.gone; fine = l.fine; new = l.new; driver = commit_starts g j opening y.seen y.told l.hold (just_idle y.driver y.seen y.told y.commit l.driver just) missing })
   good es x (clean_begins fs y run set) =
       let l = late y (good fs y run) set in
       inr (record { hold = l.hold; gone = l.gone; fine = l.fine; new = l.new; driver = ((λ u i. absurd i), kept_now y (inr l)) })

@@ -1,15 +1,15 @@
 -- The paths of the job's files are such as a reader of the destination is shown.
-use Rattle.std.proofs.Common.{◌≡◌, ℕ, ◌==◌, not, nat_eq, if◌then◌else◌, ◌&&◌, Bool, true, false, List, [], ◌∷◌, ◌++◌, length, inl, inr, refl, sym, ap, subst, ◌∙◌, arith}
+use Rattle.std.proofs.Common.{◌≡◌, ℕ, ◌==◌, nat_eq, if◌then◌else◌, Bool, true, false, List, [], ◌∷◌, ◌++◌, length, inl, inr, refl, ap, ◌∙◌, arith}
 use Rattle.std.specs.List.{list_all}
-use Rattle.std.proofs.lemmas.Bool.{and_parts, lt-ltb, not-true, false≢true, true≢false}
+use Rattle.std.proofs.lemmas.Bool.{and_parts, lt-ltb, not-true, false≢true}
 use Rattle.std.proofs.lemmas.Bool.Decides.{nat_tests}
 use Rattle.words.specs.Parts.{parts_from, parts_of}
 use Rattle.magic_paths.specs.Places.{is_open}
 use Rattle.job_model.specs.Files.{File}
 use Rattle.job_model.specs.Attempts.{Who}
 use Rattle.job_model.specs.Legal.{IsLegal, IsGiven}
-use Rattle.job_model.specs.Paths.{is_full, is_path}
-use Rattle.job_model.specs.Placed.{with_id, with_id_last, unique_name, path_of}
+use Rattle.job_model.specs.Paths.{is_full}
+use Rattle.job_model.specs.Placed.{with_id, with_id_last, path_of}
 use Rattle.job_model.specs.JobScript.{Script}
 use Rattle.job_operations.specs.Outputs.{files}
 use Rattle.job_operations.specs.View.{is_folder, is_file_path}

@@ -1,9 +1,9 @@
 -- What stands where the files of the sets go, while the driver's commit completes their uploads and where it reverts.
-use Rattle.std.proofs.Common.{◌≡◌, ℕ, zero, suc, ◌+◌, ◌<◌, ◌≤◌, ◌⊎◌, inl, inr, nat_lt, nat_eq, ◌&&◌, ◌||◌, Bool, true, false, cond, List, [], ◌∷◌, ◌++◌, length, slice_get, Option, Some, None, refl, sym, ap, subst, ◌∙◌, arith}
+use Rattle.std.proofs.Common.{◌≡◌, ℕ, ◌+◌, ◌<◌, ◌≤◌, ◌⊎◌, inl, inr, nat_lt, nat_eq, ◌&&◌, ◌||◌, Bool, true, false, cond, List, [], ◌∷◌, ◌++◌, length, slice_get, Option, Some, None, refl, sym, ap, subst, ◌∙◌, arith}
 use Rattle.std.specs.Option.{option_map}
-use Rattle.std.proofs.lemmas.Bool.{and_parts, ltb-false}
+use Rattle.std.proofs.lemmas.Bool.{ltb-false}
 use Rattle.proof_base.proofs.Numbers.{below_is}
-use Rattle.s3_types.specs.Store.{Content, Scene}
+use Rattle.s3_types.specs.Store.{Scene}
 use Rattle.s3_types.specs.Answer.{apply}
 use Rattle.s3_types.specs.Moment.{effect, is_effective}
 use Rattle.s3_types.specs.declared.object.Object.{Object}
@@ -19,17 +19,15 @@ use Rattle.pending_json.specs.declared.records.PendingSet.{PendingSet}
 use Rattle.sendings.specs.Worn.{was_answered, streak, IsWorn}
 use Rattle.sendings.proofs.Misses.{streak_same, worn_now, worn_more}
 use Rattle.sendings.proofs.SameRequest.{same_self}
-use Rattle.job_model.specs.Files.{File}
 use Rattle.job_model.specs.Legal.{IsLegal}
 use Rattle.job_model.specs.JobScript.{Script}
 use Rattle.job_model.specs.declared.ends.CommitEnd.{CommitEnd}
 use Rattle.job_model.specs.declared.ends.CommitEnd.TheVariants as ends_of
 use Rattle.job_model.specs.declared.ends.Stage.TheVariants as stages
 use Rattle.job_operations.specs.Outputs.{wanted_at, same_path, files}
-use Rattle.job_operations.specs.Records.{file_key}
 use Rattle.job_operations.specs.Walks.{Sweep, sweep_hears}
 use Rattle.job_operations.specs.Lanes.{Turn, nth, completion, abort, deletion, again, follow, dealt, revert}
-use Rattle.job_operations.specs.JobCommits.{Sets, all_commits, picks_of, Commit, Fetching, Replacing, Completing, Marking, Reverting, CommitOver, set_read, commit_hears, commit_misses, commit_tells, completing, is_no_magic, replaced, replacing, decided, fetching, fetched, swept, reverting, worn_completion}
+use Rattle.job_operations.specs.JobCommits.{Sets, all_commits, picks_of, Commit, Fetching, Replacing, Completing, Marking, Reverting, CommitOver, set_read, commit_misses, commit_tells, completing, is_no_magic, replaced, replacing, decided, fetching, fetched, swept, reverting, worn_completion}
 use Rattle.job_operations.specs.LaneTable.{In, Table, Tabled}
 use Rattle.job_operations.proofs.Tables.{table_dealt, table_answered, table_again, all_done}
 use Rattle.job_operations.proofs.Shared.{shared_found}
@@ -41,14 +39,14 @@ use Rattle.job_facts.specs.Stores.{at_key}
 use Rattle.job_facts.specs.Facts.{Facts}
 use Rattle.job_facts.specs.Driver.{Reads, FitsJobCommit}
 use Rattle.job_facts.specs.Turning.{NoneEnded, Turned}
-use Rattle.job_facts.specs.Filed.{IsCommit, Gone, AreReverts, AreDecided, whole_of, IsBefore, deletes, Wants, FileStands}
+use Rattle.job_facts.specs.Filed.{IsCommit, Gone, AreDecided, whole_of, IsBefore, deletes, Wants, FileStands}
 use Rattle.job_facts.proofs.Whose.{attempt, or_true, or_false}
 use Rattle.job_facts.proofs.Placed.{one_key}
 use Rattle.job_facts.proofs.Turning.{none_turned}
-use Rattle.job_facts.proofs.Held.{nth_of, number_of, of_sets, uploads_uniq, destinations_uniq, set_has, task_low, same_who}
+use Rattle.job_facts.proofs.Held.{nth_of, number_of, of_sets, uploads_uniq, destinations_uniq, set_has, task_low}
 use Rattle.job_facts.proofs.Wanted.{wanted_of, wanted_here}
 use Rattle.job_facts.proofs.Numbered.{to_in, from_in, deletes_worn, deletes_tried, deletes_done}
-use Rattle.job_facts.proofs.Effects.{dest_is, completes_file, completes_nothing, other_key, abort_keys, deletion_is, deletion_key, deletion_other}
+use Rattle.job_facts.proofs.Effects.{completes_file, completes_nothing, other_key, abort_keys, deletion_is, deletion_key, deletion_other}
 
 -- the set of a task with a pick was read
 pick_read : (sets : Sets) (t n : ℕ) → picks_of sets t ≡ Some n → (h : PendingSet) × (slice_get sets t ≡ Some h) × (h.attempt ≡ n)
@@ -296,15 +294,17 @@ module _ {w : Script} {minimum : ℕ} {s : Scene} {last : ℕ → Option ℕ} {m
     reverts : (o : Outcome) (lost : Bool) → Turned (told o).ended sets (xs ++ again x lost ∷ []) finished → Now o (worn_completion sets x xs finished)
     reverts o lost turned =
         let u = wanted_upload j f q b sets reads wants in
-        let c = clause_after o u.upload u.one_of u.goes_to in
-        (omega arith, elim (true_or_false ((told o).ended u.upload.upload)) [
-          | inr e ↦ inl (c.1 e)
-          | inl e ↦
-              let there : IsIn (deletion u.upload) (revert all x.number xs finished) =
-              subst (λ (v : Pending). IsIn (deletion v) (revert all x.number xs finished)) u.is (deletes_it lost (told o) turned u.number u.low (ap (λ (v : Pending). (told o).ended v.upload) u.is ∙ e)) in
-              let is : deletion u.upload ≡ deletes w q = deletion_is j f gone u.upload (of_sets j f sets reads u.upload u.one_of).1.commit ∙ ap (λ k. DeleteObject w.dest.bucket k) u.goes_to in
-              inr (c.0 e, inl (subst (λ r. IsIn r (revert all x.number xs finished)) is there))
-        ])
+        let c = clause_after o u.upload u.one_of u.goes_to in (
+          omega arith,
+          elim (true_or_false ((told o).ended u.upload.upload)) [
+            | inr e ↦ inl (c.1 e)
+            | inl e ↦
+                let there : IsIn (deletion u.upload) (revert all x.number xs finished) =
+                subst (λ (v : Pending). IsIn (deletion v) (revert all x.number xs finished)) u.is (deletes_it lost (told o) turned u.number u.low (ap (λ (v : Pending). (told o).ended v.upload) u.is ∙ e)) in
+                let is : deletion u.upload ≡ deletes w q = deletion_is j f gone u.upload (of_sets j f sets reads u.upload u.one_of).1.commit ∙ ap (λ k. DeleteObject w.dest.bucket k) u.goes_to in
+                inr (c.0 e, inl (subst (λ r. IsIn r (revert all x.number xs finished)) is there))
+          ],
+        )
 
     pub missed : (o : Outcome) (lost : Bool) → Turned (told o).ended sets (xs ++ again x lost ∷ []) finished → Now o (commit_misses w (Completing sets x xs finished) lost)
     missed o lost turned = either j f q b first (more (completion p) o) (after (completion p) o) (told o).ended (nat_lt x.missed w.retries) (completing sets (xs ++ again x lost ∷ []) finished) (worn_completion sets x xs finished)

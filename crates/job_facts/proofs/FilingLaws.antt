@@ -1,15 +1,12 @@
 -- What stands where wanted files go, entry by entry: the driver's commit's, and those of others.
-use Rattle.std.proofs.Common.{◌≡◌, ℕ, ◌<◌, ◌≤◌, ◌^◌, ◌⊎◌, inl, inr, ◌||◌, not, Bool, true, false, List, [], ◌∷◌, ◌++◌, length, take, Option, Some, None, refl, sym, ap, subst, ◌∙◌, codes}
-use Rattle.std.proofs.lemmas.List.{append_cancel_left}
-use Rattle.std.proofs.lemmas.Bool.{false≢true}
+use Rattle.std.proofs.Common.{◌≡◌, ℕ, ◌≤◌, ◌^◌, ◌⊎◌, inl, inr, true, List, [], ◌∷◌, ◌++◌, length, take, Option, Some, None, refl, sym, ap, subst, ◌∙◌}
 use Rattle.s3_types.specs.Store.{Scene}
-use Rattle.s3_types.specs.Pages.{begins}
-use Rattle.s3_types.specs.Answer.{apply, answer, bucket_of}
+use Rattle.s3_types.specs.Answer.{answer, bucket_of}
 use Rattle.s3_types.specs.Moment.{effect, IsHonestOutcome}
 use Rattle.s3_types.specs.Requests.{only_reads}
 use Rattle.s3_types.specs.declared.object.Object.{Object}
 use Rattle.s3_types.specs.declared.request.Request.{Request}
-use Rattle.s3_types.specs.declared.request.Request.TheVariants.{PutObject, DeleteObjects}
+use Rattle.s3_types.specs.declared.request.Request.TheVariants.{PutObject}
 use Rattle.s3_types.specs.declared.request.Committer.{Committer}
 use Rattle.s3_types.specs.declared.request.Committer.TheVariants.{Magic, Directory, Partitioned}
 use Rattle.s3_types.specs.declared.journal.Outcome.{Outcome}
@@ -17,21 +14,17 @@ use Rattle.s3_types.specs.declared.journal.Outcome.TheVariants.{Answered, Slow, 
 use Rattle.s3_types.specs.declared.journal.Entry.{Entry}
 use Rattle.path_keys.specs.Paths.{below}
 use Rattle.sendings.specs.Worn.{IsWorn}
-use Rattle.magic_paths.specs.Layout.{magic_prefix, success_key}
+use Rattle.magic_paths.specs.Layout.{success_key}
 use Rattle.magic_paths.specs.Places.{FilePlace, is_open}
-use Rattle.magic_paths.proofs.Tails.{below_is, key_magic}
+use Rattle.magic_paths.proofs.Tails.{key_magic}
 use Rattle.pending_json.specs.Pending.{Pending}
-use Rattle.job_model.specs.Files.{File}
 use Rattle.job_model.specs.Attempts.{Who}
 use Rattle.job_model.specs.Legal.{IsLegal}
 use Rattle.job_model.specs.JobScript.{Script}
-use Rattle.job_model.specs.declared.ends.CommitEnd.TheVariants as ends_of
-use Rattle.job_model.specs.declared.ends.Stage.TheVariants as stages
-use Rattle.job_operations.specs.Outputs.{wanted_at}
 use Rattle.job_operations.specs.View.{is_file_path}
 use Rattle.job_operations.specs.Records.{mark_text}
 use Rattle.job_operations.specs.Walks.{Sweep, Listing, Deleting, sweep_asks, page_after}
-use Rattle.job_operations.specs.JobCommits.{Sets, picks_of, Commit, Fetching, Replacing, Completing, Marking, Reverting, CommitOver, set_request, commit_start, commit_asks, commit_tells}
+use Rattle.job_operations.specs.JobCommits.{picks_of, Commit, Fetching, Replacing, Completing, Marking, Reverting, CommitOver, set_request, commit_start, commit_asks, commit_tells}
 use Rattle.job_operations.specs.Operations.{Setting, Operation, asks}
 use Rattle.job_promise.specs.Seen.{Seen}
 use Rattle.request_frame.specs.Members.{IsIn}
@@ -45,8 +38,8 @@ use Rattle.job_facts.specs.Stores.{at_key}
 use Rattle.job_facts.specs.Facts.{IsAttempt, Hold}
 use Rattle.job_facts.specs.Fits.{Fits}
 use Rattle.job_facts.specs.Driver.{FitsJobCommit}
-use Rattle.job_facts.specs.Turning.{NoneEnded, Turns}
-use Rattle.job_facts.specs.Filed.{IsCommit, AreReverts, Decides, IsBefore, deletes, Wants, FileStands, whole_of}
+use Rattle.job_facts.specs.Turning.{NoneEnded}
+use Rattle.job_facts.specs.Filed.{IsCommit, Decides, IsBefore, deletes, Wants, FileStands, whole_of}
 use Rattle.job_facts.specs.FiledLaws.{Commits}
 use Rattle.job_facts.proofs.Legal.{some_dest}
 use Rattle.job_facts.proofs.Beside.{still_sent, still_known, job_commit_begins}

@@ -2,10 +2,8 @@
 use Rattle.std.proofs.Common.{◌≡◌, ℕ, zero, suc, ◌+◌, ◌<◌, ◌≤◌, ◌⊎◌, inl, inr, Bool, true, false, cond, List, [], ◌∷◌, ◌++◌, map, length, slice_get, Option, Some, None, refl, sym, ap, subst, ◌∙◌, arith}
 use Rattle.std.specs.Option.{option_map, is_some}
 use Rattle.std.specs.Map.{lookup}
-use Rattle.std.proofs.lemmas.Option.{slice_get_within}
 use Rattle.proof_base.specs.Order.{text_eq}
 use Rattle.s3_types.specs.Store.{Scene}
-use Rattle.path_keys.specs.Paths.{below}
 use Rattle.pending_json.specs.Pending.{Pending}
 use Rattle.pending_json.specs.declared.records.PendingSet.{PendingSet}
 use Rattle.job_model.specs.Files.{File, has_path}
@@ -22,12 +20,12 @@ use Rattle.job_operations.proofs.Shared.{shared_none}
 use Rattle.request_frame.specs.Members.{IsIn}
 use Rattle.request_frame.proofs.Members.{some_is, none_some, text_true, in_map, map_in, in_append, in_front, in_back}
 use Rattle.job_facts.specs.Told.{Told}
-use Rattle.job_facts.specs.Facts.{IsWritten, ApartFiles, Facts, knowing}
+use Rattle.job_facts.specs.Facts.{ApartFiles, Facts, knowing}
 use Rattle.job_facts.specs.Driver.{IsHeldSet, Reads}
 use Rattle.job_facts.specs.Filed.{IsCommit}
 use Rattle.job_facts.proofs.Whose.{attempt}
 use Rattle.job_facts.proofs.Legal.{is_attempt}
-use Rattle.job_facts.proofs.Placed.{one_key, key_file}
+use Rattle.job_facts.proofs.Placed.{one_key}
 use Rattle.job_facts.proofs.Legible.{drawn_is}
 
 -- ---- lists of uploads

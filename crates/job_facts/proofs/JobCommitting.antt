@@ -106,7 +106,7 @@ module _ (w : Script) (s : Scene) (there : HasBucket s.content w.dest.bucket) wh
   fits_heard p under (Deleting q qs) h x e = fits_deleting w (drop 1000 (q ∷ qs)) (λ k i. h k (dropped_in 1000 (q ∷ qs) k i))
 
 -- what is not below the destination's magic directory is not below the job's
-no_magic : (w : Script) (k : List ℕ) → is_no_magic w k ≡ true → begins (magic_prefix w.dest.key w.job) k ≡ false
+pub no_magic : (w : Script) (k : List ℕ) → is_no_magic w k ≡ true → begins (magic_prefix w.dest.key w.job) k ≡ false
 no_magic w k h = elim (true_or_false (begins (magic_prefix w.dest.key w.job) k)) [
   | inr no_so ↦ no_so
   | inl yes_so ↦
@@ -124,7 +124,7 @@ pub dest_below : {w : Script} → IsLegal w → (q : List ℕ) → begins (dest_
 dest_below {w = w} j q = ap (begins (dest_prefix w)) (paths_below w.dest.key q (some_dest j)) ∙ begins_behind w.dest.key (codes "/") (47 ∷ q)
 
 -- a replace mode deletes below such prefixes
-replaced_under : {w : Script} → IsLegal w → (c : Committer) (m : Mode) (picks : Picks) → AllUnder (dest_prefix w) (replaced c m w picks)
+pub replaced_under : {w : Script} → IsLegal w → (c : Committer) (m : Mode) (picks : Picks) → AllUnder (dest_prefix w) (replaced c m w picks)
 replaced_under {w = w} j Directory Replace picks = λ q i. elim i [ inl is ↦ ap (begins (dest_prefix w)) is ∙ begins_self (dest_prefix w) | inr none ↦ absurd none ]
 replaced_under {w = w} j Partitioned Replace picks = λ q i. let o = in_map (partition_prefix w) q (partitions (wanted_paths w picks)) i in ap (begins (dest_prefix w)) o.2 ∙ dest_below j (o.0 ++ codes "/")
 replaced_under j Magic m picks = λ q i. absurd i

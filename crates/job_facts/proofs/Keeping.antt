@@ -1,13 +1,8 @@
 -- What holds of a run's stand is kept by every step of the run.
-use Rattle.std.proofs.Common.{◌≡◌, ℕ, zero, suc, ◌+◌, ◌<◌, ◌≤◌, ◌⊎◌, inl, inr, ◌&&◌, ◌||◌, Bool, true, false, cond, List, [], ◌∷◌, ◌++◌, length, take, Option, Some, None, refl, sym, ap, subst, ◌∙◌, arith}
-use Rattle.std.specs.FinMap as fin
-use Rattle.std.specs.Option.{option_map, is_some}
-use Rattle.std.proofs.lemmas.Bool.{and_parts, or_parts, false≢true}
-use Rattle.s3_types.specs.Store.{Content, Scene, Upload}
+use Rattle.std.proofs.Common.{◌≡◌, ℕ, ◌<◌, ◌≤◌, inl, inr, ◌&&◌, Bool, true, false, List, [], ◌∷◌, Option, Some, None, refl, sym, ap, subst, ◌∙◌, arith}
+use Rattle.std.specs.Option.{is_some}
+use Rattle.s3_types.specs.Store.{Content}
 use Rattle.s3_types.specs.Pages.{begins}
-use Rattle.s3_types.specs.Answer.{answer, apply}
-use Rattle.s3_types.specs.Moment.{effect, is_effective, IsHonestOutcome}
-use Rattle.s3_types.specs.declared.object.Object.{Object}
 use Rattle.s3_types.specs.declared.request.Request.{Request}
 use Rattle.s3_types.specs.declared.journal.Outcome.{Outcome}
 use Rattle.s3_types.specs.declared.journal.Outcome.TheVariants.{Answered, Slow, RequestLost, ReplyLost}
@@ -16,33 +11,33 @@ use Rattle.path_keys.specs.Paths.{below}
 use Rattle.magic_paths.specs.Layout.{magic_prefix, success_key}
 use Rattle.magic_paths.specs.Places.{SuccessPlace}
 use Rattle.magic_paths.proofs.Tails.{key_magic}
-use Rattle.sendings.specs.Retries.{Retried, fresh, step}
 use Rattle.job_model.specs.Attempts.{Who}
 use Rattle.job_model.specs.Legal.{IsLegal}
 use Rattle.job_model.specs.JobScript.{Script}
-use Rattle.job_model.specs.Known.{Known}
 use Rattle.job_model.specs.declared.ends.CommitEnd.{CommitEnd}
 use Rattle.job_model.specs.declared.ends.CommitEnd.TheVariants as commits
 use Rattle.job_model.specs.declared.ends.Stage.TheVariants as stages
-use Rattle.job_operations.specs.Outputs.{Picks, wanted_at}
+use Rattle.job_operations.specs.Outputs.{Picks}
 use Rattle.job_operations.specs.Knowledge.{learn}
 use Rattle.job_operations.specs.View.{view, is_file_path}
-use Rattle.job_operations.specs.JobCommits.{Commit, Fetching, Replacing, Completing, Marking, Reverting, CommitOver, commit_start}
+use Rattle.job_operations.specs.JobCommits.{picks_of, is_no_magic, Commit, Fetching, Replacing, Completing, Marking, Reverting, CommitOver, commit_start}
 use Rattle.job_operations.specs.Operations.{Setting, Operation, TheSetup, TheWrite, TheTaskCommit, TheTaskAbort, TheCommit, TheClean, asks}
 use Rattle.job_operations.proofs.LaneTables.{tabled_start}
 use Rattle.job_promise.specs.Headline.{Same, Between, Whole, Kept}
-use Rattle.job_promise.specs.Seen.{Seen, see, see_by, is_marked}
+use Rattle.job_promise.specs.Seen.{Seen, see, is_marked}
 use Rattle.request_frame.specs.Held.{HasBucket}
-use Rattle.request_frame.proofs.Members.{some_is, none_some, false_true, true_or_false}
-use Rattle.job_facts.specs.Told.{Told, known, put_who, entry, tell_attempt}
+use Rattle.request_frame.proofs.Members.{false_true, true_or_false}
+use Rattle.job_facts.specs.Told.{Told, known, entry, tell_attempt}
 use Rattle.job_facts.specs.Stores.{at_key}
-use Rattle.job_facts.specs.Facts.{IsAttempt, Facts, Hold}
+use Rattle.job_facts.specs.Facts.{Hold}
 use Rattle.job_facts.specs.Fits.{Fits, FitsWrite, FitsCommit, FitsAbort}
-use Rattle.job_facts.specs.Driver.{FitsClean}
-use Rattle.job_facts.specs.Turning.{NoneEnded, Turns}
-use Rattle.job_facts.specs.Filed.{Gone, FileStands}
-use Rattle.job_facts.specs.RunLaws.{replaces}
-use Rattle.job_facts.proofs.Whose.{same_or_another, who_here, who_other}
+use Rattle.job_facts.specs.Turning.{Turns}
+use Rattle.job_facts.specs.Filed.{FileStands}
+use Rattle.job_facts.specs.Emptying.{OnlyThose, EmptiesBy}
+use Rattle.job_operations.specs.Walks.{Sweep, Listing, Deleting}
+use Rattle.job_facts.proofs.JobCommitting.{no_magic, replaced_under}
+use Rattle.job_facts.proofs.Replacing.{empty_fetching, others_fetching}
+use Rattle.job_facts.proofs.Whose.{who_other}
 use Rattle.job_facts.proofs.Legal.{some_dest}
 use Rattle.job_facts.proofs.Shows.{shown_key, HidesAll, hidden_shows}
 use Rattle.job_facts.proofs.Beside.{beside, job_commit_begins}
@@ -50,7 +45,7 @@ use Rattle.job_facts.proofs.Turning.{turns_start}
 use Rattle.job_facts.proofs.Deciding.{d_start}
 use Rattle.job_facts.proofs.FilingLaws.{decides_beside, files_begin}
 use Rattle.job_facts.proofs.Agreeing.{Agrees, agrees_start}
-use Rattle.job_facts.proofs.Running.{first_at, now_at, Untouched, MarkSays, MarkLeft, Marks, Files, InCommit, Idle, At, false_marks, wants_of, untouched_shows}
+use Rattle.job_facts.proofs.Running.{first_at, now_at, Untouched, MarkSays, MarkLeft, Marks, Files, OtherStands, Empty, InCommit, Idle, At, false_marks, wants_of}
 use Rattle.job_facts.proofs.Steps.{hidden_same}
 
 -- ---- what is quiet
@@ -115,8 +110,24 @@ module _ (g : Setting) (j : IsLegal g.script) (opening : Content) (s u : Seen) (
   files_still : (ended : ℕ → Bool) (es : List Entry) (d : Commit) → Files g opening s.scene.content s.picks ended es d → Files g opening u.scene.content s.picks ended es d
   files_still ended es d f = record {
     wanted = λ p e b h. subst (λ x. FileStands w p b (first_at g opening p) es x ended d) (sym (file_same p e)) (f.wanted p e b h);
-    others = λ p e h. file_same p e ∙ f.others p e h;
+    others = λ p e h. subst (λ x. OtherStands g opening s.picks p x d) (sym (file_same p e)) (f.others p e h);
   }
+
+  -- what is outside the magic directory
+  only_still : (prefix : List ℕ) (keys : List (List ℕ)) → OnlyThose w prefix (is_no_magic w) s.scene.content keys → OnlyThose w prefix (is_no_magic w) u.scene.content keys
+  only_still prefix keys h k x b go e = h k x b go (sym (q.keys k (no_magic w k go)) ∙ e)
+
+  sweep_still : (prefix : List ℕ) (t : Sweep) → EmptiesBy w prefix (is_no_magic w) s.scene.content t → EmptiesBy w prefix (is_no_magic w) u.scene.content t
+  sweep_still prefix (Listing keys) h = λ k x b go e. h k x b go (sym (q.keys k (no_magic w k go)) ∙ e)
+  sweep_still prefix (Deleting k ks) h = only_still prefix (k ∷ ks) h
+
+  empty_still : (d : Commit) → Empty g opening s.scene.content d → Empty g opening u.scene.content d
+  empty_still (Fetching sets n) h = tt
+  empty_still (Replacing sets x xs t n) h = record { behind = h.behind; parts = h.parts; clear = λ k i. only_still k [] (h.clear k i); under = h.under; sweeps = sweep_still x t h.sweeps }
+  empty_still (Completing sets x xs finished) h = tt
+  empty_still (Marking sets n) h = tt
+  empty_still (Reverting r rs n) h = tt
+  empty_still (CommitOver end) h = tt
 
 -- what a reader is shown goes on so, where nothing that is shown changes
 pub kept_next : (g : Setting) (opening : Content) (s u : Seen) → Same (view g.script.dest u.scene.content) (view g.script.dest s.scene.content) → at_key g.script u.scene.content (success_key g.script.dest.key) ≡ at_key g.script s.scene.content (success_key g.script.dest.key)
@@ -171,6 +182,7 @@ module _ (g : Setting) (j : IsLegal g.script) (opening : Content) (k : Option �
         agrees = i.agrees;
         marks = subst (λ b. Marks g opening next.scene.content s.picks b c) (sym quiet.mark) (marks_still g j opening s next quiet s.picks s.put_mark c i.marks);
         early = λ e. untouched_still g j opening s next quiet (i.early (sym quiet.begun ∙ e));
+        empty = empty_still g j opening s next quiet c i.empty;
         files = files_still g j opening s next quiet m.ended es c i.files;
       })
     where
@@ -231,10 +243,10 @@ module _ (g : Setting) (j : IsLegal g.script) (opening : Content) (k : Option �
 
 -- ---- the commit as it begins
 
-pub commit_starts : (g : Setting) → IsLegal g.script → replaces g.script ≡ false → (opening : Content) (s : Seen) (m : Told) → Hold g.script g.minimum s m → Idle g opening s m → (missing : Option ℕ)
+pub commit_starts : (g : Setting) → IsLegal g.script → (opening : Content) (s : Seen) (m : Told) → Hold g.script g.minimum s m → Idle g opening s m → (missing : Option ℕ)
     → InCommit g opening s.scene.content s.picks s.put_mark s.begun m [] (commit_start g.script missing)
-commit_starts g j plain opening s m h i missing =
-    let agrees = agrees_start g.script s.picks plain missing in
+commit_starts g j opening s m h i missing =
+    let agrees = agrees_start g.script s.picks missing in
     record {
       fits = job_commit_begins g.script g.minimum j m missing;
       tabled = tabled_start g.script missing (some_lane j.one_lane);
@@ -244,11 +256,20 @@ commit_starts g j plain opening s m h i missing =
       agrees = agrees;
       marks = false_marks g opening s.scene.content s.picks s.put_mark i.unmarked (commit_start g.script missing);
       early = λ e. i.untouched;
+      empty = empty_start missing;
       files = record {
         wanted = λ q p b e. files_begin g.script g.minimum j s m h i.none q b (first_at g opening q) (now_at g opening s.scene.content q) (i.untouched q p) missing (wants_of g opening s.picks q b e (commit_start g.script missing) agrees);
-        others = λ q p e. i.untouched q p;
+        others = λ q p e. others_start q p missing agrees;
       };
     }
   where
     some_lane : {a : ℕ} → 1 ≤ a → 0 < a
     some_lane y = omega arith
+
+    empty_start : (missing : Option ℕ) → Empty g opening s.scene.content (commit_start g.script missing)
+    empty_start None = empty_fetching g j opening s.scene.content [] (replaced_under j g.script.committer g.script.mode (picks_of []))
+    empty_start (Some t) = tt
+
+    others_start : (q : List ℕ) → is_file_path q ≡ true → (missing : Option ℕ) → Agrees g.script s.picks (commit_start g.script missing) → OtherStands g opening s.picks q (now_at g opening s.scene.content q) (commit_start g.script missing)
+    others_start q p None a = others_fetching g j opening s.picks q p s.scene.content (i.untouched q p) [] a
+    others_start q p (Some t) a = i.untouched q p

@@ -50,6 +50,7 @@ pub mod FilingLaws
 pub mod FilePaths
 pub mod Agreeing
 pub mod Running
+pub mod Replacing
 pub mod Reading
 pub mod Steps
 pub mod Keeping

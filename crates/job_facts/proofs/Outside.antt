@@ -1,17 +1,15 @@
 -- What a request below the destination leaves outside it.
-use Rattle.std.proofs.Common.{◌≡◌, ℕ, ◌<◌, ◌⊎◌, inl, inr, nat_lt, ◌&&◌, Bool, true, false, cond, List, [], ◌∷◌, ◌++◌, length, Option, Some, None, Result, Ok, Err, refl, sym, ap, subst, ◌∙◌, arith}
+use Rattle.std.proofs.Common.{◌≡◌, ℕ, ◌<◌, inl, inr, ◌&&◌, Bool, true, false, cond, List, [], ◌∷◌, Option, Some, None, refl, sym, ap, subst, ◌∙◌, arith}
 use Rattle.std.specs.FinMap as fin
-use Rattle.std.proofs.lemmas.Bool.{false≢true}
 use Rattle.proof_base.specs.Order.{text_eq}
 use Rattle.s3_types.specs.Store.{BucketContent, Content, Scene, Upload}
 use Rattle.s3_types.specs.Pages.{begins}
-use Rattle.s3_types.specs.Multipart.{live, is_part_number, with_part, joined}
-use Rattle.s3_types.specs.Answer.{apply, apply_store, apply_at, bucket_of, completed}
+use Rattle.s3_types.specs.Multipart.{is_part_number, with_part}
+use Rattle.s3_types.specs.Answer.{apply, apply_at, bucket_of}
 use Rattle.s3_types.specs.Moment.{effect}
 use Rattle.s3_types.specs.declared.request.Request.{Request}
 use Rattle.s3_types.specs.declared.request.NamedPart.{NamedPart}
 use Rattle.s3_types.specs.declared.request.Request.TheVariants.{MakeBucket, PutObject, GetObject, HeadObject, DeleteObject, DeleteObjects, CopyObject, ListPage, CreateUpload, UploadPart, CompleteUpload, AbortUpload, ListParts, ListUploads, ClusterPut, ClusterRename, ClusterGet, ClusterDelete, ClusterList}
-use Rattle.s3_types.specs.declared.reply.Refusal.{Refusal}
 use Rattle.s3_types.specs.declared.journal.Outcome.{Outcome}
 use Rattle.s3_types.specs.declared.journal.Outcome.TheVariants.{Answered, Slow, RequestLost, ReplyLost}
 use Rattle.job_model.specs.JobScript.{Script}
@@ -20,12 +18,12 @@ use Rattle.job_promise.specs.Scope.{SameOutsideUpload, SameOutside}
 use Rattle.job_promise.specs.Entries.{is_copy}
 use Rattle.request_frame.specs.Members.{IsIn}
 use Rattle.request_frame.specs.Held.{HasBucket}
-use Rattle.request_frame.specs.Frame.{changed_keys, changed_upload}
-use Rattle.request_frame.proofs.Members.{none_some, some_is, false_true, same_or_not, same_or_other, text_is, text_true, text_other}
+use Rattle.request_frame.specs.Frame.{changed_keys}
+use Rattle.request_frame.proofs.Members.{false_true, same_or_not, text_is, text_true, text_other}
 use Rattle.request_frame.proofs.Framed.{frame}
 use Rattle.request_frame.proofs.Reading.{reads_nothing}
 use Rattle.job_facts.specs.Stores.{at_key, at_id, part_left, end_left}
-use Rattle.job_facts.specs.Within.{IsBelow, IsWithin}
+use Rattle.job_facts.specs.Within.{IsWithin}
 use Rattle.job_facts.proofs.Shapes.{puts, draws, part_turns, abort_turns}
 use Rattle.job_facts.proofs.Undone.{deletes_drop}
 use Rattle.job_facts.proofs.Ended.{completed_uploads}

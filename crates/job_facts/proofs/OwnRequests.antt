@@ -1,14 +1,13 @@
 -- The requests of the job's actors: below the destination, and none but the driver's commit's changes what a reader is shown.
-use Rattle.std.proofs.Common.{◌≡◌, ℕ, ◌⊎◌, inl, inr, true, false, List, [], ◌∷◌, ◌++◌, take, length, Option, Some, None, refl, sym, ap, subst, ◌∙◌, codes}
-use Rattle.s3_types.specs.Store.{Content, Scene}
+use Rattle.std.proofs.Common.{◌≡◌, ℕ, ◌⊎◌, inl, inr, true, false, List, ◌∷◌, ◌++◌, take, length, Option, Some, None, refl, sym, ap, subst, ◌∙◌, codes}
+use Rattle.s3_types.specs.Store.{Scene}
 use Rattle.s3_types.specs.Pages.{begins}
 use Rattle.s3_types.specs.Answer.{apply}
 use Rattle.s3_types.specs.Moment.{effect, is_effective}
 use Rattle.s3_types.specs.Requests.{only_reads}
-use Rattle.s3_types.specs.declared.request.Actor.{Actor}
 use Rattle.s3_types.specs.declared.request.Actor.TheVariants.{Driver}
 use Rattle.s3_types.specs.declared.request.Request.{Request}
-use Rattle.s3_types.specs.declared.request.Request.TheVariants.{PutObject, DeleteObject, DeleteObjects}
+use Rattle.s3_types.specs.declared.request.Request.TheVariants.{PutObject, DeleteObjects}
 use Rattle.s3_types.specs.declared.request.Committer.{Committer}
 use Rattle.s3_types.specs.declared.request.Committer.TheVariants.{Magic, Directory, Partitioned}
 use Rattle.s3_types.specs.declared.journal.Outcome.{Outcome}
@@ -16,22 +15,21 @@ use Rattle.s3_types.specs.declared.journal.Outcome.TheVariants.{Answered, Slow, 
 use Rattle.magic_paths.specs.Layout.{magic_prefix, success_key}
 use Rattle.magic_paths.proofs.Tails.{begins_behind}
 use Rattle.pending_json.specs.Pending.{Pending}
-use Rattle.job_model.specs.Attempts.{Who, actor_of}
+use Rattle.job_model.specs.Attempts.{Who}
 use Rattle.job_model.specs.Files.{File}
 use Rattle.job_model.specs.Legal.{IsLegal}
 use Rattle.job_model.specs.JobScript.{Script}
-use Rattle.job_model.specs.Known.{Drawn, Known}
-use Rattle.job_operations.specs.Records.{file_key}
+use Rattle.job_model.specs.Known.{Known}
 use Rattle.job_operations.specs.Setup.{dest_prefix, Setup, Heading, Checking, Clearing, Sweeping, SetupOver, setup_asks}
 use Rattle.job_operations.specs.Uploading.{Uploading, Creating, Sending, upload_asks}
-use Rattle.job_operations.specs.Walks.{Sweep, Listing, Deleting, page_after}
+use Rattle.job_operations.specs.Walks.{Listing, Deleting, page_after}
 use Rattle.job_operations.specs.Writes.{Write, Marking, Recording, WriteOver, write_asks}
 use Rattle.job_operations.specs.Writes as writes
 use Rattle.job_operations.specs.TaskCommits.{TaskCommit, Looking, Reading, Publishing, Storing, Renaming, TaskCommitOver, task_commit_asks}
 use Rattle.job_operations.specs.TaskCommits as tasks
 use Rattle.job_operations.specs.TaskAborts.{TaskAbort, Dropping, TaskAbortOver, task_abort_asks}
 use Rattle.job_operations.specs.TaskAborts as aborts
-use Rattle.job_operations.specs.Lanes.{nth, completion, abort, deletion}
+use Rattle.job_operations.specs.Lanes.{nth, abort}
 use Rattle.job_operations.specs.JobCommits.{Sets, all_commits, Commit, Fetching, Replacing, Completing, Reverting, CommitOver, set_request, commit_asks}
 use Rattle.job_operations.specs.JobCommits as commits
 use Rattle.job_operations.specs.Cleanups.{Clean, Walking, Aborting, Naming, Removing, CleanOver, clean_asks}
@@ -42,8 +40,6 @@ use Rattle.job_promise.specs.Entries.{IsZeroRename, is_copy, sends_data, may_sho
 use Rattle.job_promise.specs.Scope.{SameOutside}
 use Rattle.job_promise.specs.Headline.{Same}
 use Rattle.job_promise.specs.Seen.{Seen}
-use Rattle.request_frame.specs.Members.{IsIn}
-use Rattle.request_frame.specs.Held.{HasBucket}
 use Rattle.request_frame.proofs.Members.{some_is}
 use Rattle.request_frame.proofs.Framed.{frame}
 use Rattle.request_frame.proofs.Reading.{reads_nothing}
@@ -57,14 +53,13 @@ use Rattle.job_facts.specs.Filed.{IsCommit, Decides}
 use Rattle.job_operations.specs.LaneTable.{Tabled}
 use Rattle.job_facts.specs.FiledLaws.{Commits}
 use Rattle.job_facts.specs.Within.{IsWithin}
-use Rattle.job_facts.proofs.Shows.{HidesAll, hidden_shows}
+use Rattle.job_facts.proofs.Shows.{hidden_shows}
 use Rattle.job_facts.proofs.SettingUp.{setup_alone, view_but}
 use Rattle.job_facts.proofs.Aborting.{taken_in}
 use Rattle.job_facts.proofs.Owning.{operation_own}
 use Rattle.job_facts.proofs.Cleaning.{clean_hides}
 use Rattle.job_facts.proofs.JobCommitting.{begins_through, dest_below}
 use Rattle.job_facts.proofs.Held.{nth_of, of_sets}
-use Rattle.job_facts.proofs.Emptying.{reads_same}
 use Rattle.job_facts.proofs.Outside.{idle, delete_leaves, batch_leaves, within_outside, within_uncopied}
 
 -- ---- keys below the destination

@@ -1,10 +1,10 @@
 -- In a run, until the driver cleans up, an attempt's commit that is done has published its own set.
-use Rattle.std.proofs.Common.{◌≡◌, ℕ, zero, suc, ◌<◌, ◌≤◌, ◌⊎◌, inl, inr, ◌||◌, Bool, true, false, List, [], ◌∷◌, ◌++◌, length, slice_get, Option, Some, None, refl, sym, ap, subst, ◌∙◌, arith}
-use Rattle.std.proofs.lemmas.Bool.{or_parts, false≢true}
+use Rattle.std.proofs.Common.{◌≡◌, ℕ, ◌<◌, inl, inr, Bool, true, false, List, [], ◌∷◌, ◌++◌, length, slice_get, Option, Some, refl, sym, ap, subst, ◌∙◌, arith}
+use Rattle.std.proofs.lemmas.Bool.{false≢true}
 use Rattle.std.proofs.lemmas.Option.{slice_get_within}
-use Rattle.s3_types.specs.Store.{Content, Scene}
+use Rattle.s3_types.specs.Store.{Content}
 use Rattle.s3_types.specs.Answer.{answer}
-use Rattle.s3_types.specs.Moment.{is_effective, moment, IsHonestOutcome}
+use Rattle.s3_types.specs.Moment.{is_effective, IsHonestOutcome}
 use Rattle.s3_types.specs.declared.request.Actor.TheVariants.{Driver}
 use Rattle.s3_types.specs.declared.request.Request.{Request}
 use Rattle.s3_types.specs.declared.journal.Outcome.{Outcome}
@@ -15,32 +15,29 @@ use Rattle.job_model.specs.Legal.{IsLegal}
 use Rattle.job_model.specs.JobScript.{Script}
 use Rattle.job_model.specs.declared.ends.TaskEnd.TheVariants as tasks
 use Rattle.job_operations.specs.Setup.{Setup, setup_asks}
-use Rattle.job_operations.specs.Writes.{WriteOver, write_start}
-use Rattle.job_operations.specs.TaskCommits.{TaskCommit, TaskCommitOver, task_commit_start}
+use Rattle.job_operations.specs.Writes.{write_start}
+use Rattle.job_operations.specs.TaskCommits.{TaskCommitOver, task_commit_start}
 use Rattle.job_operations.specs.TaskAborts.{task_abort_start}
-use Rattle.job_operations.specs.JobCommits.{Commit, commit_start}
+use Rattle.job_operations.specs.JobCommits.{Commit}
 use Rattle.job_operations.specs.Cleanups.{Clean}
 use Rattle.job_operations.specs.Operations.{Setting, Operation, TheSetup, TheWrite, TheTaskCommit, TheTaskAbort, TheCommit, TheClean, who, asks, tells}
-use Rattle.job_promise.specs.Ends.{lists_uploads}
 use Rattle.job_promise.specs.OperationEnds.{WasPublished}
 use Rattle.job_promise.specs.Seen.{Seen, see, is_publishing}
 use Rattle.request_frame.proofs.Members.{some_is, none_some, false_true}
-use Rattle.job_facts.specs.Told.{Told, known, put_who, entry, driver_entry, tell, tell_driver}
-use Rattle.job_facts.specs.Facts.{IsAttempt}
+use Rattle.job_facts.specs.Told.{known, entry, driver_entry}
 use Rattle.job_facts.specs.Fits.{Fits}
 use Rattle.job_facts.specs.Standing.{Closed, Reverts, WriteStands, CommitStandsBy}
-use Rattle.job_facts.specs.Runs.{Stand, Runs, run_begins, setup_begins, commit_begins, clean_begins, driver_sends, write_begins, publish_begins, abort_begins, attempt_sends, IsOpening, is_set, nothing_learnt, with_attempt, with_driver, with_commit, commit_with, saw}
-use Rattle.job_facts.specs.RunLaws.{replaces}
+use Rattle.job_facts.specs.Runs.{Stand, Runs, run_begins, setup_begins, commit_begins, clean_begins, driver_sends, write_begins, publish_begins, abort_begins, attempt_sends, IsOpening, nothing_learnt, with_attempt, with_driver, with_commit, commit_with, saw}
 use Rattle.job_facts.proofs.Whose.{same_or_another, who_here, who_other}
 use Rattle.job_facts.proofs.Closing.{reverts_start, driver_closes, commit_closes, clean_closes, clean_begun, attempt_closes, attempt_reverts}
 use Rattle.job_facts.proofs.JobCommitting.{commit_drives}
 use Rattle.job_facts.proofs.Remaining.{Stood, write_kept, commit_kept_by, other_stood, driver_stood, write_stands, commit_stands}
 use Rattle.job_facts.proofs.Remaining as remaining
-use Rattle.job_facts.proofs.Running.{At, Early, Late}
+use Rattle.job_facts.proofs.Running.{At, Late}
 use Rattle.job_facts.proofs.EveryRun.{good, late, setup_ends}
 use Rattle.job_facts.proofs.Changes.{earlier, slice_in, moment_scene}
 
-module _ (g : Setting) (k : Option ℕ) (opening : Content) (j : IsLegal g.script) (plain : replaces g.script ≡ false) (is_opening : IsOpening g opening) where
+module _ (g : Setting) (k : Option ℕ) (opening : Content) (j : IsLegal g.script) (is_opening : IsOpening g opening) where
   abbrev w : Script
   w = g.script
 
@@ -51,31 +48,36 @@ module _ (g : Setting) (k : Option ℕ) (opening : Content) (j : IsLegal g.scrip
   own_more : (es : List Entry) (e : Entry) (a : Who) → Own es a → Own (es ++ e ∷ []) a
   own_more es e a h =
       let x = h.1 in
-      let low : x.m < length es = slice_get_within es x.m x.entry x.is_entry in
-      (h.0, record {
-        m = x.m;
-        entry = x.entry;
-        is_entry = slice_in g k opening j plain is_opening es e x.m low ∙ x.is_entry;
-        by = x.by;
-        until = x.until;
-        effective = x.effective;
-        publishes = ap (λ s. is_publishing w s a.task x.entry.request) (earlier g k opening j plain is_opening es e x.m (omega (arith, low))) ∙ x.publishes;
-      })
+      let low : x.m < length es = slice_get_within es x.m x.entry x.is_entry in (
+        h.0,
+        record {
+          m = x.m;
+          entry = x.entry;
+          is_entry = slice_in g k opening j is_opening es e x.m low ∙ x.is_entry;
+          by = x.by;
+          until = x.until;
+          effective = x.effective;
+          publishes = ap (λ s. is_publishing w s a.task x.entry.request) (earlier g k opening j is_opening es e x.m (omega (arith, low))) ∙ x.publishes;
+        },
+      )
 
   slice_last : (es : List Entry) (e : Entry) → slice_get (es ++ e ∷ []) (length es) ≡ Some e
   slice_last [] e = refl
   slice_last (x ∷ es) e = slice_last es e
 
   own_new : (es : List Entry) (x : Stand) → Runs g k opening es x → (a : Who) (n : ℕ) (r : Request) (o : Outcome) → is_publishing w x.seen.scene a.task r ≡ true → is_effective o ≡ true → Own (es ++ entry a n r o ∷ []) a
-  own_new es x run a n r o publishes took = (n, record {
-    m = length es;
-    entry = entry a n r o;
-    is_entry = slice_last es (entry a n r o);
-    by = refl;
-    until = omega arith;
-    effective = took;
-    publishes = ap (λ s. is_publishing w s a.task r) (earlier g k opening j plain is_opening es (entry a n r o) (length es) (omega arith) ∙ moment_scene g k opening j plain is_opening es x run) ∙ publishes;
-  })
+  own_new es x run a n r o publishes took = (
+    n,
+    record {
+      m = length es;
+      entry = entry a n r o;
+      is_entry = slice_last es (entry a n r o);
+      by = refl;
+      until = omega arith;
+      effective = took;
+      publishes = ap (λ s. is_publishing w s a.task r) (earlier g k opening j is_opening es (entry a n r o) (length es) (omega arith) ∙ moment_scene g k opening j is_opening es x run) ∙ publishes;
+    },
+  )
 
   abbrev pub StandsBy : Type 0 → Seen → Who → Operation → Type 0
   StandsBy P s a (TheSetup t) = Unit {0}
@@ -105,13 +107,13 @@ module _ (g : Setting) (k : Option ℕ) (opening : Content) (j : IsLegal g.scrip
 
   driver_stands : (es : List Entry) (x : Stand) → Runs g k opening es x → Standing es x → (op : Operation) → x.driver ≡ Some op → (n : ℕ) (r : Request) → asks g (who Driver) nothing_learnt op ≡ Some r → (o : Outcome)
       → Standing (es ++ driver_entry n r o ∷ []) (with_commit (with_driver (saw g k x (driver_entry n r o)) (tells g (who Driver) op o)) (commit_with op x.commit (driver_entry n r o)))
-  driver_stands es x run h op d n r asked o = elim (good g k opening j plain is_opening es x run) [
+  driver_stands es x run h op d n r asked o = elim (good g k opening j is_opening es x run) [
     | inl e ↦ elim e.setup [
       | inl none ↦ absurd (none_some none d)
       | inr y ↦
           let is : TheSetup y.0 ≡ op = some_is (sym y.1 ∙ d) in
           record {
-            closed = driver_closes x.told r o h.closed (λ id z. absurd (false_true (setup_ends g k opening j plain is_opening y.0.operation r (ap (asks g (who Driver) nothing_learnt) is ∙ asked) id) z));
+            closed = driver_closes x.told r o h.closed (λ id z. absurd (false_true (setup_ends g k opening j is_opening y.0.operation r (ap (asks g (who Driver) nothing_learnt) is ∙ asked) id) z));
             reverts = λ c z. absurd (no_setup y.0 op c is z);
             stands = λ c a mine z. absurd (none_some (e.none a) z);
           }
@@ -197,7 +199,7 @@ module _ (g : Setting) (k : Option ℕ) (opening : Content) (j : IsLegal g.scrip
   standing es x (abort_begins fs y a run set d) = begins_stands fs y (standing fs y run) a (TheTaskAbort (fresh w.retries (task_abort_start w (known y.told a)))) (λ c. tt)
   standing es x (attempt_sends fs y a op n r o run set at asked honest) =
       let h = standing fs y run in
-      let l = late g k opening j plain is_opening y (good g k opening j plain is_opening fs y run) set in
+      let l = late g k opening j is_opening y (good g k opening j is_opening fs y run) set in
       let f = l.fine a op at in
       record {
         closed = attempt_closes g y.told a op f.1 r asked o h.closed;

@@ -1,8 +1,6 @@
 -- The picks that are seen as the driver's commit reads the sets.
-use Rattle.std.proofs.Common.{◌≡◌, ℕ, zero, suc, ◌+◌, ◌<◌, ◌≤◌, ◌^◌, ◌⊎◌, inl, inr, ◌&&◌, Bool, true, false, cond, List, [], ◌∷◌, ◌++◌, length, slice_get, Option, Some, None, refl, sym, ap, subst, ◌∙◌, arith, length-append}
+use Rattle.std.proofs.Common.{◌≡◌, ℕ, zero, suc, ◌+◌, ◌<◌, ◌≤◌, ◌^◌, ◌⊎◌, inl, inr, ◌&&◌, Bool, true, false, cond, List, [], ◌∷◌, ◌++◌, length, slice_get, Option, Some, refl, sym, ap, subst, ◌∙◌, arith, length-append}
 use Rattle.std.specs.Option.{option_map}
-use Rattle.std.proofs.lemmas.Bool.{false≢true}
-use Rattle.proof_base.specs.Order.{text_eq}
 use Rattle.s3_types.specs.Store.{Scene}
 use Rattle.s3_types.specs.Answer.{answer}
 use Rattle.s3_types.specs.declared.request.Committer.{Committer}
@@ -15,12 +13,11 @@ use Rattle.job_model.specs.Legal.{IsLegal}
 use Rattle.job_model.specs.JobScript.{Script}
 use Rattle.job_operations.specs.Outputs.{Picks}
 use Rattle.job_operations.specs.Records.{files_set}
-use Rattle.job_operations.specs.JobCommits.{Sets, picks_of, Commit, Fetching, set_request, set_read, fetched}
+use Rattle.job_operations.specs.JobCommits.{Sets, set_request, set_read, fetched}
 use Rattle.job_promise.specs.Seen.{is_magic, is_staging, is_reading, picks_by}
-use Rattle.request_frame.proofs.Members.{false_true, text_true, text_false, same_or_not, some_is}
+use Rattle.request_frame.proofs.Members.{text_true, text_false, same_or_not}
 use Rattle.job_facts.specs.Told.{Told}
 use Rattle.job_facts.specs.Facts.{Facts, knowing}
-use Rattle.job_facts.specs.RunLaws.{replaces}
 use Rattle.job_facts.proofs.Legal.{small_task}
 use Rattle.job_facts.proofs.Placed.{one_place, one_path}
 use Rattle.job_facts.proofs.Replies.{set_answered}
@@ -77,7 +74,7 @@ slice_last : {X : Type 0} (xs : List X) (y : X) → slice_get (xs ++ y ∷ []) (
 slice_last [] y = refl
 slice_last (x ∷ xs) y = slice_last xs y
 
-module _ {w : Script} {minimum : ℕ} {s : Scene} {last : ℕ → Option ℕ} {m : Told} (j : IsLegal w) (plain : replaces w ≡ false) (f : Facts w minimum s last m) (few : s.content.next ≤ 2 ^ 64) (picks : Picks) (sets : Sets) (low : length sets < w.tasks) (agree : AgreeBelow w picks sets (length sets)) (begun : Bool) (has_begun : begun ≡ true) where
+module _ {w : Script} {minimum : ℕ} {s : Scene} {last : ℕ → Option ℕ} {m : Told} (j : IsLegal w) (f : Facts w minimum s last m) (few : s.content.next ≤ 2 ^ 64) (picks : Picks) (sets : Sets) (low : length sets < w.tasks) (agree : AgreeBelow w picks sets (length sets)) (begun : Bool) (has_begun : begun ≡ true) where
   -- the picks after the answer
   abbrev next : Picks
   next = picks_by w begun last picks (set_request w.committer w (length sets))
@@ -127,5 +124,5 @@ module _ {w : Script} {minimum : ℕ} {s : Scene} {last : ℕ → Option ℕ} {m
         let h : PendingSet = files_set w o.by o.commits (knowing (m.drawn o.by)) in
         let is : set_read x ≡ Some h = ap set_read e ∙ there.is_read in
         let long : length (sets ++ h ∷ []) ≡ length sets + 1 = length-append sets (h ∷ []) in
-        subst (λ y. Agrees w next (fetched w sets y)) (sym is) (agrees_fetching w next plain (sets ++ h ∷ []) (omega (arith, long, low)) (one_more h o.latest))
+        subst (λ y. Agrees w next (fetched w sets y)) (sym is) (agrees_fetching w next (sets ++ h ∷ []) (omega (arith, long, low)) (one_more h o.latest))
   ]

@@ -1,23 +1,18 @@
 -- What holds of a run's stand: before its set-up is done, while its commit goes on, and while it cleans up.
-use Rattle.std.proofs.Common.{◌≡◌, ℕ, ◌<◌, ◌≤◌, ◌⊎◌, inl, inr, ◌&&◌, ◌||◌, not, Bool, true, false, cond, List, [], ◌∷◌, Option, Some, None, refl, sym, ap, subst, ◌∙◌}
+use Rattle.std.proofs.Common.{◌≡◌, ℕ, ◌<◌, ◌⊎◌, inl, inr, not, Bool, true, false, cond, List, [], ◌∷◌, ◌++◌, Option, Some, None, refl, sym, ap, subst, ◌∙◌}
 use Rattle.std.specs.FinMap as fin
-use Rattle.std.specs.Option.{option_map, is_some}
+use Rattle.std.specs.Option.{option_map}
 use Rattle.std.specs.Map.{lookup}
 use Rattle.proof_base.specs.Order.{text_eq}
 use Rattle.std.proofs.lemmas.Bool.{and_parts, not-true}
-use Rattle.s3_types.specs.Store.{Content, Scene, Upload}
-use Rattle.s3_types.specs.Pages.{begins}
-use Rattle.s3_types.specs.Moment.{effect}
+use Rattle.s3_types.specs.Store.{Content, Upload}
 use Rattle.s3_types.specs.declared.object.Object.{Object}
-use Rattle.s3_types.specs.declared.request.Request.{Request}
-use Rattle.s3_types.specs.declared.journal.Outcome.{Outcome}
-use Rattle.s3_types.specs.declared.journal.Outcome.TheVariants.{Answered, Slow, RequestLost, ReplyLost}
 use Rattle.s3_types.specs.declared.journal.Entry.{Entry}
 use Rattle.path_keys.specs.Paths.{below}
-use Rattle.magic_paths.specs.Layout.{magic_prefix, success_key}
-use Rattle.magic_paths.specs.Places.{SuccessPlace}
-use Rattle.magic_paths.proofs.Tails.{key_magic}
+use Rattle.magic_paths.specs.Layout.{success_key}
 use Rattle.sendings.specs.Retries.{Retried}
+use Rattle.job_operations.specs.Walks.{Sweep}
+use Rattle.request_frame.specs.Members.{IsIn}
 use Rattle.job_model.specs.Attempts.{Who}
 use Rattle.job_model.specs.Legal.{IsLegal}
 use Rattle.job_model.specs.JobScript.{Script}
@@ -29,30 +24,24 @@ use Rattle.job_operations.specs.Outputs.{Picks, wanted_at, is_decided, is_picked
 use Rattle.job_operations.specs.Conflicts.{keeps_of}
 use Rattle.job_operations.specs.Records.{mark_text}
 use Rattle.job_operations.specs.Setup.{Setup, SetupOver}
-use Rattle.job_operations.specs.View.{Shown, view, is_file_path, object_at}
-use Rattle.job_operations.specs.JobCommits.{Sets, picks_of, Commit, Fetching, Replacing, Completing, Marking, Reverting, CommitOver}
+use Rattle.job_operations.specs.View.{view, is_file_path}
+use Rattle.job_operations.specs.JobCommits.{Sets, picks_of, is_no_magic, replaced, Commit, Fetching, Replacing, Completing, Marking, Reverting, CommitOver}
 use Rattle.job_operations.specs.LaneTable.{Tabled}
 use Rattle.job_operations.specs.Operations.{Setting, Operation, TheSetup, TheWrite, TheTaskCommit, TheTaskAbort, TheCommit, TheClean}
 use Rattle.job_promise.specs.Headline.{Same, Between, Whole, Kept, or_else, done}
 use Rattle.job_promise.specs.OperationEnds.{is_untouched, NoDeletionWorn, OnlyOpening}
 use Rattle.job_promise.specs.Seen.{Seen, is_marked}
-use Rattle.request_frame.specs.Held.{HasBucket}
-use Rattle.request_frame.proofs.Members.{some_is, none_some, false_true, true_or_false, none_or_some}
-use Rattle.request_frame.proofs.Framed.{frame}
+use Rattle.request_frame.proofs.Members.{none_some, false_true, true_or_false}
 use Rattle.job_facts.specs.Told.{Told, known, nothing_told}
 use Rattle.job_facts.specs.Stores.{at_key, at_id}
-use Rattle.job_facts.specs.Facts.{IsAttempt, Facts, Hold}
+use Rattle.job_facts.specs.Facts.{IsAttempt, Hold}
 use Rattle.job_facts.specs.Fits.{Fits}
-use Rattle.job_facts.specs.Emptying.{SetsUp}
-use Rattle.job_facts.specs.Driver.{Reads, FitsClean, FitsJobCommit}
+use Rattle.job_facts.specs.Emptying.{OnlyThose, EmptiesBy, SetsUp}
+use Rattle.job_facts.specs.Driver.{SweepsUnder, FitsClean, FitsJobCommit}
 use Rattle.job_facts.specs.Turning.{NoneEnded, Turns}
 use Rattle.job_facts.specs.Filed.{Gone, Decides, Wants, IsBefore, whole_of, FileStands, FileLeft}
-use Rattle.job_facts.specs.FiledLaws.{Commits}
 use Rattle.job_facts.specs.Runs.{Stand}
-use Rattle.job_facts.specs.RunLaws.{replaces}
-use Rattle.job_facts.proofs.Legal.{some_dest}
-use Rattle.job_facts.proofs.Shows.{shown_key, HidesAll}
-use Rattle.job_facts.proofs.Agreeing.{AgreeBelow, Agrees, keeps_all, picks_decided, decided_so}
+use Rattle.job_facts.proofs.Agreeing.{AgreeBelow, Agrees, decided_so}
 use Rattle.job_facts.proofs.Wanted.{same_wanted, wanted_of}
 use Rattle.job_facts.proofs.FilePaths.{file_path}
 use Rattle.job_facts.proofs.Filing.{wanted_upload}
@@ -110,16 +99,55 @@ module _ (g : Setting) (opening : Content) where
   -- what the picks want the commit wants
   pub wants_of : (p : Picks) (q b : List ℕ) → wanted_at w p q ≡ Some b → (d : Commit) → Agrees w p d → Wants w q b d
   wants_of p q b e (Fetching sets x) a = tt
-  wants_of p q b e (Replacing sets o os x z) a = absurd a
+  wants_of p q b e (Replacing sets o os x z) a = ap (λ l. lookup (text_eq q) l) (sym (same_wanted w (picks_of sets) p a)) ∙ e
   wants_of p q b e (Completing sets x xs finished) a = ap (λ l. lookup (text_eq q) l) (sym (same_wanted w (picks_of sets) p a)) ∙ e
   wants_of p q b e (Marking sets x) a = ap (λ l. lookup (text_eq q) l) (sym (same_wanted w (picks_of sets) p a)) ∙ e
   wants_of p q b e (Reverting z zs x) a = tt
   wants_of p q b e (CommitOver end) a = tt
 
-  -- what is wanted stands as the commit says, and what is not wanted as at the opening
+  -- what is not wanted stands as at the opening where the mode keeps it, and else not
+  abbrev pub Cleared : Picks → List ℕ → Option Object → Type 0
+  Cleared picks q now = now ≡ cond (keeps_of w picks q) (first_at q) None
+
+  -- until all is deleted that is not kept, it may stand still
+  abbrev pub Clearing : Picks → List ℕ → Option Object → Type 0
+  Clearing picks q now = (now ≡ first_at q) ⊎ ((now ≡ None) × (keeps_of w picks q ≡ false))
+
+  abbrev pub OtherLeft : Picks → List ℕ → Option Object → CommitEnd → Type 0
+  OtherLeft picks q now commits.Committed = Cleared picks q now
+  OtherLeft picks q now (commits.StoreFault stages.Success) = Cleared picks q now
+  OtherLeft picks q now (commits.StoreFault stages.Complete) = Cleared picks q now
+  OtherLeft picks q now (commits.StoreFault stages.Delete) = Clearing picks q now
+  OtherLeft picks q now _ = now ≡ first_at q
+
+  abbrev pub OtherStands : Picks → List ℕ → Option Object → Commit → Type 0
+  OtherStands picks q now (Fetching sets n) = now ≡ first_at q
+  OtherStands picks q now (Replacing sets p ps s n) = Clearing picks q now
+  OtherStands picks q now (Completing sets x xs finished) = Cleared picks q now
+  OtherStands picks q now (Marking sets n) = Cleared picks q now
+  OtherStands picks q now (Reverting r rs n) = Cleared picks q now
+  OtherStands picks q now (CommitOver end) = OtherLeft picks q now end
+
+  -- what is wanted stands as the commit says, and so does what is not
   pub record Files (c : Content) (picks : Picks) (ended : ℕ → Bool) (es : List Entry) (op : Commit) : Type 0 where
     pub wanted : (q : List ℕ) → is_file_path q ≡ true → (b : List ℕ) → wanted_at w picks q ≡ Some b → FileStands w q b (first_at q) es (now_at c q) ended op
-    pub others : (q : List ℕ) → is_file_path q ≡ true → wanted_at w picks q ≡ None → now_at c q ≡ first_at q
+    pub others : (q : List ℕ) → is_file_path q ≡ true → wanted_at w picks q ≡ None → OtherStands picks q (now_at c q) op
+
+  -- how far a replace mode has come: below the prefixes behind it nothing is left that is to go
+  pub record Emptying (c : Content) (sets : Sets) (p : List ℕ) (ps : List (List ℕ)) (t : Sweep) : Type 0 where
+    pub behind : List (List ℕ)
+    pub parts : behind ++ (p ∷ ps) ≡ replaced w.committer w.mode w (picks_of sets)
+    pub clear : (d : List ℕ) → IsIn d behind → OnlyThose w d (is_no_magic w) c []
+    pub under : SweepsUnder p t
+    pub sweeps : EmptiesBy w p (is_no_magic w) c t
+
+  abbrev pub Empty : Content → Commit → Type 0
+  Empty c (Fetching sets n) = Unit {0}
+  Empty c (Replacing sets p ps t n) = Emptying c sets p ps t
+  Empty c (Completing sets x xs finished) = Unit {0}
+  Empty c (Marking sets n) = Unit {0}
+  Empty c (Reverting r rs n) = Unit {0}
+  Empty c (CommitOver end) = Unit {0}
 
   -- while the commit goes on, and where it is over
   pub record InCommit (c : Content) (picks : Picks) (put begun : Bool) (m : Told) (es : List Entry) (op : Commit) : Type 0 where
@@ -131,6 +159,7 @@ module _ (g : Setting) (opening : Content) where
     pub agrees : Agrees w picks op
     pub marks : Marks c picks put op
     pub early : begun ≡ false → Untouched c
+    pub empty : Empty c op
     pub files : Files c picks m.ended es op
 
   -- before it begins
@@ -203,7 +232,7 @@ module _ (g : Setting) (opening : Content) where
 
   -- ---- the commit
 
-  module _ (j : IsLegal w) (plain : replaces w ≡ false) (s : Seen) (m : Told) (h : Hold w g.minimum s m) (es : List Entry) (op : Commit) (i : InCommit s.scene.content s.picks s.put_mark s.begun m es op) where
+  module _ (j : IsLegal w) (s : Seen) (m : Told) (h : Hold w g.minimum s m) (es : List Entry) (op : Commit) (i : InCommit s.scene.content s.picks s.put_mark s.begun m es op) where
     abbrev picks : Picks
     picks = s.picks
 
@@ -227,7 +256,7 @@ module _ (g : Setting) (opening : Content) where
     -- each wanted path shows what it showed, nothing, or the whole file
     pub mixed : (q b : List ℕ) → wanted_at w picks q ≡ Some b → (d : Commit) → FitsJobCommit w g.minimum m.publish_sent m.drawn d → Agrees w picks d → FileStands w q b (first_at q) es (now_at c q) m.ended d → Mixed q b
     mixed q b e (Fetching sets n) fits a f = inl (inl f)
-    mixed q b e (Replacing sets p ps x n) fits a f = absurd a
+    mixed q b e (Replacing sets p ps x n) fits a f = inl f
     mixed q b e (Completing sets x xs finished) fits a f =
         let want : wanted_at w (picks_of sets) q ≡ Some b = wants_so sets a q b e in
         let u = wanted_upload j h q b sets fits want in
@@ -255,8 +284,18 @@ module _ (g : Setting) (opening : Content) where
         same commits.Committed b y f = absurd (false_true refl y)
         same commits.NoMemory b y f = absurd (false_true refl y)
 
+        other : (e : CommitEnd) → is_untouched e ≡ true → OtherLeft picks q (now_at c q) e → now_at c q ≡ first_at q
+        other (commits.Missing t) y f = f
+        other (commits.SamePath x t u) y f = f
+        other (commits.StoreFault stages.Read) y f = f
+        other (commits.StoreFault stages.Delete) y f = absurd (false_true refl y)
+        other (commits.StoreFault stages.Complete) y f = absurd (false_true refl y)
+        other (commits.StoreFault stages.Success) y f = absurd (false_true refl y)
+        other commits.Committed y f = absurd (false_true refl y)
+        other commits.NoMemory y f = absurd (false_true refl y)
+
         by : (o : Option (List ℕ)) → wanted_at w picks q ≡ o → now_at c q ≡ first_at q
-        by None y = i.files.others q p y
+        by None y = other end before (subst (OtherStands picks q (now_at c q)) (sym is) (i.files.others q p y))
         by (Some b) y = same end b before (subst (FileStands w q b (first_at q) es (now_at c q) m.ended) (sym is) (i.files.wanted q p b y))
 
     -- before the first completion nothing has changed
@@ -264,9 +303,9 @@ module _ (g : Setting) (opening : Content) where
     still e (Fetching sets n) is = λ q p. by q p (wanted_at w picks q) refl
       where
         by : (q : List ℕ) → is_file_path q ≡ true → (o : Option (List ℕ)) → wanted_at w picks q ≡ o → now_at c q ≡ first_at q
-        by q p None y = i.files.others q p y
+        by q p None y = subst (OtherStands picks q (now_at c q)) (sym is) (i.files.others q p y)
         by q p (Some b) y = subst (FileStands w q b (first_at q) es (now_at c q) m.ended) (sym is) (i.files.wanted q p b y)
-    still e (Replacing sets p ps x n) is = absurd (subst (Agrees w picks) (sym is) i.agrees)
+    still e (Replacing sets p ps x n) is = absurd (false_true e (decided_so w picks sets (subst (Decides w g.minimum m.publish_sent m.drawn) (sym is) i.decides) (subst (Agrees w picks) (sym is) i.agrees)))
     still e (Completing sets x xs finished) is = absurd (false_true e (decided_so w picks sets (subst (Decides w g.minimum m.publish_sent m.drawn) (sym is) i.decides) (subst (Agrees w picks) (sym is) i.agrees)))
     still e (Marking sets n) is = absurd (false_true e (decided_so w picks sets (subst (Decides w g.minimum m.publish_sent m.drawn) (sym is) i.decides) (subst (Agrees w picks) (sym is) i.agrees)))
     still e (Reverting r rs n) is = absurd (false_true e (subst (Agrees w picks) (sym is) i.agrees).0)
@@ -284,8 +323,39 @@ module _ (g : Setting) (opening : Content) where
     abbrev bytes_at : Content → List ℕ → Option (List ℕ)
     bytes_at d q = option_map (λ (o : Object). o.bytes) (now_at d q)
 
+    -- what is not wanted is as before, or not kept and gone
+    cleared_clearing : (q : List ℕ) → Cleared picks q (now_at c q) → Clearing picks q (now_at c q)
+    cleared_clearing q f = elim (true_or_false (keeps_of w picks q)) [
+      | inl keep ↦ inl (f ∙ ap (λ t. cond t (first_at q) None) keep)
+      | inr drop ↦ inr (f ∙ ap (λ t. cond t (first_at q) None) drop, drop)
+    ]
+
+    left_clearing : (q : List ℕ) (end : CommitEnd) → OtherLeft picks q (now_at c q) end → Clearing picks q (now_at c q)
+    left_clearing q commits.Committed f = cleared_clearing q f
+    left_clearing q (commits.StoreFault stages.Success) f = cleared_clearing q f
+    left_clearing q (commits.StoreFault stages.Complete) f = cleared_clearing q f
+    left_clearing q (commits.StoreFault stages.Delete) f = f
+    left_clearing q (commits.StoreFault stages.Read) f = inl f
+    left_clearing q (commits.Missing t) f = inl f
+    left_clearing q (commits.SamePath p t u) f = inl f
+    left_clearing q commits.NoMemory f = inl f
+
+    other_clearing : (q : List ℕ) (d : Commit) → OtherStands picks q (now_at c q) d → Clearing picks q (now_at c q)
+    other_clearing q (Fetching sets n) f = inl f
+    other_clearing q (Replacing sets p ps x n) f = f
+    other_clearing q (Completing sets x xs finished) f = cleared_clearing q f
+    other_clearing q (Marking sets n) f = cleared_clearing q f
+    other_clearing q (Reverting r rs n) f = cleared_clearing q f
+    other_clearing q (CommitOver end) f = left_clearing q end f
+
+    clearing : (q : List ℕ) → is_file_path q ≡ true → wanted_at w picks q ≡ None → Clearing picks q (now_at c q)
+    clearing q p e = other_clearing q op (i.files.others q p e)
+
     only_by : (q b : List ℕ) → is_file_path q ≡ true → bytes_at c q ≡ Some b → (o : Option (List ℕ)) → wanted_at w picks q ≡ o → (bytes_at opening q ≡ Some b) ⊎ (wanted_at w picks q ≡ Some b)
-    only_by q b p y None e = inl (ap (option_map (λ (o : Object). o.bytes)) (sym (i.files.others q p e)) ∙ y)
+    only_by q b p y None e = elim (clearing q p e) [
+      | inl same ↦ inl (ap (option_map (λ (o : Object). o.bytes)) (sym same) ∙ y)
+      | inr none ↦ absurd (none_some (ap (option_map (λ (o : Object). o.bytes)) none.0) y)
+    ]
     only_by q b p y (Some v) e = elim (mixed q v e op i.fits i.agrees (i.files.wanted q p v e)) [
       | inl before ↦ elim before [
         | inl same ↦ inl (ap (option_map (λ (o : Object). o.bytes)) (sym same) ∙ y)
@@ -300,39 +370,59 @@ module _ (g : Setting) (opening : Content) where
       | inl p ↦ elim (only_by q b p (sym (shown_is c q p) ∙ y) (wanted_at w picks q) refl) [ inl e ↦ inl (shown_is opening q p ∙ e) | inr e ↦ inr e ]
     ]
 
-    other_shown : (q : List ℕ) → wanted_at w picks q ≡ None → view w.dest c q ≡ view w.dest opening q
-    other_shown q e = elim (true_or_false (is_file_path q)) [
+    -- where the mode keeps it
+    kept_shown : (q : List ℕ) → wanted_at w picks q ≡ None → keeps_of w picks q ≡ true → view w.dest c q ≡ view w.dest opening q
+    kept_shown q e keep = elim (true_or_false (is_file_path q)) [
       | inr no_path ↦ hidden_is c q no_path ∙ sym (hidden_is opening q no_path)
-      | inl p ↦ shown_is c q p ∙ ap (option_map (λ (o : Object). o.bytes)) (i.files.others q p e) ∙ sym (shown_is opening q p)
+      | inl p ↦ elim (clearing q p e) [
+        | inl same ↦ shown_is c q p ∙ ap (option_map (λ (o : Object). o.bytes)) same ∙ sym (shown_is opening q p)
+        | inr none ↦ absurd (false_true none.1 keep)
+      ]
     ]
 
     between_now : Between w (view w.dest opening) picks (view w.dest c)
     between_now = record {
       untouched = λ e. untouched_shows c (still e op refl);
       only = λ e q b y. only_shown q b y;
-      kept = λ e q b y keep none. other_shown q none ∙ y;
+      kept = λ e q b y keep none. kept_shown q none keep ∙ y;
     }
 
     -- where all wanted files stand
     abbrev AllWhole : Type 0
     AllWhole = (q b : List ℕ) → wanted_at w picks q ≡ Some b → now_at c q ≡ Some (whole_of b)
 
-    all_shown : AllWhole → Same (view w.dest c) (done w picks (view w.dest opening))
-    all_shown whole q = by (wanted_at w picks q) refl
+    abbrev AllCleared : Type 0
+    AllCleared = (q : List ℕ) → is_file_path q ≡ true → wanted_at w picks q ≡ None → Cleared picks q (now_at c q)
+
+    cleared_shown : (q : List ℕ) → is_file_path q ≡ true → Cleared picks q (now_at c q) → view w.dest c q ≡ cond (keeps_of w picks q) (view w.dest opening q) None
+    cleared_shown q p f = elim (true_or_false (keeps_of w picks q)) [
+      | inl keep ↦ shown_is c q p ∙ ap (option_map (λ (o : Object). o.bytes)) (f ∙ ap (λ t. cond t (first_at q) None) keep) ∙ sym (shown_is opening q p) ∙ ap (λ t. cond t (view w.dest opening q) None) (sym keep)
+      | inr drop ↦ shown_is c q p ∙ ap (option_map (λ (o : Object). o.bytes)) (f ∙ ap (λ t. cond t (first_at q) None) drop) ∙ ap (λ t. cond t (view w.dest opening q) None) (sym drop)
+    ]
+
+    all_shown : AllCleared → AllWhole → Same (view w.dest c) (done w picks (view w.dest opening))
+    all_shown clear whole q = by (wanted_at w picks q) refl
       where
+        either_none : (t : Bool) (x : Option (List ℕ)) → x ≡ None → cond t x None ≡ None
+        either_none true x e = e
+        either_none false x e = refl
+
         by : (o : Option (List ℕ)) → wanted_at w picks q ≡ o → view w.dest c q ≡ or_else o (cond (keeps_of w picks q) (view w.dest opening q) None)
         by (Some b) e = shown_is c q (shown_path q b e) ∙ ap (option_map (λ (o : Object). o.bytes)) (whole q b e)
-        by None e = other_shown q e ∙ ap (λ t. cond t (view w.dest opening q) None) (sym (keeps_all w plain picks q))
+        by None e = elim (true_or_false (is_file_path q)) [
+          | inl p ↦ cleared_shown q p (clear q p e)
+          | inr no_path ↦ hidden_is c q no_path ∙ sym (either_none (keeps_of w picks q) (view w.dest opening q) (hidden_is opening q no_path))
+        ]
 
-    whole_now : is_decided w picks ≡ true → MarkSays c picks s.put_mark → AllWhole → is_marked w s ≡ true → Whole w (view w.dest opening) picks c
-    whole_now decided says whole marked =
+    whole_now : is_decided w picks ≡ true → MarkSays c picks s.put_mark → AllCleared → AllWhole → is_marked w s ≡ true → Whole w (view w.dest opening) picks c
+    whole_now decided says clear whole marked =
         let d = and_parts (is_picked w picks) (not (is_clash w picks)) decided in
-        record { picked = d.0; apart = not-true (is_clash w picks) d.1; files = all_shown whole; mark = says (and_parts s.put_mark _ marked).0 }
+        record { picked = d.0; apart = not-true (is_clash w picks) d.1; files = all_shown clear whole; mark = says (and_parts s.put_mark _ marked).0 }
 
     whole_left : (end : CommitEnd) → CommitOver end ≡ op → is_marked w s ≡ true → Whole w (view w.dest opening) picks c
-    whole_left commits.Committed is e = whole_now ((subst (Agrees w picks) (sym is) i.agrees) refl) (subst (Marks c picks s.put_mark) (sym is) i.marks) (λ q b y. subst (FileStands w q b (first_at q) es (now_at c q) m.ended) (sym is) (i.files.wanted q (shown_path q b y) b y)) e
+    whole_left commits.Committed is e = whole_now ((subst (Agrees w picks) (sym is) i.agrees) refl) (subst (Marks c picks s.put_mark) (sym is) i.marks) (λ q p y. subst (OtherStands picks q (now_at c q)) (sym is) (i.files.others q p y)) (λ q b y. subst (FileStands w q b (first_at q) es (now_at c q) m.ended) (sym is) (i.files.wanted q (shown_path q b y) b y)) e
     whole_left (commits.StoreFault stages.Success) is e =
-        whole_now ((subst (Agrees w picks) (sym is) i.agrees) refl) (subst (Marks c picks s.put_mark) (sym is) i.marks) (λ q b y. subst (FileStands w q b (first_at q) es (now_at c q) m.ended) (sym is) (i.files.wanted q (shown_path q b y) b y)) e
+        whole_now ((subst (Agrees w picks) (sym is) i.agrees) refl) (subst (Marks c picks s.put_mark) (sym is) i.marks) (λ q p y. subst (OtherStands picks q (now_at c q)) (sym is) (i.files.others q p y)) (λ q b y. subst (FileStands w q b (first_at q) es (now_at c q) m.ended) (sym is) (i.files.wanted q (shown_path q b y) b y)) e
     whole_left (commits.StoreFault stages.Complete) is e = absurd (unmarked_not s (subst (Marks c picks s.put_mark) (sym is) i.marks) e)
     whole_left (commits.StoreFault stages.Delete) is e = absurd (unmarked_not s (subst (Marks c picks s.put_mark) (sym is) i.marks) e)
     whole_left (commits.StoreFault stages.Read) is e = absurd (unmarked_not s (subst (Marks c picks s.put_mark) (sym is) i.marks) e)
@@ -346,7 +436,7 @@ module _ (g : Setting) (opening : Content) where
     whole_by (Completing sets x xs finished) is e = absurd (unmarked_not s (subst (Marks c picks s.put_mark) (sym is) i.marks) e)
     whole_by (Reverting r rs n) is e = absurd (unmarked_not s (subst (Marks c picks s.put_mark) (sym is) i.marks) e)
     whole_by (Marking sets n) is e =
-        whole_now (decided_so w picks sets (subst (Decides w g.minimum m.publish_sent m.drawn) (sym is) i.decides) (subst (Agrees w picks) (sym is) i.agrees)) (subst (Marks c picks s.put_mark) (sym is) i.marks)
+        whole_now (decided_so w picks sets (subst (Decides w g.minimum m.publish_sent m.drawn) (sym is) i.decides) (subst (Agrees w picks) (sym is) i.agrees)) (subst (Marks c picks s.put_mark) (sym is) i.marks) (λ q p y. subst (OtherStands picks q (now_at c q)) (sym is) (i.files.others q p y))
         (λ q b y. subst (FileStands w q b (first_at q) es (now_at c q) m.ended) (sym is) (i.files.wanted q (shown_path q b y) b y)) e
     whole_by (CommitOver end) is e = whole_left end is e
 
@@ -361,7 +451,10 @@ module _ (g : Setting) (opening : Content) where
     ]
       where
         by : is_file_path q ≡ true → (o : Option (List ℕ)) → wanted_at w picks q ≡ o → view w.dest opening q ≡ Some b
-        by p None e = sym (other_shown q e) ∙ y
+        by p None e = elim (clearing q p e) [
+          | inl same ↦ shown_is opening q p ∙ ap (option_map (λ (o : Object). o.bytes)) (sym same) ∙ sym (shown_is c q p) ∙ y
+          | inr gone ↦ absurd (none_some (shown_is c q p ∙ ap (option_map (λ (o : Object). o.bytes)) gone.0) y)
+        ]
         by p (Some v) e = elim (subst (FileStands w q v (first_at q) es (now_at c q) m.ended) (sym is) (i.files.wanted q p v e)) [
           | inr worn ↦ absurd (none w.dest.bucket (below w.dest.key q) worn.1)
           | inl before ↦ elim before [

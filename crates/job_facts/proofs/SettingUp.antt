@@ -208,7 +208,7 @@ setup_same w c d there same Heading h = tt
 setup_same w c d there same (Checking keys) h = there h
 setup_same w c d there same Clearing h = there h
 setup_same w c d there same (Sweeping t) h = (there h.0, h.1, sweep_same w c d t (same h.0) h.2)
-setup_same w c d there same (SetupOver end) h = λ e. let g = h e in (there g.0, λ m k x b y. g.1 m k x b (sym (same g.0 k b) ∙ y))
+setup_same w c d there same (SetupOver end) h = λ e. let g = h e in (there g.0, λ m k x b go y. g.1 m k x b go (sym (same g.0 k b) ∙ y))
 
 pub setup_beside : (w : Script) (drawn : Who → List Drawn) (s : Scene) (op : Setup) → SetsUp w s.content op → (r : Request) → IsForeign w drawn r → (o : Outcome) → SetsUp w (effect s r o).content op
 setup_beside w drawn s op h r f o = by o
@@ -227,7 +227,7 @@ setup_done w s h none =
     let g = h refl in (
       g.0,
       record {
-        keys = λ m k b. elim (none_or_some (at_key w s.content k)) [ inl e ↦ e | inr x ↦ absurd (g.1 m k x.0 b x.1) ];
+        keys = λ m k b. elim (none_or_some (at_key w s.content k)) [ inl e ↦ e | inr x ↦ absurd (g.1 m k x.0 b refl x.1) ];
         paths = λ m p b. elim (none_or_some (fin.get s.files p)) [ inl e ↦ e | inr x ↦ absurd (false_true (none m p x.0 x.1) b) ];
       },
     )

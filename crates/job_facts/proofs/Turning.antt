@@ -1,5 +1,5 @@
 -- While the driver's commit completes: the uploads of its sets are apart, and an upload that is ended is done or had a sending lost.
-use Rattle.std.proofs.Common.{◌≡◌, ℕ, zero, suc, ◌+◌, ◌<◌, ◌≤◌, ◌⊎◌, inl, inr, nat_eq, nat_lt, ◌&&◌, ◌||◌, Bool, true, false, cond, List, [], ◌∷◌, ◌++◌, map, length, slice_get, Option, Some, None, refl, sym, ap, subst, ◌∙◌, arith}
+use Rattle.std.proofs.Common.{◌≡◌, ℕ, ◌+◌, ◌<◌, ◌⊎◌, inl, inr, nat_eq, nat_lt, ◌&&◌, ◌||◌, Bool, true, false, cond, List, [], ◌∷◌, ◌++◌, map, length, Option, Some, None, refl, sym, ap, subst, ◌∙◌}
 use Rattle.std.proofs.lemmas.Bool.{and_parts, false≢true}
 use Rattle.s3_types.specs.Answer.{answer}
 use Rattle.s3_types.specs.Blocks.{named_from}
@@ -14,14 +14,8 @@ use Rattle.s3_types.specs.declared.journal.Outcome.{Outcome}
 use Rattle.s3_types.specs.declared.journal.Outcome.TheVariants.{Answered, Slow, RequestLost, ReplyLost}
 use Rattle.pending_json.specs.Pending.{Pending}
 use Rattle.pending_json.specs.declared.records.PendingSet.{PendingSet}
-use Rattle.job_model.specs.Files.{File}
-use Rattle.job_model.specs.Attempts.{Who}
 use Rattle.job_model.specs.Legal.{IsLegal}
 use Rattle.job_model.specs.JobScript.{Script}
-use Rattle.job_model.specs.Known.{Drawn}
-use Rattle.job_operations.specs.Outputs.{files}
-use Rattle.job_operations.specs.Knowledge.{drawn_for, drawn_in}
-use Rattle.job_operations.specs.Records.{file_key, file_record}
 use Rattle.job_operations.specs.Outputs.{same_path}
 use Rattle.job_operations.specs.Walks.{Sweep, Listing, Deleting, sweep_asks, sweep_hears}
 use Rattle.job_operations.specs.Lanes.{Turn, nth, completion, again, follow, dealt, revert}
@@ -30,17 +24,14 @@ use Rattle.job_model.specs.declared.ends.CommitEnd.{CommitEnd}
 use Rattle.job_model.specs.declared.ends.CommitEnd.TheVariants as ends_of
 use Rattle.job_model.specs.declared.ends.Stage.TheVariants as stages
 use Rattle.job_operations.specs.JobCommits.{Sets, all_commits, picks_of, Commit, Fetching, Replacing, Completing, Marking, Reverting, CommitOver, set_request, set_read, commit_asks, commit_misses, commit_tells, commit_start, completing, is_no_magic, replaced, replacing, decided, fetching, fetched, swept, reverting, worn_completion}
-use Rattle.job_operations.specs.LaneTable.{Tabled, In}
+use Rattle.job_operations.specs.LaneTable.{Tabled}
 use Rattle.job_promise.specs.Seen.{Seen}
-use Rattle.request_frame.specs.Members.{IsIn}
-use Rattle.request_frame.proofs.Members.{some_is, false_true, true_or_false, eq_nat, nat_true, in_map, in_append, in_front, in_last}
+use Rattle.request_frame.proofs.Members.{some_is, false_true, true_or_false, eq_nat, nat_true, in_front, in_last}
 use Rattle.job_facts.specs.Told.{Told, ends, tell_driver}
-use Rattle.job_facts.specs.Facts.{IsWritten, ApartFiles, Hold, knowing}
-use Rattle.job_facts.specs.Driver.{IsHeldSet, Reads, FitsJobCommit}
+use Rattle.job_facts.specs.Facts.{Hold}
+use Rattle.job_facts.specs.Driver.{Reads, FitsJobCommit}
 use Rattle.job_facts.specs.Turning.{NoneEnded, Turned, Turns}
 use Rattle.job_facts.proofs.Whose.{or_true}
-use Rattle.job_facts.proofs.Placed.{one_key}
-use Rattle.job_facts.proofs.Legible.{drawn_is}
 use Rattle.job_facts.proofs.Replies.{completed}
 use Rattle.job_facts.proofs.Held.{nth_of, of_sets, uploads_uniq}
 use Rattle.job_facts.proofs.Numbered.{to_in}
@@ -68,6 +59,7 @@ module _ (w : Script) (minimum : ℕ) (s : Seen) (m : Told) (j : IsLegal w) (f :
       ] in
       let mine : m.ended v.written.drawn.upload ≡ false = ap m.ended (sym (ap (λ (z : Pending). z.upload) v.is)) ∙ open_one in
       subst (λ (z : Pending). answer s.scene (completion z) ≡ Completed (joined_tag (map (λ t. t.tag) (named_from 1 z.tags)))) (sym v.is) (completed j f v.by v.file v.mine v.written mine (f.kept v.by v.has_sent))
+
 -- ---- entries
 
 either : (m : Told) (b : Bool) (c d : Commit) → Turns m c → Turns m d → Turns m (cond b c d)

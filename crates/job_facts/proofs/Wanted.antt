@@ -1,22 +1,21 @@
 -- The files that picks want, by task and attempt.
-use Rattle.std.proofs.Common.{◌≡◌, ℕ, zero, suc, ◌<◌, ◌≤◌, ◌⊎◌, inl, inr, ◌&&◌, Bool, true, false, cond, List, [], ◌∷◌, ◌++◌, length, slice_get, Option, Some, None, refl, sym, ap, subst, ◌∙◌, arith}
-use Rattle.std.specs.Option.{option_map, is_some}
+use Rattle.std.proofs.Common.{◌≡◌, ℕ, zero, suc, ◌<◌, ◌⊎◌, inl, inr, ◌&&◌, Bool, true, false, cond, List, [], ◌∷◌, ◌++◌, Option, Some, None, refl, sym, ap, subst, ◌∙◌, arith}
+use Rattle.std.specs.Option.{is_some}
 use Rattle.std.specs.Map.{lookup}
 use Rattle.proof_base.specs.Order.{text_eq}
 use Rattle.serde_json.specs.Written.{compact_text}
 use Rattle.pending_json.specs.Trees.{success_tree}
 use Rattle.job_model.specs.Files.{File}
-use Rattle.job_model.specs.Attempts.{Who}
 use Rattle.job_model.specs.Legal.{IsLegal}
 use Rattle.job_model.specs.JobScript.{Script}
 use Rattle.job_model.specs.declared.ends.CommitEnd.{CommitEnd}
-use Rattle.job_operations.specs.Outputs.{Picks, files, files_picked, wanted, wanted_below, wanted_at, paths_of, writes, same_path, picked_below, is_picked, is_clash}
+use Rattle.job_operations.specs.Outputs.{Picks, files, files_picked, wanted, wanted_below, wanted_at, paths_of, writes, same_path, picked_below, is_picked}
 use Rattle.job_operations.specs.Records.{mark_text}
 use Rattle.job_operations.proofs.Shared.{shared_found, shared_none}
 use Rattle.request_frame.specs.Members.{IsIn}
 use Rattle.request_frame.proofs.Members.{some_is, none_some, same_or_not, text_is, text_true, in_append, in_front, in_back}
 use Rattle.job_facts.proofs.Whose.{attempt}
-use Rattle.job_facts.proofs.Legal.{same_file, is_attempt}
+use Rattle.job_facts.proofs.Legal.{same_file}
 use Rattle.job_facts.proofs.Held.{has_in}
 
 -- ---- a path among files

@@ -34,9 +34,13 @@ AllCluster w paths = (p : List ℕ) → IsIn p paths → begins (cluster_prefix 
 abbrev pub AllBelow : Script → List UploadRef → Type 0
 AllBelow w refs = (u : UploadRef) → IsIn u refs → begins (dest_prefix w) u.key ≡ true
 
+-- of a sweep below a prefix
+abbrev pub SweepsUnder : List ℕ → Sweep → Type 0
+SweepsUnder p (Listing keys) = AllUnder p keys
+SweepsUnder p (Deleting q qs) = AllUnder p (q ∷ qs)
+
 abbrev pub FitsSweep : Script → Sweep → Type 0
-FitsSweep w (Listing keys) = AllMagic w keys
-FitsSweep w (Deleting q qs) = AllMagic w (q ∷ qs)
+FitsSweep w t = SweepsUnder (magic_prefix w.dest.key w.job) t
 
 -- behind its first page it has begun to clean up, and all that it has found is below the destination, in the job's magic directory or the job's in the cluster
 abbrev pub FitsClean : Script → Bool → Clean → Type 0

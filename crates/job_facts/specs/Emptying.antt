@@ -1,5 +1,5 @@
 -- How far a sweep of the job's magic directory has come, while none but the driver changes it; and the set-up, which begins with one.
-use Rattle.std.specs.Prelude.{◌≡◌, ℕ, ◌⊎◌, true, List, [], ◌∷◌, Some}
+use Rattle.std.specs.Prelude.{◌≡◌, ℕ, Bool, ◌⊎◌, true, List, [], ◌∷◌, Some}
 use Rattle.std.specs.Ordering.{is_lt}
 use Rattle.proof_base.specs.Order.{text_cmp}
 use Rattle.s3_types.specs.Store.{Content}
@@ -9,24 +9,32 @@ use Rattle.magic_paths.specs.Layout.{magic_prefix}
 use Rattle.job_model.specs.JobScript.{Script}
 use Rattle.job_model.specs.declared.ends.SetupEnd.TheVariants as ends
 use Rattle.job_operations.specs.Setup.{Setup, Heading, Checking, Clearing, Sweeping, SetupOver}
-use Rattle.job_operations.specs.Walks.{Sweep, Listing, Deleting, last_of}
+use Rattle.job_operations.specs.Walks.{Sweep, Listing, Deleting, last_of, all_go}
 use Rattle.job_promise.specs.Seen.{is_magic}
 use Rattle.request_frame.specs.Members.{IsIn}
 use Rattle.request_frame.specs.Held.{HasBucket}
 use Rattle.job_facts.specs.Stores.{at_key}
 use Rattle.job_facts.specs.Driver.{FitsSweep}
 
--- what stands below the job's magic directory has one of these keys
-abbrev pub OnlyThese : Script → Content → List (List ℕ) → Type 0
-OnlyThese w c keys = (k : List ℕ) (x : Object) → begins (magic_prefix w.dest.key w.job) k ≡ true → at_key w c k ≡ Some x → IsIn k keys
+-- what stands below a prefix and is to go has one of these keys
+abbrev pub OnlyThose : Script → List ℕ → (List ℕ → Bool) → Content → List (List ℕ) → Type 0
+OnlyThose w p goes c keys = (k : List ℕ) (x : Object) → begins p k ≡ true → goes k ≡ true → at_key w c k ≡ Some x → IsIn k keys
 
 -- or a key behind the last of them
-abbrev pub TheseOrBehind : Script → Content → List (List ℕ) → Type 0
-TheseOrBehind w c keys = (k : List ℕ) (x : Object) → begins (magic_prefix w.dest.key w.job) k ≡ true → at_key w c k ≡ Some x → IsIn k keys ⊎ (is_lt (text_cmp (last_of keys) k) ≡ true)
+abbrev pub ThoseOrBehind : Script → List ℕ → (List ℕ → Bool) → Content → List (List ℕ) → Type 0
+ThoseOrBehind w p goes c keys = (k : List ℕ) (x : Object) → begins p k ≡ true → goes k ≡ true → at_key w c k ≡ Some x → IsIn k keys ⊎ (is_lt (text_cmp (last_of keys) k) ≡ true)
+
+-- how far a sweep below a prefix has come
+abbrev pub EmptiesBy : Script → List ℕ → (List ℕ → Bool) → Content → Sweep → Type 0
+EmptiesBy w p goes c (Listing keys) = ThoseOrBehind w p goes c keys
+EmptiesBy w p goes c (Deleting q qs) = OnlyThose w p goes c (q ∷ qs)
+
+-- of the job's magic directory, where all goes
+abbrev pub OnlyThese : Script → Content → List (List ℕ) → Type 0
+OnlyThese w c keys = OnlyThose w (magic_prefix w.dest.key w.job) all_go c keys
 
 abbrev pub Empties : Script → Content → Sweep → Type 0
-Empties w c (Listing keys) = TheseOrBehind w c keys
-Empties w c (Deleting q qs) = OnlyThese w c (q ∷ qs)
+Empties w c t = EmptiesBy w (magic_prefix w.dest.key w.job) all_go c t
 
 -- the bucket is there, and behind its first requests a set-up of the magic committer empties the job's directory; where it ends Done nothing stands there
 abbrev pub SetsUp : Script → Content → Setup → Type 0

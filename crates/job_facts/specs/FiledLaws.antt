@@ -1,5 +1,5 @@
 -- The laws of what stands where the job's files go, and of uploads that are ended.
-use Rattle.std.specs.Prelude.{◌≡◌, ℕ, ◌<◌, ◌≤◌, ◌^◌, Bool, true, false, List, [], ◌∷◌, ◌++◌, Option, Some, None}
+use Rattle.std.specs.Prelude.{◌≡◌, ℕ, ◌<◌, ◌≤◌, ◌^◌, true, List, [], ◌∷◌, ◌++◌, Option, Some, None}
 use Rattle.s3_types.specs.Store.{Scene}
 use Rattle.s3_types.specs.Answer.{apply, answer, bucket_of}
 use Rattle.s3_types.specs.Moment.{effect, IsHonestOutcome}
@@ -13,12 +13,10 @@ use Rattle.magic_paths.specs.Places.{is_open}
 use Rattle.job_model.specs.Attempts.{Who}
 use Rattle.job_model.specs.Legal.{IsLegal}
 use Rattle.job_model.specs.JobScript.{Script}
-use Rattle.job_model.specs.Known.{Drawn}
 use Rattle.job_model.specs.declared.ends.CommitEnd.TheVariants as ends
 use Rattle.job_model.specs.declared.ends.Stage.TheVariants as stages
-use Rattle.job_operations.specs.JobCommits.{Sets, picks_of, Commit, Marking, CommitOver, commit_start, commit_asks, commit_tells}
+use Rattle.job_operations.specs.JobCommits.{Sets, Commit, Marking, CommitOver, commit_start, commit_asks, commit_tells}
 use Rattle.job_operations.specs.LaneTable.{Tabled}
-use Rattle.job_operations.specs.Outputs.{wanted_at}
 use Rattle.job_operations.specs.Operations.{Setting, Operation, asks}
 use Rattle.job_promise.specs.Seen.{Seen}
 use Rattle.request_frame.specs.Members.{IsIn}
@@ -26,7 +24,6 @@ use Rattle.request_frame.specs.Held.{HasBucket}
 use Rattle.request_frame.specs.Frame.{changed_keys}
 use Rattle.job_facts.specs.Told.{Told, known, nothing_told, tell, entry, driver_entry, strange_entry}
 use Rattle.job_facts.specs.Stores.{at_key, at_id}
-use Rattle.job_facts.specs.Foreign.{IsForeign}
 use Rattle.job_facts.specs.Facts.{IsAttempt, Hold}
 use Rattle.job_facts.specs.Fits.{Fits}
 use Rattle.job_facts.specs.Driver.{FitsJobCommit}

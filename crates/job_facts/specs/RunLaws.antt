@@ -3,12 +3,7 @@ use Rattle.std.specs.Prelude.{◌≡◌, ℕ, ◌≤◌, Bool, true, false, List
 use Rattle.s3_types.specs.Store.{Content}
 use Rattle.s3_types.specs.Moment.{moment}
 use Rattle.s3_types.specs.declared.journal.Entry.{Entry}
-use Rattle.s3_types.specs.declared.request.Committer.{Committer}
-use Rattle.s3_types.specs.declared.request.Committer.TheVariants.{Directory, Partitioned}
-use Rattle.s3_types.specs.declared.request.Mode.{Mode}
-use Rattle.s3_types.specs.declared.request.Mode.TheVariants.{Replace}
 use Rattle.job_model.specs.Legal.{IsLegal}
-use Rattle.job_model.specs.JobScript.{Script}
 use Rattle.job_model.specs.declared.ends.CommitEnd.{CommitEnd}
 use Rattle.job_model.specs.declared.ends.CommitEnd.TheVariants as commits
 use Rattle.job_model.specs.declared.ends.Stage.TheVariants as stages
@@ -27,16 +22,7 @@ use Rattle.job_facts.specs.Told.{nothing_told, tell_all}
 use Rattle.job_facts.specs.Facts.{Hold}
 use Rattle.job_facts.specs.Runs.{Stand, Runs, IsOpening, is_set}
 
--- the commit deletes files that stood before the job
-abbrev pub is_replacing : Committer → Mode → Bool
-is_replacing Directory Replace = true
-is_replacing Partitioned Replace = true
-is_replacing _ _ = false
-
-abbrev pub replaces : Script → Bool
-replaces w = is_replacing w.committer w.mode
-
--- a run of a job that replaces nothing, whose operations send what they ask and hear what is answered, in any order of its actors
+-- a run of a job, of every committer and mode, whose operations send what they ask and hear what is answered, in any order of its actors
 pub record RunsKeep (g : Setting) (k : Option ℕ) (opening : Content) (es : List Entry) (x : Stand) : Type 0 where
   -- what it says of its stand is what its entries say
   pub seen : x.seen ≡ see_all g.script k (nothing_seen opening) es
@@ -57,4 +43,4 @@ pub record RunsKeep (g : Setting) (k : Option ℕ) (opening : Content) (es : Lis
   pub reverted : x.driver ≡ Some (TheCommit (CommitOver (commits.StoreFault stages.Complete))) → NoDeletionWorn g.script.retries x.commit → OnlyOpening g.script opening x.seen.scene.content
 
 abbrev pub AllRunsKeep : Type 0
-AllRunsKeep = (g : Setting) → IsLegal g.script → replaces g.script ≡ false → (k : Option ℕ) (opening : Content) → IsOpening g opening → (es : List Entry) (x : Stand) → Runs g k opening es x → RunsKeep g k opening es x
+AllRunsKeep = (g : Setting) → IsLegal g.script → (k : Option ℕ) (opening : Content) → IsOpening g opening → (es : List Entry) (x : Stand) → Runs g k opening es x → RunsKeep g k opening es x

@@ -1,6 +1,6 @@
 -- Requests that leave all that is outside the destination as it is, and that no operation of the job sends others.
-use Rattle.std.specs.Prelude.{◌≡◌, ℕ, true, List, Option, Some}
-use Rattle.s3_types.specs.Store.{Scene, Upload}
+use Rattle.std.specs.Prelude.{◌≡◌, ℕ, true, List, Some}
+use Rattle.s3_types.specs.Store.{Scene}
 use Rattle.s3_types.specs.Pages.{begins}
 use Rattle.s3_types.specs.Moment.{effect}
 use Rattle.s3_types.specs.declared.journal.Outcome.{Outcome}
@@ -16,9 +16,7 @@ use Rattle.job_operations.specs.Operations.{Setting, Operation, asks}
 use Rattle.job_promise.specs.Entries.{IsZeroRename}
 use Rattle.job_promise.specs.Seen.{Seen}
 use Rattle.request_frame.specs.Members.{IsIn}
-use Rattle.request_frame.specs.Held.{HasBucket}
 use Rattle.job_facts.specs.Told.{Told, known, entry, driver_entry}
-use Rattle.job_facts.specs.Stores.{at_id}
 use Rattle.job_facts.specs.Facts.{IsAttempt, Hold}
 use Rattle.job_facts.specs.Fits.{Fits}
 use Rattle.job_facts.specs.Emptying.{SetsUp}
