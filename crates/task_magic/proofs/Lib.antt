@@ -4,3 +4,6 @@ pub mod Told
 pub mod Falls
 pub mod Steps
 pub mod Whole
+pub mod AbortFalls
+pub mod Undone
+pub mod Broken

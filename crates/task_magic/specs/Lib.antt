@@ -1,2 +1,5 @@
 pub mod Writing
 pub mod WriteLaws
+pub mod Standing
+pub mod Undoing
+pub mod AbortLaws

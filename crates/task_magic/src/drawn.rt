@@ -1,9 +1,17 @@
 ghost use Rattle.std.specs.Prelude.{◌≡◌, IfOk, slice_get};
 ghost use Rattle.std.specs.Option.{option_copied};
+ghost use Rattle.job_operations.specs.Knowledge.{as_made};
 
 use job_model::{DrawnUpload, Knowledge};
 use s3_types::{Sequence, SizeList, TagList};
 use std::alloc::{AllocError, Global};
+
+/// The uploads in the order of their making. Takes no memory.
+pub fn made(known: &Knowledge) -> &[DrawnUpload]
+    ensures { result.now ≡ as_made known.now.drawn }
+{
+    known.as_made()
+}
 
 /// The upload that was drawn last, if there is one. Takes no memory.
 pub fn last_drawn(known: &Knowledge) -> Option<&DrawnUpload>

@@ -1,9 +1,16 @@
-ghost use Rattle.job_operations.specs.AtWork.{write_wants, write_told};
+ghost use Rattle.job_operations.specs.AtWork.{task_abort_wants, task_abort_told, write_wants, write_told};
 ghost use Rattle.job_operations.specs.Measures.{FallsAmong};
+ghost use Rattle.task_magic.specs.Undoing.{abort_fits, abort_left};
 ghost use Rattle.task_magic.specs.Writing.{write_fits, write_left};
 
 /// What is left of a write of files falls with each answer that fits and with a worn request, and no request of
 /// another actor raises it.
 pub fn writes_end()
     ensures falls { FallsAmong write_wants write_told write_fits write_left 0 }
+{}
+
+/// What is left of an abort falls with each answer that fits and with a worn request, and a request of another
+/// actor raises it by at most 1.
+pub fn aborts_end()
+    ensures falls { FallsAmong task_abort_wants task_abort_told abort_fits abort_left 1 }
 {}

@@ -2,15 +2,18 @@
 //! abort of its task. (Hadoop, S3A committer architecture.)
 #![tactic(auto)]
 
-mod asking;
+mod abort;
 mod cutting;
 mod drawn;
 mod laws;
 mod names;
+mod requests;
 mod stage;
 mod stepping;
+mod undoing;
 mod write;
 
-pub use laws::writes_end;
+pub use abort::AbortTask;
+pub use laws::{aborts_end, writes_end};
 pub use stage::WriteStage;
 pub use write::WriteFiles;

@@ -1,6 +1,8 @@
 ghost use Rattle.std.specs.Prelude.{◌≡◌, ◌++◌, IfOk, IfSome, codes, option_map, slice_get};
 ghost use Rattle.path_keys.specs.Paths.{below};
 ghost use Rattle.job_model.specs.Plans.{IsJob, IsTask};
+ghost use Rattle.job_operations.specs.AtWork.{task_script, who_of};
+ghost use Rattle.job_operations.specs.TaskCommits.{attempt_prefix};
 ghost use Rattle.task_magic.specs.Writing.{dir_of, IsNamed, IsFile};
 
 use job_model::{JobPlan, TaskPlan};
@@ -26,6 +28,15 @@ pub fn directory(alloc: Global, plan: &TaskPlan) -> Result<S3Path, AllocError>
 {
     let job = &plan.job;
     attempt_dir(alloc, &job.dest, &job.job, plan.task, plan.attempt)
+}
+
+/// What the keys below the directory of an attempt begin with.
+pub fn prefix(alloc: Global, plan: &TaskPlan) -> Result<Text, AllocError>
+    ensures { IfOk result (λ prefix. prefix ≡ attempt_prefix (task_script plan.now) (who_of plan.now)) }
+{
+    let dir = directory(alloc, plan)?;
+    let key = dir.key().as_str();
+    Text::new(alloc, format!(in alloc; "{key}/")?)
 }
 
 /// A file by its place in the script's order. Takes no memory.

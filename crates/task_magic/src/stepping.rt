@@ -6,8 +6,8 @@ ghost use Rattle.sendings.specs.Retries.{Got};
 ghost use Rattle.job_operations.specs.AtWork.{write_wants, write_told};
 ghost use Rattle.task_magic.specs.Writing.{dir_of, is_new, Holds, IsWrite, seen_write, write_fits, upload_in, tag_in, ended_by};
 
-use crate::asking::{ask, ask_behind, ask_part, behind};
 use crate::names::{file_at, target};
+use crate::requests::{ask, ask_behind, ask_part, behind};
 use crate::stage::WriteStage;
 use job_model::{TaskEnd, TaskPlan};
 use path_keys::S3Path;

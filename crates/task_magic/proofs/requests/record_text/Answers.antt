@@ -7,7 +7,7 @@ use Rattle.job_model.specs.Known.{Drawn}
 use Rattle.job_operations.specs.AtWork.{task_script, who_of}
 use Rattle.job_operations.specs.Records.{record_text}
 use Rattle.task_magic.proofs.Steps.{record_tags, record_sizes, record_last, ok_as}
-use Rattle.task_magic.proofs.asking.record_text.Goals as goal
+use Rattle.task_magic.proofs.requests.record_text.Goals as goal
 
 pub pending-requires-clause-tags : goal.pending-requires-clause-tags
 pending-requires-clause-tags c = record_tags c.args.plan.now (c.args.path.now, c.args.bytes.now) c.in-Some.drawn.now (c.in-Some.ensures ∙ ap (λ (t : Task). slice_get t.known.drawn 0) c.plan.view_is) c.requires.sent

@@ -1,8 +1,8 @@
 use Rattle.std.proofs.Common.{◌∙◌, ap, Some}
 use Rattle.s3_types.specs.declared.request.Request.{Request}
 use Rattle.task_magic.proofs.Steps.{nothing_asked, sending_behind, recording_sent, creating_asked, sending_asked, marking_asked, recording_asked}
-use Rattle.task_magic.proofs.asking.ask.Goals as goal
-use Rattle.task_magic.proofs.asking.ask.Goals.{in-Creating+in_ok-asked-in-Creating, in-Sending+in_ok-asked-in-Sending, in-Marking+in_ok-asked-in-Marking, in-Recording+in_ok-asked-in-Recording}
+use Rattle.task_magic.proofs.requests.ask.Goals as goal
+use Rattle.task_magic.proofs.requests.ask.Goals.{in-Creating+in_ok-asked-in-Creating, in-Sending+in_ok-asked-in-Sending, in-Marking+in_ok-asked-in-Marking, in-Recording+in_ok-asked-in-Recording}
 
 pub returns-in_default : goal.returns-in_default
 returns-in_default c = nothing_asked c.args.plan.now c.args.place c.args.stage (λ f. (f.0.now, f.1.now)) c.file_at.result c.file_at.ensures.file c.in_default.not-Some

@@ -1,6 +1,6 @@
 use Rattle.std.proofs.Common.{ap, length, List, ℕ}
 use Rattle.task_magic.proofs.Cut.{count_made, count_fits}
-use Rattle.task_magic.proofs.asking.count_of.Goals as goal
+use Rattle.task_magic.proofs.requests.count_of.Goals as goal
 
 pub returns : goal.returns
 returns c = count_made c.args.plan.now c.args.bytes.now _ _ _ c.part_count.ensures (ap (λ (l : List ℕ). length l) c.as_slice.ensures) c.size_of-size.ensures

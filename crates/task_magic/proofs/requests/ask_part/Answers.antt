@@ -1,6 +1,6 @@
 use Rattle.std.proofs.Common.{arith}
 use Rattle.task_magic.proofs.Cut.{start_fits, number_fits}
-use Rattle.task_magic.proofs.asking.ask_part.Goals as goal
+use Rattle.task_magic.proofs.requests.ask_part.Goals as goal
 
 pub part-requires : goal.part-requires
 part-requires c = start_fits c.args.plan.now c.args.bytes.now c.args.behind _ c.requires.file.named.task c.requires.file.short c.requires.within c.size_of-size.ensures

@@ -1,7 +1,7 @@
 use Rattle.std.proofs.Common.{arith}
 use Rattle.task_magic.proofs.Cut.{start_fits, number_fits}
 use Rattle.task_magic.proofs.Steps.{goes_on, goes_by}
-use Rattle.task_magic.proofs.asking.behind.Goals as goal
+use Rattle.task_magic.proofs.requests.behind.Goals as goal
 
 pub part_length-part-requires : goal.part_length-part-requires
 part_length-part-requires c = start_fits c.args.plan.now c.args.bytes.now c.args.sent _ c.requires.task c.requires.short c.requires.within c.size_of-size.ensures

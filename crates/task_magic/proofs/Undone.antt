@@ -1,0 +1,43 @@
+-- Where replies lead an abort, by how many of its uploads are aborted.
+use Rattle.std.proofs.Common.{◌≡◌, ℕ, zero, suc, ◌+◌, ◌<◌, Bool, List, [], ◌∷◌, ◌++◌, length, drop, reverse, Option, None, refl, sym, ap, ◌∙◌, arith, add-one}
+use Rattle.std.proofs.lemmas.List.{reverse-reverse, reverse-append}
+use Rattle.s3_types.specs.declared.request.Committer.{Committer}
+use Rattle.s3_types.specs.declared.request.Committer.TheVariants.{Magic}
+use Rattle.s3_types.specs.declared.reply.Reply.{Reply}
+use Rattle.job_model.specs.Known.{Drawn, Known}
+use Rattle.job_model.specs.JobScript.{Script}
+use Rattle.job_model.specs.declared.ends.TaskEnd.{TaskEnd}
+use Rattle.job_operations.specs.Knowledge.{as_made}
+use Rattle.job_operations.specs.Walks.{Sweep, sweep_start}
+use Rattle.job_operations.specs.TaskAborts.{task_abort_hears, dropping}
+use Rattle.task_magic.specs.Undoing.{abort_from, abort_by}
+
+-- ---- in the order of their making
+
+pub made_reverse : (ds : List Drawn) → as_made ds ≡ reverse ds
+made_reverse [] = refl
+made_reverse (d ∷ ds) = ap (λ (l : List Drawn). l ++ d ∷ []) (made_reverse ds) ∙ sym (reverse-append (d ∷ []) ds)
+
+pub made_is : (ds xs : List Drawn) → reverse xs ≡ ds → xs ≡ as_made ds
+made_is ds xs h = sym (reverse-reverse xs) ∙ (ap reverse h ∙ sym (made_reverse ds))
+
+-- ---- behind an upload
+
+from_start : (c : Committer) (ds : List Drawn) (sent : Bool) → c ≡ Magic → abort_from ds sent sweep_start ≡ dropping c sent ds
+from_start c [] sent h = ap (λ (x : Committer). dropping x sent []) (sym h)
+from_start c (d ∷ ds) sent h = refl
+
+-- what stands behind a place
+pub first_of : {X : Type 0} (xs : List X) (at : ℕ) → at < length xs → (x : X) × (drop at xs ≡ x ∷ drop (at + 1) xs)
+first_of [] at h = absurd (omega arith)
+first_of (x ∷ xs) zero h = (x, refl)
+first_of (x ∷ xs) (suc i) h = let y = first_of xs i (omega arith) in (y.0, y.1 ∙ rw (add-one, add-one) refl)
+
+pub goes_drawn : (w : Script) (k : Known) (at : ℕ) (s z : Sweep) (end : Option TaskEnd) (r : Reply) → end ≡ None → w.committer ≡ Magic → z ≡ sweep_start → at < length (as_made k.drawn)
+    → abort_by k (at + 1) z end ≡ task_abort_hears w (abort_by k at s end) r
+goes_drawn w k at s z end r e h g i =
+    let x = first_of (as_made k.drawn) at i in
+    ap (abort_by k (at + 1) z) e
+    ∙ (ap (abort_from (drop (at + 1) (as_made k.drawn)) k.put_sent) g
+    ∙ (from_start w.committer (drop (at + 1) (as_made k.drawn)) k.put_sent h
+    ∙ sym (ap (λ o. task_abort_hears w (abort_by k at s o) r) e ∙ ap (λ l. task_abort_hears w (abort_from l k.put_sent s) r) x.1)))

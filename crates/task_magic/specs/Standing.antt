@@ -1,0 +1,14 @@
+-- How an attempt's operation stands by its end.
+use Rattle.std.specs.Prelude.{Option, Some, None}
+use Rattle.machine.specs.Standing.{Standing, Fine, Faulted, Broken}
+use Rattle.job_model.specs.declared.ends.TaskEnd.{TaskEnd}
+use Rattle.job_model.specs.declared.ends.TaskEnd.TheVariants as ends
+
+abbrev pub standing_of : TaskEnd → Standing
+standing_of ends.StoreFault = Faulted
+standing_of ends.NoMemory = Broken
+standing_of _ = Fine
+
+abbrev pub standing_by : Option TaskEnd → Standing
+standing_by (Some end) = standing_of end
+standing_by None = Fine

@@ -1,0 +1,110 @@
+ghost use Rattle.std.specs.Prelude.{◌≡◌, IfOk, OnOk, Some};
+ghost use Rattle.s3_types.specs.declared.request.Request.TheVariants.{AbortUpload};
+ghost use Rattle.s3_types.specs.declared.request.Committer.TheVariants.{Magic};
+ghost use Rattle.job_operations.specs.AtWork.{task_script, who_of};
+ghost use Rattle.job_operations.specs.Walks.{sweep_asks};
+ghost use Rattle.job_operations.specs.TaskCommits.{attempt_prefix};
+ghost use Rattle.job_operations.specs.TaskAborts.{task_abort_start, task_abort_asks, task_abort_hears};
+ghost use Rattle.task_magic.specs.Undoing.{abort_of, kept_if, FitsAbort};
+
+use crate::drawn::made;
+use crate::names::{bucket_of, prefix};
+use job_model::{DrawnUpload, TaskEnd, TaskPlan};
+use s3_types::{Bucket, Reply, Request, put};
+use std::alloc::{AllocError, Global};
+use sweep::{AllKeys, Sweep};
+
+/// An abort as it goes on: how many of the uploads are aborted, the sweep of the attempt's directory, and
+/// how it ended.
+#[derive(Drop)]
+pub struct Undoing {
+    pub at: usize,
+    pub sweep: Sweep,
+    pub end: Option<TaskEnd>,
+}
+
+/// The end of an attempt that has sent its publishing request, or none.
+fn kept_if(sent: bool) -> Option<TaskEnd>
+    ensures { result ≡ kept_if sent }
+{
+    if sent { Some(TaskEnd::Kept) } else { None }
+}
+
+fn abort_request(bucket: &Bucket, drawn: &DrawnUpload) -> Result<Option<Request>, AllocError>
+    ensures { IfOk result (λ request. request ≡ Some (AbortUpload bucket.now drawn.now.key drawn.now.upload)) }
+{
+    match Request::abort_upload(bucket, &drawn.key, drawn.upload) {
+        Ok(request) => Ok(Some(request)),
+        Err(error) => Err(error),
+    }
+}
+
+/// The next request of the sweep of the attempt's directory.
+fn sweep_request(
+    alloc: Global,
+    plan: &TaskPlan,
+    sweep: &Sweep,
+) -> Result<Option<Request>, AllocError>
+    ensures { IfOk result (λ request. request ≡ Some (sweep_asks plan.now.job.dest.bucket (attempt_prefix (task_script plan.now) (who_of plan.now)) sweep.now)) }
+{
+    let prefix = prefix(alloc, plan)?;
+    match sweep.request(alloc, bucket_of(plan), &prefix) {
+        Ok(request) => Ok(Some(request)),
+        Err(error) => Err(error),
+    }
+}
+
+impl Undoing {
+    /// An abort of which nothing was sent yet. Takes no memory.
+    pub fn new(alloc: Global, plan: &TaskPlan) -> Undoing
+        requires { plan.now.job.committer ≡ Magic }
+        ensures { abort_of plan.now result ≡ task_abort_start (task_script plan.now) plan.now.known }
+    {
+        Undoing {
+            at: 0,
+            sweep: Sweep::new(alloc),
+            end: kept_if(plan.known.publish_sent()),
+        }
+    }
+
+    /// The next request, or None where it is over.
+    pub fn request(&self, alloc: Global, plan: &TaskPlan) -> Result<Option<Request>, AllocError>
+        ensures { IfOk result (λ request. request ≡ task_abort_asks (task_script plan.now) (who_of plan.now) (abort_of plan.now self.now)) }
+    {
+        let None = &self.end else {
+            return Ok(None);
+        };
+        match made(&plan.known).get(self.at) {
+            Some(drawn) => abort_request(bucket_of(plan), drawn),
+            None => sweep_request(alloc, plan, &self.sweep),
+        }
+    }
+
+    /// Takes the reply to its present request.
+    pub fn hear(&mut self, alloc: Global, plan: &TaskPlan, reply: &Reply) -> Result<(), AllocError>
+        requires magic { plan.now.job.committer ≡ Magic }
+        requires fits { FitsAbort (abort_of plan.now self.old) reply.now }
+        ensures { OnOk result (abort_of plan.now self.new ≡ task_abort_hears (task_script plan.now) (abort_of plan.now self.old) reply.now) }
+    {
+        let None = &self.end else {
+            return Ok(());
+        };
+        if self.at < made(&plan.known).len() {
+            self.at += 1;
+            put(&mut self.sweep, Sweep::new(alloc));
+            return Ok(());
+        }
+        if self.sweep.hear(alloc, &AllKeys, reply)? {
+            return Ok(());
+        }
+        self.finish(TaskEnd::Done);
+        Ok(())
+    }
+
+    /// Ends it. Takes no memory.
+    pub fn finish(&mut self, end: TaskEnd)
+        ensures end { self.new.end ≡ Some end }
+    {
+        put(&mut self.end, Some(end));
+    }
+}
