@@ -22,3 +22,7 @@ broken_as {O} m n asked other next e = broken m asked next ∙ (ap (λ (t : Task
 pub at_err : {X E : Type 0} (P : Type 0) (r : Result X E) → P → OnErr r P
 at_err P (Ok x) h = tt
 at_err P (Err x) h = h
+
+pub on_err : {X E : Type 0} (P Q : Type 0) (r : Result X E) → OnErr r P → (P → Q) → OnErr r Q
+on_err P Q (Ok x) h f = tt
+on_err P Q (Err x) h f = f h

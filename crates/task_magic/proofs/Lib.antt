@@ -7,3 +7,7 @@ pub mod Whole
 pub mod AbortFalls
 pub mod Undone
 pub mod Broken
+pub mod Listed
+pub mod LastDrawn
+pub mod Committed
+pub mod CommitFalls

@@ -3,3 +3,5 @@ pub mod WriteLaws
 pub mod Standing
 pub mod Undoing
 pub mod AbortLaws
+pub mod Committing
+pub mod CommitLaws

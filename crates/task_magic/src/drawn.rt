@@ -13,6 +13,13 @@ pub fn made(known: &Knowledge) -> &[DrawnUpload]
     known.as_made()
 }
 
+/// The upload behind so many in the order of their making. Takes no memory.
+pub fn made_at(known: &Knowledge, at: usize) -> Option<&DrawnUpload>
+    ensures { option_copied result ≡ slice_get (as_made known.now.drawn) at }
+{
+    made(known).get(at)
+}
+
 /// The upload that was drawn last, if there is one. Takes no memory.
 pub fn last_drawn(known: &Knowledge) -> Option<&DrawnUpload>
     ensures { option_copied result ≡ slice_get known.now.drawn 0 }

@@ -1,5 +1,6 @@
-ghost use Rattle.job_operations.specs.AtWork.{task_abort_wants, task_abort_told, write_wants, write_told};
+ghost use Rattle.job_operations.specs.AtWork.{task_abort_wants, task_abort_told, task_commit_wants, task_commit_told, write_wants, write_told};
 ghost use Rattle.job_operations.specs.Measures.{FallsAmong};
+ghost use Rattle.task_magic.specs.Committing.{commit_fits, commit_left};
 ghost use Rattle.task_magic.specs.Undoing.{abort_fits, abort_left};
 ghost use Rattle.task_magic.specs.Writing.{write_fits, write_left};
 
@@ -13,4 +14,10 @@ pub fn writes_end()
 /// actor raises it by at most 1.
 pub fn aborts_end()
     ensures falls { FallsAmong task_abort_wants task_abort_told abort_fits abort_left 1 }
+{}
+
+/// What is left of a commit falls with each answer that fits and with a worn request, and a request of another
+/// actor raises it by at most 1.
+pub fn commits_end()
+    ensures falls { FallsAmong task_commit_wants task_commit_told commit_fits commit_left 1 }
 {}

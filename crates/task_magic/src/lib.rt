@@ -3,10 +3,14 @@
 #![tactic(auto)]
 
 mod abort;
+mod commit;
+mod committing;
 mod cutting;
 mod drawn;
 mod laws;
+mod listing;
 mod names;
+mod publishing;
 mod requests;
 mod stage;
 mod stepping;
@@ -14,6 +18,7 @@ mod undoing;
 mod write;
 
 pub use abort::AbortTask;
-pub use laws::{aborts_end, writes_end};
+pub use commit::CommitTask;
+pub use laws::{aborts_end, commits_end, writes_end};
 pub use stage::WriteStage;
 pub use write::WriteFiles;

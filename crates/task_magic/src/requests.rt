@@ -94,19 +94,18 @@ pub fn ask_part(
 }
 
 /// The put of a file's marker, which has no bytes and the file's length as header.
-pub fn ask_marker(
+fn ask_marker(
     alloc: Global,
     plan: &TaskPlan,
     dir: &S3Path,
     path: &Text,
-    bytes: &Bytes,
+    length: LengthHeader,
 ) -> Result<Request, AllocError>
     requires dir { dir.now ≡ dir_of plan.now }
-    requires file { IsFile plan.now (path.now, bytes.now) }
-    ensures { IfOk result (λ r. r ≡ Request.PutObject plan.now.job.dest.bucket (marker_key (task_script plan.now) (who_of plan.now) (path.now, bytes.now)) [] (Some (length bytes.now))) }
+    requires named { IsNamed plan.now path.now }
+    ensures { IfOk result (λ r. r ≡ Request.PutObject plan.now.job.dest.bucket (marker_key (task_script plan.now) (who_of plan.now) (path.now, [])) [] (Some length)) }
 {
     let key = marker(alloc, plan, dir, path)?;
-    let length = LengthHeader::new(bytes.as_slice().len() as u64);
     Request::put_object(dir.bucket(), &key, &Bytes::empty(), Some(length))
 }
 
@@ -179,7 +178,8 @@ pub fn ask_behind(
     ensures { IfOk result (λ r. r ≡ asks_behind plan.now (path.now, bytes.now) stage) }
 {
     let WriteStage::Sending(sent) = stage else {
-        return ask_marker(alloc, plan, dir, path, bytes);
+        let length = LengthHeader::new(bytes.as_slice().len() as u64);
+        return ask_marker(alloc, plan, dir, path, length);
     };
     let Some(drawn) = last_drawn(&plan.known) else {
         unreachable!();

@@ -23,10 +23,7 @@ pub struct WriteFiles {
     alloc: Global,
     plan: TaskPlan,
     dir: S3Path,
-    place: usize,
-    stage: WriteStage,
-    end: Option<TaskEnd>,
-    asked: Option<Request>,
+    turned: Turned,
 }
 
 impl Model for WriteFiles {
@@ -36,9 +33,9 @@ impl Model for WriteFiles {
 
     ghost Value = { Attempting Write };
 
-    ghost view = { λ w. seen_write w.plan w.place w.stage w.end };
+    ghost view = { λ w. seen_write w.plan w.turned.place w.turned.stage w.turned.end };
 
-    ghost invariant = { λ w. IsWrite w.plan w.dir w.place w.stage w.end w.asked };
+    ghost invariant = { λ w. IsWrite w.plan w.dir w.turned.place w.turned.stage w.turned.end w.turned.asked };
 }
 
 impl WriteFiles {
@@ -49,21 +46,11 @@ impl WriteFiles {
     {
         let dir = directory(alloc, &plan)?;
         match turn(alloc, &plan, &dir, 0, WriteStage::Creating) {
-            Ok(
-                Turned {
-                    place,
-                    stage,
-                    end,
-                    asked,
-                },
-            ) => Ok(WriteFiles {
+            Ok(turned) => Ok(WriteFiles {
                 alloc,
                 plan,
                 dir,
-                place,
-                stage,
-                end,
-                asked,
+                turned,
             }),
             Err(error) => Err(error),
         }
@@ -84,13 +71,9 @@ impl WriteFiles {
             alloc: _,
             plan,
             dir: _,
-            place: _,
-            stage: _,
-            end,
-            asked,
+            turned,
         } = self;
-        let_go(end);
-        let_go(asked);
+        let_go(turned);
         plan
     }
 
@@ -98,14 +81,14 @@ impl WriteFiles {
     pub fn end(&self) -> Option<&TaskEnd>
         ensures { option_copied result ≡ write_over self.now.operation }
     {
-        self.end.as_ref()
+        self.turned.end.as_ref()
     }
 
     fn stop(&mut self, end: TaskEnd)
         ensures { self.new ≡ record { plan = self.old.plan; operation = WriteOver end } }
     {
-        put(&mut self.asked, None);
-        put(&mut self.end, Some(end));
+        put(&mut self.turned.asked, None);
+        put(&mut self.turned.end, Some(end));
     }
 }
 
@@ -125,7 +108,7 @@ impl Machine for WriteFiles {
     ghost laws = { write_laws };
 
     fn request(&self) -> Option<&Request> {
-        self.asked.as_ref()
+        self.turned.asked.as_ref()
     }
 
     fn take(&mut self, reply: &Reply, repeated: bool) -> Result<(), AllocError> {
@@ -134,27 +117,17 @@ impl Machine for WriteFiles {
             self.alloc,
             &mut self.plan,
             &self.dir,
-            self.place,
-            self.stage,
+            self.turned.place,
+            self.turned.stage,
             reply,
         ) {
-            Ok(
-                Turned {
-                    place,
-                    stage,
-                    end,
-                    asked,
-                },
-            ) => {
-                self.place = place;
-                self.stage = stage;
-                put(&mut self.end, end);
-                put(&mut self.asked, asked);
+            Ok(turned) => {
+                put(&mut self.turned, turned);
                 Ok(())
             }
             Err(error) => {
-                put(&mut self.asked, None);
-                put(&mut self.end, Some(TaskEnd::NoMemory));
+                put(&mut self.turned.asked, None);
+                put(&mut self.turned.end, Some(TaskEnd::NoMemory));
                 Err(error)
             }
         }

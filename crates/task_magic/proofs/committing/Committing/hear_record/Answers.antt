@@ -1,0 +1,30 @@
+use Rattle.std.proofs.Common.{◌∙◌, ap, sym, length, arith, subst}
+use Rattle.std.proofs.lemmas.Option.{slice_get_within}
+use Rattle.task_magic.specs.Committing.{picked, commit_by, commit_of, HoldsCommit}
+use Rattle.task_magic.proofs.Committed.{within_at, goes_gone_at, goes_read_at, keeps_read_at}
+use Rattle.task_magic.proofs.committing.Committing.hear_record.Goals as goal
+
+pub record_key_at-requires : goal.record_key_at-requires
+record_key_at-requires c = within_at (length c.args.plan.now.files) c.args.self.now.places c.args.self.now.at c.args.place c.requires.keeps.within c.requires.at
+
+pub returns-then-is_no_key-clause-goes : goal.returns-then-is_no_key-clause-goes
+returns-then-is_no_key-clause-goes c =
+    let h = c.args.self.now in
+    ap (commit_of c.args.plan.now) c.finish.ensures
+    ∙ goes_gone_at c.args.plan.now h.listing h.walk h.places h.at c.args.place h.end c.args.reply.now c.requires.end c.requires.listing c.requires.at c.requires.fits
+    c.in_ok-name.name (sym c.is_no_key.ensures ∙ c.if-is_no_key.true) (c.in_ok-name.ensures.cases ∙ (c.as_text.ensures.text ∙ c.in_ok-key.ensures))
+
+pub behind-self-requires : goal.behind-self-requires
+behind-self-requires c = omega (arith, c.len.ensures, slice_get_within c.args.self.now.places c.args.self.now.at c.args.place (sym c.requires.at))
+
+pub returns-clause-keeps : goal.returns-clause-keeps
+returns-clause-keeps c =
+    let h = c.args.self.now in
+    subst (HoldsCommit c.args.plan.now h.places) (sym c.behind-self.ensures)
+    (keeps_read_at c.args.plan.now h.listing h.walk h.places h.at c.args.place h.end c.args.reply.now c.requires.end c.requires.listing c.requires.at c.requires.fits (sym c.is_no_key.ensures ∙ c.if-is_no_key.false) c.requires.keeps)
+
+pub returns-clause-goes : goal.returns-clause-goes
+returns-clause-goes c =
+    let h = c.args.self.now in
+    ap (λ n. commit_by h.listing h.walk (picked c.args.plan.now.files h.places) n h.end) c.behind-self.ensures
+    ∙ goes_read_at c.args.plan.now h.listing h.walk h.places h.at c.args.place h.end c.args.reply.now c.requires.end c.requires.listing c.requires.at c.requires.fits (sym c.is_no_key.ensures ∙ c.if-is_no_key.false)

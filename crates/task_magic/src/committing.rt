@@ -1,0 +1,274 @@
+ghost use Rattle.std.specs.Prelude.{◌≡◌, ◌+◌, ◌<◌, Bool, length, drop, get_or, [], true, false, IfOk, OnOk, OnErr, Some, None, slice_get};
+ghost use Rattle.std.specs.Option.{option_copied};
+ghost use Rattle.s3_types.specs.declared.request.Request.TheVariants.{GetObject};
+ghost use Rattle.s3_types.specs.declared.request.Committer.TheVariants.{Magic};
+ghost use Rattle.sendings.specs.Retries.{Got, WornOut};
+ghost use Rattle.job_operations.specs.AtWork.{task_script, who_of, task_commit_told};
+ghost use Rattle.job_operations.specs.Walks.{page_after};
+ghost use Rattle.job_operations.specs.TaskCommits.{attempt_prefix, Looking, reading, task_commit_start, task_commit_asks, task_commit_hears};
+ghost use Rattle.task_magic.specs.Committing.{picked, HoldsCommit, commit_of, Keeps, FitsCommit, record_of, is_no_key, publishes, with_sent};
+
+use crate::listing::{Listed, files_of_keys, missing, record_at};
+use crate::names::{bucket_of, directory, prefix};
+use crate::publishing::publish_request;
+use asking::NextRequest;
+use job_model::{TaskEnd, TaskPlan};
+use s3_types::{Key, Refusal, Reply, Request, Sequence, put};
+use std::alloc::{AllocError, Global};
+use sweep::KeyWalk;
+
+/// A commit as it goes on: whether it lists, the keys so far, the places of the files that it commits, how
+/// many of their records were read, and how it ended.
+#[derive(Drop)]
+pub struct Committing {
+    pub listing: bool,
+    pub walk: KeyWalk,
+    pub places: Sequence<usize>,
+    pub at: usize,
+    pub end: Option<TaskEnd>,
+}
+
+/// The request for the next page of the attempt's directory.
+fn page_request(
+    alloc: Global,
+    plan: &TaskPlan,
+    walk: &KeyWalk,
+) -> Result<Option<Request>, AllocError>
+    ensures { IfOk result (λ request. request ≡ Some (page_after plan.now.job.dest.bucket (attempt_prefix (task_script plan.now) (who_of plan.now)) walk.now)) }
+{
+    let prefix = prefix(alloc, plan)?;
+    match walk.request(bucket_of(plan), &prefix) {
+        Ok(request) => Ok(Some(request)),
+        Err(error) => Err(error),
+    }
+}
+
+/// The key of the record of the file at a place.
+fn record_key_at(alloc: Global, plan: &TaskPlan, place: usize) -> Result<Key, AllocError>
+    requires { place < length plan.now.files }
+    ensures { IfOk result (λ key. key ≡ record_of plan.now (get_or plan.now.files place ([], []))) }
+{
+    let dir = directory(alloc, plan)?;
+    record_at(alloc, plan, &dir, place)
+}
+
+/// The read of the record of the file at a place.
+fn read_request(
+    alloc: Global,
+    plan: &TaskPlan,
+    place: usize,
+) -> Result<Option<Request>, AllocError>
+    requires { place < length plan.now.files }
+    ensures { IfOk result (λ request. request ≡ Some (GetObject plan.now.job.dest.bucket (record_of plan.now (get_or plan.now.files place ([], []))))) }
+{
+    let key = record_key_at(alloc, plan, place)?;
+    match Request::get_object(bucket_of(plan), &key) {
+        Ok(request) => Ok(Some(request)),
+        Err(error) => Err(error),
+    }
+}
+
+/// A place behind so many. Takes no memory.
+fn place_at(places: &[usize], at: usize) -> Option<&usize>
+    ensures { option_copied result ≡ slice_get places.now at }
+{
+    places.get(at)
+}
+
+/// The read of the record behind so many, or where all are read the put of the set.
+fn record_or_set(
+    alloc: Global,
+    plan: &TaskPlan,
+    places: &[usize],
+    at: usize,
+) -> Result<Option<Request>, AllocError>
+    requires { HoldsCommit plan.now places.now at }
+    ensures { let cs = picked plan.now.files places.now in IfOk result (λ request. request ≡ task_commit_asks (task_script plan.now) (who_of plan.now) plan.now.known (reading cs (drop at cs))) }
+{
+    match place_at(places, at) {
+        Some(place) => read_request(alloc, plan, *place),
+        None => publish_request(alloc, plan, places),
+    }
+}
+
+fn is_no_key(reply: &Reply) -> bool
+    ensures { result ≡ is_no_key reply.now }
+{
+    match reply {
+        Reply::Refused(Refusal::NoSuchKey) => true,
+        _ => false,
+    }
+}
+
+/// The place behind one of so many.
+fn behind(at: usize, len: usize) -> usize
+    requires { at < len }
+    ensures { result ≡ at + 1 }
+{
+    at + 1
+}
+
+/// What a plan knows once a request was sent that publishes, or does not. Takes no memory.
+fn tell_sent(plan: &mut TaskPlan, publishes: bool)
+    ensures { plan.new ≡ with_sent plan.old publishes }
+{
+    if publishes {
+        plan.known.tell_publish_sent();
+    }
+}
+
+impl Committing {
+    /// A commit of which nothing was sent yet. Takes no memory.
+    pub fn new(alloc: Global, plan: &TaskPlan) -> Committing
+        requires { plan.now.job.committer ≡ Magic }
+        ensures start { commit_of plan.now result ≡ task_commit_start (task_script plan.now) (who_of plan.now) }
+        ensures keeps { Keeps plan.now result }
+    {
+        let _ = plan;
+        Committing {
+            listing: true,
+            walk: KeyWalk::new(alloc),
+            places: Sequence::new(alloc),
+            at: 0,
+            end: None,
+        }
+    }
+
+    /// The next request, or None where it is over.
+    pub fn request(&self, alloc: Global, plan: &TaskPlan) -> Result<Option<Request>, AllocError>
+        requires { Keeps plan.now self.now }
+        ensures { IfOk result (λ request. request ≡ task_commit_asks (task_script plan.now) (who_of plan.now) plan.now.known (commit_of plan.now self.now)) }
+    {
+        let None = &self.end else {
+            return Ok(None);
+        };
+        if self.listing {
+            return page_request(alloc, plan, &self.walk);
+        }
+        record_or_set(alloc, plan, self.places.as_slice(), self.at)
+    }
+
+    /// Whether its present request publishes. Takes no memory.
+    fn publishes(&self, plan: &TaskPlan) -> bool
+        ensures { result ≡ publishes (commit_of plan.now self.now) }
+    {
+        let _ = plan;
+        let None = &self.end else {
+            return false;
+        };
+        !self.listing && self.places.len() <= self.at
+    }
+
+    /// A page of the listing came.
+    fn hear_page(&mut self, alloc: Global, plan: &TaskPlan, reply: &Reply) -> Result<(), AllocError>
+        requires end { self.old.end ≡ None }
+        requires listing { self.old.listing ≡ true }
+        requires keeps { Keeps plan.now self.old }
+        requires fits { FitsCommit (task_script plan.now) (who_of plan.now) plan.now.known (Looking self.old.walk) reply.now }
+        ensures keeps { Keeps plan.now self.new }
+        ensures goes { OnOk result (commit_of plan.now self.new ≡ task_commit_hears (task_script plan.now) plan.now.minimum (who_of plan.now) (Looking self.old.walk) reply.now false) }
+    {
+        if self.walk.hear(reply)? {
+            return Ok(());
+        }
+        let Listed { places, seen } = files_of_keys(alloc, plan, self.walk.keys().as_slice())?;
+        if let Some(key) = missing(alloc, plan, seen.as_slice())? {
+            let name = key.as_text().clone()?;
+            self.finish(TaskEnd::Gone(name));
+            return Ok(());
+        }
+        put(&mut self.places, places);
+        self.at = 0;
+        self.listing = false;
+        Ok(())
+    }
+
+    /// The read of the record of the file at a place was answered.
+    fn hear_record(
+        &mut self,
+        alloc: Global,
+        plan: &TaskPlan,
+        place: usize,
+        reply: &Reply,
+    ) -> Result<(), AllocError>
+        requires end { self.old.end ≡ None }
+        requires listing { self.old.listing ≡ false }
+        requires at { Some place ≡ slice_get self.old.places self.old.at }
+        requires keeps { Keeps plan.now self.old }
+        requires fits { FitsCommit (task_script plan.now) (who_of plan.now) plan.now.known (commit_of plan.now self.old) reply.now }
+        ensures keeps { Keeps plan.now self.new }
+        ensures goes { OnOk result (commit_of plan.now self.new ≡ task_commit_hears (task_script plan.now) plan.now.minimum (who_of plan.now) (commit_of plan.now self.old) reply.now false) }
+    {
+        if is_no_key(reply) {
+            let key = record_key_at(alloc, plan, place)?;
+            let name = key.as_text().clone()?;
+            self.finish(TaskEnd::Gone(name));
+            return Ok(());
+        }
+        self.at = behind(self.at, self.places.len());
+        Ok(())
+    }
+
+    /// Goes where the reply to its present request leads.
+    fn go_on(&mut self, alloc: Global, plan: &TaskPlan, reply: &Reply) -> Result<(), AllocError>
+        requires keeps { Keeps plan.now self.old }
+        requires fits { FitsCommit (task_script plan.now) (who_of plan.now) plan.now.known (commit_of plan.now self.old) reply.now }
+        ensures keeps { Keeps plan.now self.new }
+        ensures goes { OnOk result (commit_of plan.now self.new ≡ task_commit_hears (task_script plan.now) plan.now.minimum (who_of plan.now) (commit_of plan.now self.old) reply.now false) }
+    {
+        let None = &self.end else {
+            return Ok(());
+        };
+        if self.listing {
+            return self.hear_page(alloc, plan, reply);
+        }
+        match self.places.as_slice().get(self.at) {
+            Some(place) => {
+                let place = *place;
+                self.hear_record(alloc, plan, place, reply)
+            }
+            None => {
+                self.finish(TaskEnd::Done);
+                Ok(())
+            }
+        }
+    }
+
+    /// Takes the reply to its present request, and gives the next one. After want of memory the plan is as
+    /// before.
+    pub fn hear(&mut self, alloc: Global, plan: &mut TaskPlan, reply: &Reply) -> NextRequest
+        requires keeps { Keeps plan.old self.old }
+        requires fits { FitsCommit (task_script plan.old) (who_of plan.old) plan.old.known (commit_of plan.old self.old) reply.now }
+        ensures keeps { Keeps plan.new self.new }
+        ensures told { OnOk result ((b : Bool) → record { plan = plan.new; operation = commit_of plan.new self.new } ≡ task_commit_told (record { plan = plan.old; operation = commit_of plan.old self.old }) (Got reply.now b)) }
+        ensures next { IfOk result (λ request. request ≡ task_commit_asks (task_script plan.new) (who_of plan.new) plan.new.known (commit_of plan.new self.new)) }
+        ensures err { OnErr result (plan.new ≡ plan.old) }
+    {
+        let publishes = self.publishes(plan);
+        self.go_on(alloc, plan, reply)?;
+        match self.request(alloc, plan) {
+            Ok(next) => {
+                tell_sent(plan, publishes);
+                Ok(next)
+            }
+            Err(error) => Err(error),
+        }
+    }
+
+    /// Takes it that its present request wore out. Takes no memory.
+    pub fn wear(&mut self, plan: &mut TaskPlan)
+        requires { Keeps plan.old self.old }
+        ensures keeps { Keeps plan.new self.new }
+        ensures told { record { plan = plan.new; operation = commit_of plan.new self.new } ≡ task_commit_told (record { plan = plan.old; operation = commit_of plan.old self.old }) WornOut }
+    {
+        tell_sent(plan, self.publishes(plan));
+        self.finish(TaskEnd::StoreFault);
+    }
+
+    /// Ends it. Takes no memory.
+    pub fn finish(&mut self, end: TaskEnd)
+        ensures { self.new ≡ record { listing = self.old.listing; walk = self.old.walk; places = self.old.places; at = self.old.at; end = Some end } }
+    {
+        put(&mut self.end, Some(end));
+    }
+}

@@ -1,0 +1,131 @@
+ghost use Rattle.std.specs.Prelude.{◌≡◌, ◌<◌, ℕ, List, ◌++◌, codes, length, map, get_or, [], true, false, replicate, IfOk, OnOk, IfSome, MatchOption};
+ghost use Rattle.job_operations.specs.AtWork.{task_script, who_of};
+ghost use Rattle.job_operations.specs.TaskCommits.{attempt_prefix, in_order, least_of};
+ghost use Rattle.task_magic.specs.Writing.{dir_of};
+ghost use Rattle.task_magic.specs.Committing.{picked, are_places, record_of, IsRecordAt, IsPlaceOf, places_in, set_at, seen_in, least_unseen};
+
+use crate::names::{directory, file_at, prefix, record};
+use job_model::TaskPlan;
+use path_keys::S3Path;
+use s3_types::{Key, Sequence, Text};
+use std::alloc::{AllocError, Global};
+
+/// What the keys of a listing are of: the places of the files whose records are listed, in the order of the
+/// keys, and of each file whether its record is listed.
+#[derive(Drop)]
+pub struct Listed {
+    pub places: Sequence<usize>,
+    pub seen: Vec<bool>,
+}
+
+/// What stands between a prefix and `.pending` in a key.
+fn path_in<'a>(prefix: &str, key: &'a str) -> Option<&'a str>
+    ensures { MatchOption result ((path : List ℕ) → IsRecordAt prefix.now key.now path → ⊥) (λ path. IsRecordAt prefix.now key.now path.now) }
+{
+    match key.strip_prefix(prefix) {
+        Some(rest) => rest.strip_suffix(".pending"),
+        None => None,
+    }
+}
+
+/// The place of the file whose record has this key, where there is one.
+fn place_of(
+    alloc: Global,
+    plan: &TaskPlan,
+    prefix: &Text,
+    key: &Key,
+) -> Result<Option<usize>, AllocError>
+    requires { prefix.now ≡ attempt_prefix (task_script plan.now) (who_of plan.now) }
+    ensures within { IfOk result (λ place. IfSome place (λ i. i < length plan.now.files)) }
+    ensures is { IfOk result (λ place. IsPlaceOf plan.now key.now place) }
+{
+    let Some(path) = path_in(prefix.as_str(), key.as_text().as_str()) else {
+        return Ok(None);
+    };
+    let path = Text::copied(alloc, path)?;
+    Ok(plan.files.held().get_index_of(&path))
+}
+
+/// So many files of which none is seen.
+fn unseen(alloc: Global, count: usize) -> Result<Vec<bool>, AllocError>
+    ensures { IfOk result (λ seen. seen.items ≡ replicate count false) }
+{
+    vec![in alloc; false; count]
+}
+
+/// Adds the file at a place, where there is one.
+fn add_place(listed: &mut Listed, place: Option<usize>) -> Result<(), AllocError>
+    requires { IfSome place (λ i. i < length listed.old.seen.items) }
+    ensures places { OnOk result (listed.new.places ≡ listed.old.places ++ places_in place) }
+    ensures seen { OnOk result (listed.new.seen.items ≡ set_at listed.old.seen.items place) }
+{
+    let Some(place) = place else {
+        return Ok(());
+    };
+    listed.places.push(place)?;
+    listed.seen[place] = true;
+    Ok(())
+}
+
+/// What these keys are of.
+pub fn files_of_keys(alloc: Global, plan: &TaskPlan, keys: &[Key]) -> Result<Listed, AllocError>
+    ensures places { IfOk result (λ x. are_places (length plan.now.files) x.places ≡ true) }
+    ensures files { IfOk result (λ x. picked plan.now.files x.places ≡ in_order (task_script plan.now) (who_of plan.now) keys.now) }
+    ensures seen { IfOk result (λ x. x.seen.items ≡ seen_in plan.now keys.now) }
+{
+    let prefix = prefix(alloc, plan)?;
+    let mut listed = Listed {
+        places: Sequence::new(alloc),
+        seen: unseen(alloc, plan.files.len())?,
+    };
+    for key in keys {
+        let place = place_of(alloc, plan, &prefix, key)?;
+        add_place(&mut listed, place)?;
+    }
+    Ok(listed)
+}
+
+/// The key of the record of the file at a place.
+pub fn record_at(alloc: Global, plan: &TaskPlan, dir: &S3Path, place: usize) -> Result<Key, AllocError>
+    requires dir { dir.now ≡ dir_of plan.now }
+    requires within { place < length plan.now.files }
+    ensures { IfOk result (λ key. key ≡ record_of plan.now (get_or plan.now.files place ([], []))) }
+{
+    let Some((path, _)) = file_at(plan, place) else {
+        unreachable!();
+    };
+    record(alloc, plan, dir, path)
+}
+
+/// The lesser of two keys, where there are two.
+fn lesser(least: Option<Key>, key: Key) -> Key
+    ensures { result ≡ least_of least key }
+{
+    match least {
+        Some(least) => {
+            if least < key {
+                least
+            } else {
+                key
+            }
+        }
+        None => key,
+    }
+}
+
+/// The least key of a record that is not seen.
+pub fn missing(alloc: Global, plan: &TaskPlan, seen: &[bool]) -> Result<Option<Key>, AllocError>
+    requires { length seen.now ≡ length plan.now.files }
+    ensures { IfOk result (λ key. key ≡ least_unseen seen.now (map (record_of plan.now) plan.now.files)) }
+{
+    let dir = directory(alloc, plan)?;
+    let mut left = seen.len();
+    let mut least = None;
+    while 0 < left {
+        left -= 1;
+        if !seen[left] {
+            least = Some(lesser(least, record_at(alloc, plan, &dir, left)?));
+        }
+    }
+    Ok(least)
+}
