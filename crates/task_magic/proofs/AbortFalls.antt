@@ -1,19 +1,19 @@
 -- What an abort has left falls.
-use Rattle.std.proofs.Common.{◌≡◌, ℕ, ◌+◌, ◌<◌, ◌≤◌, Bool, true, false, List, [], ◌∷◌, length, Option, Some, None, refl, ap, subst, arith}
+use Rattle.std.proofs.Common.{◌≡◌, ◌+◌, ◌<◌, ◌≤◌, Bool, true, false, List, [], ◌∷◌, length, Option, Some, None, refl, ap, subst, arith}
 use Rattle.proof_base.proofs.Options.{some_is}
 use Rattle.s3_types.specs.Store.{Scene}
 use Rattle.s3_types.specs.Answer.{answer, apply}
 use Rattle.s3_types.specs.declared.request.Committer.{Committer}
 use Rattle.s3_types.specs.declared.request.Committer.TheVariants.{Magic, Directory, Partitioned}
 use Rattle.s3_types.specs.declared.request.Request.{Request}
-use Rattle.s3_types.specs.declared.request.Request.TheVariants.{AbortUpload, ClusterDelete}
+use Rattle.s3_types.specs.declared.request.Request.TheVariants.{AbortUpload}
 use Rattle.job_model.specs.Attempts.{Who}
 use Rattle.job_model.specs.Known.{Drawn}
 use Rattle.job_model.specs.JobScript.{Script}
 use Rattle.job_operations.specs.AtWork.{task_script, who_of, task_abort_wants, task_abort_told}
 use Rattle.job_operations.specs.Measures.{FallsAmong}
 use Rattle.job_operations.specs.Walks.{Sweep, sweep_start, sweep_asks, sweep_hears, all_go}
-use Rattle.job_operations.specs.TaskCommits.{attempt_prefix, temporary_path}
+use Rattle.job_operations.specs.TaskCommits.{attempt_prefix}
 use Rattle.job_operations.specs.TaskAborts.{TaskAbort, Dropping, Sweeping, Removing, TaskAbortOver, task_abort_asks, task_abort_hears, removing, dropped, dropping, sweeping}
 use Rattle.sweep.specs.Fitting.{FitsSweep}
 use Rattle.sweep.specs.Left.{left_of, adds_key, one_if}

@@ -1,5 +1,5 @@
 -- What a commit has left falls.
-use Rattle.std.proofs.Common.{◌≡◌, ℕ, zero, suc, ◌+◌, ◌<◌, ◌≤◌, Bool, true, false, cond, List, [], ◌∷◌, ◌++◌, map, length, length-append, Option, Some, None, refl, sym, ap, subst, ◌∙◌, arith, inl, inr}
+use Rattle.std.proofs.Common.{◌≡◌, ℕ, ◌+◌, ◌<◌, ◌≤◌, Bool, true, false, cond, List, [], ◌∷◌, map, length, length-append, Option, Some, None, refl, sym, ap, subst, ◌∙◌, arith, inl, inr}
 use Rattle.std.specs.List.{filter, flat_map}
 use Rattle.std.specs.Cmp.Lexicographic.{bytes_decides}
 use Rattle.proof_base.specs.Order.{text_eq}
@@ -9,7 +9,7 @@ use Rattle.s3_types.specs.Answer.{answer, apply}
 use Rattle.s3_types.specs.declared.request.Request.{Request}
 use Rattle.s3_types.specs.declared.reply.Reply.{Reply}
 use Rattle.s3_types.specs.declared.reply.Reply.TheVariants.{Object, Page, Refused}
-use Rattle.s3_types.specs.declared.reply.Refusal.TheVariants.{NoSuchKey, NoSuchBucket}
+use Rattle.s3_types.specs.declared.reply.Refusal.TheVariants.{NoSuchKey}
 use Rattle.request_frame.specs.Members.{IsIn, RisesFrom}
 use Rattle.request_frame.proofs.Flat.{not_again}
 use Rattle.job_model.specs.Files.{File}
@@ -24,7 +24,7 @@ use Rattle.job_operations.specs.Walks.{Walked, More, Whole, page_after, walked}
 use Rattle.job_operations.specs.TaskCommits as commits
 use Rattle.job_operations.specs.TaskCommits.{TaskCommit, Looking, Reading, Publishing, Checking, Storing, Renaming, TaskCommitOver, attempt_prefix, task_commit_asks, task_commit_hears, in_order, reading, looked_at, looked, read_record, least_missing}
 use Rattle.sweep.specs.Fitting.{FitsPage}
-use Rattle.sweep.specs.Left.{walk_left, adds_key, one_if}
+use Rattle.sweep.specs.Left.{walk_left, adds_key}
 use Rattle.sweep.specs.Laws.{LessWalk}
 use Rattle.sweep.proofs.Falling.{walk_laws}
 use Rattle.task_magic.specs.Committing.{FitsListing, FitsRecord, FitsCommit, commit_fits, commit_left_at, commit_left}

@@ -1,20 +1,16 @@
 -- Where replies lead a commit, by the places of the files that it commits.
 use Rattle.std.proofs.Common.{◌≡◌, ℕ, zero, suc, ◌+◌, ◌<◌, ◌≤◌, nat_lt, nat_le, Bool, true, false, cond, ◌||◌, List, [], ◌∷◌, ◌++◌, map, length, take, drop, get_or, slice_get, Option, Some, None, refl, sym, ap, subst, ◌∙◌, arith, add-one}
-use Rattle.std.specs.List.{list_all, AllByRecursion}
 use Rattle.std.specs.Cmp.Lexicographic.{bytes_decides}
 use Rattle.std.proofs.lemmas.Bool.{and_parts}
-use Rattle.std.proofs.lemmas.List.{take_all, drop_all}
-use Rattle.proof_base.specs.Order.{text_eq}
+use Rattle.std.proofs.lemmas.List.{drop_all}
 use Rattle.proof_base.proofs.Numbers.{below_is, at_most_is, at_most_not}
 use Rattle.s3_types.specs.declared.request.Request.{Request}
 use Rattle.s3_types.specs.declared.request.Request.TheVariants.{GetObject}
-use Rattle.s3_types.specs.declared.request.Committer.{Committer}
-use Rattle.s3_types.specs.declared.request.Committer.TheVariants.{Magic}
 use Rattle.s3_types.specs.declared.reply.Reply.{Reply}
 use Rattle.s3_types.specs.declared.reply.Reply.TheVariants.{Object, Refused}
 use Rattle.s3_types.specs.declared.reply.Refusal.TheVariants.{NoSuchKey}
 use Rattle.magic_paths.specs.Layout as layout
-use Rattle.sendings.specs.Retries.{Got, WornOut}
+use Rattle.sendings.specs.Retries.{Got}
 use Rattle.job_model.specs.Files.{File}
 use Rattle.job_model.specs.Attempts.{Who}
 use Rattle.job_model.specs.Known.{Known}
@@ -26,18 +22,13 @@ use Rattle.job_operations.specs.AtWork.{Attempting, task_script, who_of, with_kn
 use Rattle.job_operations.specs.Knowledge.{is_set_key}
 use Rattle.job_operations.specs.Outputs.{files}
 use Rattle.job_operations.specs.Records.{record_key}
-use Rattle.job_operations.specs.Walks.{Walked, More, Whole, walked, walked_by}
+use Rattle.job_operations.specs.Walks.{walked, walked_by}
 use Rattle.job_operations.specs.TaskCommits as commits
 use Rattle.job_operations.specs.Uploading.{Creating, Sending}
 use Rattle.job_operations.specs.TaskCommits.{TaskCommit, Looking, Reading, Publishing, Checking, Storing, Renaming, TaskCommitOver, task_commit_start_by, task_commit_asks, task_commit_hears, in_order, reading, looked, looked_at, least_missing, read_record}
 use Rattle.task_magic.specs.declared.committing.Committing.{Committing}
 use Rattle.task_magic.specs.Committing.{picked, commit_by, commit_of, IsPending, AreReady, are_places, drawn_of, HoldsCommit, FitsCommit, FitsRecord, record_of, is_no_key, publishes, known_if, with_sent, seen_in, least_unseen}
 use Rattle.task_magic.proofs.Listed.{missing_is}
-
--- ---- it begins with the listing
-
-pub start_at : (c : Committer) (w : Script) (a : Who) (cs : List File) → c ≡ Magic → commit_by true [] cs 0 None ≡ task_commit_start_by c w a
-start_at c w a cs h = sym (ap (λ (x : Committer). task_commit_start_by x w a) h)
 
 -- ---- the file at a place
 
@@ -150,9 +141,6 @@ keeps_read t keys places at p r h f g k = record {
       (ready_here (task_script t) (who_of t) t.known (get_or t.files p ([], [])) r (fits_at t keys places at p r h f) g));
 }
 
-pub goes_published : (t : Task) (keys : List (List ℕ)) (places : List ℕ) (at : ℕ) (r : Reply) → None ≡ slice_get places at → TaskCommitOver ends.Done ≡ task_commit_hears (task_script t) t.minimum (who_of t) (commit_by false keys (picked t.files places) at None) r false
-goes_published t keys places at r h = sym (ap (λ (l : List File). task_commit_hears (task_script t) t.minimum (who_of t) (reading (picked t.files places) l) r false) (past_files t.files places at h))
-
 -- ---- where the stage is told by equations
 
 as_reading : (listing : Bool) (keys : List (List ℕ)) (cs : List File) (at : ℕ) (end : Option TaskEnd) → end ≡ None → listing ≡ false → commit_by listing keys cs at end ≡ commit_by false keys cs at None
@@ -197,16 +185,6 @@ pub got_by : (t : Task) (listing : Bool) (keys : List (List ℕ)) (cs : List Fil
 got_by t listing keys cs at (Some end) r b = refl
 got_by t true keys cs at None r b = refl
 got_by t false keys cs at None r b = reading_got t cs (drop at cs) r b
-
-reading_worn : (t : Task) (cs fs : List File) → task_commit_told (record { plan = t; operation = reading cs fs }) WornOut ≡ record { plan = with_sent t (publishes (reading cs fs)); operation = TaskCommitOver ends.StoreFault }
-reading_worn t cs [] = ap (λ (k : Known). let m : Attempting TaskCommit = record { plan = with_known t k; operation = TaskCommitOver ends.StoreFault } in m) (set_known t)
-reading_worn t cs (f ∷ fs) = refl
-
-pub worn_by : (t : Task) (listing : Bool) (keys : List (List ℕ)) (cs : List File) (at : ℕ) (end : Option TaskEnd) → (let o = commit_by listing keys cs at end in
-    task_commit_told (record { plan = t; operation = o }) WornOut ≡ record { plan = with_sent t (publishes o); operation = TaskCommitOver ends.StoreFault })
-worn_by t listing keys cs at (Some end) = refl
-worn_by t true keys cs at None = refl
-worn_by t false keys cs at None = reading_worn t cs (drop at cs)
 
 -- ---- with what it learns
 

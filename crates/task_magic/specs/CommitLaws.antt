@@ -10,7 +10,6 @@ use Rattle.job_model.specs.Attempts.{Who}
 use Rattle.job_model.specs.Known.{Known}
 use Rattle.job_model.specs.JobScript.{Script}
 use Rattle.job_operations.specs.AtWork.{Attempting, task_script, who_of, task_commit_wants, task_commit_told}
-use Rattle.job_operations.specs.Outputs.{files}
 use Rattle.job_operations.specs.Walks.{Walked, More, Whole, walked}
 use Rattle.job_operations.specs.TaskCommits as commits
 use Rattle.job_operations.specs.TaskCommits.{TaskCommit, Looking, Reading, Publishing, Checking, Storing, Renaming, TaskCommitOver, task_commit_over, task_commit_hears, reading, looked_at, looked, read_record}

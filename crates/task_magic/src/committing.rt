@@ -53,11 +53,7 @@ fn record_key_at(alloc: Global, plan: &TaskPlan, place: usize) -> Result<Key, Al
 }
 
 /// The read of the record of the file at a place.
-fn read_request(
-    alloc: Global,
-    plan: &TaskPlan,
-    place: usize,
-) -> Result<Option<Request>, AllocError>
+fn read_request(alloc: Global, plan: &TaskPlan, place: usize) -> Result<Option<Request>, AllocError>
     requires { place < length plan.now.files }
     ensures { IfOk result (λ request. request ≡ Some (GetObject plan.now.job.dest.bucket (record_of plan.now (get_or plan.now.files place ([], []))))) }
 {

@@ -86,7 +86,12 @@ pub fn files_of_keys(alloc: Global, plan: &TaskPlan, keys: &[Key]) -> Result<Lis
 }
 
 /// The key of the record of the file at a place.
-pub fn record_at(alloc: Global, plan: &TaskPlan, dir: &S3Path, place: usize) -> Result<Key, AllocError>
+pub fn record_at(
+    alloc: Global,
+    plan: &TaskPlan,
+    dir: &S3Path,
+    place: usize,
+) -> Result<Key, AllocError>
     requires dir { dir.now ≡ dir_of plan.now }
     requires within { place < length plan.now.files }
     ensures { IfOk result (λ key. key ≡ record_of plan.now (get_or plan.now.files place ([], []))) }
@@ -102,13 +107,7 @@ fn lesser(least: Option<Key>, key: Key) -> Key
     ensures { result ≡ least_of least key }
 {
     match least {
-        Some(least) => {
-            if least < key {
-                least
-            } else {
-                key
-            }
-        }
+        Some(least) => { if least < key { least } else { key } }
         None => key,
     }
 }

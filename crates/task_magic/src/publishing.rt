@@ -7,9 +7,9 @@ ghost use Rattle.job_operations.specs.Records.{file_record, set_text};
 ghost use Rattle.job_operations.specs.TaskCommits.{Publishing, task_commit_asks};
 ghost use Rattle.task_magic.specs.Committing.{picked, are_places, AreReady, IsPending, drawn_of, IsLastAt};
 
-use crate::requests::pending;
 use crate::drawn::{made, made_at};
 use crate::names::{bucket_of, file_at, job_of, target};
+use crate::requests::pending;
 use indexmap::IndexMap;
 use job_model::{DrawnUpload, TaskPlan};
 use magic_paths::set_key;

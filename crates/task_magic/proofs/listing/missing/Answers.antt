@@ -1,5 +1,5 @@
-use Rattle.std.proofs.Common.{◌∙◌, ap, sym, length, arith, ◌≡◌, ◌+◌, ◌-◌}
-use Rattle.task_magic.proofs.Listed.{least_seen, least_other, nothing_left}
+use Rattle.std.proofs.Common.{arith, ◌≡◌, ◌+◌, ◌-◌}
+use Rattle.task_magic.proofs.Listed.{least_seen, least_other}
 use Rattle.task_magic.proofs.listing.missing.Goals as goal
 
 pub loop-left-preserved-then-not-seen-left : goal.loop-left-preserved-then-not-seen-left
