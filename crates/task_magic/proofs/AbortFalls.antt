@@ -80,7 +80,7 @@ sweeping_falls w a v s h =
     let e = sweeping_left w a (sweep_hears all_go v (answer s (sweep_asks w.dest.bucket (attempt_prefix w a) v))) (apply s (sweep_asks w.dest.bucket (attempt_prefix w a) v)) in
     omega (arith, f, e)
 
-none_some : {r : Request} → None ≡ Some r → ⊥
+pub none_some : {r : Request} → None ≡ Some r → ⊥
 none_some e = cc
 
 falls_at : (w : Script) (a : Who) (o : TaskAbort) (s : Scene) (r : Request) → task_abort_asks w a o ≡ Some r → FitsAbort o (answer s r) → abort_left_at w a (task_abort_hears w o (answer s r)) (apply s r) < abort_left_at w a o s

@@ -28,7 +28,7 @@ use Rattle.sweep.specs.Left.{walk_left, adds_key}
 use Rattle.sweep.specs.Laws.{LessWalk}
 use Rattle.sweep.proofs.Falling.{walk_laws}
 use Rattle.task_magic.specs.Committing.{FitsListing, FitsRecord, FitsCommit, commit_fits, commit_left_at, commit_left}
-use Rattle.task_magic.proofs.AbortFalls.{one_most}
+use Rattle.task_magic.proofs.AbortFalls.{one_most, none_some}
 
 -- ---- keys that rise pick each file once
 
@@ -131,9 +131,6 @@ read_falls : (w : Script) (a : Who) (k : Known) (cs : List File) (f : File) (fs 
 read_falls w a k cs f fs (Object bytes header) s h = omega (arith, reading_left w a cs fs s)
 read_falls w a k cs f fs (Refused NoSuchKey) s h = omega arith
 read_falls w a k cs f fs _ s h = absurd h
-
-none_some : {r : Request} → None ≡ Some r → ⊥
-none_some e = cc
 
 falls_at : (w : Script) (minimum : ℕ) (a : Who) (k : Known) (o : TaskCommit) (s : Scene) (r : Request) (b : Bool) → task_commit_asks w a k o ≡ Some r → FitsCommit w a k o (answer s r) → commit_left_at w a (task_commit_hears w minimum a o (answer s r) b) (apply s r) < commit_left_at w a o s
 falls_at w minimum a k (Looking keys) s r b e h =

@@ -1,6 +1,6 @@
+pub mod Standing
 pub mod Writing
 pub mod WriteLaws
-pub mod Standing
 pub mod Undoing
 pub mod AbortLaws
 pub mod Committing

@@ -6,26 +6,20 @@ use Rattle.s3_types.specs.declared.request.Request.{Request}
 use Rattle.s3_types.specs.declared.reply.Reply.{Reply}
 use Rattle.s3_types.specs.declared.reply.Reply.TheVariants.{Upload, Part, Refused}
 use Rattle.s3_types.specs.declared.reply.Refusal.TheVariants.{NoSuchUpload}
-use Rattle.machine.specs.Standing.{Standing, Fine, Faulted, Broken}
+use Rattle.machine.specs.Standing.{Standing, Fine}
 use Rattle.machine.specs.Laws.{Laws}
 use Rattle.job_model.specs.Files.{File}
 use Rattle.job_model.specs.Known.{Drawn}
 use Rattle.job_model.specs.Jobs.{Task}
 use Rattle.job_model.specs.JobScript.{Script}
-use Rattle.job_model.specs.declared.ends.TaskEnd.{TaskEnd}
-use Rattle.job_model.specs.declared.ends.TaskEnd.TheVariants as ends
 use Rattle.job_operations.specs.AtWork.{Attempting, task_script, write_wants, write_told}
 use Rattle.job_operations.specs.Uploading.{Creating, Sending, sending, file_parts, created, sent_part}
 use Rattle.job_operations.specs.Writes as writes
 use Rattle.job_operations.specs.Writes.{Write, uploaded, writing, write_hears}
+use Rattle.task_magic.specs.Standing.{standing_of}
 use Rattle.task_magic.specs.Writing.{write_fits, FitsWrite, FitsCreate, FitsPart, write_left}
 
 -- ---- how it stands
-
-abbrev pub standing_of : TaskEnd → Standing
-standing_of ends.StoreFault = Faulted
-standing_of ends.NoMemory = Broken
-standing_of _ = Fine
 
 abbrev pub standing_at : Write → Standing
 standing_at (writes.WriteOver end) = standing_of end
