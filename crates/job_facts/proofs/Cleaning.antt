@@ -42,7 +42,7 @@ use Rattle.job_facts.proofs.Shows.{HidesAll, hidden_shows}
 
 -- ---- what is found
 
-taken_refs : (n : ℕ) (us : List UploadRef) (u : UploadRef) → IsIn u (take n us) → IsIn u us
+pub taken_refs : (n : ℕ) (us : List UploadRef) (u : UploadRef) → IsIn u (take n us) → IsIn u us
 taken_refs zero us u i = absurd i
 taken_refs (suc n) [] u i = absurd i
 taken_refs (suc n) (v ∷ us) u (inl e) = inl e

@@ -46,6 +46,7 @@ pub mod Numbered
 pub mod Deciding
 pub mod Filing
 pub mod EndedGone
+pub mod FoundKeys
 pub mod FilingLaws
 pub mod FilePaths
 pub mod Agreeing

@@ -22,8 +22,10 @@ use Rattle.s3_types.specs.Multipart.{ref_cmp, ref_of, refs, is_behind, listed}
 use Rattle.s3_types.specs.declared.request.UploadRef.{UploadRef}
 use Rattle.job_operations.specs.Walks.{last_ref}
 use Rattle.request_frame.specs.Members.{IsIn}
-use Rattle.request_frame.proofs.Members.{some_is, none_some, nat_true, ties, text_true, map_in, filter_in}
+use Rattle.request_frame.proofs.Members.{some_is, none_some, nat_true, ties, text_true, map_in, filter_in, in_map, in_filter}
 use Rattle.job_facts.specs.Clearing.{ref_at}
+use Rattle.std.specs.Map.{keys_of}
+use Rattle.proof_base.proofs.EntriesFrom.{find_head, find_other}
 
 refs_total : IsTotalOrder ref_cmp
 refs_total = then_total (on_total (λ r. r.key) text_total) (on_total (λ r. r.upload) nat_cmp_total)
@@ -75,17 +77,17 @@ listed_sorted p l m =
     IsStrictlySortedBy-filter ref_cmp (λ r. begins p r.key) (filter (is_behind l) (map (λ q. q.0) (fin.entries (refs m))))
     (IsStrictlySortedBy-filter ref_cmp (is_behind l) (map (λ q. q.0) (fin.entries (refs m))) (map_sorted ref_cmp (refs m)))
 
-above_all : (k : UploadRef) (rs : List UploadRef) (r : UploadRef) → AllByRecursion (λ q. ref_cmp k q ≡ Less) rs → IsIn r rs → is_behind (Some k) r ≡ true
-above_all k [] r a i = absurd i
-above_all k (q ∷ rs) r a (inl e) = ap (λ x. is_lt (ref_cmp k x)) e ∙ ap is_lt a.0
-above_all k (q ∷ rs) r a (inr i) = above_all k rs r a.1 i
+above_all : {K : Type 0} (R : K → K → Ordering) (k : K) (ks : List K) (q : K) → AllByRecursion (λ y. R k y ≡ Less) ks → IsIn q ks → R k q ≡ Less
+above_all R k [] q a i = absurd i
+above_all R k (x ∷ ks) q a (inl e) = ap (R k) e ∙ a.0
+above_all R k (x ∷ ks) q a (inr i) = above_all R k ks q a.1 i
 
 -- one of uploads that rise is among the first n or behind the last of these
 take_or : (n : ℕ) (rs : List UploadRef) (l : Option UploadRef) (r : UploadRef) → IsStrictlySortedBy ref_cmp rs → is_behind l r ≡ true → IsIn r rs → IsIn r (take n rs) ⊎ (is_behind (last_ref l (take n rs)) r ≡ true)
 take_or zero rs l r s h i = inr h
 take_or (suc n) [] l r s h i = absurd i
 take_or (suc n) (q ∷ rs) l r s h (inl e) = inl (inl e)
-take_or (suc n) (q ∷ rs) l r s h (inr i) = elim (take_or n rs (Some q) r (sorted_tail ref_cmp q rs s) (above_all q rs r (sorted_head ref_cmp q rs s) i) i) [ inl g ↦ inl (inr g) | inr g ↦ inr g ]
+take_or (suc n) (q ∷ rs) l r s h (inr i) = elim (take_or n rs (Some q) r (sorted_tail ref_cmp q rs s) (ap is_lt (above_all ref_cmp q rs r (sorted_head ref_cmp q rs s) i)) i) [ inl g ↦ inl (inr g) | inr g ↦ inr g ]
 
 pub last_more : (l : Option UploadRef) (rs more : List UploadRef) → last_ref l (rs ++ more) ≡ last_ref (last_ref l rs) more
 last_more l [] more = refl
@@ -99,3 +101,30 @@ module _ (p : List ℕ) (l : Option UploadRef) (m : Uploads) (id : ℕ) (x : Upl
   -- and on the page, where no more remain
   pub page_all : (n : ℕ) → nat_lt n (length (listed p l m)) ≡ false → IsIn (ref_at id x) (take n (listed p l m))
   page_all n few = subst (IsIn (ref_at id x)) (sym (take_all n (listed p l m) (ltb-false n (length (listed p l m)) few))) (live_listed p l m id x e h g)
+
+-- ---- what is listed is live
+
+not_below : (n : ℕ) → nat_cmp n n ≡ Less → ⊥
+not_below n h = let e : nat_cmp n n ≡ Equal = tied _ (ties n n ∙ nat_true n n refl) in absurd cc
+
+-- one of entries that rise is what is found at its id
+found_at : (es : List (ℕ × Upload)) (e : ℕ × Upload) → IsStrictlySortedBy nat_cmp (keys_of es) → IsIn e es → find nat_cmp e.0 es ≡ Some e.1
+found_at [] e s i = absurd i
+found_at (p ∷ es) e s (inl is) = subst (λ (x : ℕ × Upload). find nat_cmp e.0 (x ∷ es) ≡ Some e.1) is (find_head e es)
+found_at (p ∷ es) e s (inr i) =
+    let above : nat_cmp p.0 e.0 ≡ Less = above_all nat_cmp p.0 (keys_of es) e.0 (sorted_head nat_cmp p.0 (keys_of es) s) (map_in (λ (x : ℕ × Upload). x.0) e es i) in
+    find_other e.0 p es (λ h. not_below p.0 (ap (nat_cmp p.0) (sym h) ∙ above)) ∙ found_at es e (sorted_tail nat_cmp p.0 (keys_of es) s) i
+
+-- with its key
+pub listed_live : (p : List ℕ) (l : Option UploadRef) (m : Uploads) (r : UploadRef) → IsIn r (listed p l m) → (x : Upload) × ((fin.get m r.upload ≡ Some x) × (x.key ≡ r.key))
+listed_live p l m r i =
+    let names : List UploadRef = map (λ (q : UploadRef × Unit {0}). q.0) (fin.entries (refs m)) in
+    let a = (in_filter (λ (q : UploadRef). begins p q.key) r (filter (is_behind l) names) i).0 in
+    let b = (in_filter (is_behind l) r names a).0 in
+    let d = in_map (λ (q : UploadRef × Unit {0}). q.0) r (fin.entries (refs m)) b in
+    let kept = in_find ref_cmp (fin.entries (refs m)) d.0.0 d.0.1 (ref_self d.0.0) d.1 in
+    let made : find ref_cmp d.0.0 (map ref_of (fin.entries m)) ≡ Some kept.0 = sym (fin.get-from_entries refs_total (map ref_of (fin.entries m)) d.0.0) ∙ (fin.get-entries (refs m) d.0.0 ∙ kept.1) in
+    let e = in_map ref_of (d.0.0, kept.0) (fin.entries m) (find_in ref_cmp exact_refs (map ref_of (fin.entries m)) d.0.0 kept.0 made) in
+    let at : fin.get m e.0.0 ≡ Some e.0.1 = fin.get-entries m e.0.0 ∙ found_at (fin.entries m) e.0 (map_sorted nat_cmp m) e.1 in
+    let is : r ≡ ref_at e.0.0 e.0.1 = d.2 ∙ ap (λ (q : UploadRef × Unit {0}). q.0) e.2 in
+    (e.0.1, (ap (λ (q : UploadRef). fin.get m q.upload) is ∙ at, sym (ap (λ (q : UploadRef). q.key) is)))

@@ -1,6 +1,6 @@
 -- The uploads of the sets that the driver holds, and what stands where their files go while its commit runs.
 use Rattle.std.specs.Prelude.{◌≡◌, ℕ, ◌<◌, ◌≤◌, ◌⊎◌, Bool, true, false, List, ◌∷◌, length, Option, Some, None}
-use Rattle.s3_types.specs.Store.{Content}
+use Rattle.s3_types.specs.Store.{Content, Upload}
 use Rattle.s3_types.specs.declared.object.Object.{Object}
 use Rattle.s3_types.specs.declared.journal.Entry.{Entry}
 use Rattle.s3_types.specs.declared.request.Request.{Request}
@@ -23,6 +23,8 @@ use Rattle.request_frame.specs.Members.{IsIn}
 use Rattle.job_facts.specs.Told.{Told}
 use Rattle.job_facts.specs.Stores.{at_id}
 use Rattle.job_facts.specs.Facts.{IsWritten}
+use Rattle.s3_types.specs.declared.request.UploadRef.{UploadRef}
+use Rattle.job_operations.specs.Cleanups.{Clean, Walking, Aborting, Sweeping, Naming, Removing, CleanOver}
 
 -- ---- uploads
 
@@ -38,6 +40,22 @@ pub record IsCommit (w : Script) (minimum : ℕ) (sent : Who → Bool) (drawn : 
 -- each upload that the driver has ended is gone, and its id was drawn
 abbrev pub Gone : Script → Content → Told → Type 0
 Gone w c m = (id : ℕ) → m.ended id ≡ true → (id < c.next) × (at_id w c id ≡ None)
+
+-- an upload that was found has the key that it was found with as long as it lives
+abbrev pub HasItsKey : Script → Content → UploadRef → Type 0
+HasItsKey w c r = (r.upload < c.next) × ((u : Upload) → at_id w c r.upload ≡ Some u → u.key ≡ r.key)
+
+abbrev pub AllHaveKeys : Script → Content → List UploadRef → Type 0
+AllHaveKeys w c found = (r : UploadRef) → IsIn r found → HasItsKey w c r
+
+-- what an abort or clean of the job found, and has yet to abort
+abbrev pub FoundWithKeys : Script → Content → Clean → Type 0
+FoundWithKeys w c (Walking found) = AllHaveKeys w c found
+FoundWithKeys w c (Aborting u us) = AllHaveKeys w c (u ∷ us)
+FoundWithKeys w c (Sweeping t) = Unit {0}
+FoundWithKeys w c Naming = Unit {0}
+FoundWithKeys w c (Removing p ps) = Unit {0}
+FoundWithKeys w c (CleanOver end) = Unit {0}
 
 -- each of these requests aborts such an upload, or deletes its file's key
 abbrev pub AreReverts : Script → ℕ → (Who → Bool) → (Who → List Drawn) → List Request → Type 0

@@ -1,6 +1,6 @@
 -- The laws of what stands where the job's files go, and of uploads that are ended.
 use Rattle.std.specs.Prelude.{◌≡◌, ℕ, ◌<◌, ◌≤◌, ◌^◌, true, List, [], ◌∷◌, ◌++◌, Option, Some, None}
-use Rattle.s3_types.specs.Store.{Scene}
+use Rattle.s3_types.specs.Store.{Scene, Content}
 use Rattle.s3_types.specs.Answer.{apply, answer, bucket_of}
 use Rattle.s3_types.specs.Moment.{effect, IsHonestOutcome}
 use Rattle.s3_types.specs.declared.object.Object.{Object}
@@ -28,7 +28,9 @@ use Rattle.job_facts.specs.Facts.{IsAttempt, Hold}
 use Rattle.job_facts.specs.Fits.{Fits}
 use Rattle.job_facts.specs.Driver.{FitsJobCommit}
 use Rattle.job_facts.specs.Turning.{NoneEnded, Turns}
-use Rattle.job_facts.specs.Filed.{Gone, Decides, whole_of, IsBefore, deletes, Wants, FileStands}
+use Rattle.job_facts.specs.Filed.{Gone, Decides, whole_of, IsBefore, deletes, Wants, FileStands, FoundWithKeys}
+use Rattle.sendings.specs.Retries.{Retried, step}
+use Rattle.job_operations.specs.Cleanups.{Clean, clean_start, clean_asks, clean_after}
 
 -- how far the driver's commit has come: with the sets that it holds, its lanes, and the uploads that it has ended
 pub record Commits (w : Script) (minimum : ℕ) (s : Seen) (m : Told) (c : Commit) : Type 0 where
@@ -53,6 +55,16 @@ pub record EndedAreGone : Type 0 where
   -- of what ends nothing
   pub attempts : (g : Setting) (s : Seen) (m : Told) (a : Who) → Hold g.script g.minimum s m → Gone g.script s.scene.content m → (n : ℕ) (r : Request) (o : Outcome) → Gone g.script (effect s.scene r o).content (tell g.script m (entry a n r o))
   pub strangers : (g : Setting) (s : Seen) (m : Told) → Hold g.script g.minimum s m → Gone g.script s.scene.content m → (n : ℕ) (r : Request) (o : Outcome) → Gone g.script (effect s.scene r o).content (tell g.script m (strange_entry n r o))
+  -- an abort or clean of the job ends what it found, with the key that it found it with
+  pub clean : (g : Setting) (s : Seen) (m : Told) → Hold g.script g.minimum s m → Gone g.script s.scene.content m → (c : Clean) → FoundWithKeys g.script s.scene.content c → (r : Request) → clean_asks g.script c ≡ Some r → (n : ℕ) (o : Outcome)
+      → Gone g.script (effect s.scene r o).content (tell g.script m (driver_entry n r o))
+
+-- what an abort or clean of the job found keeps its key, whoever sends what
+pub record FindsKeys : Type 0 where
+  pub begins : (w : Script) (c : Content) → FoundWithKeys w c clean_start
+  pub goes : (g : Setting) (s : Seen) (m : Told) → Hold g.script g.minimum s m → (retries : ℕ) (t : Retried Clean) → FoundWithKeys g.script s.scene.content t.operation → (r : Request) → clean_asks g.script t.operation ≡ Some r → (o : Outcome) → IsHonestOutcome o (answer s.scene r)
+      → FoundWithKeys g.script (effect s.scene r o).content (step retries (clean_after g.script) t o).operation
+  pub beside : (w : Script) (s : Scene) → HasBucket s.content w.dest.bucket → (t : Clean) → FoundWithKeys w s.content t → (r : Request) (o : Outcome) → FoundWithKeys w (effect s r o).content t
 
 -- ---- how a commit goes on with its sets
 

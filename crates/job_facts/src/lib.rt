@@ -6,7 +6,7 @@ ghost use Rattle.job_facts.specs.Laws.{AnswersFit, AttemptBegins, AttemptGoes, A
 ghost use Rattle.job_facts.specs.SetupLaws.{SetupGoes};
 ghost use Rattle.job_facts.specs.Clearing.{CleanClears};
 ghost use Rattle.job_facts.specs.Turning.{CommitTurns};
-ghost use Rattle.job_facts.specs.FiledLaws.{EndedAreGone, NeverBack, SetsDecide, WantedFiles};
+ghost use Rattle.job_facts.specs.FiledLaws.{EndedAreGone, FindsKeys, NeverBack, SetsDecide, WantedFiles};
 ghost use Rattle.job_facts.specs.RunLaws.{AllRunsKeep};
 ghost use Rattle.job_facts.specs.Within.{OwnChange};
 ghost use Rattle.job_facts.specs.StandingLaws.{DriverCloses, NothingGone};
@@ -64,6 +64,7 @@ pub fn completions()
 pub fn wanted_files()
     ensures decides { SetsDecide }
     ensures gone { EndedAreGone }
+    ensures finds { FindsKeys }
     ensures never_back { NeverBack }
     ensures files { WantedFiles }
 {}
