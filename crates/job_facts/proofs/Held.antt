@@ -40,6 +40,19 @@ number_of [] p i = absurd i
 number_of (q ∷ ps) p (inl e) = (0, omega arith, sym e)
 number_of (q ∷ ps) p (inr i) = let old = number_of ps p i in let low : old.0 < length ps = old.1 in (suc old.0, omega arith, old.2)
 
+-- where no two picks write one path it has one writer
+pub one_writer : (w : Script) (picks : Picks) → same_path w picks ≡ None → (p : List ℕ) (t u : ℕ) → t < w.tasks → u < w.tasks → writes w picks p t ≡ true → writes w picks p u ≡ true → t ≡ u
+one_writer w picks apart p t u low less a b = elim (order t u) [
+  | inl is ↦ is
+  | inr ne ↦ elim ne [ inl l ↦ absurd (shared_none w picks apart p t u l less a b) | inr l ↦ absurd (shared_none w picks apart p u t l low b a) ]
+]
+  where
+    order : (a b : ℕ) → (a ≡ b) ⊎ ((a < b) ⊎ (b < a))
+    order zero zero = inl refl
+    order zero (suc b) = inr (inl (omega arith))
+    order (suc a) zero = inr (inr (omega arith))
+    order (suc a) (suc b) = elim (order a b) [ inl e ↦ inl (ap (λ n. suc n) e) | inr h ↦ inr (elim h [ inl l ↦ inl (omega arith) | inr l ↦ inr (omega arith) ]) ]
+
 module _ {X : Type 0} (of : Pending → X) where
   -- no two of them have this in common
   abbrev pub Uniq : List Pending → Type 0
@@ -178,16 +191,7 @@ module _ {w : Script} {minimum : ℕ} {s : Scene} {last : ℕ → Option ℕ} {m
     one_path t u p q x y path =
         let a : writes w picks x.commit.file.0 t ≡ true = writes_it t p x in
         let b : writes w picks x.commit.file.0 u ≡ true = ap (λ v. writes w picks v u) path ∙ writes_it u q y in
-        elim (order t u) [
-          | inl is ↦ is
-          | inr ne ↦ elim ne [ inl l ↦ absurd (shared_none w picks apart x.commit.file.0 t u l (task_low u q y) a b) | inr l ↦ absurd (shared_none w picks apart x.commit.file.0 u t l (task_low t p x) b a) ]
-        ]
-      where
-        order : (a b : ℕ) → (a ≡ b) ⊎ ((a < b) ⊎ (b < a))
-        order zero zero = inl refl
-        order zero (suc b) = inr (inl (omega arith))
-        order (suc a) zero = inr (inr (omega arith))
-        order (suc a) (suc b) = elim (order a b) [ inl e ↦ inl (ap (λ n. suc n) e) | inr h ↦ inr (elim h [ inl l ↦ inl (omega arith) | inr l ↦ inr (omega arith) ]) ]
+        one_writer w picks apart x.commit.file.0 t u (task_low t p x) (task_low u q y) a b
 
     pub one_dest : (t u : ℕ) (p q : Pending) → (x : IsOf t p) → (y : IsOf u q) → p.destination ≡ q.destination → (t ≡ u) × (x.commit.file.0 ≡ y.commit.file.0)
     one_dest t u p q x y e =

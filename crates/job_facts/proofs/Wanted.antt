@@ -1,5 +1,5 @@
 -- The files that picks want, by task and attempt.
-use Rattle.std.proofs.Common.{◌≡◌, ℕ, zero, suc, ◌<◌, ◌⊎◌, inl, inr, ◌&&◌, Bool, true, false, cond, List, [], ◌∷◌, ◌++◌, Option, Some, None, refl, sym, ap, subst, ◌∙◌, arith}
+use Rattle.std.proofs.Common.{◌≡◌, ℕ, zero, suc, ◌<◌, inl, inr, ◌&&◌, Bool, true, false, cond, List, [], ◌∷◌, ◌++◌, Option, Some, None, refl, sym, ap, subst, ◌∙◌, arith}
 use Rattle.std.specs.Option.{is_some}
 use Rattle.std.specs.Map.{lookup}
 use Rattle.proof_base.specs.Order.{text_eq}
@@ -16,7 +16,7 @@ use Rattle.request_frame.specs.Members.{IsIn}
 use Rattle.request_frame.proofs.Members.{some_is, none_some, same_or_not, text_is, text_true, in_append, in_front, in_back}
 use Rattle.job_facts.proofs.Whose.{attempt}
 use Rattle.job_facts.proofs.Legal.{same_file}
-use Rattle.job_facts.proofs.Held.{has_in}
+use Rattle.job_facts.proofs.Held.{has_in, one_writer}
 
 -- ---- a path among files
 
@@ -92,20 +92,11 @@ module _ (w : Script) (picks : Picks) where
       let h = x.from in
       let mine : writes w picks g.0 t ≡ true = has_in (files_picked w t (picks t)) g (picked_files t n g e i) in
       let other : writes w picks g.0 h.task ≡ true = ap (λ v. writes w picks v h.task) x.path ∙ has_in (files_picked w h.task (picks h.task)) x.file (picked_files h.task h.number x.file h.picked h.mine) in
-      let task : h.task ≡ t = elim (order h.task t) [
-        | inl is ↦ is
-        | inr ne ↦ elim ne [ inl l ↦ absurd (shared_none w picks apart g.0 h.task t l low other mine) | inr l ↦ absurd (shared_none w picks apart g.0 t h.task l h.below mine other) ]
-      ] in
+      let task : h.task ≡ t = one_writer w picks apart g.0 h.task t h.below low other mine in
       let number : h.number ≡ n = some_is (sym h.picked ∙ ap picks task ∙ e) in
       let who : attempt h.task h.number ≡ attempt t n = ap (λ v. attempt v h.number) task ∙ ap (λ v. attempt t v) number in
       let same : x.file ≡ g = same_file j (attempt t n) x.file g (subst (λ a. IsIn x.file (files w a)) who h.mine) i (sym x.path) in
       o.1 ∙ ap (λ v. Some v) (sym x.bytes ∙ ap (λ (v : File). v.1) same)
-    where
-      order : (a b : ℕ) → (a ≡ b) ⊎ ((a < b) ⊎ (b < a))
-      order zero zero = inl refl
-      order zero (suc b) = inr (inl (omega arith))
-      order (suc a) zero = inr (inr (omega arith))
-      order (suc a) (suc b) = elim (order a b) [ inl e ↦ inl (ap (λ n. suc n) e) | inr h ↦ inr (elim h [ inl l ↦ inl (omega arith) | inr l ↦ inr (omega arith) ]) ]
 
 -- ---- picks that agree below the number of tasks
 
