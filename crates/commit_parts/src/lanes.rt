@@ -61,6 +61,12 @@ impl LaneTurn {
     {
         self.missed
     }
+
+    pub fn lost(self) -> bool
+        ensures { result ≡ self.lost }
+    {
+        self.lost
+    }
 }
 
 /// The first turn of the upload that comes behind this one in its lane, where there is one.

@@ -3,3 +3,4 @@ pub mod Steps
 pub mod Goings
 pub mod Tables
 pub mod Whole
+pub mod Lost

@@ -1,5 +1,5 @@
 -- What a job's commit is doing, as the machine keeps it.
-use Rattle.std.specs.Prelude.{ℕ, ◌+◌, Bool, List, [], ◌∷◌, ◌++◌, map, None, length}
+use Rattle.std.specs.Prelude.{ℕ, ◌+◌, Bool, false, List, [], ◌∷◌, ◌++◌, map, None, length}
 use Rattle.s3_types.specs.declared.request.Request.{Request}
 use Rattle.job_model.specs.declared.ends.CommitEnd.TheVariants as ends
 use Rattle.job_model.specs.declared.ends.Stage.TheVariants as stages
@@ -54,6 +54,18 @@ missed_in (steps.Completing l) = first_missed l.turns
 missed_in (steps.Marking m) = m
 missed_in (steps.Reverting u m) = m
 missed_in (steps.Over end) = 0
+
+-- whether a sending of the turn's completion was lost
+abbrev pub first_lost : List Turn → Bool
+first_lost [] = false
+first_lost (x ∷ xs) = x.lost
+
+abbrev pub lost_in : Step → Bool
+lost_in (steps.Fetching m) = false
+lost_in (steps.Completing l) = first_lost l.turns
+lost_in (steps.Marking m) = false
+lost_in (steps.Reverting u m) = false
+lost_in (steps.Over end) = false
 
 -- memory was wanting
 abbrev pub wanting : Next

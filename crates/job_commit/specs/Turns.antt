@@ -1,9 +1,10 @@
 -- What a sending was for a commit.
-use Rattle.std.specs.Prelude.{nat_lt, cond}
+use Rattle.std.specs.Prelude.{nat_lt, Bool, false, cond}
 use Rattle.s3_types.specs.declared.journal.Outcome.{Outcome}
 use Rattle.s3_types.specs.declared.journal.Outcome.TheVariants.{Answered}
 use Rattle.machine.specs.declared.retrying.Turn.{Turn}
 use Rattle.machine.specs.declared.retrying.Turn.TheVariants as turns
+use Rattle.job_operations.specs.JobCommits.{Commit, Fetching, Replacing, Completing, Marking, Reverting, CommitOver}
 use Rattle.job_operations.specs.AtWork.{Committing}
 use Rattle.commit_laws.specs.Fitting.{missed_of}
 
@@ -15,3 +16,12 @@ turn_unanswered m = cond (nat_lt (missed_of m.operation) m.plan.retries) turns.A
 abbrev pub turn_of : Committing → Outcome → Turn
 turn_of m (Answered r) = turns.Moved
 turn_of m _ = turn_unanswered m
+
+-- whether a sending of the completion that is asked was lost
+abbrev pub lost_of : Commit → Bool
+lost_of (Fetching sets m) = false
+lost_of (Replacing sets p ps s m) = false
+lost_of (Completing sets x xs finished) = x.lost
+lost_of (Marking sets m) = false
+lost_of (Reverting r rs m) = false
+lost_of (CommitOver end) = false

@@ -4,7 +4,7 @@ ghost use Rattle.s3_types.specs.declared.request.Committer.TheVariants.{Magic};
 ghost use Rattle.job_operations.specs.JobCommits.{commit_start, commit_over};
 ghost use Rattle.job_operations.specs.AtWork.{read_script, commit_wants, commit_told};
 ghost use Rattle.commit_laws.specs.Fitting.{FitsCommit, FitsReply, missed_of, without_memory, least_missing};
-ghost use Rattle.job_commit.specs.Turns.{turn_of, turn_unanswered};
+ghost use Rattle.job_commit.specs.Turns.{turn_of, turn_unanswered, lost_of};
 ghost use Rattle.job_commit.specs.Holds.{picks_from, IsNext};
 ghost use Rattle.job_commit.specs.Missing.{missed};
 
@@ -158,6 +158,14 @@ impl CommitJob {
         let_go(picks);
         let_go(next);
         plan
+    }
+
+    /// Whether the present request completes an upload and a sending of it was lost, and not merely slow: only then
+    /// may it be answered that there is no such upload. Takes no memory.
+    pub fn was_lost(&self) -> bool
+        ensures { result ≡ lost_of self.now.operation }
+    {
+        self.next.step.lost()
     }
 
     /// Takes an answer.

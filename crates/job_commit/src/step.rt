@@ -1,5 +1,5 @@
 ghost use Rattle.std.specs.Prelude.{◌≡◌, ◌+◌, ◌<◌, ◌^◌, Some, None};
-ghost use Rattle.job_commit.specs.Stages.{missed_in, counted, wanting};
+ghost use Rattle.job_commit.specs.Stages.{missed_in, lost_in, counted, wanting};
 
 use commit_parts::{Lanes, UndoList};
 use job_model::CommitEnd;
@@ -79,6 +79,19 @@ impl Step {
             Step::Marking(missed) => *missed,
             Step::Reverting(_, missed) => *missed,
             Step::Over(_) => 0,
+        }
+    }
+
+    /// Whether a sending of the completion that is asked was lost. Takes no memory.
+    pub fn lost(&self) -> bool
+        ensures { result ≡ lost_in self.now }
+    {
+        match self {
+            Step::Completing(lanes) => match lanes.first() {
+                Some(turn) => turn.lost(),
+                None => false,
+            },
+            _ => false,
         }
     }
 

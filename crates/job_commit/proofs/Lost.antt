@@ -1,0 +1,32 @@
+-- Whether a sending of the present completion was lost, by what the machine keeps.
+use Rattle.std.proofs.Common.{◌≡◌, ℕ, false, List, [], ◌∷◌, map, refl, ap, ◌∙◌}
+use Rattle.s3_types.specs.declared.request.Request.{Request}
+use Rattle.job_model.specs.Jobs.{Job}
+use Rattle.job_model.specs.declared.ends.Pick.{Pick}
+use Rattle.job_operations.specs.Lanes.{Turn}
+use Rattle.job_operations.specs.JobCommits.{Sets, all_commits, completing}
+use Rattle.job_operations.specs.AtWork.{Committing}
+use Rattle.commit_parts.specs.Undos.{undo_request}
+use Rattle.job_commit.specs.Stages.{operation_of, reverting_from, first_lost, lost_in}
+use Rattle.job_commit.specs.Turns.{lost_of}
+use Rattle.job_commit.specs.Holds.{attempts_of}
+use Rattle.job_commit.specs.declared.step.Step.{Step}
+use Rattle.job_commit.specs.declared.step.Step.TheVariants as steps
+
+of_lanes : (sets : Sets) (xs : List Turn) (done : List ℕ) → first_lost xs ≡ lost_of (completing sets xs done)
+of_lanes sets [] done = refl
+of_lanes sets (x ∷ xs) done = refl
+
+of_undo : (m : ℕ) (rs : List Request) → false ≡ lost_of (reverting_from m rs)
+of_undo m [] = refl
+of_undo m (r ∷ rs) = refl
+
+of_step : (sets : Sets) (step : Step) → lost_in step ≡ lost_of (operation_of sets step)
+of_step sets (steps.Fetching m) = refl
+of_step sets (steps.Completing l) = of_lanes sets l.turns l.finished
+of_step sets (steps.Marking m) = refl
+of_step sets (steps.Reverting u m) = of_undo m (map (undo_request (all_commits sets)) u)
+of_step sets (steps.Over end) = refl
+
+pub lost_seen : (j : Job) (sets : Sets) (picks : List Pick) (step : Step) (old : Committing) → record { plan = j; picked = attempts_of picks; operation = operation_of sets step } ≡ old → lost_in step ≡ lost_of old.operation
+lost_seen j sets picks step old e = of_step sets step ∙ ap (λ (m : Committing). lost_of m.operation) e
