@@ -1,0 +1,5 @@
+use Rattle.machine_rows.specs.Sets.{IsRead}
+use Rattle.machine_rows.proofs.commits.go_on.Given as goal
+
+abbrev pub invariant-loop : goal.invariant-loop
+invariant-loop g l = IsRead l.commit
