@@ -12,9 +12,9 @@ use std::marker::Model;
 pub struct PendingUpload {
     task: u32,
     attempt: u32,
+    upload: u64,
     bucket: Bucket,
     destination: Key,
-    upload: u64,
     length: u64,
     tags: TagList,
     sizes: Option<SizeList>,

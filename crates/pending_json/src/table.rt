@@ -18,35 +18,30 @@ pub enum Table {
     Success,
 }
 
+/// Whether a pending upload that does not tell the lengths of its parts has a field of this name.
+fn is_upload_field(name: &str) -> bool
+    ensures { result ≡ is_field_of Table.Pending name.now }
+{
+    matches!(
+        name,
+        "attempt"
+            | "bucket"
+            | "destination"
+            | "etags"
+            | "kind"
+            | "length"
+            | "task"
+            | "upload"
+            | "version"
+    )
+}
+
 fn is_field_of(table: Table, name: &str) -> bool
     ensures { result ≡ is_field_of table name.now }
 {
     match table {
-        Table::Pending => matches!(
-            name,
-            "attempt"
-                | "bucket"
-                | "destination"
-                | "etags"
-                | "kind"
-                | "length"
-                | "task"
-                | "upload"
-                | "version"
-        ),
-        Table::SizedPending => matches!(
-            name,
-            "attempt"
-                | "bucket"
-                | "destination"
-                | "etags"
-                | "kind"
-                | "length"
-                | "sizes"
-                | "task"
-                | "upload"
-                | "version"
-        ),
+        Table::Pending => is_upload_field(name),
+        Table::SizedPending => name == "sizes" || is_upload_field(name),
         Table::Set => matches!(
             name,
             "attempt" | "commits" | "job" | "kind" | "task" | "version"

@@ -1,11 +1,12 @@
-ghost use Rattle.std.specs.Prelude.{◌≡◌, IfOk, map, Some, None};
-ghost use Rattle.serde_json.specs.View.{view, items_view, items_of};
-ghost use Rattle.pending_json.specs.Trees.{texts, wholes, tag_digits, upload_tree, pending_tree, set_tree, mark_tree, success_tree, committer_word};
+ghost use Rattle.std.specs.Prelude.{◌≡◌, IfOk, map, codes, Some, None};
+ghost use Rattle.serde_json.specs.Data.{array, object, put as with_member};
+ghost use Rattle.serde_json.specs.View.{view, items_view, members_view, items_of};
+ghost use Rattle.pending_json.specs.Trees.{whole, texts, wholes, tag_digits, upload_tree, pending_tree, set_tree, mark_tree, success_tree, committer_word};
 
 use crate::pending::PendingUpload;
 use crate::records::{PendingSet, SuccessMark};
 use s3_types::{Committer, SizeList, Tag, Text};
-use serde_json::{Value, json};
+use serde_json::{Map, Value, json, put};
 use std::alloc::{AllocError, Global};
 
 /// The version of the records' form.
@@ -63,6 +64,19 @@ fn unsized_value(alloc: Global, pending: &PendingUpload) -> Result<Value, AllocE
     })
 }
 
+/// The object of these members with the lengths of parts told, in the version that tells them.
+fn with_sizes(
+    alloc: Global,
+    mut members: Map<String, Value>,
+    sizes: Vec<Value>,
+) -> Result<Value, AllocError>
+    ensures { IfOk result (λ v. view v ≡ object (with_member (codes "version") (whole 2) (with_member (codes "sizes") (array (items_view sizes.items)) (members_view members.entries)))) }
+{
+    put(&mut members, alloc, "sizes", Value::Array(sizes))?;
+    put(&mut members, alloc, "version", Value::from(SIZED_VERSION))?;
+    Ok(Value::Object(members))
+}
+
 /// An upload whose parts have these lengths.
 fn sized_value(
     alloc: Global,
@@ -71,18 +85,10 @@ fn sized_value(
 ) -> Result<Value, AllocError>
     ensures { IfOk result (λ v. view v ≡ upload_tree pending.now (Some sizes.now)) }
 {
-    json!(in alloc; {
-        "attempt": pending.attempt(),
-        "bucket": pending.bucket().as_text().as_str(),
-        "destination": pending.destination().as_text().as_str(),
-        "etags": Value::Array(tag_values(alloc, pending.tags().as_slice())?),
-        "kind": "pending",
-        "length": pending.length(),
-        "sizes": Value::Array(size_values(alloc, sizes.as_slice())?),
-        "task": pending.task(),
-        "upload": pending.upload(),
-        "version": SIZED_VERSION
-    })
+    let Value::Object(members) = unsized_value(alloc, pending)? else {
+        unreachable!();
+    };
+    with_sizes(alloc, members, size_values(alloc, sizes.as_slice())?)
 }
 
 pub fn pending_value(alloc: Global, pending: &PendingUpload) -> Result<Value, AllocError>
