@@ -1,15 +1,15 @@
 -- The keys of an attempt's files are keys, also where their names are made unique to the job.
-use Rattle.std.proofs.Common.{◌≡◌, ℕ, ◌+◌, ◌<◌, ◌≤◌, ◌==◌, inl, inr, nat_le, nat_eq, ◌&&◌, ◌||◌, Bool, true, false, List, [], ◌∷◌, ◌++◌, length, get_or, refl, sym, ap, subst, ◌∙◌, arith, length-append}
+use Rattle.std.proofs.Common.{◌≡◌, ℕ, ◌+◌, ◌<◌, ◌≤◌, ◌==◌, inl, inr, nat_le, nat_eq, ◌&&◌, ◌||◌, Bool, true, false, List, [], ◌∷◌, ◌++◌, length, refl, sym, ap, subst, ◌∙◌, arith, length-append}
 use Rattle.std.specs.List.{list_all, list_any, join_with_byte}
 use Rattle.std.specs.Str.{IsUtf8, IsAscii, is_utf8}
 use Rattle.std.proofs.lemmas.Bool.{and_parts, or_parts, leb-true, false≢true}
 use Rattle.std.proofs.lemmas.Bool.Decides.{nat_tests}
 use Rattle.std.proofs.lemmas.List.{append-nil}
-use Rattle.std.proofs.lemmas.Str.{IsUtf8-from_is_utf8, is_utf8-from_IsUtf8, IsUtf8-from_ascii, IsUtf8-append, IsUtf8-take, IsUtf8-drop, IsCharBoundary-before_ascii, IsCharBoundary-after_ascii}
+use Rattle.std.proofs.lemmas.Str.{IsUtf8-from_is_utf8, is_utf8-from_IsUtf8, IsUtf8-from_ascii, IsUtf8-append}
 use Rattle.std.proofs.lemmas.Str.Ascii.{IsAscii-nil, IsAscii-cons}
-use Rattle.std.proofs.Math.Seq.{take-append_seam, drop-append-add, get_or-append_seam}
 use Rattle.words.specs.Parts.{parts_of}
 use Rattle.words.proofs.Pieces.{join_parts}
+use Rattle.words.proofs.Utf8.{utf8_cut}
 use Rattle.s3_types.specs.Names as names
 use Rattle.s3_types.specs.Names.{is_element, are_elements, is_id_byte, is_job_id}
 use Rattle.path_keys.specs.Paths.{below}
@@ -111,19 +111,6 @@ placed_short true id p job g =
 placed_short false id p job g = let a : length p ≤ 400 = short_path p g in omega arith
 
 -- ---- UTF-8
-
-shorter : (xs : List ℕ) (b : ℕ) (ys : List ℕ) → length xs < length (xs ++ b ∷ ys)
-shorter [] b ys = omega arith
-shorter (x ∷ xs) b ys = let old = shorter xs b ys in omega (arith, old)
-
--- a text cut at an ASCII byte
-utf8_cut : (b : ℕ) (xs ys : List ℕ) → b < 128 → IsUtf8 (xs ++ b ∷ ys) → IsUtf8 xs × IsUtf8 ys
-utf8_cut b xs ys small h =
-    let fits = shorter xs b ys in
-    let at : get_or (xs ++ b ∷ ys) (length xs) 0 < 128 = subst (λ (n : ℕ). n < 128) (sym (get_or-append_seam xs b ys 0)) small in
-    let front = IsUtf8-take (xs ++ b ∷ ys) (length xs) h (IsCharBoundary-before_ascii (xs ++ b ∷ ys) (length xs) fits at) in
-    let back = IsUtf8-drop (xs ++ b ∷ ys) (length xs + 1) h (IsCharBoundary-after_ascii (xs ++ b ∷ ys) (length xs) h fits at) in
-    (subst IsUtf8 (take-append_seam xs (b ∷ ys)) front, subst IsUtf8 (drop-append-add xs (b ∷ ys) 1) back)
 
 one_byte : (b : ℕ) → b < 128 → IsUtf8 (b ∷ [])
 one_byte b h = IsUtf8-from_ascii (b ∷ []) (IsAscii-cons b [] h IsAscii-nil)

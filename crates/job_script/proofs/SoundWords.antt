@@ -6,11 +6,11 @@ use Rattle.std.specs.Str.{IsUtf8, is_utf8}
 use Rattle.std.proofs.lemmas.Bool.{and_parts, eqb-true, ltb-true}
 use Rattle.std.proofs.lemmas.List.{append-nil, take-append-drop}
 use Rattle.std.proofs.lemmas.List.Folds.{list_all-append}
-use Rattle.std.proofs.lemmas.Str.{IsUtf8-take, IsUtf8-drop, IsCharBoundary-before_ascii, IsCharBoundary-after_ascii, is_utf8-from_IsUtf8, IsUtf8-from_is_utf8}
-use Rattle.std.proofs.Math.Seq.{take-append_seam, drop-append-add, get_or-append_seam}
+use Rattle.std.proofs.lemmas.Str.{IsUtf8-take, IsCharBoundary-before_ascii, is_utf8-from_IsUtf8, IsUtf8-from_is_utf8}
 use Rattle.words.specs.Lines.{lines_of, lines_from, unless_empty, is_inside, without_return}
 use Rattle.words.specs.Parts.{parts_from}
 use Rattle.words.specs.Words.{words_of, is_bare, IsBare}
+use Rattle.words.proofs.Utf8.{utf8_cut}
 use Rattle.job_model.specs.Legal.{IsScriptWord}
 
 pub either : {A : Type 0} (P : A → Type 0) (b : Bool) (x y : A) → (b ≡ true → P x) → (b ≡ false → P y) → P (cond b x y)
@@ -21,19 +21,6 @@ either P false x y f g = g refl
 pub record IsClean (p : ℕ → Bool) (w : List ℕ) : Type 0 where
   pub utf8 : IsUtf8 w
   pub all : list_all p w ≡ true
-
-shorter : (xs : List ℕ) (b : ℕ) (ys : List ℕ) → length xs < length (xs ++ b ∷ ys)
-shorter [] b ys = omega arith
-shorter (x ∷ xs) b ys = let old = shorter xs b ys in omega (arith, old)
-
--- a text cut at an ASCII byte
-utf8_cut : (b : ℕ) (xs ys : List ℕ) → b < 128 → IsUtf8 (xs ++ b ∷ ys) → IsUtf8 xs × IsUtf8 ys
-utf8_cut b xs ys small h =
-    let fits = shorter xs b ys in
-    let at : get_or (xs ++ b ∷ ys) (length xs) 0 < 128 = subst (λ (n : ℕ). n < 128) (sym (get_or-append_seam xs b ys 0)) small in
-    let front = IsUtf8-take (xs ++ b ∷ ys) (length xs) h (IsCharBoundary-before_ascii (xs ++ b ∷ ys) (length xs) fits at) in
-    let back = IsUtf8-drop (xs ++ b ∷ ys) (length xs + 1) h (IsCharBoundary-after_ascii (xs ++ b ∷ ys) (length xs) h fits at) in
-    (subst IsUtf8 (take-append_seam xs (b ∷ ys)) front, subst IsUtf8 (drop-append-add xs (b ∷ ys) 1) back)
 
 pub clean_cut : (p : ℕ → Bool) (b : ℕ) (xs ys : List ℕ) → b < 128 → IsClean p (xs ++ b ∷ ys) → IsClean p xs × IsClean p ys
 clean_cut p b xs ys small h =

@@ -4,3 +4,4 @@ pub mod Counts
 pub mod Digits
 pub mod Cuts
 pub mod Round
+pub mod Utf8
