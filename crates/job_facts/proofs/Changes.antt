@@ -165,7 +165,7 @@ module _ (g : Setting) (k : Option ℕ) (opening : Content) (j : IsLegal g.scrip
 
   after_is : (es : List Entry) (x : Stand) → Runs g k opening es x → x.seen.scene ≡ after_all (opening_scene opening) es
   after_is es x (run_begins) = refl
-  after_is es x (setup_begins fs y run unset) = after_is fs y run
+  after_is es x (setup_begins fs y run may) = after_is fs y run
   after_is es x (commit_begins fs y missing run just) = after_is fs y run
   after_is es x (clean_begins fs y run set) = after_is fs y run
   after_is es x (driver_sends fs y op n r o run d asked timely few honest) = driver_content y n r o ∙ ap (λ s. effect s r o) (after_is fs y run) ∙ sym (after_more (opening_scene opening) fs (driver_entry n r o))
@@ -233,7 +233,7 @@ module _ (g : Setting) (k : Option ℕ) (opening : Content) (j : IsLegal g.scrip
 
   moments : (es : List Entry) (x : Stand) → Runs g k opening es x → Moments es x.seen.scene.content
   moments es x (run_begins) = record { entries = λ m e is own. absurd (none_some refl is); outside = λ m l. subst (λ xs. Leaves w opening (after_all (opening_scene opening) xs).content) (sym (take_all [] m (omega arith))) (leaves_same w opening); whole = leaves_same w opening }
-  moments es x (setup_begins fs y run unset) = moments fs y run
+  moments es x (setup_begins fs y run may) = moments fs y run
   moments es x (commit_begins fs y missing run just) = moments fs y run
   moments es x (clean_begins fs y run set) = moments fs y run
   moments es x (driver_sends fs y op n r o run d asked timely few honest) =

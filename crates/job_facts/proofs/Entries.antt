@@ -68,7 +68,7 @@ module _ (g : Setting) (k : Option ℕ) (opening : Content) (j : IsLegal g.scrip
 
   pub sees : (es : List Entry) (x : Stand) → Runs g k opening es x → x.seen ≡ all es
   sees es x (run_begins) = refl
-  sees es x (setup_begins fs y run unset) = sees fs y run
+  sees es x (setup_begins fs y run may) = sees fs y run
   sees es x (commit_begins fs y missing run just) = sees fs y run
   sees es x (clean_begins fs y run set) = sees fs y run
   sees es x (driver_sends fs y op n r o run d asked timely few honest) = ap (λ s. see w k s (driver_entry n r o)) (sees fs y run) ∙ sym (see_more w k (nothing_seen opening) fs (driver_entry n r o))
@@ -79,7 +79,7 @@ module _ (g : Setting) (k : Option ℕ) (opening : Content) (j : IsLegal g.scrip
 
   pub tells_so : (es : List Entry) (x : Stand) → Runs g k opening es x → x.told ≡ tell_all w nothing_told es
   tells_so es x (run_begins) = refl
-  tells_so es x (setup_begins fs y run unset) = tells_so fs y run
+  tells_so es x (setup_begins fs y run may) = tells_so fs y run
   tells_so es x (commit_begins fs y missing run just) = tells_so fs y run
   tells_so es x (clean_begins fs y run set) = tells_so fs y run
   tells_so es x (driver_sends fs y op n r o run d asked timely few honest) = ap (λ m. tell w m (driver_entry n r o)) (tells_so fs y run) ∙ sym (tell_more w nothing_told fs (driver_entry n r o))
@@ -93,7 +93,7 @@ module _ (g : Setting) (k : Option ℕ) (opening : Content) (j : IsLegal g.scrip
 
   pub always : (es : List Entry) (x : Stand) → Runs g k opening es x → Always w k opening es
   always es x (run_begins) m l = subst (λ xs. Kept w opening (see_all w k (nothing_seen opening) xs)) (sym (take_all [] m (omega arith))) (kept_all es x run_begins)
-  always es x (setup_begins fs y run unset) m l = always fs y run m l
+  always es x (setup_begins fs y run may) m l = always fs y run m l
   always es x (commit_begins fs y missing run just) m l = always fs y run m l
   always es x (clean_begins fs y run set) m l = always fs y run m l
   always es x (driver_sends fs y op n r o run d asked timely few honest) m l = always_more fs (driver_entry n r o) (always fs y run) (kept_all es x (driver_sends fs y op n r o run d asked timely few honest)) m l

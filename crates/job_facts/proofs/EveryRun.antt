@@ -23,6 +23,7 @@ use Rattle.job_model.specs.JobScript.{Script}
 use Rattle.job_model.specs.Known.{Known}
 use Rattle.job_model.specs.declared.ends.SetupEnd.{SetupEnd}
 use Rattle.job_model.specs.declared.ends.SetupEnd.TheVariants as setups
+use Rattle.job_operations.specs.Outputs.{Picks}
 use Rattle.job_operations.specs.Setup.{Setup, Heading, Checking, Clearing, Sweeping, SetupOver, setup_start, setup_asks, setup_after}
 use Rattle.job_operations.specs.Walks.{Listing, Deleting}
 use Rattle.job_operations.specs.Writes.{write_start}
@@ -46,7 +47,7 @@ use Rattle.job_facts.specs.Facts.{IsAttempt, Facts, Hold}
 use Rattle.job_facts.specs.Fits.{Fits}
 use Rattle.job_facts.specs.Emptying.{SetsUp}
 use Rattle.job_facts.specs.Filed.{Gone}
-use Rattle.job_facts.specs.Runs.{Stand, Runs, run_begins, setup_begins, commit_begins, clean_begins, driver_sends, write_begins, publish_begins, abort_begins, attempt_sends, IsOpening, first_stand, with_attempt, with_driver, saw, commit_with, with_commit, is_done, is_set, is_just_set, IsTimely, nothing_learnt}
+use Rattle.job_facts.specs.Runs.{Stand, Runs, run_begins, setup_begins, commit_begins, clean_begins, driver_sends, write_begins, publish_begins, abort_begins, attempt_sends, IsOpening, first_stand, with_attempt, with_driver, saw, commit_with, with_commit, is_done, is_set, is_just_set, MaySetUp, IsTimely, nothing_learnt}
 use Rattle.job_facts.proofs.Whose.{same_or_another, who_here, who_other, or_false}
 use Rattle.job_facts.proofs.Legal.{some_dest}
 use Rattle.job_facts.proofs.Shows.{shown_key, HidesAll, hidden_shows}
@@ -219,60 +220,55 @@ module _ (g : Setting) (k : Option ℕ) (opening : Content) (j : IsLegal g.scrip
       files_now : (s : Scene) → ClearsAlone w x.seen.scene s → Untouched g opening s.content
       files_now s alone q p = alone.keys (below w.dest.key q) (shown_key j q p) (no_success j q p) ∙ e.untouched q p
 
+      -- what is seen and told then
+      stand_of : Scene → Picks → Bool → Told → Retried Setup → Stand
+      stand_of s picks mark m u = record {
+        seen = record { scene = s; begun = x.seen.begun || is_begun k n; last = x.seen.last; picks = picks; put_mark = mark };
+        told = m;
+        attempts = x.attempts;
+        driver = Some (TheSetup u);
+        commit = x.commit;
+      }
+
+      -- where it took effect
+      acted : (picks : Picks) (m : Told) (u : Retried Setup) → ((t : ℕ) → picks t ≡ None) → m ≡ nothing_told → SetsUp w (apply x.seen.scene r).content u.operation → ClearsAlone w x.seen.scene (apply x.seen.scene r) → Numbers (apply x.seen.scene r).content
+          → Early g opening (stand_of (apply x.seen.scene r) picks (x.seen.put_mark || is_marking w r) m u)
+      acted picks m u none is goes alone num = record {
+        told = is;
+        last = e.last;
+        untouched = files_now (apply x.seen.scene r) alone;
+        unmarked = mark_now;
+        unbegun = begun_now;
+        unpicked = none;
+        fresh = num.fresh;
+        least = num.least;
+        none = e.none;
+        files = alone.files ∙ e.files;
+        setup = inr (u, refl, goes);
+      }
+
+      -- where it did not
+      unsent : (m : Told) (u : Retried Setup) → m ≡ nothing_told → SetsUp w x.seen.scene.content u.operation → Early g opening (stand_of x.seen.scene x.seen.picks x.seen.put_mark m u)
+      unsent m u is goes = record {
+        told = is;
+        last = e.last;
+        untouched = e.untouched;
+        unmarked = e.unmarked;
+        unbegun = begun_now;
+        unpicked = e.unpicked;
+        fresh = e.fresh;
+        least = e.least;
+        none = e.none;
+        files = e.files;
+        setup = inr (u, refl, goes);
+      }
+
       by : (o : Outcome) → IsHonestOutcome o (answer x.seen.scene r) → SetsUp w (effect x.seen.scene r o).content (step w.retries (setup_after w) t o).operation → ClearsAlone w x.seen.scene (effect x.seen.scene r o) → Numbers (effect x.seen.scene r o).content
           → Early g opening (with_commit (with_driver (saw g k x (driver_entry n r o)) (TheSetup (step w.retries (setup_after w) t o))) x.commit)
-      by (Answered y) honest goes alone num = record {
-        told = told_now (Answered y);
-        last = e.last;
-        untouched = files_now (apply x.seen.scene r) alone;
-        unmarked = mark_now;
-        unbegun = begun_now;
-        unpicked = picks_now;
-        fresh = num.fresh;
-        least = num.least;
-        none = e.none;
-        files = alone.files ∙ e.files;
-        setup = inr (step w.retries (setup_after w) t (Answered y), refl, goes);
-      }
-      by Slow honest goes alone num = record {
-        told = told_now Slow;
-        last = e.last;
-        untouched = e.untouched;
-        unmarked = e.unmarked;
-        unbegun = begun_now;
-        unpicked = e.unpicked;
-        fresh = e.fresh;
-        least = e.least;
-        none = e.none;
-        files = e.files;
-        setup = inr (step w.retries (setup_after w) t Slow, refl, goes);
-      }
-      by RequestLost honest goes alone num = record {
-        told = told_now RequestLost;
-        last = e.last;
-        untouched = e.untouched;
-        unmarked = e.unmarked;
-        unbegun = begun_now;
-        unpicked = e.unpicked;
-        fresh = e.fresh;
-        least = e.least;
-        none = e.none;
-        files = e.files;
-        setup = inr (step w.retries (setup_after w) t RequestLost, refl, goes);
-      }
-      by ReplyLost honest goes alone num = record {
-        told = told_now ReplyLost;
-        last = e.last;
-        untouched = files_now (apply x.seen.scene r) alone;
-        unmarked = mark_now;
-        unbegun = begun_now;
-        unpicked = e.unpicked;
-        fresh = num.fresh;
-        least = num.least;
-        none = e.none;
-        files = alone.files ∙ e.files;
-        setup = inr (step w.retries (setup_after w) t ReplyLost, refl, goes);
-      }
+      by (Answered y) honest goes alone num = acted _ _ (step w.retries (setup_after w) t (Answered y)) picks_now (told_now (Answered y)) goes alone num
+      by Slow honest goes alone num = unsent _ (step w.retries (setup_after w) t Slow) (told_now Slow) goes
+      by RequestLost honest goes alone num = unsent _ (step w.retries (setup_after w) t RequestLost) (told_now RequestLost) goes
+      by ReplyLost honest goes alone num = acted _ _ (step w.retries (setup_after w) t ReplyLost) e.unpicked (told_now ReplyLost) goes alone num
 
   -- ---- attempts
 
@@ -432,9 +428,8 @@ module _ (g : Setting) (k : Option ℕ) (opening : Content) (j : IsLegal g.scrip
     setup = inl refl;
   }
 
-  setup_anew : (x : Stand) → Good x → is_set x.driver ≡ false → Good (with_driver x (TheSetup (fresh w.retries setup_start)))
-  setup_anew x (inr l) unset = absurd (false_true unset (late_set x.driver x.seen x.told x.commit l.driver))
-  setup_anew x (inl e) unset = inl (record {
+  setup_anew : (x : Stand) → Early g opening x → Early g opening (with_driver x (TheSetup (fresh w.retries setup_start)))
+  setup_anew x e = record {
     told = e.told;
     last = e.last;
     untouched = e.untouched;
@@ -446,27 +441,84 @@ module _ (g : Setting) (k : Option ℕ) (opening : Content) (j : IsLegal g.scrip
     none = e.none;
     files = e.files;
     setup = inr (fresh w.retries setup_start, refl, tt);
-  })
+  }
+
+  -- a set-up that is done, behind which nothing was begun, leaves all as it was before the facts began
+  abbrev NotMoved : Stand → Type 0
+  NotMoved x = is_just_set x.driver ≡ true → ((a : Who) → x.attempts a ≡ None) → Early g opening x
+
+  abbrev Well : Stand → Type 0
+  Well x = Good x × NotMoved x
+
+  may_set_up : (x : Stand) → Well x → MaySetUp x → Early g opening x
+  may_set_up x h (inl unset) = by h.0
+    where
+      by : Good x → Early g opening x
+      by (inl e) = e
+      by (inr l) = absurd (false_true unset (late_set x.driver x.seen x.told x.commit l.driver))
+  may_set_up x h (inr y) = h.1 y.0 y.1
+
+  -- an attempt is at something
+  moved : (x : Stand) (a : Who) (op : Operation) → NotMoved (with_attempt x a op)
+  moved x a op just none = absurd (none_some (none a) (who_here x.attempts a (Some op) a refl))
+
+  driver_moved : (x : Stand) → Good x → (op : Operation) → x.driver ≡ Some op → (n : ℕ) (r : Request) → asks g (who Driver) nothing_learnt op ≡ Some r → IsTimely k n op → (o : Outcome) → IsHonestOutcome o (answer x.seen.scene r)
+      → NotMoved (with_commit (with_driver (saw g k x (driver_entry n r o)) (tells g (who Driver) op o)) (commit_with op x.commit (driver_entry n r o)))
+  driver_moved x (inl e) op d n r asked timely o honest just none = elim e.setup [
+    | inl nothing ↦ absurd (none_some nothing d)
+    | inr y ↦
+        let is : TheSetup y.0 ≡ op = some_is (sym y.1 ∙ d) in
+        let P : Operation → Type 0 = λ v. asks g (who Driver) nothing_learnt v ≡ Some r → IsTimely k n v → Early g opening (with_commit (with_driver (saw g k x (driver_entry n r o)) (tells g (who Driver) v o)) (commit_with v x.commit (driver_entry n r o))) in
+        subst P is (λ a b. early_sends x e y.0 y.2 n r a b o honest) asked timely
+  ]
+  driver_moved x (inr l) op d n r asked timely o honest just none = absurd (by op (subst (λ v. At g opening v x.seen x.told x.commit) d l.driver) asked just)
+    where
+      by : (v : Operation) → At g opening (Some v) x.seen x.told x.commit → asks g (who Driver) nothing_learnt v ≡ Some r → is_just_set (Some (tells g (who Driver) v o)) ≡ true → ⊥
+      by (TheSetup t) y asked just = none_some (ap (setup_asks w) y.0) asked
+      by (TheWrite t) y asked just = absurd y
+      by (TheTaskCommit t) y asked just = absurd y
+      by (TheTaskAbort t) y asked just = absurd y
+      by (TheCommit c) y asked just = false_true refl just
+      by (TheClean t) y asked just = false_true refl just
+
+  well : (es : List Entry) (x : Stand) → Runs g k opening es x → Well x
+  well es x (run_begins) = (inl early_first, λ just none. early_first)
+  well es x (setup_begins fs y run may) =
+      let e = setup_anew y (may_set_up y (well fs y run) may) in
+      (inl e, λ just none. e)
+  well es x (commit_begins fs y missing run just) =
+      let l = late y (well fs y run).0 (just_set y.driver just) in (
+        inr (record { hold = l.hold; gone = l.gone; fine = l.fine; new = l.new; driver = commit_starts g j opening y.seen y.told l.hold (just_idle y.driver y.seen y.told y.commit l.driver just) missing }),
+        λ now none. absurd (false_true refl now),
+      )
+  well es x (clean_begins fs y run set) =
+      let l = late y (well fs y run).0 set in (
+        inr (record { hold = l.hold; gone = l.gone; fine = l.fine; new = l.new; driver = ((λ u i. absurd i), kept_now y (inr l)) }),
+        λ now none. absurd (false_true refl now),
+      )
+  well es x (driver_sends fs y op n r o run d asked timely few honest) =
+      let h = (well fs y run).0 in
+      (driver_goes y h op d n r asked timely few o honest, driver_moved y h op d n r asked timely o honest)
+  well es x (write_begins fs y a run set d none) =
+      let l = late y (well fs y run).0 set in
+      let old = l.new a none in (
+        inr (begins_at y l a (TheWrite (fresh w.retries (write_start w a))) d (old.1, begins_write g j y.told a (ap (λ (v : Known). v.drawn) old.0) (ap (λ (v : Known). v.publish_sent) old.0, ap (λ (v : Known). v.put_sent) old.0))),
+        moved y a (TheWrite (fresh w.retries (write_start w a))),
+      )
+  well es x (publish_begins fs y a spare repeated run set at) =
+      let l = late y (well fs y run).0 set in
+      let f = l.fine a _ at in (
+        inr (begins_at y l a (TheTaskCommit (fresh w.retries (task_commit_start w a))) f.0 (f.1.0, begins_commit g j y.told a f.1.1)),
+        moved y a (TheTaskCommit (fresh w.retries (task_commit_start w a))),
+      )
+  well es x (abort_begins fs y a run set d) =
+      let l = late y (well fs y run).0 set in (
+        inr (begins_at y l a (TheTaskAbort (fresh w.retries (task_abort_start w (known y.told a)))) d (abort_fits w a (known y.told a))),
+        moved y a (TheTaskAbort (fresh w.retries (task_abort_start w (known y.told a)))),
+      )
+  well es x (attempt_sends fs y a op n r o run set at asked honest) =
+      let l = late y (well fs y run).0 set in
+      (inr (attempt_goes y l a op at n r asked o honest), moved (saw g k y (entry a n r o)) a (tells g a op o))
 
   pub good : (es : List Entry) (x : Stand) → Runs g k opening es x → Good x
-  good es x (run_begins) = inl early_first
-  good es x (setup_begins fs y run unset) = setup_anew y (good fs y run) unset
-  good es x (commit_begins fs y missing run just) =
-      let l = late y (good fs y run) (just_set y.driver just) in
-      inr (record { hold = l.hold; gone = l.gone; fine = l.fine; new = l.new; driver = commit_starts g j opening y.seen y.told l.hold (just_idle y.driver y.seen y.told y.commit l.driver just) missing })
-  good es x (clean_begins fs y run set) =
-      let l = late y (good fs y run) set in
-      inr (record { hold = l.hold; gone = l.gone; fine = l.fine; new = l.new; driver = ((λ u i. absurd i), kept_now y (inr l)) })
-  good es x (driver_sends fs y op n r o run d asked timely few honest) = driver_goes y (good fs y run) op d n r asked timely few o honest
-  good es x (write_begins fs y a run set d none) =
-      let l = late y (good fs y run) set in
-      let old = l.new a none in
-      inr (begins_at y l a (TheWrite (fresh w.retries (write_start w a))) d (old.1, begins_write g j y.told a (ap (λ (v : Known). v.drawn) old.0) (ap (λ (v : Known). v.publish_sent) old.0, ap (λ (v : Known). v.put_sent) old.0)))
-  good es x (publish_begins fs y a spare repeated run set at) =
-      let l = late y (good fs y run) set in
-      let f = l.fine a _ at in
-      inr (begins_at y l a (TheTaskCommit (fresh w.retries (task_commit_start w a))) f.0 (f.1.0, begins_commit g j y.told a f.1.1))
-  good es x (abort_begins fs y a run set d) =
-      let l = late y (good fs y run) set in
-      inr (begins_at y l a (TheTaskAbort (fresh w.retries (task_abort_start w (known y.told a)))) d (abort_fits w a (known y.told a)))
-  good es x (attempt_sends fs y a op n r o run set at asked honest) = let l = late y (good fs y run) set in inr (attempt_goes y l a op at n r asked o honest)
+  good es x run = (well es x run).0

@@ -228,7 +228,7 @@ module _ {w : Script} (j : IsLegal w) where
         let place : begins (magic_prefix w.dest.key w.job) (file_key w g.0) ≡ false = key_magic w.dest.key w.job (FilePlace g.0.0) (some_dest j) (file_open x.by g.0 (x.are.each g.0 g.1)) in
         λ e. ap (λ (q : Pending). begins (magic_prefix w.dest.key w.job) q.destination) g.2 ∙ place
 
-    one_more_set : (sets : Sets) (s : PendingSet) → Reads w minimum sent drawn sets → IsHeldSet w minimum sent drawn (length sets) s → Reads w minimum sent drawn (sets ++ s ∷ [])
+    pub one_more_set : (sets : Sets) (s : PendingSet) → Reads w minimum sent drawn sets → IsHeldSet w minimum sent drawn (length sets) s → Reads w minimum sent drawn (sets ++ s ∷ [])
     one_more_set sets s h g t x e = elim (last_set sets s t x e) [ inl old ↦ h t x old | inr new ↦ subst (λ (y : PendingSet). IsHeldSet w minimum sent drawn t y) new.1 (subst (λ n. IsHeldSet w minimum sent drawn n s) (sym new.0) g) ]
       where
         last_set : (sets : Sets) (s : PendingSet) (t : ℕ) (x : PendingSet) → slice_get (sets ++ s ∷ []) t ≡ Some x → (slice_get sets t ≡ Some x) ⊎ ((t ≡ length sets) × (s ≡ x))

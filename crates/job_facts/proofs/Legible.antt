@@ -100,7 +100,7 @@ plain_hex : (bytes : List ℕ) → (list_all is_hex (plain_tag bytes).digits ≡
 unfolding plain_tag
 plain_hex bytes = (encoded_hex (md5 bytes) (md5_bytes bytes), refl)
 
-plain_so : (bytes : List ℕ) → is_plain_tag (plain_tag bytes) ≡ true
+pub plain_so : (bytes : List ℕ) → is_plain_tag (plain_tag bytes) ≡ true
 plain_so bytes = both_true _ _ (both_true _ _ (nat_true (length (plain_tag bytes).digits) 32 (plain_tag_length bytes)) (plain_hex bytes).0) (nat_true (plain_tag bytes).parts 0 (plain_hex bytes).1)
 
 all_plain : (bs : List (List ℕ)) → list_all is_plain_tag (map plain_tag bs) ≡ true

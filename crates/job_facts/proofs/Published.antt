@@ -177,7 +177,7 @@ module _ (g : Setting) (k : Option ℕ) (opening : Content) (j : IsLegal g.scrip
 
   pub standing : (es : List Entry) (x : Stand) → Runs g k opening es x → Standing es x
   standing es x (run_begins) = record { closed = λ c id e. absurd (false≢true e); reverts = λ c e. absurd (none_some refl e); stands = λ c a op e. absurd (none_some refl e) }
-  standing es x (setup_begins fs y run unset) = let h = standing fs y run in record { closed = h.closed; reverts = λ c e. absurd (setup_no (some_is e)); stands = h.stands }
+  standing es x (setup_begins fs y run may) = let h = standing fs y run in record { closed = h.closed; reverts = λ c e. absurd (setup_no (some_is e)); stands = h.stands }
     where
       setup_no : {t : Retried Setup} {c : Commit} → TheSetup t ≡ TheCommit c → ⊥
       setup_no e = absurd cc

@@ -104,7 +104,7 @@ module _ {w : Script} {minimum : ℕ} {s : Scene} {last : ℕ → Option ℕ} {m
   -- ---- sets
 
   -- a set that is there is read as that of the last publisher
-  bytes_read : (few : s.content.next ≤ 2 ^ 64) (t : ℕ) (bytes : List ℕ) → t < w.tasks → (x : IsSet w minimum last m.publish_sent m.drawn t bytes) → reading.set_of bytes ≡ Ok (files_set w x.by x.commits (knowing (m.drawn x.by)))
+  pub bytes_read : (few : s.content.next ≤ 2 ^ 64) (t : ℕ) (bytes : List ℕ) → t < w.tasks → (x : IsSet w minimum last m.publish_sent m.drawn t bytes) → reading.set_of bytes ≡ Ok (files_set w x.by x.commits (knowing (m.drawn x.by)))
   bytes_read few t bytes lt x =
       let d : IsAttempt w x.by = record { task = subst (λ n. n < w.tasks) (sym x.task) lt; attempt = x.number } in
       ap reading.set_of x.text ∙ legible.set_read j f few x.by x.commits d x.are
@@ -113,7 +113,7 @@ module _ {w : Script} {minimum : ℕ} {s : Scene} {last : ℕ → Option ℕ} {m
   staged t None e = inr (ap read_answer e)
   staged t (Some b) e = ap (λ x. set_read (read_answer x)) e
 
-  set_reply : (c : Committer) (t : ℕ) → ((o : Option (List ℕ)) → set_at c w s t ≡ o → IsSetAnswer o (answer s (set_request c w t)))
+  pub set_reply : (c : Committer) (t : ℕ) → ((o : Option (List ℕ)) → set_at c w s t ≡ o → IsSetAnswer o (answer s (set_request c w t)))
   set_reply Magic t o e = by (at_place w s.content (SetPlace t)) o e due
     where
       due : answer s (set_request Magic w t) ≡ found (at_place w s.content (SetPlace t))

@@ -1,5 +1,5 @@
 -- Runs of a job among no strangers, request by request, in any order of its actors. An operation may also stop at any time.
-use Rattle.std.specs.Prelude.{◌≡◌, ℕ, ◌≤◌, ◌<◌, ◌^◌, Bool, true, false, List, [], ◌∷◌, ◌++◌, Option, Some, None}
+use Rattle.std.specs.Prelude.{◌≡◌, ℕ, ◌≤◌, ◌<◌, ◌^◌, ◌⊎◌, Bool, true, false, List, [], ◌∷◌, ◌++◌, Option, Some, None}
 use Rattle.s3_types.specs.Store.{Content, Upload}
 use Rattle.s3_types.specs.Answer.{answer}
 use Rattle.s3_types.specs.Moment.{IsHonestOutcome}
@@ -76,6 +76,10 @@ abbrev pub is_just_set : Option Operation → Bool
 is_just_set (Some (TheSetup t)) = is_done t.operation
 is_just_set _ = false
 
+-- no set-up has ended Done, or nothing was begun since
+abbrev pub MaySetUp : Stand → Type 0
+MaySetUp x = (is_set x.driver ≡ false) ⊎ ((is_just_set x.driver ≡ true) × ((a : Who) → x.attempts a ≡ None))
+
 -- the entries of a set-up are of events before that of the commit, and those of the commit of it or of later ones
 abbrev pub IsTimely : Option ℕ → ℕ → Operation → Type 0
 IsTimely k n (TheSetup t) = is_begun k n ≡ false
@@ -89,8 +93,8 @@ nothing_learnt = record { drawn = []; put_sent = false; publish_sent = false }
 -- no more; what it was at is then as far as it had come.
 pub data Runs (g : Setting) (k : Option ℕ) (opening : Content) : List Entry → Stand → Type 0 where
   run_begins : Runs g k opening [] (first_stand opening)
-  -- the driver begins a set-up where none has ended Done
-  setup_begins : (es : List Entry) (x : Stand) → Runs g k opening es x → is_set x.driver ≡ false → Runs g k opening es (with_driver x (TheSetup (fresh g.script.retries setup_start)))
+  -- the driver begins a set-up where none has ended Done, or where nothing was begun behind one that its driver was not told of
+  setup_begins : (es : List Entry) (x : Stand) → Runs g k opening es x → MaySetUp x → Runs g k opening es (with_driver x (TheSetup (fresh g.script.retries setup_start)))
   -- its commit, right after its set-up
   commit_begins : (es : List Entry) (x : Stand) (missing : Option ℕ) → Runs g k opening es x → is_just_set x.driver ≡ true → Runs g k opening es (committing g x missing)
   -- an abort or clean of the job, at any time after that
