@@ -91,6 +91,13 @@ impl<O: Asks> Asking<O> {
         operation.into_plan()
     }
 
+    /// The operation. Takes no memory.
+    pub fn operation(&self) -> &O
+        ensures { result.now ≡ self.now }
+    {
+        &self.operation
+    }
+
     /// How it ended, or None while a request is asked. Takes no memory.
     pub fn end(&self) -> Option<&O::End>
         ensures { option_copied result ≡ O.end_of self.now }

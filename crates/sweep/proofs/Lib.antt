@@ -4,3 +4,4 @@ pub mod Counting
 pub mod Listing
 pub mod Growing
 pub mod Falling
+mod Fitted

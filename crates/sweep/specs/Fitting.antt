@@ -1,5 +1,5 @@
 -- The replies that walks and sweeps are given where their bucket is there.
-use Rattle.std.specs.Prelude.{List}
+use Rattle.std.specs.Prelude.{Bool, true, false, List}
 use Rattle.std.specs.List.{AllByRecursion}
 use Rattle.s3_types.specs.declared.reply.Reply.{Reply}
 use Rattle.s3_types.specs.declared.reply.Reply.TheVariants.{Page, Refused}
@@ -12,6 +12,10 @@ use Rattle.job_operations.specs.Walks.{Sweep, Listing, Deleting}
 abbrev pub IsKey : PageEntry → Type 0
 IsKey (Single k n) = Unit {0}
 IsKey (Prefix t) = ⊥
+
+abbrev pub is_key : PageEntry → Bool
+is_key (Single k n) = true
+is_key (Prefix t) = false
 
 abbrev pub AreKeys : List PageEntry → Type 0
 AreKeys entries = AllByRecursion IsKey entries

@@ -3,6 +3,7 @@
 #![tactic(auto)]
 
 mod below;
+mod fitting;
 mod key_test;
 mod key_walk;
 mod laws;
@@ -10,6 +11,7 @@ mod sweeping;
 mod upload_walk;
 
 pub use below::{dest_prefix, sweep_request};
+pub use fitting::{fits_page, fits_uploads};
 pub use key_test::{AllBut, AllKeys, KeyTest};
 pub use key_walk::KeyWalk;
 pub use laws::{growth, sweeps_end, upload_walks_end, walks_end};

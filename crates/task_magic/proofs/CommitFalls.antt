@@ -27,7 +27,8 @@ use Rattle.sweep.specs.Fitting.{FitsPage}
 use Rattle.sweep.specs.Left.{walk_left, adds_key}
 use Rattle.sweep.specs.Laws.{LessWalk}
 use Rattle.sweep.proofs.Falling.{walk_laws}
-use Rattle.task_magic.specs.Committing.{FitsListing, FitsRecord, FitsCommit, commit_fits, commit_left_at, commit_left}
+use Rattle.task_requests.specs.Publishing.{FitsRecord}
+use Rattle.task_magic.specs.Committing.{FitsListing, FitsCommit, commit_fits, commit_left_at, commit_left}
 use Rattle.task_magic.proofs.AbortFalls.{one_most, none_some}
 
 -- ---- keys that rise pick each file once

@@ -14,7 +14,7 @@ use Rattle.job_operations.specs.Measures.{FallsAmong}
 use Rattle.job_operations.specs.Uploading.{Creating, Sending, sending, file_parts, created, sent_part}
 use Rattle.job_operations.specs.Writes as writes
 use Rattle.job_operations.specs.Writes.{Write, uploaded, writing, write_hears}
-use Rattle.task_magic.specs.Writing.{write_fits, FitsWrite, FitsCreate, FitsPart, files_left, left_of, write_left}
+use Rattle.task_requests.specs.Writing.{write_fits, FitsWrite, FitsCreate, FitsPart, files_left, left_of, write_left}
 
 sent_left : (w : Script) (minimum : ℕ) (f : File) (fs : List File) (ps : List (List ℕ)) → left_of w minimum (uploaded w f fs (sending ps)) ≤ 2 + length ps + files_left w minimum fs
 sent_left w minimum f fs [] = omega arith

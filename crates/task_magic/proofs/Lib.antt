@@ -1,13 +1,10 @@
-pub mod Cut
-pub mod Placed
-pub mod Told
 pub mod Falls
-pub mod Steps
 pub mod Whole
 pub mod AbortFalls
 pub mod Undone
 pub mod Broken
 pub mod Listed
-pub mod LastDrawn
 pub mod Committed
 pub mod CommitFalls
+pub mod Rising
+pub mod Taken

@@ -22,8 +22,9 @@ use Rattle.job_operations.specs.AtWork.{task_script, who_of}
 use Rattle.job_operations.specs.Outputs.{files}
 use Rattle.job_operations.specs.Records.{attempt_dir}
 use Rattle.job_operations.specs.TaskCommits.{attempt_prefix, in_order, least_missing, least_of}
-use Rattle.task_magic.specs.Committing.{picked, are_places, record_of, IsRecordAt, IsPlaceOf, is_at, places_in, set_at, seen_in, least_unseen}
-use Rattle.task_magic.proofs.Told.{own_files}
+use Rattle.task_requests.specs.Publishing.{picked, are_places}
+use Rattle.task_magic.specs.Committing.{record_of, IsRecordAt, IsPlaceOf, is_at, places_in, set_at, seen_in, least_unseen}
+use Rattle.task_requests.proofs.Told.{own_files}
 
 -- ---- tests on texts
 

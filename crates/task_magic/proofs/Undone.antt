@@ -1,6 +1,5 @@
 -- Where replies lead an abort, by how many of its uploads are aborted.
-use Rattle.std.proofs.Common.{◌≡◌, ℕ, zero, suc, ◌+◌, ◌<◌, Bool, List, [], ◌∷◌, ◌++◌, length, drop, reverse, Option, None, refl, sym, ap, ◌∙◌, arith, add-one}
-use Rattle.std.proofs.lemmas.List.{reverse-reverse, reverse-append}
+use Rattle.std.proofs.Common.{◌≡◌, ℕ, zero, suc, ◌+◌, ◌<◌, Bool, List, [], ◌∷◌, length, drop, Option, None, refl, sym, ap, ◌∙◌, arith, add-one}
 use Rattle.s3_types.specs.declared.request.Committer.{Committer}
 use Rattle.s3_types.specs.declared.request.Committer.TheVariants.{Magic}
 use Rattle.s3_types.specs.declared.reply.Reply.{Reply}
@@ -11,15 +10,6 @@ use Rattle.job_operations.specs.Knowledge.{as_made}
 use Rattle.job_operations.specs.Walks.{Sweep, sweep_start}
 use Rattle.job_operations.specs.TaskAborts.{task_abort_hears, dropping}
 use Rattle.task_magic.specs.Undoing.{abort_from, abort_by}
-
--- ---- in the order of their making
-
-pub made_reverse : (ds : List Drawn) → as_made ds ≡ reverse ds
-made_reverse [] = refl
-made_reverse (d ∷ ds) = ap (λ (l : List Drawn). l ++ d ∷ []) (made_reverse ds) ∙ sym (reverse-append (d ∷ []) ds)
-
-pub made_is : (ds xs : List Drawn) → reverse xs ≡ ds → xs ≡ as_made ds
-made_is ds xs h = sym (reverse-reverse xs) ∙ (ap reverse h ∙ sym (made_reverse ds))
 
 -- ---- behind an upload
 

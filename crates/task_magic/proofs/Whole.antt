@@ -20,10 +20,10 @@ use Rattle.job_operations.specs.Outputs.{files}
 use Rattle.job_operations.specs.Uploading.{Creating, Sending}
 use Rattle.job_operations.specs.Writes as writes
 use Rattle.job_operations.specs.Writes.{Write, write_start, write_start_by, write_over, writing}
-use Rattle.task_magic.specs.declared.stage.WriteStage.{WriteStage}
-use Rattle.task_magic.specs.declared.stage.WriteStage.TheVariants as stage
-use Rattle.task_magic.specs.Writing.{at_parts, at_stage, seen_write, Holds, IsOpen, IsWrite, dir_of, write_fits}
-use Rattle.task_magic.proofs.Told.{own_files, next_files, same_known, no_set}
+use Rattle.task_requests.specs.declared.stage.WriteStage.{WriteStage}
+use Rattle.task_requests.specs.declared.stage.WriteStage.TheVariants as stage
+use Rattle.task_requests.specs.Writing.{at_parts, at_stage, seen_write, Holds, IsOpen, IsWrite, dir_of, write_fits}
+use Rattle.task_requests.proofs.Told.{own_files, next_files, same_known, no_set}
 
 -- ---- it begins with its first file
 

@@ -15,7 +15,8 @@ use Rattle.job_operations.specs.TaskCommits as commits
 use Rattle.job_operations.specs.TaskCommits.{TaskCommit, Looking, Reading, Publishing, Checking, Storing, Renaming, TaskCommitOver, task_commit_over, task_commit_hears, reading, looked_at, looked, read_record}
 use Rattle.asking.specs.Asks.{AskLaws}
 use Rattle.task_magic.specs.Standing.{standing_by}
-use Rattle.task_magic.specs.Committing.{FitsCommit, FitsRecord, commit_fits}
+use Rattle.task_requests.specs.Publishing.{FitsRecord}
+use Rattle.task_magic.specs.Committing.{FitsCommit, commit_fits}
 
 abbrev pub commit_standing : Attempting TaskCommit → Standing
 commit_standing m = standing_by (task_commit_over m.operation)

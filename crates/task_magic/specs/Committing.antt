@@ -1,35 +1,30 @@
 -- A commit of a magic attempt, by the keys listed, the places of the files that it commits, and how many records were read.
-use Rattle.std.specs.Prelude.{◌≡◌, ℕ, ◌+◌, nat_eq, nat_lt, Bool, true, false, List, [], ◌∷◌, ◌++◌, map, take, drop, length, get_or, slice_get, slice_set, reverse, codes, Option, Some, None}
-use Rattle.std.specs.List.{list_all, list_any, AllByRecursion}
+use Rattle.std.specs.Prelude.{◌≡◌, ℕ, ◌+◌, nat_eq, Bool, true, false, List, [], ◌∷◌, ◌++◌, map, take, drop, length, slice_get, slice_set, codes, Option, Some, None}
+use Rattle.std.specs.List.{list_any}
 use Rattle.proof_base.specs.Order.{text_eq}
 use Rattle.s3_types.specs.Store.{Scene}
 use Rattle.s3_types.specs.declared.reply.Reply.{Reply}
-use Rattle.s3_types.specs.declared.reply.Reply.TheVariants.{Object, Page, Refused}
+use Rattle.s3_types.specs.declared.reply.Reply.TheVariants.{Page, Refused}
 use Rattle.s3_types.specs.declared.reply.Refusal.TheVariants.{NoSuchKey}
 use Rattle.request_frame.specs.Members.{RisesFrom}
-use Rattle.pending_json.specs.Pending.{are_tags, are_sizes}
 use Rattle.job_model.specs.Files.{File}
 use Rattle.job_model.specs.Attempts.{Who}
-use Rattle.job_model.specs.Known.{Drawn, Known}
+use Rattle.job_model.specs.Known.{Known}
 use Rattle.job_model.specs.Jobs.{Task}
 use Rattle.job_model.specs.JobScript.{Script}
 use Rattle.job_model.specs.declared.ends.TaskEnd.{TaskEnd}
 use Rattle.job_operations.specs.AtWork.{Attempting, task_script, who_of, with_known}
 use Rattle.job_operations.specs.Outputs.{files}
-use Rattle.job_operations.specs.Knowledge.{nothing_drawn, drawn_in, drawn_for}
-use Rattle.job_operations.specs.Records.{file_key, record_key, record_text}
+use Rattle.job_operations.specs.Records.{record_key}
 use Rattle.job_operations.specs.Walks.{keys_on}
 use Rattle.job_operations.specs.TaskCommits as commits
 use Rattle.job_operations.specs.TaskCommits.{TaskCommit, Looking, Reading, Publishing, Checking, Storing, Renaming, TaskCommitOver, attempt_prefix, least_of, reading}
 use Rattle.sweep.specs.Fitting.{FitsPage}
 use Rattle.sweep.specs.Left.{walk_left}
 use Rattle.task_magic.specs.declared.committing.Committing.{Committing}
+pub use Rattle.task_requests.specs.Publishing.{picked, drawn_of, IsPending, AreReady, are_places, FitsRecord, IsLastAt}
 
 -- ---- where it stands
-
--- the files at these places
-abbrev pub picked : List File → List ℕ → List File
-picked fs places = map (λ i. get_or fs i ([], [])) places
 
 -- it lists, or commits these files, of which so many were read, or it has ended
 abbrev pub commit_by : Bool → List (List ℕ) → List File → ℕ → Option TaskEnd → TaskCommit
@@ -41,22 +36,6 @@ abbrev pub commit_of : Task → Committing → TaskCommit
 commit_of t c = commit_by c.listing c.walk (picked t.files c.places) c.at c.end
 
 -- ---- what is kept
-
--- the upload of a file that was drawn last
-abbrev pub drawn_of : Script → Known → File → Drawn
-drawn_of w k f = drawn_for k (file_key w f)
-
--- an upload's tags and sizes are those of a record of a file of this length
-abbrev pub IsPending : Drawn → ℕ → Type 0
-IsPending d length = (are_tags d.tags ≡ true) × (are_sizes (Some d.sizes) d.tags length ≡ true)
-
--- what is known of the upload of each of these files is a record
-abbrev pub AreReady : Task → List File → Type 0
-AreReady t fs = AllByRecursion (λ f. IsPending (drawn_of (task_script t) t.known f) (length f.1)) fs
-
--- these are places among so many
-abbrev pub are_places : ℕ → List ℕ → Bool
-are_places count places = list_all (λ i. nat_lt i count) places
 
 -- the places are of files, and what is known of those that were read is a record
 pub record HoldsCommit (t : Task) (places : List ℕ) (at : ℕ) : Type 0 where
@@ -72,12 +51,6 @@ Keeps t c = HoldsCommit t c.places c.at
 abbrev pub FitsListing : List (List ℕ) → Reply → Type 0
 FitsListing keys (Page entries more) = FitsPage (Page entries more) × RisesFrom [] (keys ++ keys_on entries)
 FitsListing keys r = FitsPage r
-
--- a file's record, or that it is not there
-abbrev pub FitsRecord : Script → Who → Known → File → Reply → Type 0
-FitsRecord w a k f (Object bytes header) = (bytes ≡ record_text w a f (drawn_of w k f)) × IsPending (drawn_of w k f) (length f.1)
-FitsRecord w a k f (Refused NoSuchKey) = Unit {0}
-FitsRecord w a k f _ = ⊥
 
 -- of a magic attempt
 abbrev pub FitsCommit : Script → Who → Known → TaskCommit → Reply → Type 0
@@ -161,10 +134,3 @@ abbrev pub least_unseen : List Bool → List (List ℕ) → Option (List ℕ)
 least_unseen (false ∷ seen) (k ∷ ks) = Some (least_of (least_unseen seen ks) k)
 least_unseen (true ∷ seen) (k ∷ ks) = least_unseen seen ks
 least_unseen _ _ = None
-
--- ---- the uploads
-
--- where the upload of a key that was drawn last stands in the order of their making
-abbrev pub IsLastAt : List Drawn → List ℕ → Option ℕ → Type 0
-IsLastAt made key None = drawn_in (reverse made) key ≡ nothing_drawn
-IsLastAt made key (Some i) = slice_get made i ≡ Some (drawn_in (reverse made) key)

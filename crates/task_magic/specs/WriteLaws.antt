@@ -17,7 +17,7 @@ use Rattle.job_operations.specs.Uploading.{Creating, Sending, sending, file_part
 use Rattle.job_operations.specs.Writes as writes
 use Rattle.job_operations.specs.Writes.{Write, uploaded, writing, write_hears}
 use Rattle.task_magic.specs.Standing.{standing_of}
-use Rattle.task_magic.specs.Writing.{write_fits, FitsWrite, FitsCreate, FitsPart, write_left}
+use Rattle.task_requests.specs.Writing.{write_fits, FitsWrite, FitsCreate, FitsPart, write_left}
 
 -- ---- how it stands
 

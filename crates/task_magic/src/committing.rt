@@ -1,4 +1,4 @@
-ghost use Rattle.std.specs.Prelude.{◌≡◌, ◌+◌, ◌<◌, Bool, length, drop, get_or, [], true, false, IfOk, OnOk, OnErr, Some, None, slice_get};
+ghost use Rattle.std.specs.Prelude.{◌≡◌, ◌+◌, ◌<◌, Bool, length, drop, get_or, [], true, false, Decides, IfOk, OnOk, OnErr, Some, None, slice_get};
 ghost use Rattle.std.specs.Option.{option_copied};
 ghost use Rattle.s3_types.specs.declared.request.Request.TheVariants.{GetObject};
 ghost use Rattle.s3_types.specs.declared.request.Committer.TheVariants.{Magic};
@@ -6,16 +6,17 @@ ghost use Rattle.sendings.specs.Retries.{Got, WornOut};
 ghost use Rattle.job_operations.specs.AtWork.{task_script, who_of, task_commit_told};
 ghost use Rattle.job_operations.specs.Walks.{page_after};
 ghost use Rattle.job_operations.specs.TaskCommits.{attempt_prefix, Looking, reading, task_commit_start, task_commit_asks, task_commit_hears};
-ghost use Rattle.task_magic.specs.Committing.{picked, HoldsCommit, commit_of, Keeps, FitsCommit, record_of, is_no_key, publishes, with_sent};
+ghost use Rattle.task_requests.specs.Publishing.{picked};
+ghost use Rattle.task_magic.specs.Committing.{HoldsCommit, commit_of, Keeps, FitsCommit, record_of, is_no_key, publishes, with_sent};
 
 use crate::listing::{Listed, files_of_keys, missing, record_at};
-use crate::names::{bucket_of, directory, prefix};
-use crate::publishing::publish_request;
+use crate::paging::fits_listing;
 use asking::NextRequest;
 use job_model::{TaskEnd, TaskPlan};
 use s3_types::{Key, Refusal, Reply, Request, Sequence, put};
 use std::alloc::{AllocError, Global};
 use sweep::KeyWalk;
+use task_requests::{bucket_of, directory, fits_record, prefix, publish_request};
 
 /// A commit as it goes on: whether it lists, the keys so far, the places of the files that it commits, how
 /// many of their records were read, and how it ended.
@@ -227,6 +228,23 @@ impl Committing {
                 self.finish(TaskEnd::Done);
                 Ok(())
             }
+        }
+    }
+
+    /// Whether its present request may be answered so.
+    pub fn takes(&self, alloc: Global, plan: &TaskPlan, reply: &Reply) -> Result<bool, AllocError>
+        requires { Keeps plan.now self.now }
+        ensures { IfOk result (λ is. Decides is (FitsCommit (task_script plan.now) (who_of plan.now) plan.now.known (commit_of plan.now self.now) reply.now)) }
+    {
+        let None = &self.end else {
+            return Ok(true);
+        };
+        if self.listing {
+            return fits_listing(alloc, &self.walk, reply);
+        }
+        match place_at(self.places.as_slice(), self.at) {
+            Some(place) => fits_record(alloc, plan, *place, reply),
+            None => Ok(true),
         }
     }
 

@@ -5,20 +5,15 @@
 mod abort;
 mod commit;
 mod committing;
-mod cutting;
-mod drawn;
 mod laws;
 mod listing;
-mod names;
-mod publishing;
-mod requests;
-mod stage;
+mod paging;
 mod stepping;
 mod undoing;
 mod write;
 
 pub use abort::AbortTask;
-pub use commit::CommitTask;
+pub use commit::{CommitTask, commit_takes};
 pub use laws::{aborts_end, commits_end, writes_end};
-pub use stage::WriteStage;
+pub use task_requests::WriteStage;
 pub use write::WriteFiles;

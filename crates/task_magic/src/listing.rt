@@ -1,14 +1,15 @@
 ghost use Rattle.std.specs.Prelude.{◌≡◌, ◌<◌, ℕ, List, ◌++◌, codes, length, map, get_or, [], true, false, replicate, IfOk, OnOk, IfSome, MatchOption};
 ghost use Rattle.job_operations.specs.AtWork.{task_script, who_of};
 ghost use Rattle.job_operations.specs.TaskCommits.{attempt_prefix, in_order, least_of};
-ghost use Rattle.task_magic.specs.Writing.{dir_of};
-ghost use Rattle.task_magic.specs.Committing.{picked, are_places, record_of, IsRecordAt, IsPlaceOf, places_in, set_at, seen_in, least_unseen};
+ghost use Rattle.task_requests.specs.Writing.{dir_of};
+ghost use Rattle.task_requests.specs.Publishing.{picked, are_places};
+ghost use Rattle.task_magic.specs.Committing.{record_of, IsRecordAt, IsPlaceOf, places_in, set_at, seen_in, least_unseen};
 
-use crate::names::{directory, file_at, prefix, record};
 use job_model::TaskPlan;
 use path_keys::S3Path;
 use s3_types::{Key, Sequence, Text};
 use std::alloc::{AllocError, Global};
+use task_requests::{directory, file_at, prefix, record};
 
 /// What the keys of a listing are of: the places of the files whose records are listed, in the order of the
 /// keys, and of each file whether its record is listed.

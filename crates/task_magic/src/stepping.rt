@@ -4,15 +4,13 @@ ghost use Rattle.s3_types.specs.declared.reply.Refusal.TheVariants.{NoSuchUpload
 ghost use Rattle.s3_types.specs.Tags.{is_plain_tag};
 ghost use Rattle.sendings.specs.Retries.{Got};
 ghost use Rattle.job_operations.specs.AtWork.{write_wants, write_told};
-ghost use Rattle.task_magic.specs.Writing.{dir_of, is_new, Holds, IsWrite, seen_write, write_fits, upload_in, tag_in, ended_by};
+ghost use Rattle.task_requests.specs.Writing.{dir_of, is_new, Holds, IsWrite, seen_write, write_fits, upload_in, tag_in, ended_by};
 
-use crate::names::{file_at, target};
-use crate::requests::{ask, ask_behind, ask_part, behind};
-use crate::stage::WriteStage;
 use job_model::{TaskEnd, TaskPlan};
 use path_keys::S3Path;
 use s3_types::{Reply, Request, Tag, let_go};
 use std::alloc::{AllocError, Global};
+use task_requests::{WriteStage, ask, ask_behind, ask_part, behind, file_at, target};
 
 /// Where a write stands after a step, with what it asks next.
 #[derive(Drop)]

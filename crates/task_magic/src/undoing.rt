@@ -7,12 +7,11 @@ ghost use Rattle.job_operations.specs.TaskCommits.{attempt_prefix};
 ghost use Rattle.job_operations.specs.TaskAborts.{task_abort_start, task_abort_asks, task_abort_hears};
 ghost use Rattle.task_magic.specs.Undoing.{abort_of, kept_if, FitsAbort};
 
-use crate::drawn::made;
-use crate::names::{bucket_of, prefix};
 use job_model::{DrawnUpload, TaskEnd, TaskPlan};
 use s3_types::{Bucket, Reply, Request, put};
 use std::alloc::{AllocError, Global};
 use sweep::{AllKeys, Sweep};
+use task_requests::{bucket_of, made, prefix};
 
 /// An abort as it goes on: how many of the uploads are aborted, the sweep of the attempt's directory, and
 /// how it ended.

@@ -3,11 +3,9 @@ ghost use Rattle.std.specs.Option.{option_copied};
 ghost use Rattle.s3_types.specs.declared.request.Committer.TheVariants.{Magic};
 ghost use Rattle.job_operations.specs.AtWork.{task_script, who_of, write_wants, write_told};
 ghost use Rattle.job_operations.specs.Writes.{WriteOver, write_start, write_over};
-ghost use Rattle.task_magic.specs.Writing.{write_fits, write_left};
+ghost use Rattle.task_requests.specs.Writing.{write_fits, write_left};
 ghost use Rattle.task_magic.specs.WriteLaws.{never_ready, write_standing, write_laws};
 
-use crate::names::directory;
-use crate::stage::WriteStage;
 use crate::stepping::{Turned, advance, turn};
 use job_model::{TaskEnd, TaskPlan};
 use machine::Machine;
@@ -15,6 +13,7 @@ use path_keys::S3Path;
 use s3_types::{Reply, Request, let_go, put};
 use std::alloc::{AllocError, Global};
 use std::marker::Model;
+use task_requests::{WriteStage, directory};
 
 /// A magic attempt's write of its files, in the script's order: each is an upload that is not completed, with
 /// a marker and a record below the attempt's directory. (Hadoop, S3A committer architecture.)
@@ -29,7 +28,7 @@ pub struct WriteFiles {
 impl Model for WriteFiles {
     ghost use Rattle.job_operations.specs.AtWork.{Attempting};
     ghost use Rattle.job_operations.specs.Writes.{Write};
-    ghost use Rattle.task_magic.specs.Writing.{seen_write, IsWrite};
+    ghost use Rattle.task_requests.specs.Writing.{seen_write, IsWrite};
 
     ghost Value = { Attempting Write };
 

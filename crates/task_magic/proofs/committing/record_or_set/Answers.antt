@@ -1,5 +1,5 @@
 use Rattle.std.proofs.Common.{length}
-use Rattle.task_magic.proofs.Steps.{ok_as}
+use Rattle.task_requests.proofs.Steps.{ok_as}
 use Rattle.task_magic.proofs.Committed.{within_at, all_ready, asks_record, asks_set}
 use Rattle.task_magic.proofs.committing.record_or_set.Goals as goal
 

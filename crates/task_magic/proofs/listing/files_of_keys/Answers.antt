@@ -1,7 +1,7 @@
 use Rattle.std.proofs.Common.{◌∙◌, ap, sym, length, take, List, ℕ, ◌++◌, ◌∷◌, [], ◌+◌}
 use Rattle.std.proofs.lemmas.List.{take_more}
 use Rattle.job_model.specs.Jobs.{Task}
-use Rattle.task_magic.specs.Committing.{are_places, picked}
+use Rattle.task_requests.specs.Publishing.{are_places, picked}
 use Rattle.task_magic.proofs.Listed.{first_seen, ordered_with, seen_with, places_with, within_seen}
 use Rattle.task_magic.proofs.listing.files_of_keys.Goals as goal
 

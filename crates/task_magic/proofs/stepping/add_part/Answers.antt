@@ -1,7 +1,7 @@
 use Rattle.job_model.specs.Known.{Known}
 use Rattle.job_model.specs.contracts.plan.TaskPlan.{the_view}
-use Rattle.task_magic.proofs.Told.{with_tag}
-use Rattle.task_magic.proofs.Steps.{known_of, sending_within, behind_next, sent_told_by, sent_kept_by}
+use Rattle.task_requests.proofs.Told.{with_tag}
+use Rattle.task_requests.proofs.Steps.{known_of, sending_within, behind_next, sent_told_by, sent_kept_by}
 use Rattle.task_magic.proofs.stepping.add_part.Goals as goal
 use Rattle.task_magic.proofs.stepping.add_part.Goals.{in-Ok, in-Err}
 

@@ -1,6 +1,6 @@
 use Rattle.std.proofs.Common.{ap, sym, None, false}
-use Rattle.task_magic.specs.Writing.{seen_write}
-use Rattle.task_magic.proofs.Steps.{upload_new, upload_some, part_plain, part_none, told_as, marked_as, recorded_as}
+use Rattle.task_requests.specs.Writing.{seen_write}
+use Rattle.task_requests.proofs.Steps.{upload_new, upload_some, part_plain, part_none, told_as, marked_as, recorded_as}
 use Rattle.task_magic.proofs.stepping.advance.Goals as goal
 
 pub begin-requires-clause-new : goal.begin-requires-clause-new

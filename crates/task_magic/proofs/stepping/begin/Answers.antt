@@ -1,8 +1,8 @@
 use Rattle.job_model.specs.Known.{Known}
 use Rattle.job_model.specs.contracts.plan.TaskPlan.{the_view}
-use Rattle.task_magic.specs.Writing.{with_drawn, size_of}
+use Rattle.task_requests.specs.Writing.{with_drawn, size_of}
 use Rattle.s3_types.proofs.Blocks.{some_parts}
-use Rattle.task_magic.proofs.Steps.{known_of, begun_told_by, begun_kept_by}
+use Rattle.task_requests.proofs.Steps.{known_of, begun_told_by, begun_kept_by}
 use Rattle.task_magic.proofs.stepping.begin.Goals as goal
 use Rattle.task_magic.proofs.stepping.begin.Goals.{in-Ok, in-Err}
 

@@ -1,5 +1,6 @@
 use Rattle.std.proofs.Common.{◌∙◌, ap}
-use Rattle.task_magic.specs.Committing.{commit_of, picked}
+use Rattle.task_requests.specs.Publishing.{picked}
+use Rattle.task_magic.specs.Committing.{commit_of}
 use Rattle.task_magic.proofs.Committed.{page_missing, page_whole}
 use Rattle.task_magic.proofs.committing.Committing.hear_page.Goals as goal
 

@@ -1,6 +1,7 @@
 use Rattle.std.proofs.Common.{◌∙◌, ap, sym, length, arith, subst}
 use Rattle.std.proofs.lemmas.Option.{slice_get_within}
-use Rattle.task_magic.specs.Committing.{picked, commit_by, commit_of, HoldsCommit}
+use Rattle.task_requests.specs.Publishing.{picked}
+use Rattle.task_magic.specs.Committing.{commit_by, commit_of, HoldsCommit}
 use Rattle.task_magic.proofs.Committed.{within_at, goes_gone_at, goes_read_at, keeps_read_at}
 use Rattle.task_magic.proofs.committing.Committing.hear_record.Goals as goal
 

@@ -1,5 +1,5 @@
 use Rattle.std.proofs.Common.{◌∙◌}
-use Rattle.task_magic.proofs.Steps.{holds_creating}
+use Rattle.task_requests.proofs.Steps.{holds_creating}
 use Rattle.task_magic.proofs.Whole.{start_is}
 use Rattle.task_magic.proofs.write.WriteFiles.new.Goals as goal
 

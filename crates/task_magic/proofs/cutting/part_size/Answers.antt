@@ -1,8 +1,0 @@
-use Rattle.std.proofs.Common.{arith}
-use Rattle.std.proofs.lemmas.Grind.{common_steps}
-use Rattle.s3_types.specs.Blocks.{block_of}
-use Rattle.task_magic.proofs.cutting.part_size.Goals as goal
-
-pub returns : goal.returns
-unfolding block_of
-returns c = grind (arith, common_steps)

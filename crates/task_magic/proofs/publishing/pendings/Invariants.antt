@@ -1,7 +1,0 @@
-use Rattle.std.proofs.Common.{◌≡◌, take}
-use Rattle.task_magic.specs.Committing.{picked}
-use Rattle.task_magic.proofs.LastDrawn.{records_of}
-use Rattle.task_magic.proofs.publishing.pendings.Given as goal
-
-abbrev pub invariant-loop-place : goal.invariant-loop-place
-invariant-loop-place l = l.list ≡ records_of l.plan (picked l.plan.files (take l.place-index l.places))

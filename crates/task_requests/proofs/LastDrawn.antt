@@ -1,0 +1,129 @@
+-- Where the upload of a key that was drawn last stands.
+use Rattle.std.proofs.Common.{◌≡◌, ℕ, zero, suc, ◌+◌, ◌<◌, ◌≤◌, Bool, true, false, cond, List, [], ◌∷◌, ◌++◌, map, length, length-take-le, take, reverse, get_or, slice_get, Option, Some, None, refl, sym, ap, subst, ◌∙◌, arith}
+use Rattle.std.proofs.lemmas.Bool.{true≢false}
+use Rattle.std.proofs.lemmas.List.{reverse-reverse, reverse-append, take_more, map-append}
+use Rattle.proof_base.specs.Order.{text_eq}
+use Rattle.std.proofs.lemmas.Option.{get_or_from_slice_get}
+use Rattle.proof_base.proofs.Options.{some_is}
+use Rattle.s3_types.specs.declared.request.Request.{Request}
+use Rattle.s3_types.specs.declared.request.Request.TheVariants.{PutObject}
+use Rattle.magic_paths.specs.Layout as layout
+use Rattle.pending_json.specs.Pending.{Pending, are_tags, are_sizes}
+use Rattle.job_model.specs.Jobs.{Task}
+use Rattle.job_operations.specs.AtWork.{task_script, who_of}
+use Rattle.job_model.specs.Known.{Drawn, Known}
+use Rattle.job_model.specs.Files.{File}
+use Rattle.job_model.specs.JobScript.{Script}
+use Rattle.job_operations.specs.Knowledge.{as_made, drawn_in, nothing_drawn}
+use Rattle.job_operations.specs.Records.{file_key, file_record, set_text}
+use Rattle.job_operations.specs.TaskCommits.{Publishing, task_commit_asks}
+use Rattle.task_requests.specs.Publishing.{IsLastAt, IsPending, AreReady, picked, drawn_of}
+use Rattle.task_requests.proofs.InOrder.{made_reverse}
+
+get_end : (xs : List Drawn) (d : Drawn) → slice_get (xs ++ d ∷ []) (length xs) ≡ Some d
+get_end [] d = refl
+get_end (x ∷ xs) d = get_end xs d
+
+get_front : (xs : List Drawn) (d y : Drawn) (i : ℕ) → slice_get xs i ≡ Some y → slice_get (xs ++ d ∷ []) i ≡ Some y
+get_front [] d y zero e = absurd (cc)
+get_front [] d y (suc i) e = absurd (cc)
+get_front (x ∷ xs) d y zero e = e
+get_front (x ∷ xs) d y (suc i) e = get_front xs d y i e
+
+last_of_push : (xs : List Drawn) (d : Drawn) (key : List ℕ) (b : Bool) → text_eq d.key key ≡ b → drawn_in (reverse (xs ++ d ∷ [])) key ≡ cond b d (drawn_in (reverse xs) key)
+last_of_push xs d key b e = ap (λ (l : List Drawn). drawn_in l key) (reverse-append xs (d ∷ [])) ∙ ap (λ (c : Bool). cond c d (drawn_in (reverse xs) key)) e
+
+last_push : (xs : List Drawn) (d : Drawn) (i : ℕ) (old new : Option ℕ) (key : List ℕ) → i ≡ length xs → IsLastAt xs key old → new ≡ cond (text_eq d.key key) (Some i) old → IsLastAt (xs ++ d ∷ []) key new
+last_push xs d i old new key n h e = by (text_eq d.key key) refl
+  where
+    front : (o : Option ℕ) → text_eq d.key key ≡ false → IsLastAt xs key o → IsLastAt (xs ++ d ∷ []) key o
+    front None g k = last_of_push xs d key false g ∙ k
+    front (Some j) g k = get_front xs d (drawn_in (reverse xs) key) j k ∙ ap (λ (x : Drawn). Some x) (sym (last_of_push xs d key false g))
+
+    by : (b : Bool) → text_eq d.key key ≡ b → IsLastAt (xs ++ d ∷ []) key new
+    by true g = subst (IsLastAt (xs ++ d ∷ []) key) (sym (e ∙ ap (λ (c : Bool). cond c (Some i) old) g))
+        (ap (slice_get (xs ++ d ∷ [])) n ∙ (get_end xs d ∙ ap (λ (x : Drawn). Some x) (sym (last_of_push xs d key true g))))
+    by false g = subst (IsLastAt (xs ++ d ∷ []) key) (sym (e ∙ ap (λ (c : Bool). cond c (Some i) old) g)) (front old g h)
+
+pub last_step : (made : List Drawn) (i : ℕ) (d : Drawn) (old new : Option ℕ) (key : List ℕ) → i < length made → d ≡ get_or made i d → IsLastAt (take i made) key old → new ≡ cond (text_eq d.key key) (Some i) old → IsLastAt (take (i + 1) made) key new
+last_step made i d old new key w e h n =
+    let within : i ≤ length made = omega arith in
+    subst (λ l. IsLastAt l key new) (sym (take_more made i d w ∙ ap (λ (x : Drawn). take i made ++ x ∷ []) (sym e)))
+    (last_push (take i made) d i old new key (sym (length-take-le i made within)) h n)
+
+-- ---- a file's
+
+made_back : (ds : List Drawn) → reverse (as_made ds) ≡ ds
+made_back ds = ap reverse (made_reverse ds) ∙ reverse-reverse ds
+
+pub drawn_there : (w : Script) (k : Known) (f : File) (key : List ℕ) (o : Option ℕ) (i : ℕ) → IsLastAt (as_made k.drawn) key o → key ≡ file_key w f → o ≡ Some i → slice_get (as_made k.drawn) i ≡ Some (drawn_of w k f)
+drawn_there w k f key o i h g e =
+    subst (IsLastAt (as_made k.drawn) key) e h
+    ∙ (ap (λ l. Some (drawn_in l key)) (made_back k.drawn) ∙ ap (λ q. Some (drawn_in k.drawn q)) g)
+
+-- what is not there has no tags
+pub drawn_not : (w : Script) (k : Known) (f : File) (key : List ℕ) (o : Option ℕ) (n : ℕ) → IsLastAt (as_made k.drawn) key o → key ≡ file_key w f → o ≡ None → IsPending (drawn_of w k f) n → ⊥
+drawn_not w k f key o n h g e p =
+    let none : drawn_of w k f ≡ nothing_drawn =
+    ap (drawn_in k.drawn) (sym g) ∙ (ap (λ l. drawn_in l key) (sym (made_back k.drawn)) ∙ subst (IsLastAt (as_made k.drawn) key) e h) in
+    let bad : IsPending nothing_drawn n = subst (λ d. IsPending d n) none p in
+    true≢false (sym bad.0)
+
+-- ---- the file at a place, where what is known of its upload is a record
+
+module _ (t : Task) (place : ℕ) (f : File) (key : List ℕ) (o : Option ℕ) (at : Some f ≡ slice_get t.files place) (named : key ≡ file_key (task_script t) f) (last : IsLastAt (as_made t.known.drawn) key o)
+    (ready : (let g = get_or t.files place ([], []) in IsPending (drawn_of (task_script t) t.known g) (length g.1))) where
+  pub is_file : get_or t.files place ([], []) ≡ f
+  is_file = get_or_from_slice_get t.files place f ([], []) (sym at)
+
+  pub is_ready : IsPending (drawn_of (task_script t) t.known f) (length f.1)
+  is_ready = subst (λ (g : File). IsPending (drawn_of (task_script t) t.known g) (length g.1)) is_file ready
+
+  pub not_none : None ≡ o → ⊥
+  not_none e = drawn_not (task_script t) t.known f key o (length f.1) last named (sym e) is_ready
+
+  pub is_drawn : (i : ℕ) (d : Drawn) → Some i ≡ o → Some d ≡ slice_get (as_made t.known.drawn) i → d ≡ drawn_of (task_script t) t.known f
+  is_drawn i d e g = some_is d (drawn_of (task_script t) t.known f) (g ∙ drawn_there (task_script t) t.known f key o i last named (sym e))
+
+  pub not_behind : (i : ℕ) → Some i ≡ o → None ≡ slice_get (as_made t.known.drawn) i → ⊥
+  not_behind i e g = let both : None ≡ Some (drawn_of (task_script t) t.known f) = g ∙ drawn_there (task_script t) t.known f key o i last named (sym e) in absurd (cc)
+
+  pub drawn_tags : (i : ℕ) (d : Drawn) → Some i ≡ o → Some d ≡ slice_get (as_made t.known.drawn) i → are_tags d.tags ≡ true
+  drawn_tags i d e g = subst (λ (x : Drawn). are_tags x.tags ≡ true) (sym (is_drawn i d e g)) is_ready.0
+
+  pub drawn_sizes : (i : ℕ) (d : Drawn) → Some i ≡ o → Some d ≡ slice_get (as_made t.known.drawn) i → are_sizes (Some d.sizes) d.tags (length f.1) ≡ true
+  drawn_sizes i d e g = subst (λ (x : Drawn). are_sizes (Some x.sizes) x.tags (length f.1) ≡ true) (sym (is_drawn i d e g)) is_ready.1
+
+  pub same_record : (i : ℕ) (d : Drawn) → Some i ≡ o → Some d ≡ slice_get (as_made t.known.drawn) i
+      → file_record (task_script t) (who_of t) f d ≡ (let g = get_or t.files place ([], []) in file_record (task_script t) (who_of t) g (drawn_of (task_script t) t.known g))
+  same_record i d e g =
+      ap (file_record (task_script t) (who_of t) f) (is_drawn i d e g)
+      ∙ ap (λ (x : File). file_record (task_script t) (who_of t) x (drawn_of (task_script t) t.known x)) (sym is_file)
+
+-- ---- all of them
+
+pub ready_at : (t : Task) (places : List ℕ) (i : ℕ) → i < length places → AreReady t (picked t.files places) → (let g = get_or t.files (get_or places i 0) ([], []) in IsPending (drawn_of (task_script t) t.known g) (length g.1))
+ready_at t [] i w h = absurd (omega arith)
+ready_at t (q ∷ places) zero w h = h.0
+ready_at t (q ∷ places) (suc i) w h = ready_at t places i (omega arith) h.1
+
+-- the records of these files
+abbrev pub records_of : Task → List File → List Pending
+records_of t fs = map (λ f. file_record (task_script t) (who_of t) f (drawn_of (task_script t) t.known f)) fs
+
+pub records_with : (t : Task) (places : List ℕ) (i : ℕ) (list : List Pending) (p : Pending) → i < length places → list ≡ records_of t (picked t.files (take i places)) → (let g = get_or t.files (get_or places i 0) ([], []) in p ≡ file_record (task_script t) (who_of t) g (drawn_of (task_script t) t.known g))
+    → list ++ p ∷ [] ≡ records_of t (picked t.files (take (i + 1) places))
+records_with t places i list p w e h =
+    let g = get_or t.files (get_or places i 0) ([], []) in
+    ap (λ (l : List Pending). l ++ p ∷ []) e
+    ∙ (ap (λ (x : Pending). records_of t (picked t.files (take i places)) ++ x ∷ []) h
+    ∙ sym (ap (λ (l : List ℕ). records_of t (picked t.files l)) (take_more places i 0 w)
+    ∙ (ap (records_of t) (map-append (λ j. get_or t.files j ([], [])) (take i places) (get_or places i 0 ∷ []))
+    ∙ map-append (λ f. file_record (task_script t) (who_of t) f (drawn_of (task_script t) t.known f)) (picked t.files (take i places)) (g ∷ []))))
+
+-- ---- the put of a set
+
+pub put_is : (t : Task) (cs : List File) (request : Request) (bucket key bytes : List ℕ) → request ≡ PutObject bucket key bytes None → bucket ≡ t.job.dest.bucket → key ≡ layout.set_key t.job.dest.key t.job.job t.task
+    → bytes ≡ set_text (task_script t) (who_of t) cs t.known → Some request ≡ task_commit_asks (task_script t) (who_of t) t.known (Publishing cs)
+put_is t cs request bucket key bytes e b k s =
+    ap (λ (r : Request). Some r) (e ∙ (ap (λ x. PutObject x key bytes None) b ∙ (ap (λ x. PutObject t.job.dest.bucket x bytes None) k ∙ ap (λ x. PutObject t.job.dest.bucket (layout.set_key t.job.dest.key t.job.job t.task) x None) s)))

@@ -1,0 +1,22 @@
+use Rattle.std.proofs.Common.{◌∙◌, ap, slice_get}
+use Rattle.serde_json.specs.Written.{compact_text}
+use Rattle.pending_json.specs.Trees.{pending_tree}
+use Rattle.pending_json.specs.Pending.{Pending}
+use Rattle.job_model.specs.Jobs.{Task}
+use Rattle.job_model.specs.Known.{Drawn}
+use Rattle.job_operations.specs.AtWork.{task_script, who_of}
+use Rattle.job_operations.specs.Records.{record_text}
+use Rattle.task_requests.proofs.Steps.{record_tags, record_sizes, record_last, ok_as}
+use Rattle.task_requests.proofs.requests.record_text.Goals as goal
+
+pub pending-requires-clause-tags : goal.pending-requires-clause-tags
+pending-requires-clause-tags c = record_tags c.args.plan.now (c.args.path.now, c.args.bytes.now) c.in-Some.drawn.now (c.in-Some.ensures ∙ ap (λ (t : Task). slice_get t.known.drawn 0) c.plan.view_is) c.requires.sent
+
+pub pending-requires-clause-sizes : goal.pending-requires-clause-sizes
+pending-requires-clause-sizes c = record_sizes c.args.plan.now (c.args.path.now, c.args.bytes.now) c.in-Some.drawn.now (c.in-Some.ensures ∙ ap (λ (t : Task). slice_get t.known.drawn 0) c.plan.view_is) c.requires.sent
+
+pub returns : goal.returns
+returns c = ok_as c.print.result _ _ c.print.ensures
+    (ap (λ (p : Pending). compact_text (pending_tree p)) c.in_ok-pending.ensures
+    ∙ ap (λ (d : Drawn). record_text (task_script c.args.plan.now) (who_of c.args.plan.now) (c.args.path.now, c.args.bytes.now) d)
+    (record_last c.args.plan.now (c.args.path.now, c.args.bytes.now) c.in-Some.drawn.now (c.in-Some.ensures ∙ ap (λ (t : Task). slice_get t.known.drawn 0) c.plan.view_is) c.requires.sent))

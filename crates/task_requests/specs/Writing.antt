@@ -1,0 +1,201 @@
+-- A write of a magic attempt's files, by how many files are whole and how far the next has come.
+use Rattle.std.specs.Prelude.{◌≡◌, ℕ, ◌+◌, ◌*◌, ◌<◌, ◌≤◌, not, nat_eq, nat_lt, cond, Bool, true, List, [], ◌∷◌, length, map, take, drop, Option, Some, None}
+use Rattle.std.specs.List.{list_all}
+use Rattle.s3_types.specs.Store.{Scene}
+use Rattle.s3_types.specs.Tags.{Spelled, is_plain_tag}
+use Rattle.s3_types.specs.declared.request.Request.{Request}
+use Rattle.s3_types.specs.declared.reply.Reply.{Reply}
+use Rattle.s3_types.specs.declared.reply.Reply.TheVariants.{Upload, Part, Refused}
+use Rattle.s3_types.specs.declared.reply.Refusal.TheVariants.{NoSuchUpload}
+use Rattle.s3_types.specs.Blocks.{block_of, parts_of}
+use Rattle.s3_types.specs.declared.limits.TheConstants.{MOST_SCRIPT_BYTES}
+use Rattle.path_keys.specs.Paths.{Path}
+use Rattle.job_model.specs.Plans.{IsJob, IsTask, IsPlaced}
+use Rattle.magic_paths.specs.Layout as layout
+use Rattle.job_model.specs.Files.{File}
+use Rattle.job_model.specs.Jobs.{Task}
+use Rattle.job_model.specs.Known.{Drawn, Known}
+use Rattle.job_model.specs.JobScript.{Script}
+use Rattle.job_model.specs.declared.ends.TaskEnd.{TaskEnd}
+use Rattle.job_model.specs.declared.ends.TaskEnd.TheVariants as ends
+use Rattle.job_operations.specs.AtWork.{Attempting, task_script, who_of, write_wants}
+use Rattle.job_operations.specs.Knowledge.{drawn_last}
+use Rattle.job_operations.specs.Records.{file_key, marker_key}
+use Rattle.s3_types.specs.declared.request.Request.TheVariants.{UploadPart, PutObject}
+use Rattle.job_operations.specs.Uploading.{Uploading, Creating, Sending, file_parts}
+use Rattle.job_operations.specs.Writes as writes
+use Rattle.job_operations.specs.Writes.{Write}
+use Rattle.task_requests.specs.declared.stage.WriteStage.{WriteStage}
+use Rattle.task_requests.specs.declared.stage.WriteStage.TheVariants as stage
+
+-- ---- where it stands
+
+-- a file whose parts from these on are to be sent
+abbrev pub at_parts : File → List File → List (List ℕ) → Write
+at_parts f fs [] = writes.Marking f fs
+at_parts f fs (p ∷ ps) = writes.Uploads f fs (Sending p ps)
+
+-- the first of these files has come to this stage
+abbrev pub at_stage : Script → ℕ → WriteStage → List File → Write
+at_stage w minimum s [] = writes.WriteOver ends.Done
+at_stage w minimum stage.Creating (f ∷ fs) = writes.Uploads f fs Creating
+at_stage w minimum (stage.Sending n) (f ∷ fs) = at_parts f fs (drop n (file_parts w minimum f))
+at_stage w minimum stage.Marking (f ∷ fs) = writes.Marking f fs
+at_stage w minimum stage.Recording (f ∷ fs) = writes.Recording f fs
+
+-- so many files are whole, or it has ended
+abbrev pub write_by : Task → ℕ → WriteStage → Option TaskEnd → Write
+write_by t place s None = at_stage (task_script t) t.minimum s (drop place t.files)
+write_by t place s (Some end) = writes.WriteOver end
+
+abbrev pub seen_write : Task → ℕ → WriteStage → Option TaskEnd → Attempting Write
+seen_write t place s end = record { plan = t; operation = write_by t place s end }
+
+-- behind part n + 1 of so many
+abbrev pub next_stage : ℕ → ℕ → WriteStage
+next_stage n count = cond (nat_lt (n + 1) count) (stage.Sending (n + 1)) stage.Marking
+
+-- ---- what is known of the upload that was drawn last
+
+-- none of these uploads has the id
+abbrev pub is_new : ℕ → List Drawn → Bool
+is_new id ds = list_all (λ d. not (nat_eq d.upload id)) ds
+
+-- an upload of which no part was sent, beside what is known
+abbrev pub with_drawn : Known → List ℕ → ℕ → Known
+with_drawn k key id = record { drawn = record { key = key; upload = id; tags = []; sizes = [] } ∷ k.drawn; put_sent = k.put_sent; publish_sent = k.publish_sent }
+
+-- the first of them has these parts and no more, under an id of its own
+abbrev pub HasSent : List Drawn → List (List ℕ) → Type 0
+HasSent [] parts = ⊥
+HasSent (d ∷ ds) parts = (is_new d.upload ds ≡ true) × (length d.tags ≡ length parts) × (d.sizes ≡ map length parts) × (list_all is_plain_tag d.tags ≡ true)
+
+abbrev pub HoldsAt : Script → ℕ → Known → WriteStage → List File → Type 0
+HoldsAt w minimum k s [] = Unit {0}
+HoldsAt w minimum k stage.Creating (f ∷ fs) = Unit {0}
+HoldsAt w minimum k (stage.Sending n) (f ∷ fs) = (n < length (file_parts w minimum f)) × HasSent k.drawn (take n (file_parts w minimum f))
+HoldsAt w minimum k stage.Marking (f ∷ fs) = HasSent k.drawn (file_parts w minimum f)
+HoldsAt w minimum k stage.Recording (f ∷ fs) = HasSent k.drawn (file_parts w minimum f)
+
+-- the parts that came back are those that were sent
+abbrev pub Holds : Task → ℕ → WriteStage → Type 0
+Holds t place s = HoldsAt (task_script t) t.minimum t.known s (drop place t.files)
+
+-- the directory of an attempt
+abbrev pub dir_of : Task → Path
+dir_of t = record { bucket = t.job.dest.bucket; key = layout.attempt_key t.job.dest.key t.job.job t.task t.attempt }
+
+-- while it has not ended it is about one of the files
+abbrev pub IsOpen : Option TaskEnd → ℕ → List File → Type 0
+IsOpen None place fs = place < length fs
+IsOpen (Some end) place fs = Unit {0}
+
+-- what a machine keeps: its request is the one that is wanted
+pub record IsWrite (t : Task) (base : Path) (place : ℕ) (s : WriteStage) (end : Option TaskEnd) (request : Option Request) : Type 0 where
+  pub dir : base ≡ dir_of t
+  pub asked : request ≡ write_wants (seen_write t place s end)
+  pub holds : Holds t place s
+  pub within : IsOpen end place t.files
+
+-- ---- what fits, and what is left
+
+-- an id that is none of the known ones
+abbrev pub FitsCreate : List Drawn → Reply → Type 0
+FitsCreate ds (Upload id) = is_new id ds ≡ true
+FitsCreate ds _ = ⊥
+
+-- the tag of a part, or that the upload is not there
+abbrev pub FitsPart : Reply → Type 0
+FitsPart (Part tag) = is_plain_tag tag ≡ true
+FitsPart (Refused NoSuchUpload) = Unit {0}
+FitsPart _ = ⊥
+
+abbrev pub FitsUpload : List Drawn → Uploading → Reply → Type 0
+FitsUpload ds Creating r = FitsCreate ds r
+FitsUpload ds (Sending p ps) r = FitsPart r
+
+abbrev pub FitsWrite : Known → Write → Reply → Type 0
+FitsWrite k (writes.Uploads f fs u) r = FitsUpload k.drawn u r
+FitsWrite k (writes.Marking f fs) r = Unit {0}
+FitsWrite k (writes.Recording f fs) r = Unit {0}
+FitsWrite k (writes.WriteOver end) r = Unit {0}
+
+abbrev pub write_fits : Attempting Write → Reply → Bool → Type 0
+write_fits m r repeated = FitsWrite m.plan.known m.operation r
+
+-- the requests of a file: the upload is begun, its parts sent, its marker and its record put
+abbrev pub file_left : Script → ℕ → File → ℕ
+file_left w minimum f = 3 + length (file_parts w minimum f)
+
+abbrev pub files_left : Script → ℕ → List File → ℕ
+files_left w minimum [] = 0
+files_left w minimum (f ∷ fs) = file_left w minimum f + files_left w minimum fs
+
+abbrev pub upload_left : Script → ℕ → File → Uploading → ℕ
+upload_left w minimum f Creating = 3 + length (file_parts w minimum f)
+upload_left w minimum f (Sending p ps) = 3 + length ps
+
+abbrev pub left_of : Script → ℕ → Write → ℕ
+left_of w minimum (writes.Uploads f fs u) = upload_left w minimum f u + files_left w minimum fs
+left_of w minimum (writes.Marking f fs) = 2 + files_left w minimum fs
+left_of w minimum (writes.Recording f fs) = 1 + files_left w minimum fs
+left_of w minimum (writes.WriteOver end) = 0
+
+abbrev pub write_left : Attempting Write → Scene → ℕ
+write_left m s = left_of (task_script m.plan) m.plan.minimum m.operation
+
+-- ---- a file of the plan
+
+-- a plan within its bounds, and a path that it may give a file
+pub record IsNamed (t : Task) (path : List ℕ) : Type 0 where
+  pub job : IsJob t.job
+  pub task : IsTask t
+  pub placed : IsPlaced t.job.job path
+
+pub record IsFile (t : Task) (f : File) : Type 0 where
+  pub named : IsNamed t f.0
+  pub short : length f.1 ≤ MOST_SCRIPT_BYTES
+
+-- the size in bytes of its parts
+abbrev pub size_of : Task → List ℕ → ℕ
+size_of t bytes = block_of (length bytes) t.block t.minimum
+
+-- the part of a file behind so many others
+abbrev pub part_behind : Task → List ℕ → ℕ → List ℕ
+part_behind t bytes n = take (size_of t bytes) (drop (n * size_of t bytes) bytes)
+
+-- how many parts bytes are cut into
+abbrev pub count_of : Task → List ℕ → ℕ
+count_of t bytes = length (parts_of (size_of t bytes) bytes)
+
+-- its parts
+abbrev pub parts_in : Task → File → List (List ℕ)
+parts_in t f = file_parts (task_script t) t.minimum f
+
+-- ---- what a reply says
+
+abbrev pub upload_in : Reply → Option ℕ
+upload_in (Upload id) = Some id
+upload_in _ = None
+
+abbrev pub tag_in : Reply → Option Spelled
+tag_in (Part tag) = Some tag
+tag_in _ = None
+
+-- ---- what is asked behind a part
+
+abbrev pub IsBehind : List (List ℕ) → List Drawn → WriteStage → Type 0
+IsBehind parts ds (stage.Sending n) = (n < length parts) × (0 < length ds)
+IsBehind parts ds stage.Creating = Unit {0}
+IsBehind parts ds stage.Marking = Unit {0}
+IsBehind parts ds stage.Recording = Unit {0}
+
+-- the next part of the upload that was drawn last, else the marker
+abbrev pub asks_behind : Task → File → WriteStage → Request
+asks_behind t f (stage.Sending n) = UploadPart t.job.dest.bucket (file_key (task_script t) f) (drawn_last t.known).upload (n + 1) (part_behind t f.1 n)
+asks_behind t f _ = PutObject t.job.dest.bucket (marker_key (task_script t) (who_of t) f) [] (Some (length f.1))
+
+-- the end of a write that asks nothing
+abbrev pub ended_by : Option Request → Option TaskEnd
+ended_by (Some r) = None
+ended_by None = Some ends.Done

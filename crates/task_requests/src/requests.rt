@@ -1,0 +1,214 @@
+ghost use Rattle.std.specs.Prelude.{◌≡◌, ℕ, ◌+◌, ◌<◌, ◌≤◌, [], length, true, IfOk, Some, None};
+ghost use Rattle.s3_types.specs.declared.limits.TheConstants.{MOST_SCRIPT_BYTES};
+ghost use Rattle.path_keys.specs.Paths.{below};
+ghost use Rattle.pending_json.specs.Pending.{are_tags, are_sizes};
+ghost use Rattle.job_model.specs.Plans.{IsTask};
+ghost use Rattle.job_operations.specs.AtWork.{task_script, who_of, write_wants};
+ghost use Rattle.job_operations.specs.Knowledge.{drawn_last};
+ghost use Rattle.job_operations.specs.Records.{file_record, marker_key, record_key, record_text};
+ghost use Rattle.task_requests.specs.Writing.{dir_of, IsNamed, IsFile, HasSent, Holds, IsBehind, asks_behind, part_behind, parts_in, size_of, count_of, next_stage, seen_write};
+
+use crate::cutting::{part, part_count, part_length, part_size};
+use crate::drawn::{last_drawn, sizes_of, tags_of};
+use crate::names::{bucket_of, file_at, marker, record, target};
+use crate::stage::WriteStage;
+use job_model::{DrawnUpload, TaskPlan};
+use path_keys::S3Path;
+use pending_json::PendingUpload;
+use s3_types::{Bytes, LengthHeader, Request, Text};
+use std::alloc::{AllocError, Global};
+
+/// The size in bytes of the parts of a file. Takes no memory.
+fn size_of(plan: &TaskPlan, bytes: &Bytes) -> u64
+    requires { length bytes.now ≤ MOST_SCRIPT_BYTES }
+    ensures { result ≡ size_of plan.now bytes.now }
+{
+    part_size(bytes.as_slice().len() as u64, plan.block, plan.minimum)
+}
+
+/// The number of the parts of a file. Takes no memory.
+fn count_of(plan: &TaskPlan, bytes: &Bytes) -> u64
+    requires task { IsTask plan.now }
+    requires short { length bytes.now ≤ MOST_SCRIPT_BYTES }
+    ensures { result ≡ count_of plan.now bytes.now }
+{
+    let size = size_of(plan, bytes);
+    part_count(bytes.as_slice().len() as u64, size)
+}
+
+/// The record of a file whose parts have all come back.
+pub fn pending(
+    alloc: Global,
+    plan: &TaskPlan,
+    path: &Text,
+    bytes: &Bytes,
+    drawn: &DrawnUpload,
+) -> Result<PendingUpload, AllocError>
+    requires file { IsFile plan.now (path.now, bytes.now) }
+    requires tags { are_tags drawn.now.tags ≡ true }
+    requires sizes { are_sizes (Some drawn.now.sizes) drawn.now.tags (length bytes.now) ≡ true }
+    ensures { IfOk result (λ p. p ≡ file_record (task_script plan.now) (who_of plan.now) (path.now, bytes.now) drawn.now) }
+{
+    let tags = tags_of(alloc, drawn)?;
+    let sizes = sizes_of(alloc, drawn)?;
+    let destination = target(alloc, plan, path)?;
+    let bucket = bucket_of(plan).clone()?;
+    let length = bytes.as_slice().len() as u64;
+    Ok(PendingUpload::new(
+        plan.task,
+        plan.attempt,
+        bucket,
+        destination,
+        drawn.upload,
+        length,
+        tags,
+        Some(sizes),
+    ))
+}
+
+fn ask_upload(alloc: Global, plan: &TaskPlan, path: &Text) -> Result<Request, AllocError>
+    requires { IsNamed plan.now path.now }
+    ensures { IfOk result (λ r. r ≡ Request.CreateUpload plan.now.job.dest.bucket (below plan.now.job.dest.key path.now)) }
+{
+    let key = target(alloc, plan, path)?;
+    Request::create_upload(bucket_of(plan), &key)
+}
+
+/// The sending of the part behind so many others.
+pub fn ask_part(
+    alloc: Global,
+    plan: &TaskPlan,
+    path: &Text,
+    bytes: &Bytes,
+    upload: u64,
+    behind: u64,
+) -> Result<Request, AllocError>
+    requires file { IsFile plan.now (path.now, bytes.now) }
+    requires within { behind < count_of plan.now bytes.now }
+    ensures { IfOk result (λ r. r ≡ Request.UploadPart plan.now.job.dest.bucket (below plan.now.job.dest.key path.now) upload (behind + 1) (part_behind plan.now bytes.now behind)) }
+{
+    let key = target(alloc, plan, path)?;
+    let size = size_of(plan, bytes);
+    let part = part(alloc, bytes, size, behind)?;
+    Request::upload_part(bucket_of(plan), &key, upload, behind as u32 + 1, &part)
+}
+
+/// The put of a file's marker, which has no bytes and the file's length as header.
+fn ask_marker(
+    alloc: Global,
+    plan: &TaskPlan,
+    dir: &S3Path,
+    path: &Text,
+    length: LengthHeader,
+) -> Result<Request, AllocError>
+    requires dir { dir.now ≡ dir_of plan.now }
+    requires named { IsNamed plan.now path.now }
+    ensures { IfOk result (λ r. r ≡ Request.PutObject plan.now.job.dest.bucket (marker_key (task_script plan.now) (who_of plan.now) (path.now, [])) [] (Some length)) }
+{
+    let key = marker(alloc, plan, dir, path)?;
+    Request::put_object(dir.bucket(), &key, &Bytes::empty(), Some(length))
+}
+
+/// The text of a file's record.
+fn record_text(
+    alloc: Global,
+    plan: &TaskPlan,
+    path: &Text,
+    bytes: &Bytes,
+) -> Result<Bytes, AllocError>
+    requires file { IsFile plan.now (path.now, bytes.now) }
+    requires sent { HasSent plan.now.known.drawn (parts_in plan.now (path.now, bytes.now)) }
+    ensures { IfOk result (λ b. b ≡ record_text (task_script plan.now) (who_of plan.now) (path.now, bytes.now) (drawn_last plan.now.known)) }
+{
+    let Some(drawn) = last_drawn(&plan.known) else {
+        unreachable!();
+    };
+    let pending = pending(alloc, plan, path, bytes, drawn)?;
+    pending.print(alloc)
+}
+
+fn ask_record(
+    alloc: Global,
+    plan: &TaskPlan,
+    dir: &S3Path,
+    path: &Text,
+    bytes: &Bytes,
+) -> Result<Request, AllocError>
+    requires dir { dir.now ≡ dir_of plan.now }
+    requires file { IsFile plan.now (path.now, bytes.now) }
+    requires sent { HasSent plan.now.known.drawn (parts_in plan.now (path.now, bytes.now)) }
+    ensures { IfOk result (λ r. r ≡ Request.PutObject plan.now.job.dest.bucket (record_key (task_script plan.now) (who_of plan.now) (path.now, bytes.now)) (record_text (task_script plan.now) (who_of plan.now) (path.now, bytes.now) (drawn_last plan.now.known)) None) }
+{
+    let key = record(alloc, plan, dir, path)?;
+    let text = record_text(alloc, plan, path, bytes)?;
+    Request::put_object(dir.bucket(), &key, &text, None)
+}
+
+/// The stage behind a part of a file that is sent behind so many others, and the part's length in bytes.
+/// Takes no memory.
+pub fn behind(plan: &TaskPlan, bytes: &Bytes, sent: u64) -> (WriteStage, u64)
+    requires task { IsTask plan.now }
+    requires short { length bytes.now ≤ MOST_SCRIPT_BYTES }
+    requires within { sent < count_of plan.now bytes.now }
+    ensures stage { result.0 ≡ next_stage sent (count_of plan.now bytes.now) }
+    ensures size { result.1 ≡ length (part_behind plan.now bytes.now sent) }
+{
+    let size = size_of(plan, bytes);
+    let part = part_length(bytes.as_slice().len() as u64, size, sent);
+    let count = count_of(plan, bytes);
+    if sent + 1 < count {
+        (WriteStage::Sending(sent + 1), part)
+    } else {
+        (WriteStage::Marking, part)
+    }
+}
+
+/// What is asked behind a part of a file: the next part of the upload that was drawn last, or its marker.
+pub fn ask_behind(
+    alloc: Global,
+    plan: &TaskPlan,
+    dir: &S3Path,
+    path: &Text,
+    bytes: &Bytes,
+    stage: WriteStage,
+) -> Result<Request, AllocError>
+    requires dir { dir.now ≡ dir_of plan.now }
+    requires file { IsFile plan.now (path.now, bytes.now) }
+    requires within { IsBehind (parts_in plan.now (path.now, bytes.now)) plan.now.known.drawn stage }
+    ensures { IfOk result (λ r. r ≡ asks_behind plan.now (path.now, bytes.now) stage) }
+{
+    let WriteStage::Sending(sent) = stage else {
+        let length = LengthHeader::new(bytes.as_slice().len() as u64);
+        return ask_marker(alloc, plan, dir, path, length);
+    };
+    let Some(drawn) = last_drawn(&plan.known) else {
+        unreachable!();
+    };
+    ask_part(alloc, plan, path, bytes, drawn.upload, sent)
+}
+
+/// What is asked at a stage of a file; nothing where no file is left.
+pub fn ask(
+    alloc: Global,
+    plan: &TaskPlan,
+    dir: &S3Path,
+    place: usize,
+    stage: WriteStage,
+) -> Result<Option<Request>, AllocError>
+    requires dir { dir.now ≡ dir_of plan.now }
+    requires holds { Holds plan.now place stage }
+    ensures { IfOk result (λ asked. asked ≡ write_wants (seen_write plan.now place stage None)) }
+{
+    let Some((path, bytes)) = file_at(plan, place) else {
+        return Ok(None);
+    };
+    let asked = match stage {
+        WriteStage::Creating => ask_upload(alloc, plan, path)?,
+        WriteStage::Sending(sent) => {
+            ask_behind(alloc, plan, dir, path, bytes, WriteStage::Sending(sent))?
+        }
+        WriteStage::Marking => { ask_behind(alloc, plan, dir, path, bytes, WriteStage::Marking)? }
+        WriteStage::Recording => ask_record(alloc, plan, dir, path, bytes)?,
+    };
+    Ok(Some(asked))
+}
