@@ -1,3 +1,1 @@
 pub mod Bounds
-pub mod Fitting
-pub mod Sets

@@ -1,13 +1,12 @@
 use crate::plans::task_plan;
 use crate::playing::{play, show_ended};
 use crate::store::Store;
-use crate::tested_aborts::Aborts;
-use crate::tested_tasks::Writes;
 use anyhow::{Context, Result, bail};
 use job_model::{Op, Script, TaskPlan, TaskSet};
+use reply_tests::{Aborts, Commits, Writes};
 use s3_types::{Committer, let_go};
 use std::alloc::Global;
-use task_magic::{AbortTask, WriteFiles};
+use task_magic::{AbortTask, CommitTask, WriteFiles};
 
 /// What the attempts of a job know, and the tasks that are reported.
 #[derive(Drop)]
@@ -32,9 +31,34 @@ fn write(rt: &impl Print, alloc: Global, store: &mut Store, plan: TaskPlan) -> R
         bail!("not a magic job");
     };
     let retries = plan.job.retries;
-    let written = play(rt, store, &Writes, WriteFiles::new(alloc, plan)?, retries)?;
+    let written = play(
+        rt,
+        alloc,
+        store,
+        &Writes,
+        WriteFiles::new(alloc, plan)?,
+        retries,
+    )?;
     let shown = show_ended(rt, written.end());
     let plan = written.into_plan();
+    kept(plan, shown)
+}
+
+fn commit(rt: &impl Print, alloc: Global, store: &mut Store, plan: TaskPlan) -> Result<TaskPlan> {
+    let Committer::Magic = plan.job.committer else {
+        bail!("not a magic job");
+    };
+    let retries = plan.job.retries;
+    let committed = play(
+        rt,
+        alloc,
+        store,
+        &Commits,
+        CommitTask::new(alloc, plan)?,
+        retries,
+    )?;
+    let shown = show_ended(rt, committed.end());
+    let plan = committed.into_plan();
     kept(plan, shown)
 }
 
@@ -43,7 +67,14 @@ fn abort(rt: &impl Print, alloc: Global, store: &mut Store, plan: TaskPlan) -> R
         bail!("not a magic job");
     };
     let retries = plan.job.retries;
-    let aborted = play(rt, store, &Aborts, AbortTask::new(alloc, plan)?, retries)?;
+    let aborted = play(
+        rt,
+        alloc,
+        store,
+        &Aborts,
+        AbortTask::new(alloc, plan)?,
+        retries,
+    )?;
     let shown = show_ended(rt, aborted.end());
     let plan = aborted.into_plan();
     kept(plan, shown)
@@ -58,6 +89,7 @@ fn perform(
 ) -> Result<TaskPlan> {
     match op {
         Op::Write => write(rt, alloc, store, plan),
+        Op::Commit => commit(rt, alloc, store, plan),
         Op::Abort => abort(rt, alloc, store, plan),
         _ => bail!("no operation of an attempt"),
     }

@@ -2,18 +2,24 @@ use crate::commits::commit;
 use crate::plans::job_plan;
 use crate::playing::{play, show_ended};
 use crate::store::Store;
-use crate::tested_jobs::Cleans;
-use crate::tested_setups::SetUps;
 use anyhow::{Result, bail};
 use cleanup::CleanJob;
 use job_model::{JobPlan, Op, Script, TaskSet};
 use job_setup::SetupJob;
+use reply_tests::{Cleans, SetUps};
 use s3_types::let_go;
 use std::alloc::Global;
 
 fn set_up(rt: &impl Print, alloc: Global, store: &mut Store, plan: JobPlan) -> Result<()> {
     let retries = plan.retries;
-    let machine = play(rt, store, &SetUps, SetupJob::new(alloc, plan)?, retries)?;
+    let machine = play(
+        rt,
+        alloc,
+        store,
+        &SetUps,
+        SetupJob::new(alloc, plan)?,
+        retries,
+    )?;
     let shown = show_ended(rt, machine.end());
     let_go(machine);
     shown
@@ -21,7 +27,14 @@ fn set_up(rt: &impl Print, alloc: Global, store: &mut Store, plan: JobPlan) -> R
 
 fn clean(rt: &impl Print, alloc: Global, store: &mut Store, plan: JobPlan) -> Result<()> {
     let retries = plan.retries;
-    let machine = play(rt, store, &Cleans, CleanJob::new(alloc, plan)?, retries)?;
+    let machine = play(
+        rt,
+        alloc,
+        store,
+        &Cleans,
+        CleanJob::new(alloc, plan)?,
+        retries,
+    )?;
     let shown = show_ended(rt, machine.end());
     let_go(machine);
     shown

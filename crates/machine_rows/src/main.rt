@@ -20,12 +20,6 @@ mod playing;
 mod requests;
 mod scripts;
 mod store;
-mod tested;
-mod tested_aborts;
-mod tested_jobs;
-mod tested_sets;
-mod tested_setups;
-mod tested_tasks;
 
 use anyhow::Result;
 use cases::{Case, show_line};

@@ -1,4 +1,4 @@
-use Rattle.machine_rows.proofs.Sets.{begun_reads}
+use Rattle.reply_tests.proofs.Replied.{begun_reads}
 use Rattle.machine_rows.proofs.commits.begun.Goals as goal
 
 pub returns : goal.returns

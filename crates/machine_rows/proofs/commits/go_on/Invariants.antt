@@ -1,4 +1,4 @@
-use Rattle.machine_rows.specs.Sets.{IsRead}
+use Rattle.reply_tests.specs.Sets.{IsRead}
 use Rattle.machine_rows.proofs.commits.go_on.Given as goal
 
 abbrev pub invariant-loop : goal.invariant-loop

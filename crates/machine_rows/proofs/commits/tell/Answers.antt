@@ -1,6 +1,6 @@
-use Rattle.machine_rows.proofs.Sets.{reads_on}
+use Rattle.reply_tests.proofs.Replied.{reads_on}
 use Rattle.std.proofs.Common.{subst, sym}
-use Rattle.machine_rows.specs.Sets.{IsRead}
+use Rattle.reply_tests.specs.Sets.{IsRead}
 use Rattle.machine_rows.proofs.commits.tell.Goals as goal
 
 pub returns : goal.returns
