@@ -1,0 +1,37 @@
+-- That what happens in a run is one of the job's runs, whose every moment is known.
+use Rattle.std.specs.Prelude.{◌≡◌, ℕ, false, List, ◌∷◌, ◌++◌, Option, Some, None}
+use Rattle.s3_types.specs.Store.{Content}
+use Rattle.s3_types.specs.declared.request.Actor.TheVariants.{Driver}
+use Rattle.job_model.specs.Attempts.{Who, actor_of}
+use Rattle.job_model.specs.Legal.{IsLegal}
+use Rattle.job_model.specs.declared.events.Event.{Event}
+use Rattle.job_model.specs.declared.ends.EventEnd.{EventEnd}
+use Rattle.job_operations.specs.Operations.{Setting, Operation, Running}
+use Rattle.job_promise.specs.States.{commit_event, is_refused}
+use Rattle.job_facts.specs.Told.{known}
+use Rattle.job_facts.specs.Runs.{Stand, Runs, IsOpening}
+use Rattle.job_happenings.specs.Happenings.{Play, Happened, knows_now}
+
+-- the ends go on so, and the event that goes on is not to be refused
+pub record Ahead (x : Play) (ends : List EventEnd) : Type 0 where
+  pub rest : List EventEnd
+  pub is : ends ≡ x.ends ++ rest
+  pub going : (ev : Event) → x.now ≡ Some ev → (end : EventEnd) × (more : List EventEnd) × (rest ≡ end ∷ more) × (is_refused end ≡ false)
+
+-- the operation that an actor began last, as far as it has come
+abbrev pub operation_of : Option Running → Option Operation
+operation_of None = None
+operation_of (Some m) = Some m.operation
+
+-- the same run, request by request, whose job commit is event k if it is any
+pub record IsRun (g : Setting) (opening : Content) (x : Play) (k : Option ℕ) : Type 0 where
+  pub stand : Stand
+  pub runs : Runs g k opening x.journal stand
+  pub driver : stand.driver ≡ operation_of (x.running Driver)
+  pub attempts : (a : Who) → stand.attempts a ≡ operation_of (x.running (actor_of a))
+  -- what each attempt knows, and what it knew as it last sent
+  pub knows : (a : Who) → knows_now g x (actor_of a) ≡ known stand.told a
+  pub last : (a : Who) (m : Running) → x.running (actor_of a) ≡ Some m → m.known ≡ known stand.told a
+
+abbrev pub HappeningsRun : Type 0
+HappeningsRun = (g : Setting) (opening : Content) (x : Play) → IsLegal g.script → IsOpening g opening → Happened g opening x → (ends : List EventEnd) → Ahead x ends → IsRun g opening x (commit_event g.script ends)
