@@ -1,0 +1,203 @@
+-- Whose the entries of a run are.
+use Rattle.std.proofs.Common.{◌≡◌, ℕ, zero, suc, ◌<◌, ◌≤◌, ◌⊎◌, inl, inr, Bool, true, false, cond, List, [], ◌∷◌, ◌++◌, length, slice_get, Option, Some, None, refl, sym, ap, subst, ◌∙◌, arith}
+use Rattle.std.specs.List.{filter}
+use Rattle.std.proofs.lemmas.List.{append-nil, take-append-le}
+use Rattle.std.proofs.lemmas.List.Elements.{filter-append}
+use Rattle.std.proofs.lemmas.Option.{slice_get_within}
+use Rattle.s3_types.specs.Store.{Content, opening as opening_scene}
+use Rattle.s3_types.specs.Moment.{after_all}
+use Rattle.s3_types.specs.declared.request.Actor.TheVariants.{Driver}
+use Rattle.s3_types.specs.declared.request.Request.{Request}
+use Rattle.s3_types.specs.declared.journal.Outcome.{Outcome}
+use Rattle.s3_types.specs.declared.journal.Entry.{Entry}
+use Rattle.job_model.specs.Attempts.{Who}
+use Rattle.job_model.specs.JobScript.{Script}
+use Rattle.job_operations.specs.Setup.{Setup, Heading, Checking, Clearing, Sweeping, SetupOver, setup_asks}
+use Rattle.job_operations.specs.JobCommits.{Commit}
+use Rattle.job_operations.specs.Operations.{Setting, Operation, TheSetup, TheWrite, TheTaskCommit, TheTaskAbort, TheCommit, TheClean, who, asks, tells}
+use Rattle.job_promise.specs.OperationEnds.{WasPublished}
+use Rattle.job_promise.specs.Seen.{is_begun, is_publishing}
+use Rattle.job_promise.specs.Turns.{by_actor, AllBy, AllUpTo}
+use Rattle.job_promise.specs.States.{same_actor}
+use Rattle.request_frame.proofs.Members.{some_is, none_some, false_true}
+use Rattle.job_facts.specs.Told.{entry, driver_entry}
+use Rattle.job_facts.specs.Runs.{Stand, Runs, run_begins, setup_begins, commit_begins, clean_begins, driver_sends, write_begins, publish_begins, abort_begins, attempt_sends, is_set, is_done, is_just_set, MaySetUp, IsTimely, commit_with, nothing_learnt}
+use Rattle.job_facts.proofs.Whose.{who_here}
+use Rattle.job_ends.specs.RunEntries.{RunEntries}
+
+module _ (g : Setting) (k : Option ℕ) (opening : Content) where
+  -- ---- the commit's entries
+
+  abbrev since_commit : List Entry → List Entry
+  since_commit es = filter (λ e. is_begun k e.event) (by_actor Driver es)
+
+  -- one more of the driver's, and one of an attempt
+  driver_more : (es : List Entry) (n : ℕ) (r : Request) (o : Outcome) → since_commit (es ++ driver_entry n r o ∷ []) ≡ since_commit es ++ cond (is_begun k n) (driver_entry n r o ∷ []) []
+  driver_more es n r o =
+      ap (filter (λ e. is_begun k e.event)) (filter-append (λ e. same_actor e.actor Driver) es (driver_entry n r o ∷ []))
+      ∙ filter-append (λ e. is_begun k e.event) (by_actor Driver es) (driver_entry n r o ∷ [])
+      ∙ ap (λ l. since_commit es ++ l) (by (is_begun k n) refl)
+    where
+      by : (b : Bool) → is_begun k n ≡ b → filter (λ e. is_begun k e.event) (driver_entry n r o ∷ []) ≡ cond (is_begun k n) (driver_entry n r o ∷ []) []
+      by true e = rw e refl
+      by false e = rw e refl
+
+  attempt_more : (es : List Entry) (a : Who) (n : ℕ) (r : Request) (o : Outcome) → since_commit (es ++ entry a n r o ∷ []) ≡ since_commit es
+  attempt_more es a n r o =
+      ap (filter (λ e. is_begun k e.event)) (filter-append (λ e. same_actor e.actor Driver) es (entry a n r o ∷ []) ∙ append-nil (by_actor Driver es))
+
+  abbrev Stood : Option Operation → List Entry → List Entry → Type 0
+  Stood None es commit = since_commit es ≡ []
+  Stood (Some (TheSetup t)) es commit = since_commit es ≡ []
+  Stood (Some (TheCommit c)) es commit = commit ≡ since_commit es
+  Stood (Some (TheClean t)) es commit = Unit {0}
+  Stood (Some _) es commit = ⊥
+
+  before_set : (d : Option Operation) (es commit : List Entry) → is_set d ≡ false → Stood d es commit → since_commit es ≡ []
+  before_set None es commit e h = h
+  before_set (Some (TheSetup t)) es commit e h = h
+  before_set (Some (TheCommit c)) es commit e h = absurd (false_true e refl)
+  before_set (Some (TheClean t)) es commit e h = absurd (false_true e refl)
+  before_set (Some (TheWrite t)) es commit e h = absurd h
+  before_set (Some (TheTaskCommit t)) es commit e h = absurd h
+  before_set (Some (TheTaskAbort t)) es commit e h = absurd h
+
+  just_so : (d : Option Operation) (es commit : List Entry) → is_just_set d ≡ true → Stood d es commit → since_commit es ≡ []
+  just_so None es commit e h = h
+  just_so (Some (TheSetup t)) es commit e h = h
+  just_so (Some (TheCommit c)) es commit e h = absurd (false_true refl e)
+  just_so (Some (TheClean t)) es commit e h = absurd (false_true refl e)
+  just_so (Some (TheWrite t)) es commit e h = absurd h
+  just_so (Some (TheTaskCommit t)) es commit e h = absurd h
+  just_so (Some (TheTaskAbort t)) es commit e h = absurd h
+
+  may_so : (y : Stand) (es : List Entry) → MaySetUp y → Stood y.driver es y.commit → since_commit es ≡ []
+  may_so y es (inl e) h = before_set y.driver es y.commit e h
+  may_so y es (inr e) h = just_so y.driver es y.commit e.0 h
+
+  attempt_stood : (d : Option Operation) (es commit : List Entry) (a : Who) (n : ℕ) (r : Request) (o : Outcome) → Stood d es commit → Stood d (es ++ entry a n r o ∷ []) commit
+  attempt_stood None es commit a n r o h = attempt_more es a n r o ∙ h
+  attempt_stood (Some (TheSetup t)) es commit a n r o h = attempt_more es a n r o ∙ h
+  attempt_stood (Some (TheCommit c)) es commit a n r o h = h ∙ sym (attempt_more es a n r o)
+  attempt_stood (Some (TheClean t)) es commit a n r o h = tt
+  attempt_stood (Some (TheWrite t)) es commit a n r o h = absurd h
+  attempt_stood (Some (TheTaskCommit t)) es commit a n r o h = absurd h
+  attempt_stood (Some (TheTaskAbort t)) es commit a n r o h = absurd h
+
+  driver_stood : (op : Operation) (es commit : List Entry) (n : ℕ) (r : Request) (o : Outcome) → IsTimely k n op → Stood (Some op) es commit → Stood (Some (tells g (who Driver) op o)) (es ++ driver_entry n r o ∷ []) (commit_with op commit (driver_entry n r o))
+  driver_stood (TheSetup t) es commit n r o timely h = driver_more es n r o ∙ ap (λ b. since_commit es ++ cond b (driver_entry n r o ∷ []) []) timely ∙ ap (λ l. l ++ []) h
+  driver_stood (TheCommit c) es commit n r o timely h = ap (λ l. l ++ driver_entry n r o ∷ []) h ∙ sym (driver_more es n r o ∙ ap (λ b. since_commit es ++ cond b (driver_entry n r o ∷ []) []) timely)
+  driver_stood (TheClean t) es commit n r o timely h = tt
+  driver_stood (TheWrite t) es commit n r o timely h = absurd h
+  driver_stood (TheTaskCommit t) es commit n r o timely h = absurd h
+  driver_stood (TheTaskAbort t) es commit n r o timely h = absurd h
+
+  stood : (es : List Entry) (x : Stand) → Runs g k opening es x → Stood x.driver es x.commit
+  stood es x (run_begins) = refl
+  stood es x (setup_begins fs y run may) = may_so y fs may (stood fs y run)
+  stood es x (commit_begins fs y missing run just) = sym (just_so y.driver fs y.commit just (stood fs y run))
+  stood es x (clean_begins fs y run set) = tt
+  stood es x (driver_sends fs y op n r o run d asked timely few honest) = driver_stood op fs y.commit n r o timely (subst (λ v. Stood v fs y.commit) d (stood fs y run))
+  stood es x (write_begins fs y a run set d none) = stood fs y run
+  stood es x (publish_begins fs y a spare repeated run set at) = stood fs y run
+  stood es x (abort_begins fs y a run set d) = stood fs y run
+  stood es x (attempt_sends fs y a op n r o run set at asked honest) = attempt_stood y.driver fs y.commit a n r o (stood fs y run)
+
+  pub commit_entries : (es : List Entry) (x : Stand) → Runs g k opening es x → (c : Commit) → x.driver ≡ Some (TheCommit c) → x.commit ≡ since_commit es
+  commit_entries es x run c d = subst (λ v. Stood v es x.commit) d (stood es x run)
+
+  -- ---- where no attempt has begun anything
+
+  all_more : (es : List Entry) (n : ℕ) (r : Request) (o : Outcome) → AllBy Driver es → AllBy Driver (es ++ driver_entry n r o ∷ [])
+  all_more [] n r o h = (refl, tt)
+  all_more (e ∷ es) n r o h = (h.0, all_more es n r o h.1)
+
+  abbrev Alone : List Entry → Stand → Type 0
+  Alone es x = AllBy Driver es ⊎ ((a : Who) × (op : Operation) × (x.attempts a ≡ Some op))
+
+  driver_alone : (es : List Entry) (x : Stand) (n : ℕ) (r : Request) (o : Outcome) → Alone es x → Alone (es ++ driver_entry n r o ∷ []) x
+  driver_alone es x n r o (inl h) = inl (all_more es n r o h)
+  driver_alone es x n r o (inr h) = inr h
+
+  alone : (es : List Entry) (x : Stand) → Runs g k opening es x → Alone es x
+  alone es x (run_begins) = inl tt
+  alone es x (setup_begins fs y run may) = alone fs y run
+  alone es x (commit_begins fs y missing run just) = alone fs y run
+  alone es x (clean_begins fs y run set) = alone fs y run
+  alone es x (driver_sends fs y op n r o run d asked timely few honest) = driver_alone fs y n r o (alone fs y run)
+  alone es x (write_begins fs y a run set d none) = inr (a, _, who_here y.attempts a (Some _) a refl)
+  alone es x (publish_begins fs y a spare repeated run set at) = inr (a, _, who_here y.attempts a (Some _) a refl)
+  alone es x (abort_begins fs y a run set d) = inr (a, _, who_here y.attempts a (Some _) a refl)
+  alone es x (attempt_sends fs y a op n r o run set at asked honest) = inr (a, _, who_here y.attempts a (Some _) a refl)
+
+  pub all_alone : (es : List Entry) (x : Stand) → Runs g k opening es x → ((a : Who) → x.attempts a ≡ None) → AllBy Driver es
+  all_alone es x run none = by (alone es x run)
+    where
+      by : Alone es x → AllBy Driver es
+      by (inl h) = h
+      by (inr h) = absurd (none_some (none h.0) h.2)
+
+  -- ---- until the set-up is done
+
+  asks_on : (w : Script) (c : Setup) (r : Request) → setup_asks w c ≡ Some r → is_done c ≡ false
+  asks_on w Heading r e = refl
+  asks_on w (Checking keys) r e = refl
+  asks_on w Clearing r e = refl
+  asks_on w (Sweeping t) r e = refl
+  asks_on w (SetupOver end) r e = absurd (none_some refl e)
+
+  was_unset : (op : Operation) (r : Request) (o : Outcome) → asks g (who Driver) nothing_learnt op ≡ Some r → is_set (Some (tells g (who Driver) op o)) ≡ false → is_set (Some op) ≡ false
+  was_unset (TheSetup t) r o asked e = asks_on g.script t.operation r asked
+  was_unset (TheCommit c) r o asked e = absurd (false_true e refl)
+  was_unset (TheClean t) r o asked e = absurd (false_true e refl)
+  was_unset (TheWrite t) r o asked e = refl
+  was_unset (TheTaskCommit t) r o asked e = refl
+  was_unset (TheTaskAbort t) r o asked e = refl
+
+  none_begun : (es : List Entry) (x : Stand) → Runs g k opening es x → is_set x.driver ≡ false → (a : Who) → x.attempts a ≡ None
+  none_begun es x (run_begins) e b = refl
+  none_begun es x (setup_begins fs y run may) e b = by may (none_begun fs y run)
+    where
+      by : MaySetUp y → (is_set y.driver ≡ false → (a : Who) → y.attempts a ≡ None) → y.attempts b ≡ None
+      by (inl unset) old = old unset b
+      by (inr just) old = just.1 b
+  none_begun es x (commit_begins fs y missing run just) e b = absurd (false_true e refl)
+  none_begun es x (clean_begins fs y run set) e b = absurd (false_true e refl)
+  none_begun es x (driver_sends fs y op n r o run d asked timely few honest) e b = none_begun fs y run (ap is_set d ∙ was_unset op r o asked e) b
+  none_begun es x (write_begins fs y a run set d none) e b = absurd (false_true e set)
+  none_begun es x (publish_begins fs y a spare repeated run set at) e b = absurd (false_true e set)
+  none_begun es x (abort_begins fs y a run set d) e b = absurd (false_true e set)
+  none_begun es x (attempt_sends fs y a op n r o run set at asked honest) e b = absurd (false_true e set)
+
+-- ---- what was published
+
+get_more : (es more : List Entry) (m : ℕ) (e : Entry) → slice_get es m ≡ Some e → slice_get (es ++ more) m ≡ Some e
+get_more [] more m e h = absurd (none_some refl h)
+get_more (x ∷ es) more zero e h = h
+get_more (x ∷ es) more (suc m) e h = get_more es more m e h
+
+up_to : (i : ℕ) (es : List Entry) (m : ℕ) (e : Entry) → AllUpTo i es → slice_get es m ≡ Some e → e.event ≤ i
+up_to i [] m e h s = absurd (none_some refl s)
+up_to i (x ∷ es) zero e h s = subst (λ (v : Entry). v.event ≤ i) (some_is s) h.0
+up_to i (x ∷ es) (suc m) e h s = up_to i es m e h.1 s
+
+still_published : (w : Script) (opening : Content) (es more : List Entry) (t a n i : ℕ) → WasPublished w opening es t a n → AllUpTo i es → WasPublished w opening (es ++ more) t a i
+still_published w opening es more t a n i h all =
+    let low : h.m < length es = slice_get_within es h.m h.entry h.is_entry in
+    record {
+      m = h.m;
+      entry = h.entry;
+      is_entry = get_more es more h.m h.entry h.is_entry;
+      by = h.by;
+      until = up_to i es h.m h.entry all h.is_entry;
+      effective = h.effective;
+      publishes = ap (λ l. is_publishing w (after_all (opening_scene opening) l) t h.entry.request) (take-append-le h.m es more (omega arith)) ∙ h.publishes;
+    }
+
+pub run_entries : RunEntries
+run_entries = record {
+  commit = λ g k opening es x run c d. commit_entries g k opening es x run c d;
+  alone = λ g k opening es x run none. all_alone g k opening es x run none;
+  setup = λ g k opening es x run t d e. none_begun g k opening es x run (ap is_set d ∙ e);
+  published = still_published;
+}

@@ -1,0 +1,347 @@
+-- How an attempt's operations end, by its own entries alone.
+use Rattle.std.proofs.Common.{◌≡◌, ℕ, ◌⊎◌, inl, inr, Bool, true, false, cond, List, [], ◌∷◌, map, Option, Some, None, refl, sym, ap, subst, ◌∙◌}
+use Rattle.std.specs.Option.{option_map}
+use Rattle.std.specs.Option.{is_some}
+use Rattle.s3_types.specs.declared.request.Actor.{Actor}
+use Rattle.s3_types.specs.declared.request.Actor.TheVariants.{Attempt}
+use Rattle.s3_types.specs.declared.request.Committer.{Committer}
+use Rattle.s3_types.specs.declared.request.Committer.TheVariants.{Magic, Directory, Partitioned}
+use Rattle.s3_types.specs.declared.request.Request.{Request}
+use Rattle.s3_types.specs.declared.reply.Reply.{Reply}
+use Rattle.s3_types.specs.declared.reply.Reply.TheVariants.{Page, Refused}
+use Rattle.s3_types.specs.declared.reply.Refusal.TheVariants.{NoSuchKey, NoSuchFile}
+use Rattle.s3_types.specs.declared.journal.Outcome.{Outcome}
+use Rattle.s3_types.specs.declared.journal.Entry.{Entry}
+use Rattle.sendings.specs.Operation.{run, Follows}
+use Rattle.sendings.specs.Retries.{spent_in}
+use Rattle.sendings.specs.Worn.{WornFirst}
+use Rattle.job_model.specs.Files.{File}
+use Rattle.job_model.specs.Attempts.{Who}
+use Rattle.job_model.specs.JobScript.{Script}
+use Rattle.job_model.specs.Known.{Drawn, Known}
+use Rattle.job_model.specs.declared.events.Op.{Op}
+use Rattle.job_model.specs.declared.events.Op.TheVariants as ops
+use Rattle.job_model.specs.declared.ends.TaskEnd.{TaskEnd}
+use Rattle.job_model.specs.declared.ends.TaskEnd.TheVariants as tasks
+use Rattle.job_model.specs.declared.ends.OpEnd.TheVariants as ends
+use Rattle.job_operations.specs.Outputs.{files, paths_of}
+use Rattle.job_operations.specs.Conflicts.{partitions, checks_partitions}
+use Rattle.job_operations.specs.Knowledge.{as_made}
+use Rattle.job_operations.specs.Records.{record_key}
+use Rattle.job_operations.specs.Walks.{Walked, More, Whole, walked, Sweep, sweep_hears, all_go}
+use Rattle.job_operations.specs.Uploading.{Uploaded, GoesOn, AllSent, IsGone, upload_hears}
+use Rattle.job_operations.specs.Writes as writes
+use Rattle.job_operations.specs.TaskCommits as commits
+use Rattle.job_operations.specs.TaskAborts as aborts
+use Rattle.job_operations.specs.Operations.{Setting, Operation, TheWrite, TheTaskCommit, TheTaskAbort, Running, who, wants, advance, tells, start_of, over}
+use Rattle.job_operations.specs.Laws.{is_serial, spare_of, is_fault}
+use Rattle.job_operations.proofs.Wearing.{first_spent}
+use Rattle.job_operations.proofs.Faults.{faults}
+use Rattle.job_promise.specs.OperationEnds.{TaskMay, TaskIs}
+use Rattle.request_frame.proofs.Members.{some_is, none_some, false_true}
+use Rattle.job_facts.proofs.Going.{step_so}
+
+-- a fault, or an end that may be
+abbrev Ends : Op → Script → Bool → TaskEnd → Type 0
+Ends op w sent e = (e ≡ tasks.StoreFault) ⊎ TaskMay op w sent true e
+
+module _ (w : Script) (sent : Bool) where
+  -- ---- a write
+
+  abbrev Write : writes.Write → Type 0
+  Write (writes.Uploads f fs u) = Unit {0}
+  Write (writes.Marking f fs) = Unit {0}
+  Write (writes.Recording f fs) = Unit {0}
+  Write (writes.WriteOver end) = Ends ops.Write w sent end
+
+  writing_so : (fs : List File) → Write (writes.writing fs)
+  writing_so [] = inr tt
+  writing_so (f ∷ fs) = tt
+
+  uploaded_so : (f : File) (fs : List File) (u : Uploaded) → Write (writes.uploaded w f fs u)
+  uploaded_so f fs (GoesOn u) = tt
+  uploaded_so f fs AllSent = tt
+  uploaded_so f fs IsGone = inr refl
+
+  write_so : (minimum : ℕ) (t : writes.Write) (r : Reply) → Write t → Write (writes.write_hears w minimum t r)
+  write_so minimum (writes.Uploads f fs u) r h = uploaded_so f fs (upload_hears w minimum f u r)
+  write_so minimum (writes.Marking f fs) r h = tt
+  write_so minimum (writes.Recording f fs) r h = writing_so fs
+  write_so minimum (writes.WriteOver end) r h = h
+
+  write_begun : (c : Committer) (fs : List File) → Write (writes.write_start_by c fs)
+  write_begun Magic fs = writing_so fs
+  write_begun Directory fs = inr tt
+  write_begun Partitioned fs = inr tt
+
+  -- ---- a commit
+
+  abbrev Checks : Type 0
+  Checks = checks_partitions w.committer w.mode ≡ true
+
+  abbrev Commit : commits.TaskCommit → Type 0
+  Commit (commits.Looking keys) = Unit {0}
+  Commit (commits.Reading cs f fs) = Unit {0}
+  Commit (commits.Publishing cs) = Unit {0}
+  Commit (commits.Checking d ds) = Checks
+  Commit (commits.Uploads f fs u) = Unit {0}
+  Commit commits.Storing = Unit {0}
+  Commit commits.Renaming = Unit {0}
+  Commit (commits.TaskCommitOver end) = Ends ops.Commit w sent end
+
+  reading_so : (cs fs : List File) → Commit (commits.reading cs fs)
+  reading_so cs [] = tt
+  reading_so cs (f ∷ fs) = tt
+
+  looked_at_so : (o : Option (List ℕ)) (cs : List File) → Commit (commits.looked_at o cs)
+  looked_at_so (Some k) cs = inr refl
+  looked_at_so None cs = reading_so cs cs
+
+  looked_so : (a : Who) (x : Walked (List ℕ)) → Commit (commits.looked w a x)
+  looked_so a (More keys) = tt
+  looked_so a (Whole keys) = looked_at_so (commits.least_missing keys (map (record_key w a) (files w a))) (commits.in_order w a keys)
+
+  record_so : (a : Who) (cs : List File) (f : File) (fs : List File) (r : Reply) → Commit (commits.read_record w a cs f fs r)
+  record_so a cs f fs (Refused NoSuchKey) = inr refl
+  record_so a cs f fs _ = reading_so cs fs
+
+  storing_so : (fs : List File) → Commit (commits.storing fs)
+  storing_so [] = tt
+  storing_so (f ∷ fs) = tt
+
+  checking_so : (a : Who) (ds : List (List ℕ)) → Checks → Commit (commits.checking w a ds)
+  checking_so a [] h = storing_so (files w a)
+  checking_so a (d ∷ ds) h = h
+
+  checked_so : (a : Who) (d : List ℕ) (ds : List (List ℕ)) (r : Reply) → Checks → Commit (commits.checked w a d ds r)
+  checked_so a d ds (Page [] more) h = checking_so a ds h
+  checked_so a d ds (Page (x ∷ xs) more) h = inr h
+  checked_so a d ds _ h = h
+
+  sent_so : (f : File) (fs : List File) (u : Uploaded) → Commit (commits.uploaded w f fs u)
+  sent_so f fs (GoesOn u) = tt
+  sent_so f fs AllSent = storing_so fs
+  sent_so f fs IsGone = inr refl
+
+  renamed_so : (a : Who) (r : Reply) (b : Bool) → Commit (commits.renamed w a r b)
+  renamed_so a (Refused NoSuchFile) true = inr tt
+  renamed_so a (Refused NoSuchFile) false = inr refl
+  renamed_so a _ b = inr tt
+
+  commit_so : (minimum : ℕ) (a : Who) (t : commits.TaskCommit) (r : Reply) (b : Bool) → Commit t → Commit (commits.task_commit_hears w minimum a t r b)
+  commit_so minimum a (commits.Looking keys) r b h = looked_so a (walked keys r)
+  commit_so minimum a (commits.Reading cs f fs) r b h = record_so a cs f fs r
+  commit_so minimum a (commits.Publishing cs) r b h = inr tt
+  commit_so minimum a (commits.Checking d ds) r b h = checked_so a d ds r h
+  commit_so minimum a (commits.Uploads f fs u) r b h = sent_so f fs (upload_hears w minimum f u r)
+  commit_so minimum a commits.Storing r b h = tt
+  commit_so minimum a commits.Renaming r b h = renamed_so a r b
+  commit_so minimum a (commits.TaskCommitOver end) r b h = h
+
+  to_check_so : (a : Who) (b : Bool) → checks_partitions w.committer w.mode ≡ b → (ds : List (List ℕ)) → Commit (commits.checking w a (cond b ds []))
+  to_check_so a true e ds = checking_so a ds e
+  to_check_so a false e ds = storing_so (files w a)
+
+  commit_begun : (c : Committer) (a : Who) → Commit (commits.task_commit_start_by c w a)
+  commit_begun Magic a = tt
+  commit_begun Directory a = to_check_so a (checks_partitions w.committer w.mode) refl (partitions (paths_of (files w a)))
+  commit_begun Partitioned a = to_check_so a (checks_partitions w.committer w.mode) refl (partitions (paths_of (files w a)))
+
+  -- ---- an abort
+
+  abbrev Abort : aborts.TaskAbort → Type 0
+  Abort (aborts.Dropping d ds b) = sent ≡ false
+  Abort (aborts.Sweeping s) = sent ≡ false
+  Abort aborts.Removing = sent ≡ false
+  Abort (aborts.TaskAbortOver end) = Ends ops.Abort w sent end
+
+  removing_so : (b : Bool) → sent ≡ false → Abort (aborts.removing b)
+  removing_so true h = h
+  removing_so false h = inr h
+
+  dropped_so : (c : Committer) (b : Bool) → sent ≡ false → Abort (aborts.dropped c b)
+  dropped_so Magic b h = h
+  dropped_so Directory b h = removing_so b h
+  dropped_so Partitioned b h = removing_so b h
+
+  dropping_so : (c : Committer) (b : Bool) (ds : List Drawn) → sent ≡ false → Abort (aborts.dropping c b ds)
+  dropping_so c b [] h = dropped_so c b h
+  dropping_so c b (d ∷ ds) h = h
+
+  sweeping_so : (s : Option Sweep) → sent ≡ false → Abort (aborts.sweeping s)
+  sweeping_so (Some s) h = h
+  sweeping_so None h = inr h
+
+  abort_so : (t : aborts.TaskAbort) (r : Reply) → Abort t → Abort (aborts.task_abort_hears w t r)
+  abort_so (aborts.Dropping d ds b) r h = dropping_so w.committer b ds h
+  abort_so (aborts.Sweeping s) r h = sweeping_so (sweep_hears all_go s r) h
+  abort_so aborts.Removing r h = inr h
+  abort_so (aborts.TaskAbortOver end) r h = h
+
+abort_begun : (w : Script) (sent : Bool) (k : Known) → Abort w sent (aborts.task_abort_by sent w.committer k)
+abort_begun w true k = inr refl
+abort_begun w false k = dropping_so w false w.committer k.put_sent (as_made k.drawn) refl
+
+-- ---- an attempt's operation
+
+abbrev Op_is : Op → Script → Bool → Operation → Type 0
+Op_is ops.Write w sent (TheWrite t) = Write w sent t.operation
+Op_is ops.Commit w sent (TheTaskCommit t) = Commit w sent t.operation
+Op_is ops.Abort w sent (TheTaskAbort t) = Abort w sent t.operation
+Op_is _ w sent _ = ⊥
+
+task_is : {d e : TaskEnd} → Some (ends.Task d) ≡ Some (ends.Task e) → d ≡ e
+task_is e = cc
+
+module _ (g : Setting) (a : Who) (sent : Bool) where
+  goes : (op : Op) (m : Operation) (o : Outcome) → Op_is op g.script sent m → Op_is op g.script sent (tells g a m o)
+  goes ops.Write (TheWrite t) o h = step_so g.script.retries (writes.write_after g.script g.minimum) t o (Write g.script sent) (λ x e. write_so g.script sent g.minimum t.operation x h) (λ n. h) (λ n. inl refl)
+  goes ops.Commit (TheTaskCommit t) o h = step_so g.script.retries (commits.task_commit_after g.script g.minimum a) t o (Commit g.script sent) (λ x e. commit_so g.script sent g.minimum a t.operation x t.repeated h) (λ n. h) (λ n. inl refl)
+  goes ops.Abort (TheTaskAbort t) o h = step_so g.script.retries (aborts.task_abort_after g.script) t o (Abort g.script sent) (λ x e. abort_so g.script sent t.operation x h) (λ n. h) (λ n. inl refl)
+  goes _ _ o h = absurd h
+
+  -- where it is over, its end is one of these
+  write_over : (t : writes.Write) → Write g.script sent t → (e : TaskEnd) → option_map ends.Task (writes.write_over t) ≡ Some (ends.Task e) → Ends ops.Write g.script sent e
+  write_over (writes.WriteOver end) h e is = subst (Ends ops.Write g.script sent) (task_is is) h
+  write_over (writes.Uploads f fs u) h e is = absurd (none_some refl is)
+  write_over (writes.Marking f fs) h e is = absurd (none_some refl is)
+  write_over (writes.Recording f fs) h e is = absurd (none_some refl is)
+
+  commit_over : (t : commits.TaskCommit) → Commit g.script sent t → (e : TaskEnd) → option_map ends.Task (commits.task_commit_over t) ≡ Some (ends.Task e) → Ends ops.Commit g.script sent e
+  commit_over (commits.TaskCommitOver end) h e is = subst (Ends ops.Commit g.script sent) (task_is is) h
+  commit_over (commits.Looking keys) h e is = absurd (none_some refl is)
+  commit_over (commits.Reading cs f fs) h e is = absurd (none_some refl is)
+  commit_over (commits.Publishing cs) h e is = absurd (none_some refl is)
+  commit_over (commits.Checking d ds) h e is = absurd (none_some refl is)
+  commit_over (commits.Uploads f fs u) h e is = absurd (none_some refl is)
+  commit_over commits.Storing h e is = absurd (none_some refl is)
+  commit_over commits.Renaming h e is = absurd (none_some refl is)
+
+  abort_over : (t : aborts.TaskAbort) → Abort g.script sent t → (e : TaskEnd) → option_map ends.Task (aborts.task_abort_over t) ≡ Some (ends.Task e) → Ends ops.Abort g.script sent e
+  abort_over (aborts.TaskAbortOver end) h e is = subst (Ends ops.Abort g.script sent) (task_is is) h
+  abort_over (aborts.Dropping d ds p) h e is = absurd (none_some refl is)
+  abort_over (aborts.Sweeping s) h e is = absurd (none_some refl is)
+  abort_over aborts.Removing h e is = absurd (none_some refl is)
+
+  over_so : (op : Op) (m : Operation) → Op_is op g.script sent m → (e : TaskEnd) → over m ≡ Some (ends.Task e) → Ends op g.script sent e
+  over_so ops.Write (TheWrite t) h e is = write_over t.operation h e is
+  over_so ops.Commit (TheTaskCommit t) h e is = commit_over t.operation h e is
+  over_so ops.Abort (TheTaskAbort t) h e is = abort_over t.operation h e is
+  over_so _ _ h e is = absurd h
+
+-- ---- as it begins it is not at fault
+
+writing_calm : (fs : List File) → is_fault (option_map ends.Task (writes.write_over (writes.writing fs))) ≡ false
+writing_calm [] = refl
+writing_calm (f ∷ fs) = refl
+
+write_calm : (c : Committer) (fs : List File) → is_fault (option_map ends.Task (writes.write_over (writes.write_start_by c fs))) ≡ false
+write_calm Magic fs = writing_calm fs
+write_calm Directory fs = refl
+write_calm Partitioned fs = refl
+
+storing_calm : (fs : List File) → is_fault (option_map ends.Task (commits.task_commit_over (commits.storing fs))) ≡ false
+storing_calm [] = refl
+storing_calm (f ∷ fs) = refl
+
+checking_calm : (w : Script) (a : Who) (ds : List (List ℕ)) → is_fault (option_map ends.Task (commits.task_commit_over (commits.checking w a ds))) ≡ false
+checking_calm w a [] = storing_calm (files w a)
+checking_calm w a (d ∷ ds) = refl
+
+commit_calm : (c : Committer) (w : Script) (a : Who) → is_fault (option_map ends.Task (commits.task_commit_over (commits.task_commit_start_by c w a))) ≡ false
+commit_calm Magic w a = refl
+commit_calm Directory w a = checking_calm w a (commits.to_check w a)
+commit_calm Partitioned w a = checking_calm w a (commits.to_check w a)
+
+removing_calm : (b : Bool) → is_fault (option_map ends.Task (aborts.task_abort_over (aborts.removing b))) ≡ false
+removing_calm true = refl
+removing_calm false = refl
+
+dropped_calm : (c : Committer) (b : Bool) → is_fault (option_map ends.Task (aborts.task_abort_over (aborts.dropped c b))) ≡ false
+dropped_calm Magic b = refl
+dropped_calm Directory b = removing_calm b
+dropped_calm Partitioned b = removing_calm b
+
+dropping_calm : (c : Committer) (b : Bool) (ds : List Drawn) → is_fault (option_map ends.Task (aborts.task_abort_over (aborts.dropping c b ds))) ≡ false
+dropping_calm c b [] = dropped_calm c b
+dropping_calm c b (d ∷ ds) = refl
+
+abort_calm : (sent : Bool) (c : Committer) (k : Known) → is_fault (option_map ends.Task (aborts.task_abort_over (aborts.task_abort_by sent c k))) ≡ false
+abort_calm true c k = refl
+abort_calm false c k = dropping_calm c k.put_sent (as_made k.drawn)
+
+-- ---- by its entries
+
+record Begun (g : Setting) (op : Op) (k : Known) (m : Operation) : Type 0 where
+  pub serial : is_serial m ≡ true
+  pub spare : spare_of m ≡ g.script.retries
+  pub calm : is_fault (over m) ≡ false
+  pub is : Op_is op g.script k.publish_sent m
+
+begun : (g : Setting) (t a : ℕ) (op : Op) (missing : Option ℕ) (k : Known) (m : Operation) → start_of g (Attempt t a) op missing k ≡ Some m → Begun g op k m
+begun g t a ops.Write missing k m e =
+    let one : Who = record { task = t; attempt = a } in
+    subst (Begun g ops.Write k) (some_is e) (record { serial = refl; spare = refl; calm = write_calm g.script.committer (files g.script one); is = write_begun g.script k.publish_sent g.script.committer (files g.script one) })
+begun g t a ops.Commit missing k m e =
+    let one : Who = record { task = t; attempt = a } in
+    subst (Begun g ops.Commit k) (some_is e) (record { serial = refl; spare = refl; calm = commit_calm g.script.committer g.script one; is = commit_begun g.script k.publish_sent g.script.committer one })
+begun g t a ops.Abort missing k m e =
+    subst (Begun g ops.Abort k) (some_is e) (record { serial = refl; spare = refl; calm = abort_calm k.publish_sent g.script.committer k; is = abort_begun g.script k.publish_sent k })
+begun g t a ops.Setup missing k m e = absurd (none_some refl e)
+begun g t a ops.Clean missing k m e = absurd (none_some refl e)
+
+run_so : (g : Setting) (a : Actor) (sent : Bool) (op : Op) (m : Running) (es : List Entry) → Op_is op g.script sent m.operation → Op_is op g.script sent (run (advance g a) m es).operation
+run_so g a sent op m [] h = h
+run_so g a sent op m (e ∷ es) h = run_so g a sent op (advance g a m e.outcome) es (goes g (who a) sent op m.operation e.outcome h)
+
+fault_end : (e : TaskEnd) → is_fault (Some (ends.Task e)) ≡ true → e ≡ tasks.StoreFault
+fault_end tasks.StoreFault h = refl
+fault_end tasks.Done h = absurd (false_true refl h)
+fault_end tasks.Kept h = absurd (false_true refl h)
+fault_end tasks.NoMemory h = absurd (false_true refl h)
+fault_end (tasks.Conflict d) h = absurd (false_true refl h)
+fault_end (tasks.Gone n) h = absurd (false_true refl h)
+
+not_fault : (op : Op) (w : Script) (sent : Bool) (e : TaskEnd) → is_fault (Some (ends.Task e)) ≡ false → Ends op w sent e → TaskMay op w sent true e
+not_fault op w sent e h (inl is) = absurd (false_true h (ap (λ v. is_fault (Some (ends.Task v))) is))
+not_fault op w sent e h (inr may) = may
+
+pub task_ends : (g : Setting) (t a : ℕ) (op : Op) (missing : Option ℕ) (k : Known) (m : Operation) → start_of g (Attempt t a) op missing k ≡ Some m → (es : List Entry) → Follows (wants g (Attempt t a)) (advance g (Attempt t a)) (record { operation = m; known = k }) es
+    → (e : TaskEnd) → over (run (advance g (Attempt t a)) (record { operation = m; known = k }) es).operation ≡ Some (ends.Task e) → (worn : Option Request) × WornFirst g.script.retries es worn × TaskIs op g.script k.publish_sent true worn e
+task_ends g t a op missing k m start es f e is =
+    let x : Running = record { operation = m; known = k } in
+    let b = begun g t a op missing k m start in
+    let worn = spent_in (advance g (Attempt t a)) (λ y. spare_of y.operation) x es in
+    (worn, first_spent g (Attempt t a) x b.serial b.spare es f, by worn (sym (ap is_fault is) ∙ faults g (Attempt t a) x b.serial b.calm es f) (over_so g (record { task = t; attempt = a }) k.publish_sent op (run (advance g (Attempt t a)) x es).operation (run_so g (Attempt t a) k.publish_sent op x es b.is) e is))
+  where
+    by : (worn : Option Request) → is_fault (Some (ends.Task e)) ≡ is_some worn → Ends op g.script k.publish_sent e → TaskIs op g.script k.publish_sent true worn e
+    by (Some r) h d = fault_end e h
+    by None h d = not_fault op g.script k.publish_sent e h d
+
+-- ---- with what a run says of what is gone
+
+pub task_joined : (op : Op) (w : Script) (sent cleaned : Bool) (worn : Option Request) (e : TaskEnd) → TaskIs op w sent true worn e → ((op ≡ ops.Abort → ⊥) → (name : List ℕ) → e ≡ tasks.Gone name → cleaned ≡ true) → TaskIs op w sent cleaned worn e
+task_joined op w sent cleaned (Some r) e h gone = h
+task_joined op w sent cleaned None e h gone = may op e h gone
+  where
+    may : (op : Op) (e : TaskEnd) → TaskMay op w sent true e → ((op ≡ ops.Abort → ⊥) → (name : List ℕ) → e ≡ tasks.Gone name → cleaned ≡ true) → TaskMay op w sent cleaned e
+    may ops.Write tasks.Done h gone = tt
+    may ops.Write (tasks.Gone name) h gone = gone (λ e. absurd cc) name refl
+    may ops.Write tasks.Kept h gone = absurd h
+    may ops.Write (tasks.Conflict d) h gone = absurd h
+    may ops.Write tasks.StoreFault h gone = absurd h
+    may ops.Write tasks.NoMemory h gone = absurd h
+    may ops.Commit tasks.Done h gone = tt
+    may ops.Commit (tasks.Conflict d) h gone = h
+    may ops.Commit (tasks.Gone name) h gone = gone (λ e. absurd cc) name refl
+    may ops.Commit tasks.Kept h gone = absurd h
+    may ops.Commit tasks.StoreFault h gone = absurd h
+    may ops.Commit tasks.NoMemory h gone = absurd h
+    may ops.Abort tasks.Kept h gone = h
+    may ops.Abort tasks.Done h gone = h
+    may ops.Abort (tasks.Gone name) h gone = absurd h
+    may ops.Abort (tasks.Conflict d) h gone = absurd h
+    may ops.Abort tasks.StoreFault h gone = absurd h
+    may ops.Abort tasks.NoMemory h gone = absurd h
+    may ops.Setup e h gone = absurd h
+    may ops.Clean e h gone = absurd h

@@ -1,0 +1,5 @@
+use Rattle.job_ends.proofs.CommitRuns.{commit_runs}
+use Rattle.job_ends.proofs.commits.Goals as goal
+
+pub returns : goal.returns
+returns c = record { runs = commit_runs }

@@ -1,0 +1,26 @@
+-- Whose the entries of a run are.
+use Rattle.std.specs.Prelude.{◌≡◌, ℕ, false, List, ◌++◌, Option, Some, None}
+use Rattle.std.specs.List.{filter}
+use Rattle.s3_types.specs.Store.{Content}
+use Rattle.s3_types.specs.declared.request.Actor.TheVariants.{Driver}
+use Rattle.s3_types.specs.declared.journal.Entry.{Entry}
+use Rattle.sendings.specs.Retries.{Retried}
+use Rattle.job_model.specs.Attempts.{Who}
+use Rattle.job_model.specs.JobScript.{Script}
+use Rattle.job_operations.specs.Setup.{Setup}
+use Rattle.job_operations.specs.JobCommits.{Commit}
+use Rattle.job_operations.specs.Operations.{Setting, TheSetup, TheCommit}
+use Rattle.job_promise.specs.OperationEnds.{WasPublished}
+use Rattle.job_promise.specs.Seen.{is_begun}
+use Rattle.job_promise.specs.Turns.{by_actor, AllBy, AllUpTo}
+use Rattle.job_facts.specs.Runs.{Stand, Runs, is_done}
+
+pub record RunEntries : Type 0 where
+  -- the entries of the driver's commit are all of the driver's in the event of the commit and later ones
+  pub commit : (g : Setting) (k : Option ℕ) (opening : Content) (es : List Entry) (x : Stand) → Runs g k opening es x → (c : Commit) → x.driver ≡ Some (TheCommit c) → x.commit ≡ filter (λ e. is_begun k e.event) (by_actor Driver es)
+  -- where no attempt has begun anything all entries are the driver's
+  pub alone : (g : Setting) (k : Option ℕ) (opening : Content) (es : List Entry) (x : Stand) → Runs g k opening es x → ((a : Who) → x.attempts a ≡ None) → AllBy Driver es
+  -- so is it until its set-up has ended Done
+  pub setup : (g : Setting) (k : Option ℕ) (opening : Content) (es : List Entry) (x : Stand) → Runs g k opening es x → (t : Retried Setup) → x.driver ≡ Some (TheSetup t) → is_done t.operation ≡ false → (a : Who) → x.attempts a ≡ None
+  -- what was published is so in a longer journal, at the latest in the last event of these entries
+  pub published : (w : Script) (opening : Content) (es more : List Entry) (t a n i : ℕ) → WasPublished w opening es t a n → AllUpTo i es → WasPublished w opening (es ++ more) t a i

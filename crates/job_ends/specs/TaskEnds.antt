@@ -1,0 +1,35 @@
+-- How an attempt's operations end.
+use Rattle.std.specs.Prelude.{◌≡◌, ℕ, Bool, true, false, List, Option, Some}
+use Rattle.s3_types.specs.Store.{Content}
+use Rattle.s3_types.specs.declared.request.Actor.TheVariants.{Attempt}
+use Rattle.s3_types.specs.declared.request.Request.{Request}
+use Rattle.s3_types.specs.declared.journal.Entry.{Entry}
+use Rattle.sendings.specs.Operation.{run, Follows}
+use Rattle.sendings.specs.Worn.{WornFirst}
+use Rattle.job_model.specs.Attempts.{Who}
+use Rattle.job_model.specs.Legal.{IsLegal}
+use Rattle.job_model.specs.JobScript.{Script}
+use Rattle.job_model.specs.Known.{Known}
+use Rattle.job_model.specs.declared.events.Op.{Op}
+use Rattle.job_model.specs.declared.events.Op.TheVariants as ops
+use Rattle.job_model.specs.declared.ends.TaskEnd.{TaskEnd}
+use Rattle.job_model.specs.declared.ends.TaskEnd.TheVariants as tasks
+use Rattle.job_model.specs.declared.ends.OpEnd.TheVariants as op_ends
+use Rattle.job_operations.specs.Operations.{Setting, Operation, TheTaskAbort, wants, advance, start_of, over}
+use Rattle.job_promise.specs.OperationEnds.{TaskIs}
+use Rattle.job_facts.specs.Runs.{Runs, Stand, IsOpening}
+
+abbrev pub is_abort : Operation → Bool
+is_abort (TheTaskAbort t) = true
+is_abort _ = false
+
+-- of every committer and mode
+pub record TaskEnds : Type 0 where
+  -- by its own entries alone, whatever was answered, as if the driver had cleaned up
+  pub ends : (g : Setting) (t a : ℕ) (op : Op) (missing : Option ℕ) (k : Known) (m : Operation) → start_of g (Attempt t a) op missing k ≡ Some m → (es : List Entry) → Follows (wants g (Attempt t a)) (advance g (Attempt t a)) (record { operation = m; known = k }) es
+      → (e : TaskEnd) → over (run (advance g (Attempt t a)) (record { operation = m; known = k }) es).operation ≡ Some (op_ends.Task e) → (worn : Option Request) × WornFirst g.script.retries es worn × TaskIs op g.script k.publish_sent true worn e
+  -- in a run among no strangers a write or commit finds something gone only where the driver's abort or clean has begun
+  pub gone : (g : Setting) → IsLegal g.script → (k : Option ℕ) (opening : Content) → IsOpening g opening → (es : List Entry) (x : Stand) → Runs g k opening es x → (a : Who) (op : Operation) (name : List ℕ)
+      → x.attempts a ≡ Some op → is_abort op ≡ false → over op ≡ Some (op_ends.Task (tasks.Gone name)) → x.told.cleaned ≡ true
+  -- both together
+  pub joined : (op : Op) (w : Script) (sent cleaned : Bool) (worn : Option Request) (e : TaskEnd) → TaskIs op w sent true worn e → ((op ≡ ops.Abort → ⊥) → (name : List ℕ) → e ≡ tasks.Gone name → cleaned ≡ true) → TaskIs op w sent cleaned worn e
