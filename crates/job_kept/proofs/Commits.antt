@@ -1,0 +1,273 @@
+-- How the driver's commit ends in a run, and what it leaves.
+use Rattle.std.proofs.Common.{◌≡◌, ℕ, zero, suc, ◌+◌, ◌<◌, ◌≤◌, ◌⊎◌, inl, inr, Bool, true, false, cond, List, [], ◌++◌, filter, length, take, Option, Some, None, refl, sym, ap, subst, ◌∙◌, arith}
+use Rattle.std.specs.Option.{option_map}
+use Rattle.s3_types.specs.Store.{Content, Scene}
+use Rattle.s3_types.specs.Store as store
+use Rattle.s3_types.specs.Moment.{moment, after_all}
+use Rattle.s3_types.specs.declared.request.Actor.TheVariants.{Driver}
+use Rattle.s3_types.specs.declared.journal.Entry.{Entry}
+use Rattle.sendings.specs.Operation.{run}
+use Rattle.sendings.specs.Worn.{first_worn}
+use Rattle.sendings.proofs.First.{computed, none_sent}
+use Rattle.proof_base.proofs.Numbers.{at_most_is, at_most_not}
+use Rattle.job_model.specs.Legal.{IsLegal}
+use Rattle.job_model.specs.JobScript.{Script}
+use Rattle.job_model.specs.Known.{Known}
+use Rattle.job_model.specs.declared.events.Event.{Event}
+use Rattle.job_model.specs.declared.events.Event.TheVariants.{Do, Start}
+use Rattle.job_model.specs.declared.events.Op.{Op}
+use Rattle.job_model.specs.declared.events.Op.TheVariants as ops
+use Rattle.job_model.specs.declared.ends.CommitEnd.{CommitEnd}
+use Rattle.job_model.specs.declared.ends.CommitEnd.TheVariants as commits
+use Rattle.job_model.specs.declared.ends.Stage.TheVariants as stages
+use Rattle.job_model.specs.declared.ends.OpEnd.TheVariants as ends
+use Rattle.job_operations.specs.View.{view}
+use Rattle.job_operations.specs.JobCommits.{Commit, Fetching, Replacing, Completing, Marking, Reverting, CommitOver, commit_start, commit_tells, commit_over}
+use Rattle.job_operations.specs.Operations.{Setting, Operation, TheSetup, TheWrite, TheTaskCommit, TheTaskAbort, TheCommit, TheClean, advance, over}
+use Rattle.job_promise.specs.Headline.{Same, Always}
+use Rattle.job_promise.specs.Seen.{see_all, nothing_seen, is_begun, is_marked}
+use Rattle.job_promise.specs.States.{refusal, Doing, missing, first_not, driver_may, commit_event}
+use Rattle.job_promise.specs.Turns.{until, by_actor}
+use Rattle.job_promise.specs.Follows.{known_then}
+use Rattle.job_promise.specs.Ends.{CommitEnded}
+use Rattle.job_promise.specs.OperationEnds.{is_untouched, NoDeletionWorn, OnlyOpening}
+use Rattle.job_promise.specs.Promise.{seen_until, CommitEnds, CommitsEnd}
+use Rattle.request_frame.proofs.Members.{some_is, none_some, false_true}
+use Rattle.job_facts.specs.Runs.{IsOpening, is_just_set}
+use Rattle.job_facts.proofs.Entries.{take_all, sees, always, reverted_now}
+use Rattle.job_facts.proofs.Changes.{moment_scene}
+use Rattle.job_happenings.specs.Happenings.{Play, MayOpen, Opens, Closes, open_running, happen, Happened, happens}
+use Rattle.job_happenings.specs.Running.{Ahead, IsRun, operation_of}
+use Rattle.job_happenings.proofs.RunningStages.{Begins, begins_so, IsSettingUp, IsTimed, timed_setting, may_commit_job}
+use Rattle.job_happenings.proofs.Running.{number, is_run, carried, opened_ahead, closed_ahead, not_refused}
+use Rattle.job_ends.specs.CommitRuns.{IsDue, CommitStands}
+use Rattle.job_ends.proofs.Alone.{go_alone}
+use Rattle.job_ends.proofs.CommitRuns.{commit_runs}
+use Rattle.job_ends.proofs.CommitMoments.{commit_moments}
+use Rattle.job_ends.proofs.RunEntries.{run_entries}
+use Rattle.job_kept.proofs.Cuts.{take_cut, moment_cut}
+use Rattle.job_kept.proofs.Sorts.{end_of, over_kind, kind_run, driver_commit, memory_commit}
+use Rattle.job_kept.proofs.History.{Began, IsBegin}
+use Rattle.job_kept.proofs.Ending.{Ending, ahead_none, ending, journal_until}
+use Rattle.job_kept.proofs.Spans.{start}
+use Rattle.job_kept.proofs.After.{IsAfter, After, after_commit, driver_past}
+
+-- ---- plain facts
+
+commit_is : {d e : CommitEnd} → ends.Commit d ≡ ends.Commit e → d ≡ e
+commit_is e = cc
+
+over_is : (c : Commit) (e : CommitEnd) → commit_over c ≡ Some e → c ≡ CommitOver e
+over_is (CommitOver d) e o = ap CommitOver (some_is o)
+over_is (Fetching s n) e o = absurd (none_some refl o)
+over_is (Replacing s p ps x n) e o = absurd (none_some refl o)
+over_is (Completing s x xs f) e o = absurd (none_some refl o)
+over_is (Marking s n) e o = absurd (none_some refl o)
+over_is (Reverting q qs n) e o = absurd (none_some refl o)
+
+-- a commit that is over, by its end
+commit_back : (c : Commit) (e : CommitEnd) → option_map ends.Commit (commit_over c) ≡ Some (ends.Commit e) → c ≡ CommitOver e
+commit_back c e o = let m = end_of ends.Commit (commit_over c) (ends.Commit e) o in over_is c e (m.1 ∙ ap (λ v. Some v) (commit_is m.2))
+
+just_setting : (d : Option Operation) → is_just_set d ≡ true → IsSettingUp d
+just_setting None e = tt
+just_setting (Some (TheSetup t)) e = tt
+just_setting (Some (TheWrite t)) e = absurd (false_true refl e)
+just_setting (Some (TheTaskCommit t)) e = absurd (false_true refl e)
+just_setting (Some (TheTaskAbort t)) e = absurd (false_true refl e)
+just_setting (Some (TheCommit c)) e = absurd (false_true refl e)
+just_setting (Some (TheClean t)) e = absurd (false_true refl e)
+
+-- a task that is missing is one of the job's
+missing_below : (w : Script) (reported : ℕ → Bool) (t : ℕ) → missing w reported ≡ Some t → t < w.tasks
+missing_below w reported t e = let l : t < 0 + w.tasks = by 0 w.tasks e in omega arith
+  where
+    by : (a n : ℕ) → first_not reported a n ≡ Some t → t < a + n
+    by a zero e = absurd (none_some refl e)
+    by a (suc n) e = one (reported a) e (λ f. by (a + 1) n f)
+      where
+        one : (b : Bool) → cond b (first_not reported (a + 1) n) (Some a) ≡ Some t → (first_not reported (a + 1) n ≡ Some t → t < a + 1 + n) → t < a + suc n
+        one true e old = let l : t < a + 1 + n = old e in omega arith
+        one false e old = let s : a ≡ t = some_is e in omega (arith, s)
+
+-- the commit's event is the next one where it has begun then and not before
+commit_number : (k : Option ℕ) (n : ℕ) → is_begun k n ≡ false → is_begun k (n + 1) ≡ true → k ≡ Some (n + 1)
+commit_number None n before now = absurd (false_true refl now)
+commit_number (Some m) n before now =
+    let above : n < m = at_most_not m n before in
+    let below : m ≤ n + 1 = at_most_is m (n + 1) now in
+    let same : m ≡ n + 1 = omega arith in
+    ap (λ v. Some v) same
+
+-- what a driver begins it may begin
+begins_at : (g : Setting) (y : Play) (ev : Event) (op : Op) → MayOpen g y ev None → IsBegin ev Driver op → Begins (y.past.state Driver).stage Driver op (y.past.state Driver).life (y.past.state Driver).stage
+begins_at g y ev op may (inl is) = begins_so (y.past.state Driver).stage Driver op (y.past.state Driver).life (y.past.state Driver).stage (ap (refusal y.past.state) (sym is) ∙ may.refusal_is)
+begins_at g y ev op may (inr is) = begins_so (y.past.state Driver).stage Driver op (y.past.state Driver).life (y.past.state Driver).stage (ap (refusal y.past.state) (sym is) ∙ may.refusal_is)
+
+module _ (g : Setting) (opening : Content) (j : IsLegal g.script) (is_opening : IsOpening g opening) (x : Play) (run_x : Happened g opening x) (idle : x.now ≡ None) where
+  abbrev w : Script
+  w = g.script
+
+  -- the event of the commit, if it is any
+  abbrev k : Option ℕ
+  k = commit_event w x.ends
+
+  -- the scene after a whole journal is its last moment
+  whole : (es : List Entry) → moment opening es (length es) ≡ after_all (store.opening opening) es
+  whole es = ap (after_all (store.opening opening)) (take_all es (length es) (omega arith))
+
+  -- ---- a commit that ended otherwise than for want of memory
+
+  module _ (i : ℕ) (d : Doing) (e : CommitEnd) (es : List Entry) (n : Ending g opening x i Driver d (ends.Commit e) es)
+      (o : over (run (advance g Driver) (record { operation = n.op; known = known_then g Driver d (by_actor Driver n.closed.at.journal) }) es).operation ≡ Some (ends.Commit e)) where
+    abbrev z : Play
+    z = n.closed.at
+
+    abbrev known : Known
+    known = known_then g Driver d (by_actor Driver z.journal)
+
+    begun : (d.op ≡ ops.Commit) × (n.op ≡ TheCommit (commit_start w d.missing))
+    begun = driver_commit g d.op d.missing known n.op n.begun_is (sym (kind_run g Driver (record { operation = n.op; known = known }) es) ∙ over_kind _ (ends.Commit e) o)
+
+    -- where its own entries lead
+    leads_alone : (run (advance g Driver) (record { operation = n.op; known = known }) es).operation ≡ TheCommit (run (commit_tells w) (commit_start w d.missing) es)
+    leads_alone = ap (λ v. (run (advance g Driver) (record { operation = v; known = known }) es).operation) begun.1 ∙ go_alone.commit_run g Driver known (commit_start w d.missing) es
+
+    leads : run (commit_tells w) (commit_start w d.missing) es ≡ CommitOver e
+    leads = commit_back _ e (sym (ap over leads_alone) ∙ o)
+
+    driver_is : operation_of (z.running Driver) ≡ Some (TheCommit (CommitOver e))
+    driver_is = ap operation_of n.running ∙ ap (λ v. Some v) (leads_alone ∙ ap TheCommit leads)
+
+    -- the run at the end of the event
+    ahead : Ahead (happen g z (Closes n.event_end)) x.ends
+    ahead = n.closed.ahead x.ends (ahead_none x idle)
+
+    then : IsRun g opening (happen g z (Closes n.event_end)) k
+    then = is_run g opening j is_opening (happen g z (Closes n.event_end)) (happens z (Closes n.event_end) n.closed.happened n.closed.may) x.ends ahead
+
+    at_end : then.stand.driver ≡ Some (TheCommit (CommitOver e))
+    at_end = then.driver ∙ driver_is
+
+    -- ---- its event
+
+    ahead_z : Ahead z x.ends
+    ahead_z = closed_ahead g z n.event_end x.ends (not_refused w z.past.state n.closed.may.event n.event_end _ n.closed.may.turns) ahead
+
+    abbrev s : Began g opening z Driver d
+    s = start g opening x i Driver d (ends.Commit e) es n
+
+    ahead_opened : Ahead (happen g s.at (Opens s.event)) x.ends
+    ahead_opened = s.ahead x.ends ahead_z
+
+    timed_before : is_begun k (length s.at.ends) ≡ false
+    timed_before =
+        let h = (carried g opening j is_opening s.at s.happened x.ends (opened_ahead g s.at s.event x.ends s.may.idle ahead_opened)).along in
+        let b = begins_at g s.at s.event d.op s.may s.begins in
+        let op = operation_of (s.at.running Driver) in
+        let may : driver_may ops.Commit (s.at.past.state Driver).stage ≡ true = ap (λ v. driver_may v (s.at.past.state Driver).stage) (sym begun.0) ∙ b.may_begin in
+        let just = may_commit_job (s.at.past.state Driver).stage (s.at.past.state Driver).life op (driver_past g opening j is_opening s.at s.happened s.may.idle) may in
+        let timed : IsTimed (is_begun k (length s.at.ends)) op = subst (λ v. IsTimed (is_begun k (number v (length s.at.ends))) op) s.may.idle h.timed in
+        timed_setting (is_begun k (length s.at.ends)) op timed (just_setting op just)
+
+    -- where the event begins the commit it has begun
+    begun_timed : (ev : Event) (b : Bool) → ((ev ≡ Do Driver ops.Commit) ⊎ (ev ≡ Start Driver ops.Commit)) → IsTimed b (operation_of (open_running g s.at ev Driver)) → b ≡ true
+    begun_timed ev b (inl is) h = subst (λ v. IsTimed b (operation_of (open_running g s.at v Driver))) is h
+    begun_timed ev b (inr is) h = subst (λ v. IsTimed b (operation_of (open_running g s.at v Driver))) is h
+
+    timed_now : is_begun k (length s.at.ends + 1) ≡ true
+    timed_now =
+        let h = (carried g opening j is_opening (happen g s.at (Opens s.event)) (happens s.at (Opens s.event) s.happened s.may) x.ends ahead_opened).along in
+        begun_timed s.event (is_begun k (length s.at.ends + 1)) (subst (λ v. IsBegin s.event Driver v) begun.0 s.begins) h.timed
+
+    number_is : k ≡ Some d.since
+    number_is = commit_number k (length s.at.ends) timed_before timed_now ∙ ap (λ v. Some v) (sym s.since_is)
+
+    -- ---- its entries and its missing task
+
+    commit_is_es : then.stand.commit ≡ es
+    commit_is_es = run_entries.commit g k opening z.journal then.stand then.runs (CommitOver e) at_end ∙ ap (λ v. filter (λ (u : Entry). is_begun v u.event) (by_actor Driver z.journal)) number_is ∙ sym n.entries_are
+
+    stands : CommitStands g then.stand (CommitOver e)
+    stands = commit_runs.stands g j k opening is_opening z.journal then.stand then.runs (CommitOver e) at_end
+
+    commit_leads : (missing : Option ℕ) → run (commit_tells w) (commit_start w missing) then.stand.commit ≡ run (commit_tells w) (commit_start w missing) es
+    commit_leads missing = ap (run (commit_tells w) (commit_start w missing)) commit_is_es
+
+    missing_is : stands.missing ≡ d.missing
+    missing_is = commit_runs.one_start w stands.missing d.missing es (sym (commit_leads stands.missing) ∙ stands.leads ∙ sym leads)
+
+    -- ---- what is seen then
+
+    until_is : until (i + 1) x.journal ≡ z.journal
+    until_is = journal_until g opening x run_x idle i n.event_end n.closed
+
+    seen_then : then.stand.seen ≡ seen_until w opening x.journal x.ends (i + 1)
+    seen_then =
+        sees g k opening j is_opening z.journal then.stand then.runs
+        ∙ ap (see_all w k (nothing_seen opening)) (sym (ap (λ l. take (length l) x.journal) until_is ∙ ap (take (length z.journal)) n.closed.all ∙ take_cut z.journal n.closed.entries))
+
+    due_so : CommitEnded w (seen_until w opening x.journal x.ends (i + 1)) d.missing es e
+    due_so =
+        subst (λ v. CommitEnded w v d.missing es e) seen_then
+        (subst (λ l. CommitEnded w then.stand.seen d.missing l e) commit_is_es (commit_runs.ended g j k opening is_opening z.journal then.stand then.runs e at_end d.missing (commit_leads d.missing ∙ leads)))
+
+    marked_so : e ≡ commits.Committed → is_marked w (seen_until w opening x.journal x.ends (i + 1)) ≡ true
+    marked_so is = ap (is_marked w) (sym seen_then) ∙ (commit_runs.marked g then.stand e stands is).1
+
+    scene_then : moment opening x.journal (length (until (i + 1) x.journal)) ≡ then.stand.seen.scene
+    scene_then =
+        ap (λ l. moment opening x.journal (length l)) until_is ∙ ap (λ l. moment opening l (length z.journal)) n.closed.all ∙ moment_cut opening z.journal n.closed.entries
+        ∙ sym (whole z.journal) ∙ moment_scene g k opening j is_opening z.journal then.stand then.runs
+
+    reverted_so : e ≡ commits.StoreFault stages.Complete → NoDeletionWorn w.retries es → OnlyOpening w opening (moment opening x.journal (length (until (i + 1) x.journal))).content
+    reverted_so is none =
+        let d : then.stand.driver ≡ Some (TheCommit (CommitOver (commits.StoreFault stages.Complete))) = at_end ∙ ap (λ v. Some (TheCommit (CommitOver v))) is in
+        subst (λ (v : Scene). OnlyOpening w opening v.content) (sym scene_then) (reverted_now g k opening j is_opening z.journal then.stand then.runs d (subst (NoDeletionWorn w.retries) (sym commit_is_es) none))
+
+    -- ---- where it ended before its first completion
+
+    missed_below : (t : ℕ) → e ≡ commits.Missing t → t < w.tasks
+    missed_below t is =
+        let at : IsDue w stands.missing stands.sets (commits.Missing t) = subst (IsDue w stands.missing stands.sets) is stands.at in
+        missing_below w s.at.past.reported t (sym s.missing_is ∙ sym missing_is ∙ at.0)
+
+    -- what came behind it
+    behind : After g opening j is_opening (happen g z (Closes n.event_end)) x
+    behind = after_commit g opening j is_opening (happen g z (Closes n.event_end)) x n.closed.since_then (subst IsAfter (sym driver_is) tt)
+
+    untouched_so : is_untouched e ≡ true → (m : ℕ) → m ≤ length x.journal → Same (view w.dest (moment opening x.journal m).content) (view w.dest opening)
+    untouched_so u m l =
+        let now = is_run g opening j is_opening x run_x x.ends (ahead_none x idle) in
+        let all : Always w k opening (z.journal ++ behind.more) = subst (Always w k opening) behind.all (always g k opening j is_opening x.journal now.stand now.runs) in
+        subst (λ v. m ≤ length v → Same (view w.dest (moment opening v m).content) (view w.dest opening)) (sym behind.all)
+        (commit_moments.untouched g j k opening is_opening z.journal then.stand then.runs e at_end u missed_below behind.more behind.none all m) l
+
+  -- ---- any end
+
+  -- for want of memory
+  memory_ends : (i : ℕ) (d : Doing) (e : CommitEnd) (es : List Entry) → e ≡ commits.NoMemory → CommitEnds w opening x.journal x.ends i d e es
+  memory_ends i d e es is = record {
+    due = λ own. record {
+      worn = first_worn w.retries es;
+      first = computed w.retries [] es (none_sent w.retries);
+      due = inl is;
+      answered = λ c. let no : commits.NoMemory ≡ commits.Committed = sym is ∙ c in absurd cc;
+    };
+    marked = λ c own. let no : commits.NoMemory ≡ commits.Committed = sym is ∙ c in absurd cc;
+    untouched = λ u own. absurd (false_true (ap is_untouched is) u);
+    reverted = λ c none own. let no : commits.NoMemory ≡ commits.StoreFault stages.Complete = sym is ∙ c in absurd cc;
+  }
+
+  pub commits_kept : CommitsEnd w opening x.journal x.ends
+  commits_kept i d e es h =
+      let n = ending g opening x run_x idle i Driver d (ends.Commit e) es h in
+      elim n.ended [
+        | inl memory ↦ memory_ends i d e es (memory_commit e memory)
+        | inr o ↦ record {
+          due = λ own. due_so i d e es n o;
+          marked = λ is own. marked_so i d e es n o is;
+          untouched = λ u own. untouched_so i d e es n o u;
+          reverted = λ is none own. reverted_so i d e es n o is none;
+        }
+      ]

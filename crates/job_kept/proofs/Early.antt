@@ -1,0 +1,200 @@
+-- Until the driver's set-up is over all entries are the driver's: no attempt has begun before.
+use Rattle.std.proofs.Common.{◌≡◌, ℕ, ◌⊎◌, inl, inr, ◌&&◌, true, false, [], ◌∷◌, ◌++◌, slice_get, Option, Some, None, refl, sym, ap, subst, ◌∙◌}
+use Rattle.s3_types.specs.Store.{Content}
+use Rattle.s3_types.specs.declared.request.Actor.{Actor}
+use Rattle.s3_types.specs.declared.request.Actor.TheVariants.{Driver, Attempt, Shell}
+use Rattle.s3_types.specs.declared.journal.Entry.{Entry}
+use Rattle.job_model.specs.Legal.{IsLegal}
+use Rattle.job_model.specs.JobScript.{Script}
+use Rattle.job_model.specs.declared.events.Op.{Op}
+use Rattle.job_model.specs.declared.events.Op.TheVariants as ops
+use Rattle.job_model.specs.declared.events.Event.{Event}
+use Rattle.job_model.specs.declared.events.Event.TheVariants.{Do, Start, Step, Run, Kill, Mix, Restart, Recover}
+use Rattle.job_model.specs.declared.ends.SetupEnd.{SetupEnd}
+use Rattle.job_model.specs.declared.ends.ActorEnd.{ActorEnd}
+use Rattle.job_model.specs.declared.ends.OpEnd.{OpEnd}
+use Rattle.job_model.specs.declared.ends.OpEnd.TheVariants as ends
+use Rattle.job_model.specs.declared.ends.EventEnd.TheVariants.{Done}
+use Rattle.job_model.specs.declared.states.Life.TheVariants.{Busy}
+use Rattle.job_model.specs.declared.states.ActorStage.{ActorStage}
+use Rattle.job_model.specs.declared.states.ActorStage.TheVariants as stage
+use Rattle.job_model.specs.declared.states.ActorState.{ActorState}
+use Rattle.job_operations.specs.Operations.{Setting, Operation, TheSetup, TheWrite, TheTaskCommit, TheTaskAbort, TheCommit, TheClean, Running, over}
+use Rattle.job_promise.specs.States.{Past, put, ended, is_new, needs_set, stage_begun, refusal, open_event}
+use Rattle.job_promise.specs.Turns.{is_memory, AllBy}
+use Rattle.request_frame.proofs.Members.{none_some, false_true}
+use Rattle.job_facts.specs.Runs.{IsOpening}
+use Rattle.job_happenings.specs.Happenings.{Play, Refuses, Opens, Sends, Finishes, Closes, open_running, happen, MayOpen, MaySend, MayFinish, Happened, nothing_happened, happens}
+use Rattle.job_happenings.specs.Running.{Ahead, operation_of}
+use Rattle.job_happenings.proofs.Parts.{get_last}
+use Rattle.job_happenings.proofs.Actors.{same_or_not, put_here, put_other}
+use Rattle.job_happenings.proofs.RunningStages.{DriverAt, IsBehind, begins_so, memory_dies, restarted_new, driver_ends}
+use Rattle.job_happenings.proofs.Running.{carried}
+use Rattle.job_kept.proofs.Cuts.{all_by_last}
+use Rattle.job_kept.proofs.Sorts.{kind, OfSetup, OfCommit, OfClean, over_kind}
+
+-- ---- stages
+
+behind_none : (op : Operation) → IsBehind (Some op) → kind op ≡ OfSetup → ⊥
+behind_none (TheSetup t) b e = b
+behind_none (TheWrite t) b e = b
+behind_none (TheTaskCommit t) b e = b
+behind_none (TheTaskAbort t) b e = b
+behind_none (TheCommit c) b e = let no : OfCommit ≡ OfSetup = e in absurd cc
+behind_none (TheClean t) b e = let no : OfClean ≡ OfSetup = e in absurd cc
+
+-- a busy driver at its set-up is at its first stage
+new_of : (s : ActorStage) (op : Operation) → DriverAt s Busy (Some op) → kind op ≡ OfSetup → is_new s ≡ true
+new_of stage.New op h e = refl
+new_of stage.Set op h e = absurd (false_true h.0 refl)
+new_of stage.Writing op h e = absurd (behind_none op h e)
+new_of stage.Written op h e = absurd (behind_none op h e)
+new_of stage.Committing op h e = absurd (behind_none op h e)
+new_of stage.Committed op h e = absurd (behind_none op h e)
+new_of stage.Failed op h e = absurd (behind_none op h e)
+new_of stage.Aborted op h e = absurd (behind_none op h e)
+
+begin_new : (op : Op) (s : ActorStage) → is_new (stage_begun Driver op s) ≡ true → is_new s ≡ true
+begin_new ops.Setup s n = n
+begin_new ops.Write s n = absurd (false_true refl n)
+begin_new ops.Commit s n = absurd (false_true refl n)
+begin_new ops.Abort s n = absurd (false_true refl n)
+begin_new ops.Clean s n = n
+
+open_new : (w : Script) (p : Past) (ev : Event) → is_new ((open_event w p ev).state Driver).stage ≡ true → is_new (p.state Driver).stage ≡ true
+open_new w p (Do Driver op) n = begin_new op (p.state Driver).stage n
+open_new w p (Do (Attempt t a) op) n = n
+open_new w p (Do Shell op) n = n
+open_new w p (Start Driver op) n = begin_new op (p.state Driver).stage n
+open_new w p (Start (Attempt t a) op) n = n
+open_new w p (Start Shell op) n = n
+open_new w p (Step a c) n = n
+open_new w p (Run a) n = n
+open_new w p (Kill Driver) n = n
+open_new w p (Kill (Attempt t a)) n = n
+open_new w p (Kill Shell) n = n
+open_new w p (Mix seed) n = n
+open_new w p Restart n = restarted_new (p.state Driver).stage n
+open_new w p (Recover a) n = n
+
+needs_other : (a : Actor) (op : Op) → (a ≡ Driver → ⊥) → needs_set a op ≡ true
+needs_other Driver op ne = absurd (ne refl)
+needs_other (Attempt t n) ops.Setup ne = refl
+needs_other (Attempt t n) ops.Write ne = refl
+needs_other (Attempt t n) ops.Commit ne = refl
+needs_other (Attempt t n) ops.Abort ne = refl
+needs_other (Attempt t n) ops.Clean ne = refl
+needs_other Shell ops.Setup ne = refl
+needs_other Shell ops.Write ne = refl
+needs_other Shell ops.Commit ne = refl
+needs_other Shell ops.Abort ne = refl
+needs_other Shell ops.Clean ne = refl
+
+-- ---- what is kept
+
+pub record Early (x : Play) : Type 0 where
+  -- the first stage is never come back to
+  pub kept : is_new (x.live.state Driver).stage ≡ true → is_new (x.past.state Driver).stage ≡ true
+  -- in an event that began at it all is the driver's
+  pub alone : is_new (x.past.state Driver).stage ≡ true → AllBy Driver x.journal
+  pub nobody : is_new (x.past.state Driver).stage ≡ true → (a : Actor) → (a ≡ Driver → ⊥) → x.running a ≡ None
+  -- and in such an event alone a set-up ends
+  pub set : (i : ℕ) (e : SetupEnd) → slice_get x.finished i ≡ Some (record { actor = Driver; end = ends.Setup e }) → (is_memory (ends.Setup e) ≡ true) ⊎ (is_new (x.past.state Driver).stage ≡ true)
+
+module _ (g : Setting) (opening : Content) (j : IsLegal g.script) (is_opening : IsOpening g opening) where
+  -- the run may go on so
+  pub ahead_on : (x : Play) → Ahead x (x.ends ++ Done ∷ [])
+  ahead_on x = record { rest = Done ∷ []; is = refl; going = λ ev e. (Done, [], refl, refl) }
+
+  pub driver_now : (x : Play) → Happened g opening x → DriverAt (x.live.state Driver).stage (x.live.state Driver).life (operation_of (x.running Driver))
+  driver_now x past = (carried g opening j is_opening x past (x.ends ++ Done ∷ []) (ahead_on x)).along.driver_at
+
+  -- a busy driver at this operation
+  pub driver_busy : (x : Play) → Happened g opening x → (m : Running) → (x.live.state Driver).life ≡ Busy → x.running Driver ≡ Some m → DriverAt (x.live.state Driver).stage Busy (Some m.operation)
+  driver_busy x past m busy is = subst (λ l. DriverAt (x.live.state Driver).stage l (Some m.operation)) busy (subst (DriverAt (x.live.state Driver).stage (x.live.state Driver).life) (ap operation_of is) (driver_now x past))
+
+  -- ---- an event begins
+
+  begun_nobody : (y : Play) (b : Actor) (op : Op) → Early y → (needs_set b op && is_new (y.past.state Driver).stage) ≡ false → is_new (y.past.state Driver).stage ≡ true → (v : Option Running) → (a : Actor) → (a ≡ Driver → ⊥) → put y.running b v a ≡ None
+  begun_nobody y b op old set new v a ne = elim (same_or_not a b) [
+    | inl s ↦ absurd (false_true set (ap (λ c. c && is_new (y.past.state Driver).stage) (needs_other b op (λ d. ne (s ∙ d))) ∙ new))
+    | inr other ↦ put_other y.running b v a other ∙ old.nobody new a ne
+  ]
+
+  opened_nobody : (y : Play) (ev : Event) → Early y → refusal y.past.state ev ≡ None → is_new (y.past.state Driver).stage ≡ true → (a : Actor) → (a ≡ Driver → ⊥) → open_running g y ev a ≡ None
+  opened_nobody y (Do b op) old fine new a ne = begun_nobody y b op old (begins_so (y.past.state Driver).stage b op (y.past.state b).life (y.past.state b).stage fine).set new _ a ne
+  opened_nobody y (Start b op) old fine new a ne = begun_nobody y b op old (begins_so (y.past.state Driver).stage b op (y.past.state b).life (y.past.state b).stage fine).set new _ a ne
+  opened_nobody y (Step b n) old fine new a ne = old.nobody new a ne
+  opened_nobody y (Run b) old fine new a ne = old.nobody new a ne
+  opened_nobody y (Kill b) old fine new a ne = old.nobody new a ne
+  opened_nobody y (Mix seed) old fine new a ne = old.nobody new a ne
+  opened_nobody y Restart old fine new a ne = old.nobody new a ne
+  opened_nobody y (Recover b) old fine new a ne = old.nobody new a ne
+
+  opens : (y : Play) (ev : Event) → Early y → MayOpen g y ev None → Early (happen g y (Opens ev))
+  opens y ev old may = record {
+    kept = open_new g.script y.past ev;
+    alone = old.alone;
+    nobody = opened_nobody y ev old may.refusal_is;
+    set = λ i e h. absurd (none_some refl h);
+  }
+
+  -- ---- a request is sent
+
+  sender : (y : Play) (e : Entry) → Early y → MaySend g opening y e → is_new (y.past.state Driver).stage ≡ true → e.actor ≡ Driver
+  sender y e old may new = elim (same_or_not e.actor Driver) [
+    | inl s ↦ s
+    | inr ne ↦ absurd (none_some (old.nobody new e.actor ne) may.is_at)
+  ]
+
+  sends : (y : Play) (e : Entry) → Early y → MaySend g opening y e → Early (happen g y (Sends e))
+  sends y e old may = record {
+    kept = old.kept;
+    alone = λ n. all_by_last Driver y.journal e (old.alone n) (sender y e old may n);
+    nobody = λ n a ne. put_other y.running e.actor _ a (λ s. ne (s ∙ sender y e old may n)) ∙ old.nobody n a ne;
+    set = old.set;
+  }
+
+  -- ---- an operation ends
+
+  -- the driver's
+  ended_new : (y : Play) → Happened g opening y → (e : OpEnd) → (y.live.state Driver).life ≡ Busy → (is_memory e ≡ true) ⊎ ((m : Running) × (y.running Driver ≡ Some m) × (over m.operation ≡ Some e))
+      → is_new (ended e (y.live.state Driver).stage).stage ≡ true → is_new (y.live.state Driver).stage ≡ true
+  ended_new y past e busy (inl memory) new = ap (λ (s : ActorState). is_new s.stage) (sym (memory_dies e (y.live.state Driver).stage memory)) ∙ new
+  ended_new y past e busy (inr q) new = (driver_ends (y.live.state Driver).stage q.0.operation e (driver_busy y past q.0 busy q.1) q.2).1 new
+
+  finished_new : (y : Play) → Happened g opening y → (v : ActorEnd) → MayFinish y v → is_new (put y.live.state v.actor (ended v.end (y.live.state v.actor).stage) Driver).stage ≡ true → is_new (y.live.state Driver).stage ≡ true
+  finished_new y past v may new = elim (same_or_not Driver v.actor) [
+    | inl s ↦
+        subst (λ a. (y.live.state a).life ≡ Busy → ((is_memory v.end ≡ true) ⊎ ((m : Running) × (y.running a ≡ Some m) × (over m.operation ≡ Some v.end))) → is_new (ended v.end (y.live.state a).stage).stage ≡ true → is_new (y.live.state Driver).stage ≡ true) s
+        (ended_new y past v.end) may.busy may.end (ap (λ (t : ActorState). is_new t.stage) (sym (put_here y.live.state v.actor _ Driver s)) ∙ new)
+    | inr ne ↦ ap (λ (t : ActorState). is_new t.stage) (sym (put_other y.live.state v.actor _ Driver ne)) ∙ new
+  ]
+
+  setup_new : (y : Play) → Happened g opening y → (e : SetupEnd) → (y.live.state Driver).life ≡ Busy → (is_memory (ends.Setup e) ≡ true) ⊎ ((m : Running) × (y.running Driver ≡ Some m) × (over m.operation ≡ Some (ends.Setup e)))
+      → (is_memory (ends.Setup e) ≡ true) ⊎ (is_new (y.live.state Driver).stage ≡ true)
+  setup_new y past e busy (inl memory) = inl memory
+  setup_new y past e busy (inr q) = inr (new_of (y.live.state Driver).stage q.0.operation (driver_busy y past q.0 busy q.1) (over_kind q.0.operation (ends.Setup e) q.2))
+
+  finished_set : (y : Play) → Happened g opening y → Early y → (v : ActorEnd) → MayFinish y v → (e : SetupEnd) → v ≡ record { actor = Driver; end = ends.Setup e } → (is_memory (ends.Setup e) ≡ true) ⊎ (is_new (y.past.state Driver).stage ≡ true)
+  finished_set y past old v may e is =
+      let may_end = subst (MayFinish y) is may in
+      elim (setup_new y past e may_end.busy may_end.end) [ inl memory ↦ inl memory | inr new ↦ inr (old.kept new) ]
+
+  finishes : (y : Play) → Happened g opening y → (v : ActorEnd) → Early y → MayFinish y v → Early (happen g y (Finishes v))
+  finishes y past v old may = record {
+    kept = λ n. old.kept (finished_new y past v may n);
+    alone = old.alone;
+    nobody = old.nobody;
+    set = λ i e h. elim (get_last y.finished v i _ h) [ inl k ↦ old.set i e k | inr q ↦ finished_set y past old v may e q.1 ];
+  }
+
+  -- ---- whatever happens
+
+  pub early : (x : Play) → Happened g opening x → Early x
+  early x (nothing_happened) = record { kept = λ n. n; alone = λ n. tt; nobody = λ n a ne. refl; set = λ i e h. absurd (none_some refl h) }
+  early x (happens y (Refuses f) past may) = let old = early y past in record { kept = λ n. n; alone = old.alone; nobody = old.nobody; set = λ i e h. absurd (none_some refl h) }
+  early x (happens y (Opens ev) past may) = opens y ev (early y past) may
+  early x (happens y (Sends e) past may) = sends y e (early y past) may
+  early x (happens y (Finishes v) past may) = finishes y past v (early y past) may
+  early x (happens y (Closes end) past may) = let old = early y past in record { kept = λ n. n; alone = λ n. old.alone (old.kept n); nobody = λ n. old.nobody (old.kept n); set = λ i e h. absurd (none_some refl h) }

@@ -1,0 +1,12 @@
+pub mod Cuts
+pub mod History
+pub mod Ending
+pub mod Sorts
+pub mod Early
+pub mod Spans
+pub mod Setups
+pub mod Cleans
+pub mod Tasks
+pub mod After
+pub mod Commits
+pub mod Kept

@@ -1,0 +1,171 @@
+-- How attempts' operations end in a run, and that a commit that is done has published.
+use Rattle.std.proofs.Common.{◌≡◌, ℕ, ◌+◌, inl, inr, Bool, true, false, List, [], ◌∷◌, Option, Some, None, refl, sym, ap, subst, ◌∙◌}
+use Rattle.std.specs.Option.{option_map}
+use Rattle.s3_types.specs.Store.{Content}
+use Rattle.s3_types.specs.declared.request.Actor.TheVariants.{Attempt}
+use Rattle.s3_types.specs.declared.request.Request.{Request}
+use Rattle.s3_types.specs.declared.journal.Outcome.{Outcome}
+use Rattle.s3_types.specs.declared.journal.Entry.{Entry}
+use Rattle.sendings.specs.Operation.{run}
+use Rattle.sendings.specs.Worn.{WornFirst}
+use Rattle.job_model.specs.Attempts.{Who}
+use Rattle.job_model.specs.Legal.{IsLegal}
+use Rattle.job_model.specs.Known.{Known}
+use Rattle.job_model.specs.declared.events.Op.{Op}
+use Rattle.job_model.specs.declared.events.Op.TheVariants as ops
+use Rattle.job_model.specs.declared.ends.TaskEnd.{TaskEnd}
+use Rattle.job_model.specs.declared.ends.TaskEnd.TheVariants as tasks
+use Rattle.job_model.specs.declared.ends.OpEnd.TheVariants as ends
+use Rattle.job_operations.specs.TaskCommits.{TaskCommit, Looking, Reading, Publishing, Checking, Uploads, Storing, Renaming, TaskCommitOver, task_commit_over}
+use Rattle.job_operations.specs.Knowledge.{knows}
+use Rattle.job_operations.specs.Operations.{Setting, Operation, TheSetup, TheWrite, TheTaskCommit, TheTaskAbort, TheCommit, TheClean, Running, tells, advance, start_of, over}
+use Rattle.job_promise.specs.Ends.{has_cleaned}
+use Rattle.job_promise.specs.States.{Doing, commit_event}
+use Rattle.job_promise.specs.Turns.{until, by_actor}
+use Rattle.job_promise.specs.Follows.{known_then}
+use Rattle.job_promise.specs.OperationEnds.{TaskIs, WasPublished}
+use Rattle.job_promise.specs.Promise.{TasksEnd, Publishes, setting}
+use Rattle.request_frame.proofs.Members.{some_is, none_some, false_true}
+use Rattle.job_facts.specs.Told.{Told, nothing_told}
+use Rattle.job_facts.specs.Runs.{IsOpening}
+use Rattle.job_facts.proofs.Whose.{attempt}
+use Rattle.job_facts.proofs.Learnt.{cleaned_is}
+use Rattle.job_facts.proofs.Entries.{tells_so}
+use Rattle.job_facts.proofs.Published.{has_published}
+use Rattle.job_happenings.specs.Happenings.{Play, Closes, happen, Happened, happens}
+use Rattle.job_happenings.specs.Running.{IsRun, operation_of}
+use Rattle.job_happenings.proofs.Running.{is_run}
+use Rattle.job_ends.specs.TaskEnds.{is_abort}
+use Rattle.job_ends.proofs.TaskEnds.{task_ends, task_joined}
+use Rattle.job_ends.proofs.Gone.{gone_cleaned}
+use Rattle.job_ends.proofs.RunEntries.{run_entries}
+use Rattle.job_kept.proofs.Sorts.{memory_task}
+use Rattle.job_kept.proofs.Ending.{Ending, ahead_none, ending, journal_until}
+use Rattle.job_kept.proofs.Spans.{known_is}
+
+-- ---- of which operation
+
+abort_tells : (g : Setting) (a : Who) (op : Operation) (o : Outcome) → is_abort (tells g a op o) ≡ is_abort op
+abort_tells g a (TheSetup t) o = refl
+abort_tells g a (TheWrite t) o = refl
+abort_tells g a (TheTaskCommit t) o = refl
+abort_tells g a (TheTaskAbort t) o = refl
+abort_tells g a (TheCommit c) o = refl
+abort_tells g a (TheClean t) o = refl
+
+abort_run : (g : Setting) (t n : ℕ) (m : Running) (es : List Entry) → is_abort (run (advance g (Attempt t n)) m es).operation ≡ is_abort m.operation
+abort_run g t n m [] = refl
+abort_run g t n m (e ∷ es) = abort_run g t n (advance g (Attempt t n) m e.outcome) es ∙ abort_tells g (attempt t n) m.operation e.outcome
+
+no_abort : (g : Setting) (t n : ℕ) (op : Op) (missing : Option ℕ) (k : Known) (m : Operation) → start_of g (Attempt t n) op missing k ≡ Some m → (op ≡ ops.Abort → ⊥) → is_abort m ≡ false
+no_abort g t n ops.Setup missing k m e ne = absurd (none_some refl e)
+no_abort g t n ops.Write missing k m e ne = ap is_abort (sym (some_is e))
+no_abort g t n ops.Commit missing k m e ne = ap is_abort (sym (some_is e))
+no_abort g t n ops.Abort missing k m e ne = absurd (ne refl)
+no_abort g t n ops.Clean missing k m e ne = absurd (none_some refl e)
+
+abbrev IsTaskCommit : Operation → Type 0
+IsTaskCommit (TheTaskCommit t) = Unit {0}
+IsTaskCommit _ = ⊥
+
+commit_tells : (g : Setting) (a : Who) (op : Operation) (o : Outcome) → IsTaskCommit op → IsTaskCommit (tells g a op o)
+commit_tells g a (TheTaskCommit t) o h = tt
+commit_tells g a (TheSetup t) o h = absurd h
+commit_tells g a (TheWrite t) o h = absurd h
+commit_tells g a (TheTaskAbort t) o h = absurd h
+commit_tells g a (TheCommit c) o h = absurd h
+commit_tells g a (TheClean t) o h = absurd h
+
+commit_run : (g : Setting) (t n : ℕ) (m : Running) (es : List Entry) → IsTaskCommit m.operation → IsTaskCommit (run (advance g (Attempt t n)) m es).operation
+commit_run g t n m [] h = h
+commit_run g t n m (e ∷ es) h = commit_run g t n (advance g (Attempt t n) m e.outcome) es (commit_tells g (attempt t n) m.operation e.outcome h)
+
+task_is : {d e : TaskEnd} → Some (ends.Task d) ≡ Some (ends.Task e) → d ≡ e
+task_is e = cc
+
+-- a commit that is done
+abbrev IsDoneCommit : Operation → Type 0
+IsDoneCommit op = (spare : ℕ) × (repeated : Bool) × (op ≡ TheTaskCommit (record { operation = TaskCommitOver tasks.Done; spare = spare; repeated = repeated }))
+
+done_state : (spare : ℕ) (repeated : Bool) (t : TaskCommit) → option_map ends.Task (task_commit_over t) ≡ Some (ends.Task tasks.Done) → IsDoneCommit (TheTaskCommit (record { operation = t; spare = spare; repeated = repeated }))
+done_state spare repeated (TaskCommitOver end) e = (spare, repeated, ap (λ v. TheTaskCommit (record { operation = TaskCommitOver v; spare = spare; repeated = repeated })) (task_is e))
+done_state spare repeated (Looking keys) e = absurd (none_some refl e)
+done_state spare repeated (Reading cs f fs) e = absurd (none_some refl e)
+done_state spare repeated (Publishing cs) e = absurd (none_some refl e)
+done_state spare repeated (Checking d ds) e = absurd (none_some refl e)
+done_state spare repeated (Uploads f fs u) e = absurd (none_some refl e)
+done_state spare repeated Storing e = absurd (none_some refl e)
+done_state spare repeated Renaming e = absurd (none_some refl e)
+
+done_commit : (op : Operation) → IsTaskCommit op → over op ≡ Some (ends.Task tasks.Done) → IsDoneCommit op
+done_commit (TheTaskCommit t) h e = done_state t.spare t.repeated t.operation e
+done_commit (TheSetup t) h e = absurd h
+done_commit (TheWrite t) h e = absurd h
+done_commit (TheTaskAbort t) h e = absurd h
+done_commit (TheCommit c) h e = absurd h
+done_commit (TheClean t) h e = absurd h
+
+module _ (g : Setting) (opening : Content) (j : IsLegal g.script) (is_opening : IsOpening g opening) (x : Play) (run_x : Happened g opening x) (idle : x.now ≡ None) where
+  module _ (i t a : ℕ) (d : Doing) (e : TaskEnd) (es : List Entry) (n : Ending g opening x i (Attempt t a) d (ends.Task e) es) where
+    abbrev z : Play
+    z = n.closed.at
+
+    abbrev k : Known
+    k = known_then g (Attempt t a) d (by_actor (Attempt t a) z.journal)
+
+    abbrev at : Operation
+    at = (run (advance g (Attempt t a)) (record { operation = n.op; known = k }) es).operation
+
+    -- the run at the end of the event
+    then : IsRun g opening (happen g z (Closes n.event_end)) (commit_event g.script x.ends)
+    then = is_run g opening j is_opening (happen g z (Closes n.event_end)) (happens z (Closes n.event_end) n.closed.happened n.closed.may) x.ends (n.closed.ahead x.ends (ahead_none x idle))
+
+    is_at : then.stand.attempts (attempt t a) ≡ Some at
+    is_at = then.attempts (attempt t a) ∙ ap operation_of n.running
+
+    journal_then : until (i + 1) x.journal ≡ z.journal
+    journal_then = journal_until g opening x run_x idle i n.event_end n.closed
+
+    cleaned_then : then.stand.told.cleaned ≡ has_cleaned (until (i + 1) x.journal)
+    cleaned_then =
+        ap (λ (m : Told). m.cleaned) (tells_so g (commit_event g.script x.ends) opening j is_opening z.journal then.stand then.runs) ∙ cleaned_is g.script z.journal nothing_told ∙ ap has_cleaned (sym journal_then)
+
+    gone_so : over at ≡ Some (ends.Task e) → (d.op ≡ ops.Abort → ⊥) → (name : List ℕ) → e ≡ tasks.Gone name → has_cleaned (until (i + 1) x.journal) ≡ true
+    gone_so o not_abort name is =
+        sym cleaned_then
+        ∙ gone_cleaned g (commit_event g.script x.ends) opening j is_opening z.journal then.stand then.runs (attempt t a) at name is_at (abort_run g t a (record { operation = n.op; known = k }) es ∙ no_abort g t a d.op d.missing k n.op n.begun_is not_abort) (o ∙ ap (λ v. Some (ends.Task v)) is)
+
+    known_so : k ≡ known_then (setting g.script opening) (Attempt t a) d (by_actor (Attempt t a) x.journal)
+    known_so = ap (knows g.script (attempt t a)) (sym (known_is g opening x i (Attempt t a) d (ends.Task e) es n))
+
+    task_so : over at ≡ Some (ends.Task e) → (worn : Option Request) × WornFirst g.script.retries es worn
+        × TaskIs d.op g.script (known_then (setting g.script opening) (Attempt t a) d (by_actor (Attempt t a) x.journal)).publish_sent (has_cleaned (until (i + 1) x.journal)) worn e
+    task_so o =
+        let r = task_ends g t a d.op d.missing k n.op n.begun_is es n.follows e o in
+        (r.0, r.1, subst (λ (v : Known). TaskIs d.op g.script v.publish_sent (has_cleaned (until (i + 1) x.journal)) r.0 e) known_so (task_joined d.op g.script k.publish_sent (has_cleaned (until (i + 1) x.journal)) r.0 e r.2 (gone_so o)))
+
+  pub tasks_kept : TasksEnd g.script opening x.journal x.ends
+  tasks_kept own i t a d e es h =
+      let n = ending g opening x run_x idle i (Attempt t a) d (ends.Task e) es h in
+      elim n.ended [ inl memory ↦ inl (memory_task e memory) | inr o ↦ inr (task_so i t a d e es n o) ]
+
+  -- ---- a commit that is done
+
+  module _ (i t a : ℕ) (d : Doing) (es : List Entry) (n : Ending g opening x i (Attempt t a) d (ends.Task tasks.Done) es) where
+    abbrev u : Play
+    u = n.closed.at
+
+    commit_begun : d.op ≡ ops.Commit → IsTaskCommit n.op
+    commit_begun is = subst IsTaskCommit (some_is (sym (ap (λ v. start_of g (Attempt t a) v d.missing (k i t a d tasks.Done es n)) is) ∙ n.begun_is)) tt
+
+    publishes_so : d.op ≡ ops.Commit → has_cleaned (until (i + 1) x.journal) ≡ false → over (at i t a d tasks.Done es n) ≡ Some (ends.Task tasks.Done) → WasPublished g.script opening x.journal t a (i + 1)
+    publishes_so is clean o =
+        let r = then i t a d tasks.Done es n in
+        let c = done_commit (at i t a d tasks.Done es n) (commit_run g t a (record { operation = n.op; known = k i t a d tasks.Done es n }) es (commit_begun is)) o in
+        let p = has_published g (commit_event g.script x.ends) opening j is_opening u.journal r.stand r.runs (cleaned_then i t a d tasks.Done es n ∙ clean) (attempt t a) c.0 c.1 (is_at i t a d tasks.Done es n ∙ ap (λ v. Some v) c.2) in
+        subst (λ l. WasPublished g.script opening l t a (i + 1)) (sym n.closed.all) (run_entries.published g.script opening u.journal n.closed.entries t a p.0 (i + 1) p.1 n.up_to)
+
+  pub publishes_kept : Publishes g.script opening x.journal x.ends
+  publishes_kept own i t a d es h is clean =
+      let n = ending g opening x run_x idle i (Attempt t a) d (ends.Task tasks.Done) es h in
+      elim n.ended [ inl memory ↦ absurd (false_true refl memory) | inr o ↦ publishes_so i t a d es n is clean o ]

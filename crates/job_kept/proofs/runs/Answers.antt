@@ -1,0 +1,5 @@
+use Rattle.job_kept.proofs.Kept.{runs_are_kept}
+use Rattle.job_kept.proofs.runs.Goals as goal
+
+pub returns : goal.returns
+returns c = record { kept = runs_are_kept }
