@@ -1,0 +1,187 @@
+-- What is to be known of operations beside the facts is kept.
+use Rattle.std.proofs.Common.{◌≡◌, ℕ, nat_eq, nat_lt, ◌&&◌, Bool, true, false, cond, List, [], ◌∷◌, ◌++◌, map, length, Option, Some, None, refl, subst, sym, inr}
+use Rattle.std.proofs.lemmas.Bool.{false≢true}
+use Rattle.s3_types.specs.declared.request.Actor.{Actor}
+use Rattle.s3_types.specs.declared.request.Actor.TheVariants.{Driver, Attempt, Shell}
+use Rattle.s3_types.specs.declared.request.Request.{Request}
+use Rattle.s3_types.specs.declared.request.Committer.{Committer}
+use Rattle.s3_types.specs.declared.request.Committer.TheVariants.{Magic, Directory, Partitioned}
+use Rattle.s3_types.specs.declared.request.Mode.{Mode}
+use Rattle.s3_types.specs.declared.reply.Reply.{Reply}
+use Rattle.s3_types.specs.declared.reply.Reply.TheVariants.{Page, Refused}
+use Rattle.s3_types.specs.declared.reply.Refusal.TheVariants.{NoSuchKey, NoSuchFile}
+use Rattle.s3_types.specs.declared.journal.Outcome.{Outcome}
+use Rattle.s3_types.specs.declared.journal.Outcome.TheVariants.{Answered, Slow, RequestLost, ReplyLost}
+use Rattle.s3_types.specs.declared.journal.Entry.{Entry}
+use Rattle.pending_json.specs.declared.records.PendingSet.{PendingSet}
+use Rattle.sendings.specs.Retries.{Retried, step}
+use Rattle.request_frame.specs.Members.{IsIn}
+use Rattle.job_model.specs.Files.{File}
+use Rattle.job_model.specs.Attempts.{Who}
+use Rattle.job_model.specs.JobScript.{Script}
+use Rattle.job_model.specs.declared.ends.CommitEnd.{CommitEnd}
+use Rattle.job_operations.specs.Outputs.{Picks, files, same_path}
+use Rattle.job_operations.specs.Records.{record_key}
+use Rattle.job_operations.specs.Uploading.{Uploaded, GoesOn, AllSent, IsGone, upload_hears}
+use Rattle.job_operations.specs.Walks.{Walked, More, Whole, walked}
+use Rattle.job_operations.specs.TaskCommits.{TaskCommit, Looking, Reading, Publishing, Checking, Uploads, Storing, Renaming, TaskCommitOver, to_check, storing, checking, checked, reading, looked, looked_at, read_record, uploaded, renamed, least_missing, in_order, task_commit_start, task_commit_start_by, task_commit_hears, task_commit_after}
+use Rattle.job_operations.specs.Lanes.{Turn, again, follow, dealt, revert}
+use Rattle.job_operations.specs.JobCommits.{Sets, picks_of, all_commits, set_read, Commit, Fetching, Replacing, Completing, Marking, Reverting, CommitOver, completing, replaced, replacing, decided, fetching, fetched, reverting, worn_completion, commit_start, commit_misses, commit_tells}
+use Rattle.job_promise.specs.Seen.{Seen, see, see_by, is_publishing, is_magic}
+use Rattle.job_facts.specs.Told.{Told}
+use Rattle.job_facts.specs.Facts.{Hold}
+use Rattle.job_facts.specs.Driver.{FitsJobCommit}
+use Rattle.job_facts.specs.Standing.{HasPublished}
+use Rattle.job_facts.proofs.Going.{step_so}
+use Rattle.job_facts.proofs.Ordered.{order_each}
+use Rattle.job_answers.specs.Due.{ReadsOwn, ReplacesNone, SetStands, AllPublished}
+
+-- ---- the records that a task's commit reads
+
+module _ (w : Script) (a : Who) where
+  own_storing : (fs : List File) → ReadsOwn w a (storing fs)
+  own_storing [] = tt
+  own_storing (f ∷ fs) = tt
+
+  own_checking : (ds : List (List ℕ)) → ReadsOwn w a (checking w a ds)
+  own_checking [] = own_storing (files w a)
+  own_checking (d ∷ ds) = tt
+
+  own_reading : (cs fs : List File) → ((f : File) → IsIn f fs → IsIn f (files w a)) → ReadsOwn w a (reading cs fs)
+  own_reading cs [] own = tt
+  own_reading cs (f ∷ fs) own = own
+
+  own_looked_at : (keys : List (List ℕ)) (o : Option (List ℕ)) → ReadsOwn w a (looked_at o (in_order w a keys))
+  own_looked_at keys (Some k) = tt
+  own_looked_at keys None = own_reading (in_order w a keys) (in_order w a keys) (λ f i. (order_each w a keys f i).0)
+
+  own_looked : (v : Walked (List ℕ)) → ReadsOwn w a (looked w a v)
+  own_looked (More keys) = tt
+  own_looked (Whole keys) = own_looked_at keys (least_missing keys (map (record_key w a) (files w a)))
+
+  own_read : (cs : List File) (f : File) (fs : List File) (x : Reply) → ((g : File) → IsIn g (f ∷ fs) → IsIn g (files w a)) → ReadsOwn w a (read_record w a cs f fs x)
+  own_read cs f fs (Refused NoSuchKey) own = tt
+  own_read cs f fs _ own = own_reading cs fs (λ g i. own g (inr i))
+
+  own_checked : (d : List ℕ) (ds : List (List ℕ)) (x : Reply) → ReadsOwn w a (checked w a d ds x)
+  own_checked d ds (Page [] more) = own_checking ds
+  own_checked d ds (Page (y ∷ ys) more) = tt
+  own_checked d ds _ = tt
+
+  own_uploaded : (f : File) (fs : List File) (u : Uploaded) → ReadsOwn w a (uploaded w f fs u)
+  own_uploaded f fs (GoesOn u) = tt
+  own_uploaded f fs AllSent = own_storing fs
+  own_uploaded f fs IsGone = tt
+
+  own_renamed : (x : Reply) (repeated : Bool) → ReadsOwn w a (renamed w a x repeated)
+  own_renamed (Refused NoSuchFile) repeated = tt
+  own_renamed _ repeated = tt
+
+  own_heard : (minimum : ℕ) (t : TaskCommit) (x : Reply) (repeated : Bool) → ReadsOwn w a t → ReadsOwn w a (task_commit_hears w minimum a t x repeated)
+  own_heard minimum (Looking keys) x repeated own = own_looked (walked keys x)
+  own_heard minimum (Reading cs f fs) x repeated own = own_read cs f fs x own
+  own_heard minimum (Publishing cs) x repeated own = tt
+  own_heard minimum (Checking d ds) x repeated own = own_checked d ds x
+  own_heard minimum (Uploads f fs u) x repeated own = own_uploaded f fs (upload_hears w minimum f u x)
+  own_heard minimum Storing x repeated own = tt
+  own_heard minimum Renaming x repeated own = own_renamed x repeated
+  own_heard minimum (TaskCommitOver end) x repeated own = tt
+
+pub reads_begin : (w : Script) (a : Who) → ReadsOwn w a (task_commit_start w a)
+reads_begin w a = by w.committer
+  where
+    by : (c : Committer) → ReadsOwn w a (task_commit_start_by c w a)
+    by Magic = tt
+    by Directory = own_checking w a (to_check w a)
+    by Partitioned = own_checking w a (to_check w a)
+
+pub reads_go : (w : Script) (minimum retries : ℕ) (a : Who) (t : Retried TaskCommit) (o : Outcome) → ReadsOwn w a t.operation → ReadsOwn w a (step retries (task_commit_after w minimum a) t o).operation
+reads_go w minimum retries a t o own = step_so retries (task_commit_after w minimum a) t o (ReadsOwn w a) (λ x e. own_heard w a minimum t.operation x t.repeated own) (λ none. own) (λ none. tt)
+
+-- ---- a commit without a replace mode
+
+either : (b : Bool) (c d : Commit) → ReplacesNone c → ReplacesNone d → ReplacesNone (cond b c d)
+either true c d h g = h
+either false c d h g = g
+
+none_completing : (sets : Sets) (xs : List Turn) (finished : List ℕ) → ReplacesNone (completing sets xs finished)
+none_completing sets [] finished = tt
+none_completing sets (x ∷ xs) finished = tt
+
+none_reverting : (rs : List Request) → ReplacesNone (reverting rs)
+none_reverting [] = tt
+none_reverting (r ∷ rs) = tt
+
+module _ (w : Script) (magic : is_magic w.committer ≡ true) where
+  none_replaced : (c : Committer) (mode : Mode) (picks : Picks) → is_magic c ≡ true → replaced c mode w picks ≡ []
+  none_replaced Magic mode picks h = refl
+  none_replaced Directory mode picks h = absurd (false≢true h)
+  none_replaced Partitioned mode picks h = absurd (false≢true h)
+
+  none_decided : (sets : Sets) (o : Option CommitEnd) → ReplacesNone (decided w sets o)
+  none_decided sets (Some end) = tt
+  none_decided sets None = subst (λ ps. ReplacesNone (replacing w sets ps)) (sym (none_replaced w.committer w.mode (picks_of sets) magic)) (none_completing sets (dealt w.lanes (length (all_commits sets))) [])
+
+  none_fetching : (sets : Sets) → ReplacesNone (fetching w sets)
+  none_fetching sets = either (nat_lt (length sets) w.tasks) (Fetching sets 0) (decided w sets (same_path w (picks_of sets))) tt (none_decided sets (same_path w (picks_of sets)))
+
+  none_fetched : (sets : Sets) (o : Option PendingSet) → ReplacesNone (fetched w sets o)
+  none_fetched sets (Some s) = none_fetching (sets ++ s ∷ [])
+  none_fetched sets None = tt
+
+  pub replaces_begin : (missing : Option ℕ) → ReplacesNone (commit_start w missing)
+  replaces_begin (Some t) = tt
+  replaces_begin None = none_fetching []
+
+  none_missed : (c : Commit) (lost : Bool) → ReplacesNone c → ReplacesNone (commit_misses w c lost)
+  none_missed (Fetching sets n) lost h = either (nat_lt n w.retries) _ _ tt tt
+  none_missed (Replacing sets p ps s n) lost h = absurd h
+  none_missed (Completing sets x xs finished) lost h =
+      either (nat_lt x.missed w.retries) (completing sets (xs ++ again x lost ∷ []) finished) (worn_completion sets x xs finished) (none_completing sets (xs ++ again x lost ∷ []) finished) (none_reverting (revert (all_commits sets) x.number xs finished))
+  none_missed (Marking sets n) lost h = either (nat_lt n w.retries) _ _ tt tt
+  none_missed (Reverting r rs n) lost h = either (nat_lt n w.retries) _ _ tt (none_reverting rs)
+  none_missed (CommitOver end) lost h = tt
+
+  none_heard : (c : Commit) (x : Reply) → ReplacesNone c → ReplacesNone (commit_tells w c (Answered x))
+  none_heard (Fetching sets n) x h = none_fetched sets (set_read x)
+  none_heard (Replacing sets p ps s n) x h = absurd h
+  none_heard (Completing sets y ys finished) x h = none_completing sets (ys ++ follow w.lanes (length (all_commits sets)) y.number) (y.number ∷ finished)
+  none_heard (Marking sets n) x h = tt
+  none_heard (Reverting r rs n) x h = none_reverting rs
+  none_heard (CommitOver end) x h = tt
+
+  pub replaces_go : (c : Commit) (o : Outcome) → ReplacesNone c → ReplacesNone (commit_tells w c o)
+  replaces_go c (Answered x) h = none_heard c x h
+  replaces_go c Slow h = none_missed c false h
+  replaces_go c RequestLost h = none_missed c true h
+  replaces_go c ReplyLost h = none_missed c true h
+
+-- ---- sets that stand
+
+pub set_stands : (w : Script) (minimum : ℕ) (s : Seen) (m : Told) (c : Commit) → Hold w minimum s m → FitsJobCommit w minimum m.publish_sent m.drawn c → m.cleaned ≡ false → AllPublished w s → SetStands w s c
+set_stands w minimum s m (Fetching sets n) h fits cleaned all = let last = all (length sets) fits.0 in h.standing cleaned (length sets) last.0 fits.0 last.1
+set_stands w minimum s m (Replacing sets p ps v n) h fits cleaned all = tt
+set_stands w minimum s m (Completing sets x xs finished) h fits cleaned all = tt
+set_stands w minimum s m (Marking sets n) h fits cleaned all = tt
+set_stands w minimum s m (Reverting r rs n) h fits cleaned all = tt
+set_stands w minimum s m (CommitOver end) h fits cleaned all = tt
+
+-- ---- publishers
+
+one_more : (last : Option ℕ) (attempt : ℕ) (b : Bool) → (n : ℕ) × (last ≡ Some n) → (n : ℕ) × (cond b (Some attempt) last ≡ Some n)
+one_more last attempt true h = (attempt, refl)
+one_more last attempt false h = h
+
+pub published_still : (w : Script) (k : Option ℕ) (s : Seen) (e : Entry) (t : ℕ) → HasPublished s t → HasPublished (see w k s e) t
+published_still w k s e t h = by e.actor e.outcome
+  where
+    by : (a : Actor) (o : Outcome) → HasPublished (see_by w k s e.event e.request o a) t
+    by Driver (Answered x) = h
+    by Driver Slow = h
+    by Driver RequestLost = h
+    by Driver ReplyLost = h
+    by (Attempt task attempt) (Answered x) = one_more (s.last t) attempt (nat_eq t task && is_publishing w s.scene task e.request) h
+    by (Attempt task attempt) Slow = h
+    by (Attempt task attempt) RequestLost = h
+    by (Attempt task attempt) ReplyLost = one_more (s.last t) attempt (nat_eq t task && is_publishing w s.scene task e.request) h
+    by Shell o = h

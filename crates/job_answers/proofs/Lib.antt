@@ -1,0 +1,12 @@
+pub mod Pages
+pub mod HeldSets
+pub mod Attempts
+pub mod Drivers
+pub mod Kept
+pub mod Committed
+pub mod Rising
+pub mod Telling
+pub mod Picking
+pub mod Planned
+pub mod Knowing
+pub mod Others

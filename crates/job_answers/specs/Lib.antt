@@ -1,0 +1,4 @@
+pub mod Plans
+pub mod Due
+pub mod Picked
+pub mod Laws
