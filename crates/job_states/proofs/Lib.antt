@@ -1,0 +1,4 @@
+pub mod PlaceLemmas
+pub mod ReportLemmas
+pub mod StandsLemmas
+pub mod FoldLemmas

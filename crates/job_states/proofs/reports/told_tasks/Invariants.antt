@@ -1,0 +1,6 @@
+use Rattle.std.proofs.Common.{◌≡◌, ◌&&◌, ℕ, false, nat_lt, slice_get, unwrap_or}
+use Rattle.job_model.specs.Jobs.{has_task}
+use Rattle.job_states.proofs.reports.told_tasks.Given as goal
+
+abbrev pub invariant-loop-task : goal.invariant-loop-task
+invariant-loop-task l = (t : ℕ) → has_task l.set t ≡ (nat_lt t l.task && unwrap_or (slice_get l.told t) false)

@@ -1,0 +1,55 @@
+-- How an actor stands, and what became of the driver's operations, as they are kept.
+use Rattle.std.specs.Prelude.{Bool, true, false, Option, Some, None, option_map}
+use Rattle.s3_types.specs.declared.request.Actor.{Actor}
+use Rattle.job_model.specs.declared.events.Op.{Op}
+use Rattle.job_model.specs.declared.events.Op.TheVariants as ops
+use Rattle.job_model.specs.declared.ends.OpEnd.{OpEnd}
+use Rattle.job_model.specs.declared.states.Life.TheVariants as lives
+use Rattle.job_model.specs.declared.states.ActorStage.TheVariants as stages
+use Rattle.job_promise.specs.States.{Past, Decided, NotBegun, Unended, EndedSo, idle, dead, stage_begun, ended, restarted, end_verdict}
+use Rattle.job_states.specs.declared.standing.Standing.{Standing}
+use Rattle.job_states.specs.declared.standing.Decision.{Decision}
+use Rattle.job_states.specs.declared.standing.Decision.TheVariants as kept
+
+-- an actor's state, and the operation that it began last
+abbrev pub standing : Past → Actor → Standing
+standing p a = record { state = p.state a; begun = option_map (λ d. d.op) (p.doing a) }
+
+-- an actor that has begun nothing
+abbrev pub fresh : Standing
+fresh = record { state = idle stages.New; begun = None }
+
+-- how one stands that begins an operation
+abbrev pub begun_in : Actor → Op → Standing → Standing
+begun_in a op s = record { state = record { life = lives.Busy; stage = stage_begun a op s.state.stage }; begun = Some op }
+
+-- how one stands whose operation ended
+abbrev pub ended_in : OpEnd → Standing → Standing
+ended_in end s = record { state = ended end s.state.stage; begun = s.begun }
+
+-- how one stands that was killed
+abbrev pub killed_in : Standing → Standing
+killed_in s = record { state = dead s.state.stage; begun = s.begun }
+
+-- how a new driver stands in the place of one
+abbrev pub renewed_in : Standing → Standing
+renewed_in s = record { state = idle (restarted s.state.stage); begun = s.begun }
+
+abbrev pub same_op : Op → Op → Bool
+same_op ops.Setup ops.Setup = true
+same_op ops.Write ops.Write = true
+same_op ops.Commit ops.Commit = true
+same_op ops.Abort ops.Abort = true
+same_op ops.Clean ops.Clean = true
+same_op _ _ = false
+
+-- this operation is the one that was begun last
+abbrev pub began : Op → Option Op → Bool
+began op None = false
+began op (Some last) = same_op op last
+
+-- what is kept of what became of an operation: the status that its end gives
+abbrev pub decision : Decided → Decision
+decision NotBegun = kept.NotBegun
+decision Unended = kept.Unended
+decision (EndedSo end) = kept.Ended (end_verdict end)

@@ -1,0 +1,224 @@
+ghost use Rattle.std.specs.Prelude.{◌≡◌, ◌&&◌};
+ghost use Rattle.job_promise.specs.States.{Decided, stage_begun, stage_done, restarted, task_ended, ended, is_committing, is_done, setup_begun, commit_begun, decide, end_verdict, verdict_or};
+ghost use Rattle.job_states.specs.Standing.{decision, begun_in, ended_in, killed_in, renewed_in, began};
+
+use job_model::{ActorStage, ActorState, CleanEnd, CommitEnd, Life, Op, OpEnd, SetupEnd, TaskEnd};
+use s3_types::Actor;
+
+/// An actor's state, and the operation that it began last.
+#[derive(Clone, Copy, Debug, PartialEq, Eq)]
+pub struct Standing {
+    pub state: ActorState,
+    pub begun: Option<Op>,
+}
+
+/// What became of the last one of a kind of the driver's operations.
+#[derive(Clone, Copy, Debug, PartialEq, Eq)]
+pub enum Decision {
+    NotBegun,
+    /// It was begun, and has no end.
+    Unended,
+    /// It ended, and this is the status that its end gives: 0, 1, 8 or 9.
+    Ended(u8),
+}
+
+/// An actor that has begun nothing.
+pub const FRESH: Standing = Standing {
+    state: ActorState {
+        life: Life::Idle,
+        stage: ActorStage::New,
+    },
+    begun: None,
+};
+
+/// The stage that the start of an operation gives.
+fn stage_begun(actor: Actor, op: Op, stage: ActorStage) -> ActorStage
+    ensures { result ≡ stage_begun actor op stage }
+{
+    match (actor, op) {
+        (Actor::Driver, Op::Abort) => ActorStage::Aborted,
+        (_, Op::Commit) => ActorStage::Committing,
+        (_, Op::Write) => ActorStage::Writing,
+        _ => stage,
+    }
+}
+
+/// The stage of an attempt that ended what it did.
+fn stage_done(stage: ActorStage) -> ActorStage
+    ensures { result ≡ stage_done stage }
+{
+    match stage {
+        ActorStage::Writing => ActorStage::Written,
+        ActorStage::Committing => ActorStage::Committed,
+        _ => ActorStage::Aborted,
+    }
+}
+
+/// The stage of a new driver.
+fn restarted(stage: ActorStage) -> ActorStage
+    ensures { result ≡ restarted stage }
+{
+    match stage {
+        ActorStage::Committing => ActorStage::Failed,
+        _ => stage,
+    }
+}
+
+/// The state that the end of an attempt's operation gives.
+fn after_task(end: &TaskEnd, stage: ActorStage) -> ActorState
+    ensures { result ≡ task_ended end.now stage }
+{
+    let (life, stage) = match end {
+        TaskEnd::Done => (Life::Idle, stage_done(stage)),
+        TaskEnd::Kept => (Life::Idle, stage),
+        TaskEnd::NoMemory => (Life::Dead, stage),
+        _ => (Life::Idle, ActorStage::Failed),
+    };
+    ActorState { life, stage }
+}
+
+/// The state that an operation's end gives.
+fn ended(end: &OpEnd, stage: ActorStage) -> ActorState
+    ensures { result ≡ ended end.now stage }
+{
+    let (life, stage) = match end {
+        OpEnd::Task(end) => return after_task(end, stage),
+        OpEnd::Setup(SetupEnd::Done) => (Life::Idle, ActorStage::Set),
+        OpEnd::Commit(CommitEnd::Committed) => (Life::Idle, ActorStage::Committed),
+        OpEnd::Setup(SetupEnd::NoMemory)
+        | OpEnd::Commit(CommitEnd::NoMemory)
+        | OpEnd::Clean(CleanEnd::NoMemory)
+        | OpEnd::NoMemory => (Life::Dead, stage),
+        OpEnd::Setup(_) => (Life::Idle, ActorStage::New),
+        OpEnd::Commit(_) => (Life::Idle, ActorStage::Failed),
+        OpEnd::Clean(_) => (Life::Idle, stage),
+    };
+    ActorState { life, stage }
+}
+
+/// How an actor stands that begins an operation.
+pub fn begun(actor: Actor, op: Op, standing: Standing) -> Standing
+    ensures { result ≡ begun_in actor op standing }
+{
+    Standing {
+        state: ActorState {
+            life: Life::Busy,
+            stage: stage_begun(actor, op, standing.state.stage),
+        },
+        begun: Some(op),
+    }
+}
+
+/// How an actor stands whose operation ended.
+pub fn after_end(end: &OpEnd, standing: Standing) -> Standing
+    ensures { result ≡ ended_in end.now standing }
+{
+    Standing {
+        state: ended(end, standing.state.stage),
+        begun: standing.begun,
+    }
+}
+
+/// How an actor stands that was killed.
+pub fn killed(standing: Standing) -> Standing
+    ensures { result ≡ killed_in standing }
+{
+    Standing {
+        state: ActorState {
+            life: Life::Dead,
+            stage: standing.state.stage,
+        },
+        begun: standing.begun,
+    }
+}
+
+/// How a new driver stands in the place of one.
+pub fn renewed(standing: Standing) -> Standing
+    ensures { result ≡ renewed_in standing }
+{
+    Standing {
+        state: ActorState {
+            life: Life::Idle,
+            stage: restarted(standing.state.stage),
+        },
+        begun: standing.begun,
+    }
+}
+
+/// Whether an attempt that ended so at this stage reports its task.
+pub fn is_reporting(stage: ActorStage, end: &OpEnd) -> bool
+    ensures { result ≡ (is_committing stage && is_done end.now) }
+{
+    match (stage, end) {
+        (ActorStage::Committing, OpEnd::Task(TaskEnd::Done)) => true,
+        _ => false,
+    }
+}
+
+/// What becomes of the last set-up where an actor begins an operation.
+pub fn setup_begun(actor: Actor, op: Op, setup: Decision) -> Decision
+    ensures { (d : Decided) → setup ≡ decision d → result ≡ decision (setup_begun actor op d) }
+{
+    match (actor, op) {
+        (Actor::Driver, Op::Setup) => Decision::Unended,
+        _ => setup,
+    }
+}
+
+/// What becomes of the commit where an actor begins an operation.
+pub fn commit_begun(actor: Actor, op: Op, commit: Decision) -> Decision
+    ensures { (d : Decided) → commit ≡ decision d → result ≡ decision (commit_begun actor op d) }
+{
+    match (actor, op) {
+        (Actor::Driver, Op::Commit) => Decision::Unended,
+        _ => commit,
+    }
+}
+
+/// The status that an operation's end gives.
+fn status_of(end: &OpEnd) -> u8
+    ensures { result ≡ end_verdict end.now }
+{
+    match end {
+        OpEnd::Commit(CommitEnd::Committed) => 0,
+        OpEnd::Commit(CommitEnd::StoreFault(_)) | OpEnd::Setup(SetupEnd::StoreFault) => 8,
+        OpEnd::Commit(CommitEnd::NoMemory) | OpEnd::Setup(SetupEnd::NoMemory) | OpEnd::NoMemory =>
+            9,
+        _ => 1,
+    }
+}
+
+/// What becomes of an operation of the driver where an actor's operation ends, which was that one or not.
+pub fn decided(actor: Actor, is_that: bool, end: &OpEnd, before: Decision) -> Decision
+    ensures { (d : Decided) → before ≡ decision d → result ≡ decision (decide actor is_that end.now d) }
+{
+    match (actor, is_that) {
+        (Actor::Driver, true) => Decision::Ended(status_of(end)),
+        _ => before,
+    }
+}
+
+impl Standing {
+    /// Whether this operation is the one that the actor began last.
+    pub fn began(&self, op: Op) -> bool
+        ensures { result ≡ began op self.now.begun }
+    {
+        match self.begun {
+            Some(last) => last == op,
+            None => false,
+        }
+    }
+}
+
+impl Decision {
+    /// The status that this decides, or else another one.
+    pub fn status_or(self, other: u8) -> u8
+        ensures { (d : Decided) → self ≡ decision d → result ≡ verdict_or other d }
+    {
+        match self {
+            Decision::NotBegun => other,
+            Decision::Unended => 1,
+            Decision::Ended(status) => status,
+        }
+    }
+}
