@@ -1,0 +1,71 @@
+-- The lines of a report as they are written one after another.
+use Rattle.std.proofs.Common.{◌≡◌, ℕ, ◌+◌, ◌≤◌, Bool, true, false, cond, List, [], ◌∷◌, ◌++◌, length, drop, refl, sym, ap, subst, ◌∙◌, append_assoc}
+use Rattle.std.specs.Prelude.{is_some, Some}
+use Rattle.std.specs.List.{flat_map, zip, enumerate_from}
+use Rattle.std.specs.Map.{lookup}
+use Rattle.std.proofs.lemmas.List.{drop_all, append-nil}
+use Rattle.std.proofs.lemmas.Bool.{eq-eqb}
+use Rattle.job_model.specs.Attempts.{Who, Declared, same_name, declares}
+use Rattle.job_model.specs.JobScript.{Script}
+use Rattle.job_model.specs.declared.events.Event.{Event}
+use Rattle.job_model.specs.declared.ends.EventEnd.{EventEnd}
+use Rattle.job_model.specs.declared.ends.Pick.{Pick}
+use Rattle.job_promise.specs.States.{past}
+use Rattle.job_promise.specs.ReportText.{event_lines, pick_line, driver_line, attempt_line, closing, report_text}
+
+-- nothing is left to write
+pub all_written : {X : Type 0} (f : X → List ℕ) (left : List X) (text all : List ℕ) → text ++ flat_map f left ≡ all → left ≡ [] → text ≡ all
+all_written f left text all h e = sym (append-nil text) ∙ ap (λ l. text ++ flat_map f l) (sym e) ∙ h
+
+-- the events from place i on with their ends, numbered
+abbrev pub left_at : List Event → List EventEnd → ℕ → List (ℕ × (Event × EventEnd))
+left_at events xs i = enumerate_from (i + 1) (zip (drop i events) (drop i xs))
+
+zip_none : {X Y : Type 0} (xs : List X) → zip {K = X} {X = Y} xs [] ≡ []
+zip_none [] = refl
+zip_none (x ∷ xs) = refl
+
+-- none is left behind the last end
+pub none_left : (events : List Event) (xs : List EventEnd) (i : ℕ) → length xs ≤ i → left_at events xs i ≡ []
+none_left events xs i le = ap (λ (l : List EventEnd). enumerate_from (i + 1) (zip (drop i events) l)) (drop_all i xs le) ∙ ap (enumerate_from (i + 1)) (zip_none (drop i events))
+
+-- ---- attempts
+
+same_own : (x : Who) → same_name x x ≡ true
+same_own x = rw (eq-eqb x.task x.task refl, eq-eqb x.attempt x.attempt refl) refl
+
+-- an attempt among those that are declared is declared
+is_declared : (before rest : List Declared) (d : Declared) → declares (before ++ d ∷ rest) d.0 ≡ true
+is_declared [] rest d = ap (λ b. is_some (cond b (Some d.1) (lookup (same_name d.0) rest))) (same_own d.0)
+is_declared (x ∷ before) rest d = by (same_name d.0 x.0) (is_declared before rest d)
+  where
+    by : (b : Bool) → declares (before ++ d ∷ rest) d.0 ≡ true → is_some (cond b (Some x.1) (lookup (same_name d.0) (before ++ d ∷ rest))) ≡ true
+    by true h = refl
+    by false h = h
+
+-- behind those before it and before those that are left
+pub declared_next : (ds before left next : List Declared) (d : Declared) → before ++ left ≡ ds → left ≡ d ∷ next → declares ds d.0 ≡ true
+declared_next ds before left next d all h = subst (λ (l : List Declared). declares l d.0 ≡ true) (ap (λ (l : List Declared). before ++ l) (sym h) ∙ all) (is_declared before next d)
+
+pub one_before : (ds before left next : List Declared) (d : Declared) → before ++ left ≡ ds → left ≡ d ∷ next → (before ++ d ∷ []) ++ next ≡ ds
+one_before ds before left next d all h = append_assoc before (d ∷ []) next ∙ ap (λ (l : List Declared). before ++ l) (sym h) ∙ all
+
+-- one more line is written
+pub line_more : (f : Declared → List ℕ) (left next : List Declared) (d : Declared) (text now all : List ℕ) → left ≡ d ∷ next → now ≡ text ++ f d → text ++ flat_map f left ≡ all → now ++ flat_map f next ≡ all
+line_more f left next d text now all h written rest =
+    ap (λ l. l ++ flat_map f next) written ∙ append_assoc text (f d) (flat_map f next) ∙ ap (λ (l : List Declared). text ++ flat_map f l) (sym h) ∙ rest
+
+-- ---- the whole report
+
+-- what is written part by part is the report
+pub report_is : (w : Script) (events : List Event) (xs ends : List EventEnd) (picks chosen : List Pick) (due sent many : ℕ) (none first second third fourth all : List ℕ)
+    → events ≡ w.events → xs ≡ ends → chosen ≡ picks → sent ≡ many → none ≡ [] → first ≡ none ++ event_lines 1 events xs → second ≡ first ++ flat_map pick_line chosen → third ≡ second ++ driver_line (past w xs)
+    → fourth ≡ third ++ flat_map (λ a. attempt_line (past w xs).state a.0) w.attempts → all ≡ fourth ++ closing sent due → all ≡ report_text due many picks ends w
+unfolding report_text
+report_is w events xs ends picks chosen due sent many none first second third fourth all same given given_picks counted start one two three four five =
+    let by_ends : first ≡ event_lines 1 w.events ends = one ∙ (λ i. start i ++ event_lines 1 (same i) (given i)) in
+    let by_picks : second ≡ event_lines 1 w.events ends ++ flat_map pick_line picks = two ∙ (λ i. by_ends i ++ flat_map pick_line (given_picks i)) in
+    let by_driver : third ≡ event_lines 1 w.events ends ++ flat_map pick_line picks ++ driver_line (past w ends) = three ∙ (λ i. by_picks i ++ driver_line (past w (given i))) in
+    let by_attempts : fourth ≡ event_lines 1 w.events ends ++ flat_map pick_line picks ++ driver_line (past w ends) ++ flat_map (λ a. attempt_line (past w ends).state a.0) w.attempts =
+    four ∙ (λ i. by_driver i ++ flat_map (λ a. attempt_line (past w (given i)).state a.0) w.attempts) in
+    five ∙ (λ i. by_attempts i ++ closing (counted i) due)

@@ -1,0 +1,9 @@
+use Rattle.job_promise.specs.ReportText.{event_line}
+use Rattle.job_report.proofs.LineLemmas.{left_at, all_written, none_left}
+use Rattle.job_report.proofs.lines.write_events.Goals as goal
+
+pub returns : goal.returns
+returns c =
+    let events = c.args.events.now in
+    let ends = c.args.ends.now in
+    all_written event_line (left_at events ends c.loop-index.index) _ _ c.loop-index.invariant (none_left events ends c.loop-index.index c.loop-index-test.false)

@@ -1,0 +1,9 @@
+use Rattle.std.proofs.Common.{◌≡◌, ◌++◌, string_bytes}
+use Rattle.std.specs.List.{flat_map}
+use Rattle.job_promise.specs.ReportText.{event_line, event_lines}
+use Rattle.job_report.proofs.LineLemmas.{left_at}
+use Rattle.job_report.proofs.lines.write_events.Given as goal
+
+abbrev pub invariant-loop-index : goal.invariant-loop-index
+invariant-loop-index l =
+    string_bytes l.text ++ flat_map event_line (left_at l.events l.ends l.index) ≡ string_bytes l.fn.text ++ event_lines 1 l.events l.ends

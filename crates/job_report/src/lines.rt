@@ -1,0 +1,105 @@
+ghost use Rattle.std.specs.Prelude.{◌≡◌, ◌++◌, string_bytes, true, OnOk};
+ghost use Rattle.std.specs.List.{flat_map};
+ghost use Rattle.job_model.specs.Attempts.{declares};
+ghost use Rattle.job_promise.specs.States.{Past};
+ghost use Rattle.job_promise.specs.ReportText.{event_line, event_lines, pick_line, driver_line, attempt_line, closing};
+ghost use Rattle.job_states.specs.Stands.{Stands};
+
+use crate::ends::write_end;
+use job_model::{AttemptName, Event, EventEnd, Pick, Script};
+use job_states::States;
+use s3_types::Actor;
+use std::alloc::AllocError;
+
+/// Writes an event with its number and its end.
+fn write_event(
+    text: &mut String,
+    number: usize,
+    event: Event,
+    end: &EventEnd,
+) -> Result<(), AllocError>
+    ensures { OnOk result (string_bytes text.new ≡ string_bytes text.old ++ event_line (number, (event, end.now))) }
+{
+    write!(text, "{number} {event}: ")?;
+    write_end(text, end)?;
+    text.push_str("\n")
+}
+
+/// Writes a line for each event that has its end, numbered from 1 on.
+pub fn write_events(
+    text: &mut String,
+    events: &[Event],
+    ends: &[EventEnd],
+) -> Result<(), AllocError>
+    ensures { OnOk result (string_bytes text.new ≡ string_bytes text.old ++ event_lines 1 events.now ends.now) }
+{
+    for (index, end) in ends.iter().enumerate() {
+        let Some(event) = events.get(index) else {
+            return Ok(());
+        };
+        write_event(text, index + 1, *event, end)?;
+    }
+    Ok(())
+}
+
+/// Writes a line for each pick.
+pub fn write_picks(text: &mut String, picks: &[Pick]) -> Result<(), AllocError>
+    ensures { OnOk result (string_bytes text.new ≡ string_bytes text.old ++ flat_map pick_line picks.now) }
+{
+    for pick in picks {
+        let task = pick.task;
+        let attempt = pick.attempt;
+        write!(text, "pick {task} {attempt}\n")?;
+    }
+    Ok(())
+}
+
+/// Writes the driver's line: its life and stage, and the job attempt's number from the second on.
+pub fn write_driver(text: &mut String, script: &Script, states: &States) -> Result<(), AllocError>
+    ensures { (p : Past) → Stands script.now states.now p → OnOk result (string_bytes text.new ≡ string_bytes text.old ++ driver_line p) }
+{
+    let state = states.state(script, Actor::Driver);
+    let life = state.life;
+    let stage = state.stage;
+    let number = states.attempt();
+    if number > 1 {
+        write!(text, "driver {life} {stage} attempt {number}\n")
+    } else {
+        write!(text, "driver {life} {stage}\n")
+    }
+}
+
+/// Writes an attempt's line: its life and stage.
+fn write_attempt(
+    text: &mut String,
+    script: &Script,
+    states: &States,
+    name: AttemptName,
+) -> Result<(), AllocError>
+    requires { declares script.now.attempts name ≡ true }
+    ensures { (p : Past) → Stands script.now states.now p → OnOk result (string_bytes text.new ≡ string_bytes text.old ++ attempt_line p.state name) }
+{
+    let AttemptName { task, attempt } = name;
+    let actor = Actor::Attempt { task, attempt };
+    let state = states.state(script, actor);
+    let life = state.life;
+    let stage = state.stage;
+    write!(text, "{actor} {life} {stage}\n")
+}
+
+/// Writes a line for each declared attempt.
+pub fn write_attempts(text: &mut String, script: &Script, states: &States) -> Result<(), AllocError>
+    ensures { (p : Past) → Stands script.now states.now p → OnOk result (string_bytes text.new ≡ string_bytes text.old ++ flat_map (λ a. attempt_line p.state a.0) script.now.attempts) }
+{
+    for (name, _) in script.attempts.held() {
+        write_attempt(text, script, states, *name)?;
+    }
+    Ok(())
+}
+
+/// Writes the number of sendings and the status that was due.
+pub fn write_closing(text: &mut String, sent: usize, due: u8) -> Result<(), AllocError>
+    ensures { OnOk result (string_bytes text.new ≡ string_bytes text.old ++ closing sent due) }
+{
+    write!(text, "sent {sent}\nstatus {due}\n")
+}

@@ -1,0 +1,36 @@
+ghost use Rattle.std.specs.Prelude.{◌≡◌, length, IfOk};
+ghost use Rattle.job_promise.specs.ReportText.{report_text};
+
+use crate::lines::{write_attempts, write_closing, write_driver, write_events, write_picks};
+use job_model::{EndList, PickList, Script};
+use job_states::States;
+use s3_types::{Bytes, Journal};
+use std::alloc::{AllocError, Global};
+
+/// What a run did: the status that the program ends with, the status that was due before anything was
+/// written, every sending, the picks of the job's commit, and the ends of its events.
+#[derive(Drop)]
+pub struct Report {
+    pub status: u8,
+    pub due: u8,
+    pub journal: Journal,
+    pub picks: PickList,
+    pub ends: EndList,
+}
+
+/// The report's text: a line for each event that has its end, for each pick, for the driver and for each
+/// declared attempt, then the number of sendings and the status that was due. AllocError comes where memory
+/// ran out alone.
+pub fn report_text(alloc: Global, report: &Report, script: &Script) -> Result<Bytes, AllocError>
+    ensures { IfOk result (λ text. text ≡ report_text report.now.due (length report.now.journal.entries) report.now.picks report.now.ends script.now) }
+{
+    let ends = report.ends.as_slice();
+    let states = States::after(alloc, script, ends)?;
+    let mut text = String::new(alloc);
+    write_events(&mut text, script.events.as_slice(), ends)?;
+    write_picks(&mut text, report.picks.as_slice())?;
+    write_driver(&mut text, script, &states)?;
+    write_attempts(&mut text, script, &states)?;
+    write_closing(&mut text, report.journal.len(), report.due)?;
+    Bytes::new(alloc, text.into_bytes())
+}
