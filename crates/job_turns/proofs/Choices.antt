@@ -1,0 +1,32 @@
+-- The choice of who sends next in a mix.
+use Rattle.std.proofs.Common.{◌≡◌, ℕ, suc, ◌+◌, ◌*◌, ◌/◌, ◌%◌, ◌^◌, ◌==◌, ◌<◌, List, length, get_or, slice_get, Some, true, false, ap, sym, ◌∙◌, arith, rules}
+use Rattle.std.proofs.lemmas.Bool.Decides.{nat_tests}
+use Rattle.std.proofs.lemmas.Option.{slice_get-get_or}
+use Rattle.job_promise.specs.Turns.{draw, place}
+
+pub mod_below : (x n : ℕ) → 0 < n → x % n < n
+mod_below x n h = search (arith, rules)
+
+pub next_drawn : (seed n drawn : ℕ) → drawn ≡ draw seed n → (1103515245 * drawn + 12345) % 2147483648 ≡ draw seed (n + 1)
+next_drawn seed n drawn e =
+    let s : suc n ≡ n + 1 = omega arith in
+    ap (λ v. (1103515245 * v + 12345) % 2147483648) e ∙ ap (draw seed) s
+
+pub place_is : (seed n drawn m : ℕ) → drawn ≡ draw seed n → (1103515245 * drawn + 12345) % 2147483648 / 65536 % m ≡ place seed (n + 1) m
+place_is seed n drawn m e = ap (λ v. v / 65536 % m) (next_drawn seed n drawn e)
+
+pub next_small : (drawn : ℕ) → (1103515245 * drawn + 12345) % 2147483648 < 2 ^ 31
+next_small drawn = mod_below (1103515245 * drawn + 12345) 2147483648 (omega arith)
+
+pub is_zero : (n : ℕ) → true ≡ (n == 0) → n ≡ 0
+is_zero n h = grind (arith, nat_tests)
+
+not_zero : (n : ℕ) → false ≡ (n == 0) → 0 < n
+not_zero n h = grind (arith, nat_tests)
+
+-- the element at a place that is taken modulo the length stands there
+pub picked : (busy : List ℕ) (l n x a : ℕ) → l ≡ length busy → false ≡ (l == 0) → n ≡ l → a ≡ get_or busy (x % n) a → slice_get busy (x % n) ≡ Some a
+picked busy l n x a len some is at =
+    let k : 0 < l = not_zero l some in
+    let below : x % n < n = mod_below x n (omega (arith, k, is)) in
+    slice_get-get_or busy (x % n) a (omega (arith, len, is, below)) ∙ ap (λ v. Some v) (sym at)

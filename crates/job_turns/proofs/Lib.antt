@@ -1,0 +1,4 @@
+pub mod AloneTurns
+pub mod Places
+pub mod Choices
+pub mod MixTurns
