@@ -1,2 +1,2 @@
 pub mod CommitEnds
-mod Falling
+pub mod Falling
