@@ -1,0 +1,4 @@
+pub mod CutNames
+pub mod Unique
+pub mod FilePlans
+pub mod PlanBounds

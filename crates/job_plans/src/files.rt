@@ -1,0 +1,39 @@
+ghost use Rattle.std.specs.Prelude.{◌≡◌, [], true, IfOk};
+ghost use Rattle.s3_types.specs.Names.{is_job_id};
+ghost use Rattle.job_model.specs.Legal.{AreFiles};
+ghost use Rattle.job_model.specs.Placed as places;
+
+use crate::names::unique_name;
+use job_model::FileList;
+use s3_types::Text;
+use std::alloc::{AllocError, Global};
+
+/// A file's path below the destination: unique to the job, or as the script writes it, which is shared.
+fn path_of(alloc: Global, unique: bool, job: &Text, path: &Text) -> Result<Text, AllocError>
+    ensures { IfOk result (λ text. text ≡ places.path_of unique job.now path.now) }
+{
+    if unique {
+        unique_name(alloc, path.as_str(), job.as_str())
+    } else {
+        path.clone()
+    }
+}
+
+/// Files at their paths below the destination. Their bytes are shared.
+pub fn placed(
+    alloc: Global,
+    unique: bool,
+    job: &Text,
+    files: &FileList,
+) -> Result<FileList, AllocError>
+    requires id { is_job_id job.now ≡ true }
+    requires files { AreFiles [] files.now }
+    ensures { IfOk result (λ copy. copy ≡ places.placed unique job.now files.now) }
+{
+    let mut copy = FileList::new(alloc);
+    for (path, bytes) in files.held() {
+        let path = path_of(alloc, unique, job, path)?;
+        copy.add(path, bytes.clone()?)?;
+    }
+    Ok(copy)
+}
