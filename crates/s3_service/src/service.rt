@@ -3,7 +3,7 @@ ghost use Rattle.std.specs.FinMap as map;
 ghost use Rattle.s3_types.specs.Store.{new_content};
 ghost use Rattle.s3_types.specs.Answer.{answer_store, apply_store, draws};
 ghost use Rattle.s3_types.specs.Requests.{is_cluster};
-ghost use Rattle.s3_service.specs.Ids.{IsFresh};
+ghost use Rattle.s3_service.specs.Ids.{IsFresh, AreBelow};
 ghost use Rattle.s3_types.specs.declared.limits.TheConstants.{MOST_MINIMUM};
 
 use crate::bucket::BucketStore;
@@ -86,9 +86,10 @@ impl Service {
         self.minimum
     }
 
-    /// The id of the next upload.
+    /// The id of the next upload. All ids are below it.
     pub fn next_upload(&self) -> u64
-        ensures { result ≡ self.now.next }
+        ensures next { result ≡ self.now.next }
+        ensures below { AreBelow self.now.buckets self.now.next }
     {
         self.next
     }

@@ -23,7 +23,7 @@ loop-init c = record {
 pub add_bucket-requires : goal.add_bucket-requires
 add_bucket-requires c = record {
   absent = c.loop.invariant.free c.in_ok-name.name c.in_ok-name.ensures.after;
-  below = subst (IsFresh c.in_ok-objects.uploads) c.next_upload.ensures c.in_ok-objects.ensures.below;
+  below = subst (IsFresh c.in_ok-objects.uploads) c.next_upload.ensures.next c.in_ok-objects.ensures.below;
 }
 
 pub loop-preserved : goal.loop-preserved
@@ -31,7 +31,7 @@ loop-preserved c =
     let held : BucketContent = record { objects = c.in_ok-objects.objects; uploads = c.in_ok-objects.uploads } in
     let same : Some c.in_ok-copy.copy ≡ Some c.in_ok-name.name = ap (λ (k : List ℕ). Some k) c.in_ok-copy.ensures.cases in
     let now : c.add_bucket.new.self.buckets ≡ fin.insert c.loop.service.buckets c.in_ok-name.name held = ap (λ (s : Content). s.buckets) c.in_ok-add_bucket.ensures.ok in
-    let value = subst (λ (n : ℕ). bucket_at n c.args.whole c.in_ok-name.after.now ≡ Ok (held, c.in_ok-objects.after.now)) (c.next_upload.ensures ∙ c.loop.invariant.same_next) c.in_ok-objects.ensures.exact in
+    let value = subst (λ (n : ℕ). bucket_at n c.args.whole c.in_ok-name.after.now ≡ Ok (held, c.in_ok-objects.after.now)) (c.next_upload.ensures.next ∙ c.loop.invariant.same_next) c.in_ok-objects.ensures.exact in
     let free : IsFree text_cmp (Some c.in_ok-name.name) (fin.insert c.loop.service.buckets c.in_ok-name.name held) = still_free text_total c.loop.last c.loop.service.buckets c.in_ok-name.name held c.loop.invariant.free c.in_ok-name.ensures.after in
     record {
       so_far = one_more (name_at is_bucket c.args.whole) (bucket_at c.args.service.now.next c.args.whole) c.args.count c.loop.counter c.loop.last c.loop.rest.now _ _ c.in_ok-name.name held _ c.loop.service.buckets _ _ c.loop-test.true c.in_ok-name.ensures.exact value now same c.loop.invariant.so_far;
@@ -54,5 +54,5 @@ returns-in_err-name c =
 pub returns-in_err-objects : goal.returns-in_err-objects
 returns-in_err-objects c =
     let is : c.from_residual-in_err-objects.result ≡ Err c.in_err-objects.field-0.0 = search rules in
-    let fault = subst (λ (n : ℕ). Fails wanting c.in_err-objects.field-0.0 (bucket_at n c.args.whole c.in_ok-name.after.now)) (c.next_upload.ensures ∙ c.loop.invariant.same_next) c.in_err-objects.ensures.exact in
+    let fault = subst (λ (n : ℕ). Fails wanting c.in_err-objects.field-0.0 (bucket_at n c.args.whole c.in_ok-name.after.now)) (c.next_upload.ensures.next ∙ c.loop.invariant.same_next) c.in_err-objects.ensures.exact in
     gives_fault wanting _ _ _ _ is (made_fault wanting _ _ _ (value_fails (name_at is_bucket c.args.whole) (bucket_at c.args.service.now.next c.args.whole) c.args.count c.loop.counter _ _ _ _ _ _ _ c.loop-test.true c.in_ok-name.ensures.exact fault c.loop.invariant.so_far))
