@@ -160,6 +160,25 @@ impl CommitJob {
         plan
     }
 
+    /// Gives up the attempts of the sets that were read, by task from 0 on. Takes no memory.
+    pub fn into_picks(self) -> PickList
+        ensures { result ≡ picks_from 0 self.picked }
+    {
+        let CommitJob {
+            alloc: _,
+            plan,
+            sets,
+            places,
+            picks,
+            next,
+        } = self;
+        let_go(plan);
+        let_go(sets);
+        let_go(places);
+        let_go(next);
+        picks
+    }
+
     /// Whether the present request completes an upload and a sending of it was lost, and not merely slow: only then
     /// may it be answered that there is no such upload. Takes no memory.
     pub fn was_lost(&self) -> bool
