@@ -1,0 +1,4 @@
+pub mod Picking
+pub mod Tallies
+pub mod Unread
+pub mod Keeping

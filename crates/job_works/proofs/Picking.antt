@@ -1,0 +1,157 @@
+-- That the driver's commit is at work exactly where it was begun last, and that nothing is picked before it.
+use Rattle.std.proofs.Common.{◌≡◌, ℕ, zero, suc, ◌+◌, true, List, [], ◌++◌, length, Option, Some, None, refl, sym, ap, subst, ◌∙◌, arith}
+use Rattle.std.proofs.lemmas.Bool.{false≢true}
+use Rattle.s3_types.specs.Store.{Content}
+use Rattle.s3_types.specs.declared.request.Actor.{Actor}
+use Rattle.s3_types.specs.declared.request.Actor.TheVariants.{Driver, Attempt, Shell}
+use Rattle.s3_types.specs.declared.journal.Outcome.{Outcome}
+use Rattle.s3_types.specs.declared.journal.Entry.{Entry}
+use Rattle.job_model.specs.Known.{Known}
+use Rattle.job_model.specs.Legal.{IsLegal}
+use Rattle.job_model.specs.declared.events.Op.{Op}
+use Rattle.job_model.specs.declared.events.Op.TheVariants.{Setup, Write, Commit, Abort, Clean}
+use Rattle.job_model.specs.declared.events.Event.{Event}
+use Rattle.job_model.specs.declared.events.Event.TheVariants.{Do, Start, Step, Run, Kill, Mix, Restart, Recover}
+use Rattle.job_model.specs.declared.states.ActorState.{ActorState}
+use Rattle.job_operations.specs.Outputs.{Picks}
+use Rattle.job_operations.specs.Operations.{Setting, Operation, TheSetup, TheWrite, TheTaskCommit, TheTaskAbort, TheCommit, TheClean, Running, who, tells, start_of}
+use Rattle.job_promise.specs.Seen.{Seen, see_all, nothing_seen}
+use Rattle.job_promise.specs.States.{put, missing, open_event, refusal, driver_may, begins_commit, is_commit, commit_event}
+use Rattle.job_promise.specs.Promise.{picked, picks_below}
+use Rattle.request_frame.proofs.Members.{none_some}
+use Rattle.job_facts.specs.Told.{Told}
+use Rattle.job_facts.specs.Runs.{IsOpening, is_set, is_just_set}
+use Rattle.job_facts.proofs.Running.{At}
+use Rattle.job_facts.proofs.Entries.{take_all, sees, late_now}
+use Rattle.job_happenings.specs.Happenings.{Play, Refuses, Opens, Sends, Finishes, Closes, begun, knows_now, open_running, hear, MayOpen, Happened, nothing_happened, happens}
+use Rattle.job_happenings.specs.Running.{operation_of}
+use Rattle.job_happenings.proofs.RunningStages.{DriverAt, begins_so, may_commit_job}
+use Rattle.job_happenings.proofs.Running.{carried}
+use Rattle.job_works.specs.Picks.{PicksGo, ArePicksOf, is_job_commit, is_committing}
+
+-- ---- what the driver began last
+
+-- it is at the job's commit exactly where it began that last, and between events nothing goes on
+record Doing (x : Play) : Type 0 where
+  same : is_committing (x.running Driver) ≡ is_commit (x.live.doing Driver)
+  rest : x.now ≡ None → x.live.doing ≡ x.past.doing
+
+module _ (g : Setting) where
+  began : (op : Op) (k : Known) (since : ℕ) (least : Option ℕ) → is_committing (begun (start_of g Driver op least k) k) ≡ is_commit (Some (record { op = op; since = since; missing = least }))
+  began Setup k since least = refl
+  began Write k since least = refl
+  began Commit k since least = refl
+  began Abort k since least = refl
+  began Clean k since least = refl
+
+  opened : (x : Play) (ev : Event) → is_committing (x.running Driver) ≡ is_commit (x.past.doing Driver) → is_committing (open_running g x ev Driver) ≡ is_commit ((open_event g.script x.past ev).doing Driver)
+  opened x (Do Driver op) h = began op (knows_now g x Driver) (x.past.events + 1) (missing g.script x.past.reported)
+  opened x (Do (Attempt t n) op) h = h
+  opened x (Do Shell op) h = h
+  opened x (Start Driver op) h = began op (knows_now g x Driver) (x.past.events + 1) (missing g.script x.past.reported)
+  opened x (Start (Attempt t n) op) h = h
+  opened x (Start Shell op) h = h
+  opened x (Step a n) h = h
+  opened x (Run a) h = h
+  opened x (Kill a) h = h
+  opened x (Mix seed) h = h
+  opened x Restart h = h
+  opened x (Recover a) h = h
+
+  -- an outcome leads an operation to one of the same kind
+  told_commit : (op : Operation) (o : Outcome) → is_job_commit (tells g (who Driver) op o) ≡ is_job_commit op
+  told_commit (TheSetup t) o = refl
+  told_commit (TheWrite t) o = refl
+  told_commit (TheTaskCommit t) o = refl
+  told_commit (TheTaskAbort t) o = refl
+  told_commit (TheCommit c) o = refl
+  told_commit (TheClean t) o = refl
+
+  heard : (m : Option Running) (e : Entry) → is_committing (hear g Driver m e) ≡ is_committing m
+  heard None e = refl
+  heard (Some m) e = told_commit m.operation e.outcome
+
+  sent : (a : Actor) (r : Actor → Option Running) (e : Entry) → is_committing (put r a (hear g a (r a) e) Driver) ≡ is_committing (r Driver)
+  sent Driver r e = heard (r Driver) e
+  sent (Attempt t n) r e = refl
+  sent Shell r e = refl
+
+module _ (g : Setting) (opening : Content) where
+  doing_so : (x : Play) → Happened g opening x → Doing x
+  doing_so x (nothing_happened) = record { same = refl; rest = λ e. refl }
+  doing_so x (happens y (Refuses f) past may) = let h = doing_so y past in record { same = h.same ∙ ap (λ d. is_commit (d Driver)) (h.rest may.1.idle); rest = λ e. refl }
+  doing_so x (happens y (Opens ev) past may) =
+      let h = doing_so y past in
+      record { same = opened g y ev (h.same ∙ ap (λ d. is_commit (d Driver)) (h.rest may.idle)); rest = λ e. absurd (none_some e refl) }
+  doing_so x (happens y (Sends e) past may) = let h = doing_so y past in record { same = sent g e.actor y.running e ∙ h.same; rest = h.rest }
+  doing_so x (happens y (Finishes z) past may) = let h = doing_so y past in record { same = h.same; rest = λ e. absurd (none_some e may.during) }
+  doing_so x (happens y (Closes end) past may) = let h = doing_so y past in record { same = h.same; rest = λ e. refl }
+
+-- ---- before the commit
+
+-- where the event that begins it is not refused the driver is at a stage in which it may
+may_commit : (st : Actor → ActorState) (ev : Event) → begins_commit ev ≡ true → refusal st ev ≡ None → driver_may Commit (st Driver).stage ≡ true
+may_commit st (Do Driver Commit) b r = (begins_so (st Driver).stage Driver Commit (st Driver).life (st Driver).stage r).may_begin
+may_commit st (Start Driver Commit) b r = (begins_so (st Driver).stage Driver Commit (st Driver).life (st Driver).stage r).may_begin
+may_commit st (Do Driver Setup) b r = absurd (false≢true b)
+may_commit st (Do Driver Write) b r = absurd (false≢true b)
+may_commit st (Do Driver Abort) b r = absurd (false≢true b)
+may_commit st (Do Driver Clean) b r = absurd (false≢true b)
+may_commit st (Do (Attempt t n) op) b r = absurd (false≢true b)
+may_commit st (Do Shell op) b r = absurd (false≢true b)
+may_commit st (Start Driver Setup) b r = absurd (false≢true b)
+may_commit st (Start Driver Write) b r = absurd (false≢true b)
+may_commit st (Start Driver Abort) b r = absurd (false≢true b)
+may_commit st (Start Driver Clean) b r = absurd (false≢true b)
+may_commit st (Start (Attempt t n) op) b r = absurd (false≢true b)
+may_commit st (Start Shell op) b r = absurd (false≢true b)
+may_commit st (Step a n) b r = absurd (false≢true b)
+may_commit st (Run a) b r = absurd (false≢true b)
+may_commit st (Kill a) b r = absurd (false≢true b)
+may_commit st (Mix seed) b r = absurd (false≢true b)
+may_commit st Restart b r = absurd (false≢true b)
+may_commit st (Recover a) b r = absurd (false≢true b)
+
+pub just_set : (d : Option Operation) → is_just_set d ≡ true → is_set d ≡ true
+just_set None e = absurd (false≢true e)
+just_set (Some (TheSetup t)) e = e
+just_set (Some (TheWrite t)) e = absurd (false≢true e)
+just_set (Some (TheTaskCommit t)) e = absurd (false≢true e)
+just_set (Some (TheTaskAbort t)) e = absurd (false≢true e)
+just_set (Some (TheCommit c)) e = absurd (false≢true e)
+just_set (Some (TheClean t)) e = absurd (false≢true e)
+
+none_below : (p : Picks) → ((t : ℕ) → p t ≡ None) → (n : ℕ) → picks_below p n ≡ []
+none_below p h zero = refl
+none_below p h (suc n) = ap (λ l. l ++ picked n (p n)) (none_below p h n) ∙ ap (picked n) (h n)
+
+module _ (g : Setting) (opening : Content) (j : IsLegal g.script) (is_opening : IsOpening g opening) where
+  -- right after its set-up nothing is picked
+  pub unpicked : (d : Option Operation) (s : Seen) (m : Told) (es : List Entry) → is_just_set d ≡ true → At g opening d s m es → (t : ℕ) → s.picks t ≡ None
+  unpicked None s m es e h t = absurd (false≢true e)
+  unpicked (Some (TheSetup v)) s m es e h t = h.1.unpicked t
+  unpicked (Some (TheWrite v)) s m es e h t = absurd (false≢true e)
+  unpicked (Some (TheTaskCommit v)) s m es e h t = absurd (false≢true e)
+  unpicked (Some (TheTaskAbort v)) s m es e h t = absurd (false≢true e)
+  unpicked (Some (TheCommit v)) s m es e h t = absurd (false≢true e)
+  unpicked (Some (TheClean v)) s m es e h t = absurd (false≢true e)
+
+  none_picked : (x : Play) → Happened g opening x → (ev : Event) → begins_commit ev ≡ true → MayOpen g x ev None → ArePicksOf g opening x []
+  none_picked x past ev begins may xs ahead =
+      let k = commit_event g.script xs in
+      let c = carried g opening j is_opening x past xs ahead in
+      let h = c.along in
+      let at : DriverAt (x.past.state Driver).stage (x.past.state Driver).life (operation_of (x.running Driver)) = subst (λ s. DriverAt (s Driver).stage (s Driver).life (operation_of (x.running Driver))) (c.rest may.idle) h.driver_at in
+      let set = may_commit_job (x.past.state Driver).stage (x.past.state Driver).life (operation_of (x.running Driver)) at (may_commit x.past.state ev begins may.refusal_is) in
+      let just : is_just_set h.stand.driver ≡ true = ap is_just_set h.driver ∙ set in
+      let l = late_now g k opening j is_opening x.journal h.stand h.runs (just_set h.stand.driver just) in
+      let none : picks_below h.stand.seen.picks g.script.tasks ≡ [] = none_below h.stand.seen.picks (unpicked h.stand.driver h.stand.seen h.stand.told h.stand.commit just l.driver) g.script.tasks in
+      let seen_is = sees g k opening j is_opening x.journal h.stand h.runs in
+      let all = take_all x.journal (length x.journal) (omega arith) in
+      sym none ∙ ap (λ (s : Seen). picks_below s.picks g.script.tasks) (seen_is ∙ ap (see_all g.script k (nothing_seen opening)) (sym all))
+
+pub picks_go : PicksGo
+picks_go = record {
+  doing = λ g opening x j past. (doing_so g opening x past).same;
+  none_before = λ g opening x j is_opening past ev begins may. none_picked g opening j is_opening x past ev begins may;
+}
