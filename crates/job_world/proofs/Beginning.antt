@@ -1,0 +1,298 @@
+-- An actor of a world begins an operation: what it goes by, and that all holds but for its hand.
+use Rattle.std.proofs.Common.{◌≡◌, ℕ, ◌-◌, ◌^◌, ◌<◌, ◌⊎◌, inl, inr, not, true, false, List, [], length, slice_get, Option, Some, None, vec_len, vec_capacity, refl, sym, ap, subst, ◌∙◌, append-nil, arith}
+use Rattle.std.specs.Prelude.{IsSome, is_some, IfOk, Result, Ok, Err}
+use Rattle.std.proofs.lemmas.Option.{slice_get_within}
+use Rattle.request_frame.proofs.Members.{none_some, false_true}
+use Rattle.s3_types.specs.declared.request.Request.{Request}
+use Rattle.s3_types.specs.declared.request.Actor.{Actor}
+use Rattle.s3_types.specs.declared.request.Actor.TheVariants.{Driver, Attempt, Shell}
+use Rattle.s3_types.specs.declared.request.Committer.TheVariants.{Magic}
+use Rattle.job_model.specs.Attempts.{is_known}
+use Rattle.job_model.specs.Known.{Known}
+use Rattle.job_model.specs.JobScript.{Script}
+use Rattle.job_model.specs.Legal.{HasOp, IsEvent, IsLegal}
+use Rattle.job_model.specs.declared.events.Op.{Op}
+use Rattle.job_model.specs.declared.events.Op.TheVariants as ops
+use Rattle.job_model.specs.declared.events.Event.{Event}
+use Rattle.job_model.specs.declared.events.Event.TheVariants.{Do, Start, Step, Run, Kill, Mix, Restart, Recover}
+use Rattle.job_model.specs.declared.ends.EventFault.{EventFault}
+use Rattle.job_model.specs.declared.ends.OpEnd.{OpEnd}
+use Rattle.job_model.specs.declared.ends.Pick.{Pick}
+use Rattle.job_model.specs.declared.states.Life.{Life}
+use Rattle.job_model.specs.declared.states.Life.TheVariants.{Idle, Busy, Dead}
+use Rattle.job_operations.specs.Knowledge.{knows}
+use Rattle.job_operations.specs.Operations.{Setting, Running, who, start_of, over}
+use Rattle.job_promise.specs.States.{Past, actors, missing, refusal, refuse_begin, open_event}
+use Rattle.job_promise.specs.Turns.{by_actor}
+use Rattle.acting.specs.Plans.{IsPlanOf}
+use Rattle.acting.specs.declared.plan.Plan as acting
+use Rattle.job_happenings.specs.Happenings.{Play, Opens, MayOpen, begun, happen, knows_now}
+use Rattle.job_happenings.specs.Running.{Ahead}
+use Rattle.job_happenings.proofs.Running.{is_run}
+use Rattle.job_states.specs.Stands.{Stands, IsPlace}
+use Rattle.job_works.specs.Works.{Starts}
+use Rattle.job_works.specs.Picks.{PicksGo, is_job_commit}
+use Rattle.job_world.specs.Holds.{Holds, HandIs, PutBy, Quiet, all_sound, all_but, setting_of}
+use Rattle.job_world.specs.Events.{Next, IsFine, HasRoom, IsOpened, Emptied, put_away, knows_of, GivesPlan, IsWork, Begun, BeginsBy}
+use Rattle.job_world.specs.declared.hands.Hand.{Hand}
+use Rattle.job_world.specs.declared.hands.Hand.TheVariants.{Plan, At, Empty}
+use Rattle.job_world.specs.declared.body.Body.{Body}
+use Rattle.job_world.proofs.Kept.{Spares, put_by_kept}
+use Rattle.job_world.proofs.Standings.{placed, another, known_place, busy_at}
+use Rattle.job_world.proofs.Moments.{lives_of, past_of, is_idle, live_of, may_open, event_of, few_attempts, hand_at}
+use Rattle.job_world.proofs.Opening.{spares_others, begun_busy, not_left, leaves, opened_holds, opened_hands, busy_before}
+use Rattle.job_world.proofs.Picked.{begun_running, picked_then, put_by_driver}
+
+-- ---- what may be begun
+
+idle_of : (l : Life) (r : Option EventFault) → refuse_begin l r ≡ None → l ≡ Idle
+idle_of Idle r h = refl
+idle_of Busy r h = absurd (none_some h refl)
+idle_of Dead r h = absurd (none_some h refl)
+
+-- who begins is idle before
+pub begins_idle : (p : Past) (ev : Event) (a : Actor) (op : Op) → BeginsBy ev a op → refusal p.state ev ≡ None → (p.state a).life ≡ Idle
+begins_idle p (Do b o) a op h fine = ap (λ (v : Actor). (p.state v).life) (sym h.0) ∙ idle_of (p.state b).life _ fine
+begins_idle p (Start b o) a op h fine = ap (λ (v : Actor). (p.state v).life) (sym h.0) ∙ idle_of (p.state b).life _ fine
+begins_idle p (Step b n) a op h fine = absurd h
+begins_idle p (Run b) a op h fine = absurd h
+begins_idle p (Kill b) a op h fine = absurd h
+begins_idle p (Mix seed) a op h fine = absurd h
+begins_idle p Restart a op h fine = absurd h
+begins_idle p (Recover b) a op h fine = absurd h
+
+pub begins_op : (w : Script) (ev : Event) (a : Actor) (op : Op) → BeginsBy ev a op → IsEvent w.attempts ev → HasOp a op
+begins_op w (Do b o) a op h e = subst (λ v. HasOp a v) h.1 (subst (λ v. HasOp v o) h.0 e.1)
+begins_op w (Start b o) a op h e = subst (λ v. HasOp a v) h.1 (subst (λ v. HasOp v o) h.0 e.1)
+begins_op w (Step b n) a op h e = absurd h
+begins_op w (Run b) a op h e = absurd h
+begins_op w (Kill b) a op h e = absurd h
+begins_op w (Mix seed) a op h e = absurd h
+begins_op w Restart a op h e = absurd h
+begins_op w (Recover b) a op h e = absurd h
+
+pub begins_do : (ev : Event) (a : Actor) (op : Op) → ev ≡ Do a op → BeginsBy ev a op
+begins_do ev a op e = subst (λ v. BeginsBy v a op) (sym e) (refl, refl)
+
+pub begins_start : (ev : Event) (a : Actor) (op : Op) → ev ≡ Start a op → BeginsBy ev a op
+begins_start ev a op e = subst (λ v. BeginsBy v a op) (sym e) (refl, refl)
+
+-- who begins is of the job
+pub known_named : (w : Script) (ev : Event) (a : Actor) (op : Op) → BeginsBy ev a op → IsEvent w.attempts ev → is_known w.attempts a ≡ true
+known_named w (Do b o) a op h e = ap (is_known w.attempts) (sym h.0) ∙ e.0
+known_named w (Start b o) a op h e = ap (is_known w.attempts) (sym h.0) ∙ e.0
+known_named w (Step b n) a op h e = absurd h
+known_named w (Run b) a op h e = absurd h
+known_named w (Kill b) a op h e = absurd h
+known_named w (Mix seed) a op h e = absurd h
+known_named w Restart a op h e = absurd h
+known_named w (Recover b) a op h e = absurd h
+
+opened_reported : (w : Script) (p : Past) (ev : Event) (a : Actor) (op : Op) → BeginsBy ev a op → (open_event w p ev).reported ≡ p.reported
+opened_reported w p (Do b o) a op h = refl
+opened_reported w p (Start b o) a op h = refl
+opened_reported w p (Step b n) a op h = absurd h
+opened_reported w p (Run b) a op h = absurd h
+opened_reported w p (Kill b) a op h = absurd h
+opened_reported w p (Mix seed) a op h = absurd h
+opened_reported w p Restart a op h = absurd h
+opened_reported w p (Recover b) a op h = absurd h
+
+-- which task is missing matters to the job's commit alone
+pub missing_not : (g : Setting) (a : Actor) (op : Op) (m n : Option ℕ) (k : Known) → (a ≡ Driver → ⊥) ⊎ (op ≡ ops.Commit → ⊥) → start_of g a op m k ≡ start_of g a op n k
+missing_not g Driver ops.Setup m n k h = refl
+missing_not g Driver ops.Write m n k h = refl
+missing_not g Driver ops.Commit m n k (inl h) = absurd (h refl)
+missing_not g Driver ops.Commit m n k (inr h) = absurd (h refl)
+missing_not g Driver ops.Abort m n k h = refl
+missing_not g Driver ops.Clean m n k h = refl
+missing_not g (Attempt t a) ops.Setup m n k h = refl
+missing_not g (Attempt t a) ops.Write m n k h = refl
+missing_not g (Attempt t a) ops.Commit m n k h = refl
+missing_not g (Attempt t a) ops.Abort m n k h = refl
+missing_not g (Attempt t a) ops.Clean m n k h = refl
+missing_not g Shell op m n k h = refl
+
+module _ {W : Type 0} (is_of : Setting → Actor → W → Type 0) (running : Known → W → Running) (picks_of : W → Option (List Pick)) where
+  -- what is begun is what the script's operation is as it begins
+  pub work_of : (b : Body W) (a : Actor) (op : Op) (n : Option ℕ) (work : W) → Starts is_of running picks_of (setting_of b) a op n (knows_of b a) work
+      → ((p : Past) → Stands b.script b.states p → start_of (setting_of b) a op n (knows_of b a) ≡ start_of (setting_of b) a op (missing b.script p.reported) (knows_of b a)) → IsWork is_of running picks_of b a op work
+  work_of b a op n work s same =
+      let k : Known = knows_of b a in
+      record {
+        goes_by = s.goes_by;
+        starts = λ p stands. ap (λ o. begun o k) (sym (same p stands) ∙ s.starts) ∙ ap (λ (v : Known). Some (record { operation = (running k work).operation; known = v })) (sym s.known);
+        picks = s.picks;
+      }
+
+  pub works_of : {E : Type 0} (b : Body W) (a : Actor) (op : Op) (n : Option ℕ) (r : Result W E) → IfOk r (Starts is_of running picks_of (setting_of b) a op n (knows_of b a))
+      → ((p : Past) → Stands b.script b.states p → start_of (setting_of b) a op n (knows_of b a) ≡ start_of (setting_of b) a op (missing b.script p.reported) (knows_of b a)) → IfOk r (IsWork is_of running picks_of b a op)
+  works_of b a op n (Ok work) s same = work_of b a op n work s same
+  works_of b a op n (Err e) s same = tt
+
+-- ---- the plan that an attempt's hand gives
+
+module _ {W : Type 0} (wants : W → Option Request) (end_of : W → Option OpEnd) (is_of : Setting → Actor → W → Type 0) (running : Known → W → Running) (picks_of : W → Option (List Pick))
+    (asks : (m : W) → is_some (wants m) ≡ not (is_some (end_of m))) (ends : (k : Known) (m : W) → end_of m ≡ over (running k m).operation) where
+  none_of : (o : Option Request) → is_some o ≡ false → o ≡ None
+  none_of None h = refl
+  none_of (Some r) h = absurd (false_true h refl)
+
+  over_asks_not : (k : Known) (m : W) → IsSome (over (running k m).operation) → wants m ≡ None
+  over_asks_not k m h = none_of (wants m) (asks m ∙ ap (λ o. not (is_some o)) (ends k m) ∙ ap not h)
+
+  module _ (b : Body W) (q : Quiet wants is_of running picks_of b) (ev : Event) (a : Actor) (op : Op) (place : ℕ) (begins : BeginsBy ev a op) (nd : a ≡ Driver → ⊥) (at : IsPlace b.script a (Some place)) (fine : IsFine b ev) where
+    ahead_now : Ahead q.holds.play q.holds.play.ends
+    ahead_now = record { rest = []; is = sym (append-nil q.holds.play.ends); going = λ v e. absurd (none_some (is_idle is_of running picks_of all_sound b q.holds q.idle) e) }
+
+    learned : (v : Actor) → (v ≡ Driver → ⊥) → is_known b.script.attempts v ≡ true → (m : Running) → q.holds.play.running v ≡ Some m → m.known ≡ knows_now (setting_of b) q.holds.play v
+    learned Driver n known m e = absurd (n refl)
+    learned (Attempt t k) n known m e =
+        let r = is_run (setting_of b) b.opening q.holds.legal q.holds.opens q.holds.play q.holds.happened q.holds.play.ends ahead_now in
+        r.last (record { task = t; attempt = k }) m e ∙ sym (r.knows (record { task = t; attempt = k }))
+    learned Shell n known m e = absurd (false_true refl known)
+
+    knows_before : knows_of b a ≡ knows_now (setting_of b) q.holds.play a
+    knows_before = ap (λ es. knows b.script (who a) (by_actor a es)) q.holds.journal
+
+    idle_before : (q.holds.play.live.state a).life ≡ Idle
+    idle_before =
+        ap (λ (p : Past). (p.state a).life) (live_of is_of running picks_of all_sound b q.holds q.idle)
+        ∙ begins_idle q.holds.play.past ev a op begins (ap (λ (p : Past). refusal p.state ev) (past_of is_of running picks_of all_sound b q.holds) ∙ fine)
+
+    idle_not_dead : (l : Life) → l ≡ Idle → l ≡ Dead → ⊥
+    idle_not_dead l e f = cc
+
+    gives : (k : Hand W) → HandIs is_of running picks_of (setting_of b) b.opening q.holds.play a k → GivesPlan wants is_of running (setting_of b) a (knows_now (setting_of b) q.holds.play a) (Some k)
+    gives (Plan p) v = v.1
+    gives (At m) v =
+        let kn : Known = knows_now (setting_of b) q.holds.play a in
+        let ended = (lives_of is_of running picks_of all_sound b q.holds).over a nd idle_before (running kn m) v.1.0 in
+        (v.0, over_asks_not kn m ended, learned a nd (known_place b.script a place at) (running kn m) v.1.0)
+    gives Empty (inl lost) = absurd (idle_not_dead _ idle_before (lost.dead nd))
+    gives Empty (inr v) = absurd (nd v.0)
+
+    pub gives_plan : GivesPlan wants is_of running (setting_of b) a (knows_of b a) (slice_get b.hands.items place)
+    gives_plan =
+        let at_it = placed b.script a place at in
+        let k = hand_at is_of running picks_of all_sound b q.holds place a at_it in
+        subst (GivesPlan wants is_of running (setting_of b) a (knows_of b a)) (sym k.1)
+        (subst (λ v. GivesPlan wants is_of running (setting_of b) a v (Some k.0)) (sym knows_before) (gives k.0 (q.holds.hands place a k.0 refl at_it k.1)))
+
+-- ---- what is asked before the event is opened
+
+module _ {W : Type 0} (wants : W → Option Request) (is_of : Setting → Actor → W → Type 0) (running : Known → W → Running) (picks_of : W → Option (List Pick)) (b : Body W) (q : Quiet wants is_of running picks_of b) where
+  pub place_within : (a : Actor) (place : ℕ) → IsPlace b.script a (Some place) → place < length b.hands.items
+  place_within a place at =
+      let below = at.within in
+      let same = q.holds.places in
+      omega arith
+
+  module _ (c : Body W) (ev : Event) (next : Next b ev) (place : ℕ) (emptied : Emptied place b c) where
+    pub event_then : IsEvent c.script.attempts ev
+    event_then = subst (λ (v : Body W). IsEvent v.script.attempts ev) (sym emptied.is) (event_of is_of running picks_of all_sound b q.holds ev next)
+
+    pub few_then : c.states.attempt < 2 ^ 32 - 1
+    few_then = subst (λ (v : Body W). v.states.attempt < 2 ^ 32 - 1) (sym emptied.is) (few_attempts is_of running picks_of all_sound b q.holds ev next)
+
+    module _ (d : Body W) (opened : IsOpened ev c d) where
+      then_is : d ≡ record b { hands = c.hands; picks = c.picks; states = d.states; event = Some ev }
+      then_is = opened.is ∙ ap (λ (v : Body W). record v { states = d.states; event = Some ev }) emptied.is
+
+      pub magic_then : d.script.committer ≡ Magic
+      magic_then = ap (λ (v : Body W). v.script.committer) then_is ∙ q.holds.magic
+
+      pub legal_then : IsLegal d.script
+      legal_then = subst (λ (v : Body W). IsLegal v.script) (sym then_is) q.holds.legal
+
+      pub plan_then : (a : Actor) (p : acting.Plan) → IsPlanOf (setting_of b) a (knows_of b a) p → IsPlanOf (setting_of d) a (knows_of d a) p
+      plan_then a p h = subst (λ (v : Body W). IsPlanOf (setting_of v) a (knows_of v a) p) (sym then_is) h
+
+-- ---- all holds but for the hand
+
+module _ {W : Type 0} (wants : W → Option Request) (is_of : Setting → Actor → W → Type 0) (running : Known → W → Running) (picks_of : W → Option (List Pick)) (has_picks : (k : Known) (work : W) → is_some (picks_of work) ≡ is_job_commit (running k work).operation) (go : PicksGo)
+    (b c d : Body W) (q : Quiet wants is_of running picks_of b) (ev : Event) (next : Next b ev) (fine : IsFine b ev) (a : Actor) (op : Op) (place : ℕ) (begins : BeginsBy ev a op) (at : IsPlace b.script a (Some place)) (room : HasRoom b)
+    (emptied : Emptied place b c) (opened : IsOpened ev c d) where
+  abbrev y : Play
+  y = happen (setting_of b) q.holds.play (Opens ev)
+
+  live : q.holds.play.live ≡ q.holds.play.past
+  live = live_of is_of running picks_of all_sound b q.holds q.idle
+
+  may : MayOpen (setting_of b) q.holds.play ev None
+  may = may_open is_of running picks_of all_sound b q.holds ev None q.idle next fine
+
+  stands : Stands b.script d.states y.live
+  stands =
+      let S : Body W → Type 0 = λ v. (p : Past) → Stands v.script v.states p → Stands v.script d.states (open_event v.script p ev) in
+      subst S emptied.is opened.stands q.holds.play.past (subst (Stands b.script b.states) live q.holds.stands)
+
+  abbrev e : Body W
+  e = record b { hands = c.hands; picks = c.picks; states = d.states; event = Some ev }
+
+  opened_is : d ≡ record b { hands = c.hands; picks = c.picks; states = d.states; event = Some ev }
+  opened_is = opened.is ∙ ap (λ (v : Body W). record v { states = d.states; event = Some ev }) emptied.is
+
+  at_place : slice_get (actors b.script) place ≡ Some a
+  at_place = placed b.script a place at
+
+  spare : (p : ℕ) (v : Actor) → (p ≡ place → ⊥) → slice_get (actors b.script) p ≡ Some v → Spares ev v
+  spare p v ne there = spares_others ev a op begins v (another b.script a place at p v there ne)
+
+  abbrev holds : PutBy (setting_of b) b.opening y c.picks → Holds is_of running picks_of (all_but place) e
+  holds picks =
+      opened_holds wants is_of running picks_of b q ev next fine c d stands (all_but place) emptied.places
+      (opened_hands wants is_of running picks_of b q ev next fine c d stands (all_but place) (λ p s. emptied.others p (not_left place p s)) (λ p v s there. spare p v (not_left place p s) there)) picks
+
+  knows_is : knows_of e a ≡ knows_now (setting_of b) q.holds.play a
+  knows_is = ap (λ es. knows b.script (who a) (by_actor a es)) q.holds.journal
+
+  fits : (m : W) → IsWork is_of running picks_of e a op m → HandIs is_of running picks_of (setting_of b) b.opening y a (At m)
+  fits m work =
+      let kn : Known = knows_now (setting_of b) q.holds.play a in
+      let at_m : y.running a ≡ Some (running kn m) =
+      begun_running (setting_of b) q.holds.play ev a op begins ∙ ap (λ r. begun (start_of (setting_of b) a op (missing b.script r) kn) kn) (sym (opened_reported b.script q.holds.play.past ev a op begins))
+      ∙ subst (λ v. begun (start_of (setting_of b) a op (missing b.script y.live.reported) v) v ≡ Some (running v m)) knows_is (work.starts y.live stands) in
+      (work.goes_by, (at_m, picked_then is_of running picks_of has_picks go (setting_of b) b.opening q.holds.play q.holds.legal q.holds.opens q.holds.happened ev may live a op m kn begins at_m work.picks))
+
+  fits_all : {E : Type 0} (work : Result W E) → IfOk work (IsWork is_of running picks_of e a op) → IfOk work (λ m. HandIs is_of running picks_of (setting_of b) b.opening y a (At m))
+  fits_all (Ok m) work = fits m work
+  fits_all (Err v) work = tt
+
+  has_room : vec_len b.finished < vec_capacity b.finished
+  has_room =
+      let k = hand_at is_of running picks_of all_sound b q.holds place a at_place in
+      let some = slice_get_within b.hands.items place k.0 k.1 in
+      let r = room.finished in
+      omega arith
+
+  begun_in : {E : Type 0} (work : Result W E) → PutBy (setting_of b) b.opening y c.picks → IfOk work (IsWork is_of running picks_of e a op) → Begun wants is_of running picks_of place a e work
+  begun_in work picks is = record {
+    holds = holds picks;
+    actor = at;
+    fits = fits_all work is;
+    busy = busy_at b.script d.states y.live stands place a at_place ∙ begun_busy (setting_of b) q.holds.play.past ev a op begins;
+    others = λ p k ne busy hand. q.none_over p k (busy_before wants is_of running picks_of b q ev next fine c d stands p (λ v there. spare p v ne there) busy) (sym (emptied.others p ne) ∙ hand);
+    during = refl;
+    none = q.none;
+    room = has_room;
+  }
+
+  begun_all : {E : Type 0} (work : Result W E) → PutBy (setting_of b) b.opening y c.picks → IfOk work (IsWork is_of running picks_of d a op) → Begun wants is_of running picks_of place a d work
+  begun_all work picks is =
+      subst (λ (v : Body W). Begun wants is_of running picks_of place a v work) (sym opened_is)
+      (begun_in work picks (subst (λ (v : Body W). IfOk work (IsWork is_of running picks_of v a op)) opened_is is))
+
+  -- an attempt leaves the picks
+  pub attempt_begun : {E : Type 0} (work : Result W E) → (a ≡ Driver → ⊥) → c.picks ≡ b.picks → IfOk work (IsWork is_of running picks_of d a op) → Begun wants is_of running picks_of place a d work
+  attempt_begun work nd same is =
+      begun_all work
+      (subst (PutBy (setting_of b) b.opening y) (sym same) (put_by_kept (setting_of b) b.opening q.holds.play y (leaves wants is_of running picks_of b q ev next fine Driver (spares_others ev a op begins Driver (λ s. nd (sym s)))) b.picks q.holds.picks)) is
+
+  -- the driver puts its picks by
+  pub driver_begun : {E : Type 0} (work : Result W E) → a ≡ Driver → c.picks ≡ put_away picks_of (slice_get b.hands.items place) b.picks → IfOk work (IsWork is_of running picks_of d a op) → Begun wants is_of running picks_of place a d work
+  driver_begun work driver put is =
+      let k = hand_at is_of running picks_of all_sound b q.holds place a at_place in
+      let hand : HandIs is_of running picks_of (setting_of b) b.opening q.holds.play Driver k.0 = subst (λ v. HandIs is_of running picks_of (setting_of b) b.opening q.holds.play v k.0) driver (q.holds.hands place a k.0 refl at_place k.1) in
+      let put_by = put_by_driver is_of running picks_of has_picks go (setting_of b) b.opening q.holds.play q.holds.legal q.holds.opens q.holds.happened ev may live op (subst (λ v. BeginsBy ev v op) driver begins) b.picks q.holds.picks k.0 hand in
+      begun_all work (subst (PutBy (setting_of b) b.opening y) (sym (put ∙ ap (λ o. put_away picks_of o b.picks) k.1)) put_by) is

@@ -1,0 +1,136 @@
+-- An event of a world begins: all holds then, but for the hand of one that begins an operation.
+use Rattle.std.proofs.Common.{◌≡◌, ℕ, inl, inr, not, Bool, true, List, length, slice_get, Option, Some, None, refl, sym, ap, subst, ◌∙◌}
+use Rattle.request_frame.proofs.Members.{false_true, true_or_false, nat_true}
+use Rattle.s3_types.specs.declared.request.Request.{Request}
+use Rattle.s3_types.specs.declared.request.Actor.{Actor}
+use Rattle.s3_types.specs.declared.request.Actor.TheVariants.{Driver}
+use Rattle.job_model.specs.Known.{Known}
+use Rattle.job_model.specs.declared.events.Op.{Op}
+use Rattle.job_model.specs.declared.events.Event.{Event}
+use Rattle.job_model.specs.declared.events.Event.TheVariants.{Do, Start, Step, Run, Kill, Mix, Restart, Recover}
+use Rattle.job_model.specs.declared.ends.Pick.{Pick}
+use Rattle.job_model.specs.declared.states.ActorState.{ActorState}
+use Rattle.job_operations.specs.Operations.{Setting, Running}
+use Rattle.job_promise.specs.States.{Past, actors, open_event}
+use Rattle.job_promise.specs.Turns.{is_busy}
+use Rattle.job_happenings.specs.Happenings.{Play, Opens, happen, happens}
+use Rattle.job_happenings.proofs.Actors.{put_here}
+use Rattle.job_states.specs.Stands.{Stands}
+use Rattle.job_world.specs.Holds.{Holds, HandsAre, PutBy, Quiet, Going, all_sound, all_but, setting_of, is_busy_at}
+use Rattle.job_world.specs.Events.{Next, IsFine, IsOpened, BeginsBy, BeginsNone}
+use Rattle.job_world.specs.declared.body.Body.{Body}
+use Rattle.job_world.proofs.Kept.{Leaves, Spares, hand_kept, put_by_kept, open_leaves}
+use Rattle.job_world.proofs.Standings.{busy_actor}
+use Rattle.job_world.proofs.Moments.{is_idle, live_of, may_open, busy_of}
+
+pub spares_others : (ev : Event) (a : Actor) (op : Op) → BeginsBy ev a op → (q : Actor) → (q ≡ a → ⊥) → Spares ev q
+spares_others (Do b o) a op h q ne = λ e. ne (e ∙ h.0)
+spares_others (Start b o) a op h q ne = λ e. ne (e ∙ h.0)
+spares_others (Step b n) a op h q ne = absurd h
+spares_others (Run b) a op h q ne = absurd h
+spares_others (Kill b) a op h q ne = absurd h
+spares_others (Mix seed) a op h q ne = absurd h
+spares_others Restart a op h q ne = absurd h
+spares_others (Recover b) a op h q ne = absurd h
+
+pub spares_all : (ev : Event) → BeginsNone ev → (q : Actor) → Spares ev q
+spares_all (Do b o) h q = absurd h
+spares_all (Start b o) h q = absurd h
+spares_all (Step b n) h q = tt
+spares_all (Run b) h q = tt
+spares_all (Kill b) h q = tt
+spares_all (Mix seed) h q = tt
+spares_all Restart h q = tt
+spares_all (Recover b) h q = tt
+
+pub begun_busy : (g : Setting) (p : Past) (ev : Event) (a : Actor) (op : Op) → BeginsBy ev a op → is_busy ((open_event g.script p ev).state a).life ≡ true
+begun_busy g p (Do b o) a op h = ap (λ (s : ActorState). is_busy s.life) (put_here p.state b _ a (sym h.0))
+begun_busy g p (Start b o) a op h = ap (λ (s : ActorState). is_busy s.life) (put_here p.state b _ a (sym h.0))
+begun_busy g p (Step b n) a op h = absurd h
+begun_busy g p (Run b) a op h = absurd h
+begun_busy g p (Kill b) a op h = absurd h
+begun_busy g p (Mix seed) a op h = absurd h
+begun_busy g p Restart a op h = absurd h
+begun_busy g p (Recover b) a op h = absurd h
+
+-- a place that is not left out is another one
+pub not_left : (p q : ℕ) → all_but p q ≡ true → q ≡ p → ⊥
+not_left p q h e = false_true (ap not (nat_true q p e)) h
+
+module _ {W : Type 0} (wants : W → Option Request) (is_of : Setting → Actor → W → Type 0) (running : Known → W → Running) (picks_of : W → Option (List Pick)) (b : Body W) (q : Quiet wants is_of running picks_of b) (ev : Event) (next : Next b ev) (fine : IsFine b ev) where
+  abbrev h : Holds is_of running picks_of all_sound b
+  h = q.holds
+
+  abbrev g : Setting
+  g = setting_of b
+
+  abbrev x : Play
+  x = h.play
+
+  abbrev y : Play
+  y = happen g x (Opens ev)
+
+  none : x.now ≡ None
+  none = is_idle is_of running picks_of all_sound b h q.idle
+
+  live : x.live ≡ x.past
+  live = live_of is_of running picks_of all_sound b h q.idle
+
+  pub leaves : (a : Actor) → Spares ev a → Leaves x y a
+  leaves a s = open_leaves g x ev a none live s
+
+  -- ---- the world that the event's opening makes of it, with the hands and picks of c and the states of d
+
+  module _ (c d : Body W) (stands : Stands b.script d.states y.live) where
+    abbrev e : Body W
+    e = record b { hands = c.hands; picks = c.picks; states = d.states; event = Some ev }
+
+    abbrev pub opened_holds : (sound : ℕ → Bool) → length c.hands.items ≡ length b.hands.items → HandsAre is_of running picks_of sound g b.opening y c.hands.items → PutBy g b.opening y c.picks → Holds is_of running picks_of sound e
+    opened_holds sound places hands picks = record {
+      legal = h.legal;
+      magic = h.magic;
+      opens = h.opens;
+      play = y;
+      happened = happens x (Opens ev) h.happened (may_open is_of running picks_of all_sound b h ev None q.idle next fine);
+      journal = h.journal;
+      ends = h.ends;
+      now = refl;
+      finished = q.none;
+      scene = h.scene;
+      fates = h.fates;
+      requests = h.requests;
+      few = h.few;
+      stands = stands;
+      places = places ∙ h.places;
+      hands = hands;
+      picks = picks;
+    }
+
+    pub opened_hands : (sound : ℕ → Bool) → ((p : ℕ) → sound p ≡ true → slice_get c.hands.items p ≡ slice_get b.hands.items p) → ((p : ℕ) (a : Actor) → sound p ≡ true → slice_get (actors b.script) p ≡ Some a → Spares ev a)
+        → HandsAre is_of running picks_of sound g b.opening y c.hands.items
+    opened_hands sound same spare p a k s at hand = hand_kept g b.opening x y is_of running picks_of a (leaves a (spare p a s at)) k (h.hands p a k refl at (sym (same p s) ∙ hand))
+
+    -- who is busy then was busy before, but for who begins
+    pub busy_before : (p : ℕ) → ((a : Actor) → slice_get (actors b.script) p ≡ Some a → Spares ev a) → is_busy_at d.states.actors p ≡ true → is_busy_at b.states.actors p ≡ true
+    busy_before p spare busy =
+        let r = busy_actor b.script d.states y.live stands p busy in
+        busy_of is_of running picks_of all_sound b h p r.0 r.1 ∙ elim (true_or_false (is_busy (x.live.state r.0).life)) [
+          | inl t ↦ t
+          | inr f ↦ absurd (false_true ((leaves r.0 (spare r.0 r.1)).idle f) r.2)
+        ]
+
+  -- ---- an event that begins no operation
+
+  module _ (d : Body W) (o : IsOpened ev b d) (begins : BeginsNone ev) where
+    stands_none : Stands b.script d.states y.live
+    stands_none = o.stands x.past (subst (Stands b.script b.states) live h.stands)
+
+    entered : Going wants is_of running picks_of (e b d stands_none)
+    entered = record {
+      holds = opened_holds b d stands_none all_sound refl (opened_hands b d stands_none all_sound (λ p s. refl) (λ p a s at. spares_all ev begins a)) (put_by_kept g b.opening x y (leaves Driver (spares_all ev begins Driver)) b.picks h.picks);
+      none_over = λ p k busy hand. q.none_over p k (busy_before b d stands_none p (λ a at. spares_all ev begins a) busy) hand;
+      during = refl;
+    }
+
+    pub going_opened : Going wants is_of running picks_of d
+    going_opened = subst (Going wants is_of running picks_of) (sym o.is) entered

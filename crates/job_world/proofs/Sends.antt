@@ -1,0 +1,275 @@
+-- What holds of a world where one of its busy actors has sent a request.
+use Rattle.std.proofs.Common.{◌≡◌, ℕ, zero, suc, ◌+◌, ◌<◌, ◌≤◌, ◌^◌, inl, inr, Bool, true, false, List, [], ◌∷◌, ◌++◌, length, slice_get, Option, Some, None, IsSome, Vec, Global, refl, sym, ap, subst, ◌∙◌, arith, length-append}
+use Rattle.proof_base.proofs.Options.{none_is}
+use Rattle.request_frame.proofs.Members.{some_is, false_true, true_or_false, same_or_not as same_number}
+use Rattle.s3_types.specs.Store.{Content, Scene, opening as scene_at_first}
+use Rattle.s3_types.specs.Answer.{answer, apply}
+use Rattle.s3_types.specs.Moment.{effect, after_all, IsHonestOutcome}
+use Rattle.s3_types.specs.Fates.{fate_at}
+use Rattle.s3_types.specs.Foretold.{IsForetold}
+use Rattle.s3_types.specs.Ledger.{Ledger}
+use Rattle.s3_types.specs.declared.request.Actor.{Actor}
+use Rattle.s3_types.specs.declared.request.Actor.TheVariants.{Driver}
+use Rattle.s3_types.specs.declared.request.Request.{Request}
+use Rattle.s3_types.specs.declared.request.Request.TheVariants.{MakeBucket, PutObject, GetObject, HeadObject, DeleteObject, DeleteObjects, CopyObject, ListPage, CreateUpload, UploadPart, CompleteUpload, AbortUpload, ListParts, ListUploads, ClusterPut, ClusterRename, ClusterGet, ClusterDelete, ClusterList}
+use Rattle.s3_types.specs.declared.journal.Outcome.{Outcome}
+use Rattle.s3_types.specs.declared.journal.Outcome.TheVariants.{Answered, Slow, RequestLost, ReplyLost}
+use Rattle.s3_types.specs.declared.journal.Entry.{Entry}
+use Rattle.store_link.specs.Link.{LossyLink}
+use Rattle.store_link.proofs.Ids.{next_store}
+use Rattle.job_model.specs.Known.{Known}
+use Rattle.job_model.specs.JobScript.{Script}
+use Rattle.job_model.specs.declared.ends.OpEnd.{OpEnd}
+use Rattle.job_model.specs.declared.ends.Pick.{Pick}
+use Rattle.job_operations.specs.Operations.{Setting, Running, advance}
+use Rattle.job_promise.specs.States.{actors}
+use Rattle.acting.specs.Plans.{IsPlanOf}
+use Rattle.job_happenings.specs.Happenings.{Play, Sends, hear, happen, scene_of, knows_now, MaySend, happens}
+use Rattle.job_happenings.proofs.Actors.{same_or_not, put_here, put_other}
+use Rattle.job_happenings.proofs.Parts.{take_whole}
+use Rattle.job_works.specs.Picks.{HasPicked, is_job_commit, is_committing}
+use Rattle.job_works.specs.Works.{WorkLaws, IsAt, rise_for}
+use Rattle.job_world.specs.Holds.{Holds, HandIs, HandsAre, all_sound, is_busy_at, setting_of, hand_left}
+use Rattle.job_world.specs.Posts.{RaisedBy, raised}
+use Rattle.job_world.specs.declared.hands.Hand.{Hand}
+use Rattle.job_world.specs.declared.hands.Hand.TheVariants.{Plan, At, Empty}
+use Rattle.job_world.specs.declared.body.Body.{Body}
+use Rattle.job_world.proofs.Places.{apart, driver_first, attempt_at, within, there}
+use Rattle.job_world.proofs.Along.{carried, others_know}
+use Rattle.job_world.proofs.PicksStay.{LeavesPicks, same_picked, put_by_sent}
+use Rattle.job_world.proofs.Finishes.{is_something, busy_is, busy_there}
+
+-- ---- scenes
+
+-- a request draws one id at most
+next_of : (s : Scene) (r : Request) → (apply s r).content.next ≤ s.content.next + 1
+next_of s (MakeBucket n) = next_store s.content (MakeBucket n)
+next_of s (PutObject n k b h) = next_store s.content (PutObject n k b h)
+next_of s (GetObject n k) = next_store s.content (GetObject n k)
+next_of s (HeadObject n k) = next_store s.content (HeadObject n k)
+next_of s (DeleteObject n k) = next_store s.content (DeleteObject n k)
+next_of s (DeleteObjects n ks) = next_store s.content (DeleteObjects n ks)
+next_of s (CopyObject n a b) = next_store s.content (CopyObject n a b)
+next_of s (ListPage n p d a l) = next_store s.content (ListPage n p d a l)
+next_of s (CreateUpload n k) = next_store s.content (CreateUpload n k)
+next_of s (UploadPart n k i m b) = next_store s.content (UploadPart n k i m b)
+next_of s (CompleteUpload n k i ps) = next_store s.content (CompleteUpload n k i ps)
+next_of s (AbortUpload n k i) = next_store s.content (AbortUpload n k i)
+next_of s (ListParts n k i) = next_store s.content (ListParts n k i)
+next_of s (ListUploads n p a l) = next_store s.content (ListUploads n p a l)
+next_of s (ClusterPut p b) = omega arith
+next_of s (ClusterRename a b) = omega arith
+next_of s (ClusterGet p) = omega arith
+next_of s (ClusterDelete p) = omega arith
+next_of s (ClusterList p) = omega arith
+
+next_after : (s : Scene) (r : Request) (o : Outcome) → (effect s r o).content.next ≤ s.content.next + 1
+next_after s r (Answered a) = next_of s r
+next_after s r Slow = omega arith
+next_after s r RequestLost = omega arith
+next_after s r ReplyLost = next_of s r
+
+after_more : (s : Scene) (es : List Entry) (e : Entry) → after_all s (es ++ e ∷ []) ≡ effect (after_all s es) e.request e.outcome
+after_more s [] e = refl
+after_more s (x ∷ es) e = after_more (effect s x.request x.outcome) es e
+
+pub scene_sent : (g : Setting) (opening : Content) (x : Play) (e : Entry) → scene_of opening (happen g x (Sends e)) ≡ effect (scene_of opening x) e.request e.outcome
+scene_sent g opening x e =
+    ap (after_all (scene_at_first opening)) (take_whole (x.journal ++ e ∷ []))
+    ∙ after_more (scene_at_first opening) x.journal e
+    ∙ ap (λ es. effect (after_all (scene_at_first opening) es) e.request e.outcome) (sym (take_whole x.journal))
+
+module _ {W : Type 0} (wants : W → Option Request) (tells : W → Outcome → W) (fits : W → Outcome → Type 0) (end_of : W → Option OpEnd) (left : W → Scene → ℕ) (is_of : Setting → Actor → W → Type 0) (running : Known → W → Running) (rise : Script → ℕ) (picks_of : W → Option (List Pick)) (works : WorkLaws wants tells fits end_of left is_of running rise picks_of) where
+  abbrev Keeps : (ℕ → Bool) → Body W → Type 0
+  Keeps sound b = Holds is_of running picks_of sound b
+
+  abbrev Here : Setting → Content → Play → Actor → Hand W → Type 0
+  Here g opening x a h = HandIs is_of running picks_of g opening x a h
+
+  -- the job has so few entries that no id is wanting
+  pub few_ids : (b : Body W) → Keeps all_sound b → length b.journal.entries < 2 ^ 62 → b.store.scene.content.next ≤ 2 ^ 64
+  few_ids b h few =
+      let n : b.store.requests ≡ length b.journal.entries = h.requests ∙ sym (ap length h.journal) in
+      let ids = h.few in
+      omega arith
+
+  pub is_at : (b : Body W) → (h : Keeps all_sound b) → length b.journal.entries < 2 ^ 62 → (q : ℕ) (a : Actor) (m : W) → slice_get (actors b.script) q ≡ Some a → slice_get b.hands.items q ≡ Some (At m) → IsAt is_of running (setting_of b) b.opening h.play a m
+  is_at b h few q a m e i =
+      let hand = h.hands q a (At m) refl e i in
+      record {
+        legal = h.legal;
+        magic = h.magic;
+        opens = h.opens;
+        happened = h.happened;
+        few = subst (λ (s : Scene). s.content.next ≤ 2 ^ 64) h.scene (few_ids b h few);
+        goes_by = hand.0;
+        at = hand.1.0;
+      }
+
+  -- ---- picks
+
+  no_picks : (k : Known) (m : W) → is_job_commit (running k m).operation ≡ false → picks_of m ≡ None
+  no_picks k m e = none_is (picks_of m) (works.has_picks k m ∙ e)
+
+  module _ (b : Body W) (h : Keeps all_sound b) (few : length b.journal.entries < 2 ^ 62) (place : ℕ) (actor : Actor) (m : W) (here : slice_get (actors b.script) place ≡ Some actor) (hand : slice_get b.hands.items place ≡ Some (At m)) where
+    abbrev g : Setting
+    g = setting_of b
+
+    abbrev x : Play
+    x = h.play
+
+    abbrev o_now : Known
+    o_now = knows_now g x actor
+
+    at : IsAt is_of running (setting_of b) b.opening h.play actor m
+    at = is_at b h few place actor m here hand
+
+    -- what it is at is the job's commit where its operation is
+    commits : is_committing (h.play.running actor) ≡ is_job_commit (running (knows_now (setting_of b) h.play actor) m).operation
+    commits = ap is_committing (h.hands place actor (At m) refl here hand).1.0
+
+    pub leaves : (n : ℕ) (r : Request) (o : Outcome) → wants m ≡ Some r → is_committing (h.play.running actor) ≡ false → LeavesPicks b.script (record { event = n; actor = actor; request = r; outcome = o })
+    leaves n r o asked c k s = works.leaves g b.opening x actor m at (no_picks o_now m (sym commits ∙ c)) r asked k s n o
+
+    driver_leaves : (n : ℕ) (r : Request) (o : Outcome) → wants m ≡ Some r → is_committing (h.play.running Driver) ≡ false → LeavesPicks b.script (record { event = n; actor = actor; request = r; outcome = o })
+    driver_leaves n r o asked c = leaves n r o asked (elim (same_or_not actor Driver) [
+      | inl is ↦ ap (λ a. is_committing (x.running a)) is ∙ c
+      | inr ne ↦ (carried g b.opening x h.happened).whose actor ne
+    ])
+
+    -- ---- it may be sent
+
+    module _ (event : ℕ) (number : event ≡ length b.ends.items + 1) (busy : is_busy_at b.states.actors place ≡ true) (during : IsSome b.event) (r : Request) (o : Outcome) (asked : wants m ≡ Some r) (honest : IsHonestOutcome o (answer b.store.scene r)) (fated : IsForetold (Some (fate_at b.store.fates (b.store.requests + 1))) o) where
+      abbrev e : Entry
+      e = record { event = event; actor = actor; request = r; outcome = o }
+
+      abbrev y : Play
+      y = happen g x (Sends e)
+
+      pub may : MaySend (setting_of b) b.opening h.play (record { event = event; actor = actor; request = r; outcome = o })
+      may =
+          let ev = is_something b.event during in
+          let n : b.store.requests + 1 ≡ length x.journal + 1 = ap (λ v. v + 1) h.requests in
+          record {
+            event = ev.0;
+            during = sym h.now ∙ ev.1;
+            number = number ∙ ap (λ (v : List _). length v + 1) h.ends;
+            busy = busy_is (x.live.state actor).life (sym (busy_there b.script b.states x.live h.stands place actor here) ∙ busy);
+            at = running o_now m;
+            is_at = at.at;
+            asked = sym (works.asks g b.opening x actor m at) ∙ asked;
+            honest = subst (λ (s : Scene). IsHonestOutcome o (answer s r)) h.scene honest;
+            fated = subst (λ f. IsForetold (Some f) o) (h.fates (b.store.requests + 1) ∙ ap (fate_at b.script.fates) n) fated;
+            few = at.few;
+          }
+
+      own_running : (happen (setting_of b) h.play (Sends (record { event = event; actor = actor; request = r; outcome = o }))).running actor ≡ Some (advance (setting_of b) actor (running (knows_now (setting_of b) h.play actor) m) o)
+      own_running = put_here x.running actor (hear g actor (x.running actor) e) actor refl ∙ ap (λ v. hear g actor v e) at.at
+
+      -- ---- hands
+
+      own_hand : Here (setting_of b) b.opening (happen (setting_of b) h.play (Sends (record { event = event; actor = actor; request = r; outcome = o }))) actor (At (tells m o))
+      own_hand =
+          let goes = works.goes g b.opening x actor m at r asked o (subst (λ (s : Scene). IsHonestOutcome o (answer s r)) h.scene honest) in
+          let adv = advance g actor (running o_now m) o in
+          let known : adv.known ≡ knows_now g y actor = (carried g b.opening y (happens x (Sends e) h.happened may)).known actor adv own_running in
+          let now : running (knows_now g y actor) (tells m o) ≡ adv = ap (λ k. running k (tells m o)) (sym known) ∙ goes.1 in
+          (goes.0, (own_running ∙ ap Some (sym now), works.picks g b.opening x actor m at (h.hands place actor (At m) refl here hand).1.1 e refl may))
+
+      -- another hand that is at an operation picks what it picked
+      other_picks : (a : Actor) (n : W) → (a ≡ actor → ⊥) → Here (setting_of b) b.opening h.play a (At n) → HasPicked (setting_of b) b.opening (happen (setting_of b) h.play (Sends (record { event = event; actor = actor; request = r; outcome = o }))) (picks_of n)
+      other_picks a n ne i = elim (true_or_false (is_committing (x.running actor))) [
+        | inl c ↦
+            let mine : (actor ≡ Driver → ⊥) → ⊥ = λ no. false_true ((carried g b.opening x h.happened).whose actor no) c in
+            let not_it : a ≡ Driver → ⊥ = λ d. mine (λ s. ne (d ∙ sym s)) in
+            let none : picks_of n ≡ None = no_picks (knows_now g x a) n (sym (ap is_committing i.1.0) ∙ (carried g b.opening x h.happened).whose a not_it) in
+            subst (HasPicked g b.opening y) (sym none) tt
+        | inr c ↦ same_picked g b.opening x e (leaves event r o asked c) (picks_of n) i.1.1
+      ]
+
+      still : (a : Actor) → (a ≡ actor → ⊥) → (happen (setting_of b) h.play (Sends (record { event = event; actor = actor; request = r; outcome = o }))).running a ≡ h.play.running a
+      still a ne = put_other x.running actor (hear g actor (x.running actor) e) a ne
+
+      other_hand : (a : Actor) (v : Hand W) → (a ≡ actor → ⊥) → Here (setting_of b) b.opening h.play a v → Here (setting_of b) b.opening (happen (setting_of b) h.play (Sends (record { event = event; actor = actor; request = r; outcome = o }))) a v
+      other_hand a (Plan p) ne i = (i.0, subst (λ k. IsPlanOf g a k p) (sym (others_know g b.opening x e a ne)) i.1, i.2)
+      other_hand a (At n) ne i = (i.0, (still a ne ∙ i.1.0 ∙ ap (λ k. Some (running k n)) (sym (others_know g b.opening x e a ne)), other_picks a n ne i))
+      other_hand a Empty ne (inl l) = inl (record { idle = l.idle; wanting = λ d c. l.wanting d (sym (ap is_committing (still Driver (λ s. ne (d ∙ s)))) ∙ c); dead = l.dead })
+      other_hand a Empty ne (inr n) = inr (n.0, still Driver (λ s. ne (n.0 ∙ s)) ∙ n.1)
+
+      -- ---- the world
+
+      module _ (st : LossyLink) (j : Ledger) (hs : Vec (Hand W) Global) where
+        pub sent_holds : (sound : ℕ → Bool) → j.entries ≡ b.journal.entries ++ record { event = event; actor = actor; request = r; outcome = o } ∷ [] → st.scene ≡ effect b.store.scene r o → st.requests ≡ b.store.requests + 1 → ((n : ℕ) → fate_at st.fates n ≡ fate_at b.store.fates n)
+            → length hs.items ≡ length b.hands.items → ((q : ℕ) → (q ≡ place → ⊥) → slice_get hs.items q ≡ slice_get b.hands.items q) → (sound place ≡ true → slice_get hs.items place ≡ Some (At (tells m o)))
+            → Keeps sound (record b { store = st; journal = j; hands = hs })
+        sent_holds sound appended scene count fates places others own =
+            let draws : (effect b.store.scene r o).content.next ≤ b.store.scene.content.next + 1 = next_after b.store.scene r o in
+            let low : b.store.scene.content.next ≤ 2 ^ 62 + b.store.requests = h.few in
+            let more : (effect b.store.scene r o).content.next ≤ 2 ^ 62 + (b.store.requests + 1) = omega (arith, draws, low) in
+            let S : Scene → Type 0 = λ s. s.content.next ≤ 2 ^ 62 + (b.store.requests + 1) in
+            let N : ℕ → Type 0 = λ n. st.scene.content.next ≤ 2 ^ 62 + n in
+            record {
+              legal = h.legal;
+              magic = h.magic;
+              opens = h.opens;
+              play = y;
+              happened = happens x (Sends e) h.happened may;
+              journal = appended ∙ ap (λ es. es ++ e ∷ []) h.journal;
+              ends = h.ends;
+              now = h.now;
+              finished = h.finished;
+              scene = scene ∙ ap (λ s. effect s r o) h.scene ∙ sym (scene_sent g b.opening x e);
+              fates = λ n. fates n ∙ h.fates n;
+              requests = count ∙ ap (λ n. n + 1) h.requests ∙ sym (length-append x.journal (e ∷ []));
+              few = subst N (sym count) (subst S (sym scene) more);
+              stands = h.stands;
+              places = places ∙ h.places;
+              hands = hands;
+              picks = put_by_sent g b.opening x e b.picks may (driver_leaves event r o asked) h.picks;
+            }
+          where
+            at_place : (q : ℕ) (a : Actor) (v : Hand W) → sound q ≡ true → slice_get (actors b.script) q ≡ Some a → slice_get hs.items q ≡ Some v → q ≡ place → Here (setting_of b) b.opening (happen (setting_of b) h.play (Sends (record { event = event; actor = actor; request = r; outcome = o }))) a v
+            at_place q a v s i u is =
+                let whose : actor ≡ a = some_is (sym here ∙ ap (slice_get (actors b.script)) (sym is) ∙ i) in
+                let what : At (tells m o) ≡ v = some_is (sym (own (ap sound (sym is) ∙ s)) ∙ ap (slice_get hs.items) (sym is) ∙ u) in
+                let P : Actor → Type 0 = λ c. Here g b.opening y c v in
+                let Q : Hand W → Type 0 = λ z. Here g b.opening y actor z in
+                subst P whose (subst Q what own_hand)
+
+            hands : HandsAre is_of running picks_of sound (setting_of b) b.opening (happen (setting_of b) h.play (Sends (record { event = event; actor = actor; request = r; outcome = o }))) hs.items
+            hands q a v s i u = elim (same_number q place) [
+              | inl is ↦ at_place q a v s i u is
+              | inr ne ↦ other_hand a v (apart b.script h.legal place q actor a ne here i) (h.hands q a v refl i (sym (others q ne) ∙ u))
+            ]
+
+      -- ---- what the others have left
+
+      rise_at : (q : ℕ) (a : Actor) (n : ℕ) → slice_get (actors b.script) q ≡ Some a → rise_for n a ≡ raised n q
+      rise_at zero a n i = ap (rise_for n) (driver_first b.script a i)
+      rise_at (suc q) a n i = let d = attempt_at b.script q a i in ap (rise_for n) (sym d.2)
+
+      applied : (q : ℕ) (a : Actor) (v : Hand W) → (q ≡ place → ⊥) → slice_get (actors b.script) q ≡ Some a → slice_get b.hands.items q ≡ Some v → hand_left left (apply b.store.scene r) v ≤ hand_left left b.store.scene v + raised (rise b.script) q
+      applied q a (Plan p) ne i u = omega arith
+      applied q a Empty ne i u = omega arith
+      applied q a (At n) ne i u =
+          let low = works.beside g b.opening x a actor n m (is_at b h few q a n i u) at (apart b.script h.legal place q actor a ne here i) r asked in
+          let P : Scene → Type 0 = λ s. left n (apply s r) ≤ left n s + rise_for (rise b.script) a in
+          let Q : ℕ → Type 0 = λ z. left n (apply b.store.scene r) ≤ left n b.store.scene + z in
+          subst Q (rise_at q a (rise b.script) i) (subst P (sym h.scene) low)
+
+      same_left : (q : ℕ) (v : Hand W) → hand_left left b.store.scene v ≤ hand_left left b.store.scene v + raised (rise b.script) q
+      same_left q v = omega arith
+
+      effected : (p : Outcome) (q : ℕ) (a : Actor) (v : Hand W) → (q ≡ place → ⊥) → slice_get (actors b.script) q ≡ Some a → slice_get b.hands.items q ≡ Some v → hand_left left (effect b.store.scene r p) v ≤ hand_left left b.store.scene v + raised (rise b.script) q
+      effected (Answered z) q a v ne i u = applied q a v ne i u
+      effected Slow q a v ne i u = same_left q v
+      effected RequestLost q a v ne i u = same_left q v
+      effected ReplyLost q a v ne i u = applied q a v ne i u
+
+      pub sent_raises : (s : Scene) → s ≡ effect b.store.scene r o → RaisedBy left rise place b s
+      sent_raises s scene q v ne busy u =
+          let low = within b.hands.items q v u in
+          let fits_in : q < length (actors b.script) = let e = h.places in omega arith in
+          let a = there (actors b.script) q fits_in in
+          let P : Scene → Type 0 = λ t. hand_left left t v ≤ hand_left left b.store.scene v + raised (rise b.script) q in
+          subst P (sym scene) (effected o q a.0 v ne a.1 u)

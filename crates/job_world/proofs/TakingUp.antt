@@ -1,0 +1,153 @@
+-- An actor of a world has the operation in hand that it began, which goes on or ends at once.
+use Rattle.std.proofs.Common.{◌≡◌, ℕ, ◌<◌, inl, inr, not, Bool, true, false, List, [], ◌∷◌, ◌++◌, length, slice_get, slice_set, Option, Some, None, refl, sym, ap, subst, ◌∙◌}
+use Rattle.std.specs.Prelude.{IsSome, is_some, Result, Ok}
+use Rattle.std.proofs.Math.ListN.{length-set}
+use Rattle.request_frame.proofs.Members.{some_is, false_true, nat_false, same_or_not}
+use Rattle.s3_types.specs.declared.request.Request.{Request}
+use Rattle.s3_types.specs.declared.request.Actor.{Actor}
+use Rattle.job_model.specs.Known.{Known}
+use Rattle.job_model.specs.declared.ends.OpEnd.{OpEnd}
+use Rattle.job_model.specs.declared.ends.Pick.{Pick}
+use Rattle.job_model.specs.declared.events.Event.{Event}
+use Rattle.job_operations.specs.Operations.{Setting, Running}
+use Rattle.job_promise.specs.States.{actors}
+use Rattle.job_world.specs.Sending.{Asks, hand_end}
+use Rattle.job_world.specs.Holds.{Holds, HandIs, HandsAre, Going, IsOver, all_sound, all_but, setting_of, is_busy_at}
+use Rattle.job_world.specs.Events.{Begun, InHand, Handed, TakenUp}
+use Rattle.job_world.specs.declared.hands.Hand.{Hand}
+use Rattle.job_world.specs.declared.hands.Hand.TheVariants.{At}
+use Rattle.job_world.specs.declared.body.Body.{Body}
+use Rattle.job_world.proofs.Standings.{placed}
+use Rattle.job_world.proofs.Writes.{set_so, set_other}
+
+-- another place is not left out
+kept_in : (p q : ℕ) → (q ≡ p → ⊥) → all_but p q ≡ true
+kept_in p q ne = ap not (nat_false q p ne)
+
+-- a hand is written at its place
+pub handed_at : {W : Type 0} (place : ℕ) (b c : Body W) (h k : Hand W) → c ≡ record b { hands = c.hands } → c.hands.items ≡ slice_set b.hands.items place h → place < length b.hands.items → h ≡ k → Handed place k b c
+handed_at place b c h k is items below same = record {
+  is = is;
+  places = ap length items ∙ length-set _ _ _;
+  here = ap (λ l. slice_get l place) items ∙ set_so b.hands.items place h k below same;
+  others = λ q ne. ap (λ l. slice_get l q) items ∙ set_other b.hands.items place q h ne;
+}
+
+module _ {W : Type 0} (wants : W → Option Request) (end_of : W → Option OpEnd) (is_of : Setting → Actor → W → Type 0) (running : Known → W → Running) (picks_of : W → Option (List Pick)) where
+  -- ---- the hand is filled
+
+  module _ (place : ℕ) (a : Actor) (b c : Body W) (m : W) (handed : Handed place (At m) b c) where
+    module _ {E : Type 0} (begun : Begun {E = E} wants is_of running picks_of place a b (Ok m)) where
+      filled_hands : HandsAre is_of running picks_of all_sound (setting_of b) b.opening begun.holds.play c.hands.items
+      filled_hands p v k s there hand = elim (same_or_not p place) [
+        | inl e ↦
+            let same_actor : a ≡ v = some_is (sym (placed b.script a place begun.actor) ∙ ap (slice_get (actors b.script)) (sym e) ∙ there) in
+            let same_hand : At m ≡ k = some_is (sym handed.here ∙ ap (slice_get c.hands.items) (sym e) ∙ hand) in
+            subst (λ h. HandIs is_of running picks_of (setting_of b) b.opening begun.holds.play v h) same_hand
+            (subst (λ w. HandIs is_of running picks_of (setting_of b) b.opening begun.holds.play w (At m)) same_actor begun.fits)
+        | inr ne ↦ begun.holds.hands p v k (kept_in place p ne) there (sym (handed.others p ne) ∙ hand)
+      ]
+
+      filled : InHand wants is_of running picks_of place a (record b { hands = c.hands })
+      filled = record {
+        holds = record {
+          legal = begun.holds.legal;
+          magic = begun.holds.magic;
+          opens = begun.holds.opens;
+          play = begun.holds.play;
+          happened = begun.holds.happened;
+          journal = begun.holds.journal;
+          ends = begun.holds.ends;
+          now = begun.holds.now;
+          finished = begun.holds.finished;
+          scene = begun.holds.scene;
+          fates = begun.holds.fates;
+          requests = begun.holds.requests;
+          few = begun.holds.few;
+          stands = begun.holds.stands;
+          places = handed.places ∙ begun.holds.places;
+          hands = filled_hands;
+          picks = begun.holds.picks;
+        };
+        actor = begun.actor;
+        work = m;
+        hand = handed.here;
+        busy = begun.busy;
+        others = λ p k ne busy hand. begun.others p k ne busy (sym (handed.others p ne) ∙ hand);
+        during = begun.during;
+        none = begun.none;
+        room = begun.room;
+      }
+
+      pub in_hand : InHand wants is_of running picks_of place a c
+      in_hand = subst (InHand wants is_of running picks_of place a) (sym handed.is) filled
+
+    pub in_hand_of : {E : Type 0} (r : Result W E) → r ≡ Ok m → Begun {E = E} wants is_of running picks_of place a b r → InHand wants is_of running picks_of place a c
+    in_hand_of r is begun = in_hand (subst (Begun wants is_of running picks_of place a b) is begun)
+
+  -- ---- it goes on
+
+  module _ (asks : (m : W) → is_some (wants m) ≡ not (is_some (end_of m))) (place : ℕ) (a : Actor) (b : Body W) (h : InHand wants is_of running picks_of place a b) where
+    at_work : (k : Hand W) → hand_end end_of (slice_get b.hands.items place) ≡ None → slice_get b.hands.items place ≡ Some k → Asks wants k
+    at_work k none hand =
+        let same : At h.work ≡ k = some_is (sym h.hand ∙ hand) in
+        let going : end_of h.work ≡ None = ap (hand_end end_of) (sym h.hand) ∙ none in
+        subst (Asks wants) same (asks h.work ∙ ap (λ o. not (is_some o)) going)
+
+    pub going_on : hand_end end_of (slice_get b.hands.items place) ≡ None → Going wants is_of running picks_of b
+    going_on none = record {
+      holds = h.holds;
+      none_over = λ p k busy hand. elim (same_or_not p place) [
+        | inl e ↦ at_work k none (ap (slice_get b.hands.items) (sym e) ∙ hand)
+        | inr ne ↦ h.others p k ne busy hand
+      ];
+      during = h.during;
+    }
+
+    pub taken_on : TakenUp place a b true
+    taken_on = (h.busy, h.none, h.room)
+
+  -- ---- or it is over
+
+  pub weaker : (place : ℕ) (b : Body W) → Holds is_of running picks_of all_sound b → Holds is_of running picks_of (all_but place) b
+  weaker place b h = record {
+    legal = h.legal;
+    magic = h.magic;
+    opens = h.opens;
+    play = h.play;
+    happened = h.happened;
+    journal = h.journal;
+    ends = h.ends;
+    now = h.now;
+    finished = h.finished;
+    scene = h.scene;
+    fates = h.fates;
+    requests = h.requests;
+    few = h.few;
+    stands = h.stands;
+    places = h.places;
+    hands = λ p v k s there hand. h.hands p v k refl there hand;
+    picks = h.picks;
+  }
+
+  module _ (place : ℕ) (a : Actor) (end : OpEnd) (b c : Body W) (over : IsOver place a end b c) where
+    pub going_over : Holds is_of running picks_of all_sound c → IsSome b.event → ((q : ℕ) (h : Hand W) → (q ≡ place → ⊥) → is_busy_at b.states.actors q ≡ true → slice_get b.hands.items q ≡ Some h → Asks wants h) → Going wants is_of running picks_of c
+    going_over holds during others = record {
+      holds = holds;
+      none_over = λ p k busy hand. elim (same_or_not p place) [
+        | inl e ↦ absurd (false_true over.idle (ap (is_busy_at c.states.actors) (sym e) ∙ busy))
+        | inr ne ↦ others p k ne (sym (over.others p ne) ∙ busy) (sym (over.hands p ne) ∙ hand)
+      ];
+      during = subst (λ (v : Option Event). IsSome v) (sym over.same.event) during;
+    }
+
+    pub taken_over : b.finished.items ≡ [] → TakenUp place a c false
+    taken_over none = (end, over.finished ∙ ap (λ xs. xs ++ record { actor = a; end = end } ∷ []) none)
+
+-- ---- what a run of it asks
+
+pub goes_then : {W : Type 0} (place : ℕ) (a : Actor) (b : Body W) (goes_on : Bool) → goes_on ≡ true → TakenUp place a b goes_on → TakenUp place a b true
+goes_then place a b goes_on e taken = subst (TakenUp place a b) e taken
+
+pub ended_then : {W : Type 0} (place : ℕ) (a : Actor) (b : Body W) (goes_on : Bool) → goes_on ≡ false → TakenUp place a b goes_on → TakenUp place a b false
+ended_then place a b goes_on e taken = subst (TakenUp place a b) e taken

@@ -1,0 +1,216 @@
+-- What a turn of a busy actor of a world comes to.
+use Rattle.std.proofs.Common.{◌≡◌, ℕ, ◌+◌, ◌-◌, ◌<◌, ◌≤◌, inl, inr, ◌&&◌, not, nat_eq, Bool, true, cond, List, [], ◌∷◌, ◌++◌, length, slice_get, Option, Some, None, IsSome, Vec, Global, vec_len, vec_capacity, refl, sym, ap, subst, ◌∙◌, arith, rules, length-append, append-nil}
+use Rattle.std.specs.Prelude.{is_some}
+use Rattle.std.specs.List.{filter}
+use Rattle.std.proofs.lemmas.List.{length-map}
+use Rattle.std.proofs.lemmas.List.Elements.{filter-append}
+use Rattle.request_frame.proofs.Members.{some_is, false_true, nat_true, same_or_not as same_number}
+use Rattle.s3_types.specs.Store.{Scene}
+use Rattle.s3_types.specs.declared.request.Actor.{Actor}
+use Rattle.s3_types.specs.declared.request.Request.{Request}
+use Rattle.s3_types.specs.declared.journal.Outcome.{Outcome}
+use Rattle.s3_types.specs.declared.journal.Entry.{Entry}
+use Rattle.job_model.specs.Known.{Known}
+use Rattle.job_model.specs.JobScript.{Script}
+use Rattle.job_model.specs.declared.ends.ActorEnd.{ActorEnd}
+use Rattle.job_model.specs.declared.ends.OpEnd.{OpEnd}
+use Rattle.job_model.specs.declared.ends.OpEnd.TheVariants.{NoMemory}
+use Rattle.job_model.specs.declared.ends.Pick.{Pick}
+use Rattle.job_operations.specs.Operations.{Setting, Running}
+use Rattle.job_promise.specs.States.{actors}
+use Rattle.job_promise.specs.Turns.{is_own, of_event, is_memory}
+use Rattle.acting.specs.Acts.{ActLaws}
+use Rattle.job_states.specs.Standing.{standing}
+use Rattle.job_states.specs.Stands.{Kept}
+use Rattle.job_states.specs.declared.standing.Standing.{Standing}
+use Rattle.job_turns.specs.Turning.{Table, Beside, Sending, Ending, Turned}
+use Rattle.job_turns.specs.declared.actors.Turn.TheVariants.{GoesOn, Ended, Died}
+use Rattle.job_world.specs.Sending.{Asks, hand_end}
+use Rattle.job_world.specs.Holds.{Holds, Going, Same, IsOver, all_sound, is_busy_at, busy_in, actor_or, table_of, weights, hand_left}
+use Rattle.job_world.specs.Posts.{Around, Wrote, RaisedBy, FellAt, IsWorking, raised}
+use Rattle.job_world.specs.declared.hands.Hand.{Hand}
+use Rattle.job_world.specs.declared.body.Body.{Body}
+use Rattle.job_world.proofs.Places.{within, own_at}
+use Rattle.job_world.proofs.Weights.{Lighter, lighter}
+
+-- ---- places
+
+found_busy : (o : Option Standing) → busy_in o ≡ true → (s : Standing) × (o ≡ Some s)
+found_busy None e = absurd (false_true refl e)
+found_busy (Some s) e = (s, refl)
+
+-- who is busy has a place
+pub has_place : {W : Type 0} (is_of : Setting → Actor → W → Type 0) (running : Known → W → Running) (picks_of : W → Option (List Pick)) (b : Body W) (place : ℕ) → Holds is_of running picks_of all_sound b → is_busy_at b.states.actors place ≡ true → place < length (actors b.script)
+has_place is_of running picks_of b place h busy =
+    let s = found_busy (slice_get b.states.actors place) busy in
+    let low : place < length b.states.actors = within b.states.actors place s.0 s.1 in
+    let same : length b.states.actors ≡ length (actors b.script) = ap length h.stands.actors ∙ length-map (actors b.script) (standing h.play.live) in
+    omega (arith, low, same)
+
+-- ---- entries
+
+pub event_kept : (n : ℕ) (es : List Entry) (e : Entry) → is_own e.actor ≡ true → e.event ≡ n → of_event n (es ++ e ∷ []) ≡ of_event n es ++ e ∷ []
+event_kept n es e own number =
+    let p : Entry → Bool = λ x. is_own x.actor && nat_eq x.event n in
+    let holds : p e ≡ true = ap (λ b. b && nat_eq e.event n) own ∙ nat_true e.event n number in
+    filter-append p es (e ∷ []) ∙ ap (λ b. filter p es ++ cond b (e ∷ []) []) holds
+
+-- ---- what has more to send
+
+-- what no turn changes is as it was after a sending
+pub same_then : {W : Type 0} (place : ℕ) (b m : Body W) → Around place b m → (part : List Entry) × (m.journal.entries ≡ b.journal.entries ++ part) → Same b m
+same_then place b m a more = record { script = a.script; opening = a.opening; ends = a.ends; event = a.event; places = a.places; more = more }
+
+pub same_wrote : {W : Type 0} (place : ℕ) (actor : Actor) (b m : Body W) → Around place b m → Wrote actor b m → Same b m
+same_wrote place actor b m a w = same_then place b m a (w.entry ∷ [], w.appended)
+
+pub same_unsent : {W : Type 0} (place : ℕ) (b m : Body W) → Around place b m → m.journal.entries ≡ b.journal.entries → Same b m
+same_unsent place b m a journal = same_then place b m a ([], journal ∙ sym (append-nil b.journal.entries))
+
+module _ {W : Type 0} (wants : W → Option Request) (tells : W → Outcome → W) (fits : W → Outcome → Type 0) (end_of : W → Option OpEnd) (left : W → Scene → ℕ) (is_of : Setting → Actor → W → Type 0) (running : Known → W → Running) (rise : Script → ℕ) (picks_of : W → Option (List Pick)) (rises : W → Request → ℕ) (acts : ActLaws wants tells fits end_of left rises) where
+  abbrev Goes : Body W → Type 0
+  Goes b = Going wants is_of running picks_of b
+
+  -- who has not ended asks
+  asks_on : (m : W) → end_of m ≡ None → IsSome (wants m)
+  asks_on m e = acts.goes_on m ∙ ap (λ o. not (is_some o)) e
+
+  -- the actor goes on
+  pub going_on : (b m : Body W) (place : ℕ) → Going wants is_of running picks_of b → Around place b m → Holds is_of running picks_of all_sound m → IsWorking place m → hand_end end_of (slice_get m.hands.items place) ≡ None → Going wants is_of running picks_of m
+  going_on b m place g a h w end = record {
+    holds = h;
+    none_over = none_over;
+    during = subst IsSome (sym a.event) g.during;
+  }
+    where
+      over : end_of w.0 ≡ None
+      over = ap (hand_end end_of) (sym w.1) ∙ end
+
+      none_over : (q : ℕ) (v : Hand W) → is_busy_at m.states.actors q ≡ true → slice_get m.hands.items q ≡ Some v → Asks wants v
+      none_over q v busy e = elim (same_number q place) [
+        | inl is ↦ subst (Asks wants) (some_is (sym w.1 ∙ ap (slice_get m.hands.items) (sym is) ∙ e)) (asks_on w.0 over)
+        | inr ne ↦ g.none_over q v (ap (λ (k : Kept). is_busy_at k.actors q) (sym a.states) ∙ busy) (sym (a.hands q ne) ∙ e)
+      ]
+
+  -- its operation is over
+  pub going_over : (b m c : Body W) (place : ℕ) (actor : Actor) (end : OpEnd) → Going wants is_of running picks_of b → Around place b m → Holds is_of running picks_of all_sound c → IsOver place actor end m c → Going wants is_of running picks_of c
+  going_over b m c place actor end g a h o = record {
+    holds = h;
+    none_over = none_over;
+    during = subst IsSome (sym (o.same.event ∙ a.event)) g.during;
+  }
+    where
+      none_over : (q : ℕ) (v : Hand W) → is_busy_at c.states.actors q ≡ true → slice_get c.hands.items q ≡ Some v → Asks wants v
+      none_over q v busy e = elim (same_number q place) [
+        | inl is ↦ absurd (false_true (ap (is_busy_at c.states.actors) is ∙ o.idle) busy)
+        | inr ne ↦ g.none_over q v (ap (λ (k : Kept). is_busy_at k.actors q) (sym a.states) ∙ sym (o.others q ne) ∙ busy) (sym (o.hands q ne ∙ a.hands q ne) ∙ e)
+      ]
+
+  -- ---- tables
+
+  abbrev T : Body W → Table
+  T b = table_of left rise b
+
+  whose : (b : Body W) (place : ℕ) (actor : Actor) → slice_get (actors b.script) place ≡ Some actor → actor ≡ actor_or (slice_get (actors b.script) place)
+  whose b place actor e = ap actor_or (sym e)
+
+  beside_of : (b c : Body W) (place : ℕ) → c.script ≡ b.script → Lighter left (rise b.script) place b.store.scene c.store.scene b.states.actors c.states.actors b.hands.items c.hands.items → Beside place (T b) (T c)
+  beside_of b c place script l =
+      let low = lighter left (rise b.script) place b.store.scene c.store.scene b.states.actors c.states.actors b.hands.items c.hands.items l in
+      let P : Script → Type 0 = λ w. weights left (rise w) c.store.scene c.states.actors 0 c.hands.items < weights left (rise b.script) b.store.scene b.states.actors 0 b.hands.items in
+      record {
+        actors = λ q. ap (λ (w : Script). actor_or (slice_get (actors w) q)) script;
+        others = l.others;
+        less = subst P (sym script) low;
+      }
+
+  same_entries : (b c : Body W) → c.ends ≡ b.ends → c.journal.entries ≡ b.journal.entries → (T c).entries ≡ (T b).entries
+  same_entries b c ends journal = ap (λ v. of_event (length v.items + 1) c.journal.entries) ends ∙ ap (of_event (length b.ends.items + 1)) journal
+
+  sending_of : (b m c : Body W) (place : ℕ) (actor : Actor) → slice_get (actors b.script) place ≡ Some actor → Wrote actor b m → c.ends ≡ b.ends → c.journal.entries ≡ m.journal.entries → Sending place (T b) (T c)
+  sending_of b m c place actor here w ends journal =
+      let n = length b.ends.items + 1 in
+      let own : is_own w.entry.actor ≡ true = ap is_own w.by ∙ own_at b.script place actor here in
+      record {
+        entry = w.entry;
+        by = w.by ∙ whose b place actor here;
+        appended = ap (λ v. of_event (length v.items + 1) c.journal.entries) ends ∙ ap (of_event n) (journal ∙ w.appended) ∙ event_kept n b.journal.entries w.entry own w.number;
+      }
+
+  room_falls : (old new : Vec ActorEnd Global) (y : ActorEnd) → new.items ≡ old.items ++ y ∷ [] → vec_capacity old ≤ vec_capacity new → vec_capacity old - vec_len old ≤ (vec_capacity new - vec_len new) + 1
+  room_falls old new y told capacity =
+      let a : vec_len old ≡ length old.items = search rules in
+      let z : vec_len new ≡ length new.items = search rules in
+      let more : length new.items ≡ length old.items + 1 = ap length told ∙ length-append old.items (y ∷ []) in
+      omega (arith, a, z, more, capacity)
+
+  ending_of : (b m c : Body W) (place : ℕ) (actor : Actor) (end : OpEnd) → slice_get (actors b.script) place ≡ Some actor → m.finished ≡ b.finished → IsOver place actor end m c → Ending place (T b) (T c)
+  ending_of b m c place actor end here finished o =
+      let told : c.finished.items ≡ b.finished.items ++ record { actor = actor; end = end } ∷ [] = o.finished ∙ ap (λ (v : Vec ActorEnd Global). v.items ++ record { actor = actor; end = end } ∷ []) finished in
+      record {
+        end = end;
+        told = told ∙ ap (λ a. b.finished.items ++ record { actor = a; end = end } ∷ []) (whose b place actor here);
+        idle = o.idle;
+        room = room_falls b.finished c.finished (record { actor = actor; end = end }) told (let P : Vec ActorEnd Global → Type 0 = λ v. vec_capacity v ≤ vec_capacity c.finished in subst P finished o.capacity);
+      }
+
+  -- ---- turns
+
+  module _ (b m : Body W) (place : ℕ) (actor : Actor) (here : slice_get (actors b.script) place ≡ Some actor) (busy : is_busy_at b.states.actors place ≡ true) (holds : Holds is_of running picks_of all_sound b) (a : Around place b m) where
+    low : place < length b.hands.items
+    low = let p : place < length (actors b.script) = within (actors b.script) place actor here in let e = holds.places in omega (arith, p, e)
+
+    -- it sent, and has more to send
+    pub goes_on : Wrote actor b m → RaisedBy left rise place b m.store.scene → FellAt left place b m → Turned place (table_of left rise b) (table_of left rise m) GoesOn
+    goes_on w raises falls = (
+      beside_of b m place a.script (record {
+        places = a.places;
+        within = low;
+        busy = busy;
+        others = λ q ne. ap (λ (k : Kept). is_busy_at k.actors q) a.states;
+        hands = a.hands;
+        beside = raises;
+        own = inr falls;
+      }),
+      sending_of b m m place actor here w a.ends refl,
+      ap (λ (k : Kept). is_busy_at k.actors place) a.states ∙ busy,
+      ap (λ (v : Vec ActorEnd Global). v.items) a.finished,
+      same_room,
+    )
+      where
+        same_room : vec_capacity b.finished - vec_len b.finished ≤ vec_capacity m.finished - vec_len m.finished
+        same_room =
+            let P : Vec ActorEnd Global → Type 0 = λ v. vec_capacity b.finished - vec_len b.finished ≤ vec_capacity v - vec_len v in
+            subst P (sym a.finished) (omega arith)
+
+    module _ (c : Body W) (end : OpEnd) (o : IsOver place actor end m c) where
+      beside_over : RaisedBy left rise place b m.store.scene → Beside place (table_of left rise b) (table_of left rise c)
+      beside_over raises = beside_of b c place (o.same.script ∙ a.script) (record {
+        places = o.same.places ∙ a.places;
+        within = low;
+        busy = busy;
+        others = λ q ne. o.others q ne ∙ ap (λ (k : Kept). is_busy_at k.actors q) a.states;
+        hands = λ q ne. o.hands q ne ∙ a.hands q ne;
+        beside = subst (λ (s : Scene). RaisedBy left rise place b s) (ap (λ v. v.scene) (sym o.store)) raises;
+        own = inl o.idle;
+      })
+
+      -- it sent, and its operation ended with that
+      pub has_ended : Wrote actor b m → RaisedBy left rise place b m.store.scene → Turned place (table_of left rise b) (table_of left rise c) Ended
+      has_ended w raises = (
+        beside_over raises,
+        sending_of b m c place actor here w (o.same.ends ∙ a.ends) (ap (λ v. v.entries) o.journal),
+        ending_of b m c place actor end here a.finished o,
+      )
+
+      -- it found no memory before it could send
+      pub has_died : end ≡ NoMemory → m.journal.entries ≡ b.journal.entries → m.store.scene ≡ b.store.scene → Turned place (table_of left rise b) (table_of left rise c) Died
+      unfolding ending_of
+      has_died lack journal scene = (
+        beside_over unraised,
+        same_entries b c (o.same.ends ∙ a.ends) (ap (λ v. v.entries) o.journal ∙ journal),
+        (ending_of b m c place actor end here a.finished o, ap is_memory lack),
+      )
+        where
+          unraised : RaisedBy left rise place b m.store.scene
+          unraised q v ne busy e = subst (λ (s : Scene). hand_left left s v ≤ hand_left left b.store.scene v + raised (rise b.script) q) (sym scene) (omega arith)

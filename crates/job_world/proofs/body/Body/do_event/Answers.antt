@@ -1,0 +1,31 @@
+use Rattle.std.proofs.Common.{Some, sym, subst}
+use Rattle.job_model.specs.JobScript.{Script}
+use Rattle.job_model.specs.declared.events.Event.{Event}
+use Rattle.job_states.specs.Stands.{IsPlace}
+use Rattle.job_world.specs.Events.{ByTurns}
+use Rattle.job_world.proofs.Moments.{event_of}
+use Rattle.job_world.proofs.Frames.{now_after, room_after, grown_after}
+use Rattle.job_world.proofs.Beginning.{known_named, begins_do}
+use Rattle.job_world.proofs.EventTurns.{do_turns}
+use Rattle.job_world.proofs.body.Body.do_event.Goals as goal
+
+pub place-place-requires : goal.place-place-requires
+place-place-requires g c = known_named c.args.self.now.script c.args.event c.args.actor c.args.op (begins_do c.args.event c.args.actor c.args.op c.requires.is) (event_of _ _ _ _ _ c.requires.quiet.holds c.args.event c.requires.next)
+
+pub begin-goes_on-requires-clause-begins : goal.begin-goes_on-requires-clause-begins
+begin-goes_on-requires-clause-begins g c = begins_do c.args.event c.args.actor c.args.op c.requires.is
+
+pub carry_on-requires-clause-actor : goal.carry_on-requires-clause-actor
+carry_on-requires-clause-actor g c = subst (λ (w : Script). IsPlace w c.args.actor (Some c.place-place.result)) (sym c.begin-goes_on.ensures.entered.script) c.place-place.ensures
+
+pub close-requires-clause-now : goal.close-requires-clause-now
+close-requires-clause-now g c = now_after c.args.event _ _ _ c.begin-goes_on.ensures.entered c.carry_on.ensures.same
+
+pub close-requires-clause-turns : goal.close-requires-clause-turns
+close-requires-clause-turns g c = subst (λ (v : Event). ByTurns c.carry_on.new.self v) (sym c.requires.is) (do_turns _ c.args.actor c.args.op c.carry_on.ensures.all)
+
+pub close-requires-clause-room : goal.close-requires-clause-room
+close-requires-clause-room g c = room_after c.args.event _ _ _ c.begin-goes_on.ensures.entered c.carry_on.ensures.same c.requires.room
+
+pub returns-clause-grown : goal.returns-clause-grown
+returns-clause-grown g c = grown_after c.args.event _ _ _ c.begin-goes_on.ensures.entered c.carry_on.ensures.same _ c.close.ensures.grown

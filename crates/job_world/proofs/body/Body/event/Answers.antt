@@ -1,0 +1,21 @@
+use Rattle.job_world.proofs.Moments.{event_of}
+use Rattle.job_world.proofs.Rooms.{refusal_is, next_roomy, grown_roomy}
+use Rattle.job_world.proofs.body.Body.event.Goals as goal
+
+pub refusal-requires : goal.refusal-requires
+refusal-requires g c = event_of _ _ _ _ _ c.make_room.ensures.quiet.holds c.args.event (next_roomy _ _ c.make_room.ensures.same c.args.event c.requires.next)
+
+pub refuse-requires-clause-next : goal.refuse-requires-clause-next
+refuse-requires-clause-next g c = next_roomy _ _ c.make_room.ensures.same c.args.event c.requires.next
+
+pub refuse-requires-clause-refused : goal.refuse-requires-clause-refused
+refuse-requires-clause-refused g c = refusal_is _ _ _ _ _ c.make_room.ensures.quiet c.args.event _ c.in-Some.ensures
+
+pub play-requires-clause-next : goal.play-requires-clause-next
+play-requires-clause-next g c = next_roomy _ _ c.make_room.ensures.same c.args.event c.requires.next
+
+pub play-requires-clause-fine : goal.play-requires-clause-fine
+play-requires-clause-fine g c = refusal_is _ _ _ _ _ c.make_room.ensures.quiet c.args.event _ c.in-None.ensures
+
+pub returns-in-Some-clause-grown : goal.returns-in-Some-clause-grown
+returns-in-Some-clause-grown g c = grown_roomy _ _ c.make_room.ensures.same _ c.refuse.ensures.grown

@@ -1,0 +1,13 @@
+use Rattle.std.proofs.Common.{◌≡◌, length, subst}
+use Rattle.job_promise.specs.Promise.{Finished}
+use Rattle.job_world.specs.Worlds.{Run, Keeps}
+use Rattle.job_world.proofs.KeptWorlds.{keeps, finished}
+use Rattle.job_world.proofs.world.World.finish.Goals as goal
+
+pub returns-clause-keeps : goal.returns-clause-keeps
+returns-clause-keeps g c = subst Keeps c.self.view_is (keeps g.W.Acts.wants g.W.Works.is_of g.W.Works.running g.W.Works.picks_of c.self.inside.body c.self.invariant c.laws.ensures.has_picks c.self.inside.stuck)
+
+pub returns-clause-finished : goal.returns-clause-finished
+returns-clause-finished g c =
+    subst (λ (r : Run). length r.ends ≡ length r.script.events → Finished r.script r.opening r.journal r.picks r.ends) c.self.view_is
+    (finished g.W.Acts.wants g.W.Works.is_of g.W.Works.running g.W.Works.picks_of c.self.inside.body c.self.invariant c.laws.ensures.has_picks)

@@ -1,0 +1,211 @@
+-- The events of a world.
+use Rattle.std.specs.Prelude.{◌≡◌, ℕ, ◌+◌, ◌<◌, ◌≤◌, ◌-◌, Bool, true, false, List, [], ◌∷◌, ◌++◌, length, slice_get, Option, Some, None, IsSome, IfOk, unwrap_or, Result, vec_len, vec_capacity}
+use Rattle.s3_types.specs.declared.journal.Entry.{Entry}
+use Rattle.s3_types.specs.declared.request.Request.{Request}
+use Rattle.s3_types.specs.declared.request.Actor.{Actor}
+use Rattle.job_model.specs.Known.{Known}
+use Rattle.job_model.specs.declared.events.Op.{Op}
+use Rattle.job_model.specs.declared.events.Event.{Event}
+use Rattle.job_model.specs.declared.events.Event.TheVariants.{Do, Start, Step, Run, Kill, Mix, Restart, Recover}
+use Rattle.job_model.specs.declared.ends.ActorEnd.{ActorEnd}
+use Rattle.job_model.specs.declared.ends.EventEnd.{EventEnd}
+use Rattle.job_model.specs.declared.ends.EventEnd.TheVariants.{Done, Ended, Mixed}
+use Rattle.job_model.specs.declared.ends.EventFault.{EventFault}
+use Rattle.job_model.specs.declared.ends.OpEnd.{OpEnd}
+use Rattle.job_model.specs.declared.ends.Pick.{Pick}
+use Rattle.job_operations.specs.Knowledge.{knows}
+use Rattle.job_operations.specs.Operations.{Setting, Running, who, start_of}
+use Rattle.job_promise.specs.States.{Past, refusal, past, missing, told, open_event}
+use Rattle.job_promise.specs.Turns.{Turns, AllBy, of_event, by_actor}
+use Rattle.job_happenings.specs.Happenings.{begun}
+use Rattle.job_states.specs.Stands.{Stands, IsPlace}
+use Rattle.acting.specs.Plans.{IsPlanOf}
+use Rattle.job_world.specs.Sending.{Asks}
+use Rattle.job_world.specs.Holds.{Holds, HandIs, all_sound, all_but, setting_of, is_busy_at}
+use Rattle.job_world.specs.declared.hands.Hand.{Hand}
+use Rattle.job_world.specs.declared.hands.Hand.TheVariants.{Plan, At, Empty}
+use Rattle.job_world.specs.declared.body.Body.{Body}
+
+-- the event is the script's next one
+abbrev pub Next : {W : Type 0} → Body W → Event → Type 0
+Next b event = slice_get b.script.events (length b.ends.items) ≡ Some event
+
+-- it is refused so
+abbrev pub Refuses : {W : Type 0} → Body W → Event → EventFault → Type 0
+Refuses b event fault = refusal (past b.script b.ends.items).state event ≡ Some fault
+
+-- it is not refused
+abbrev pub IsFine : {W : Type 0} → Body W → Event → Type 0
+IsFine b event = refusal (past b.script b.ends.items).state event ≡ None
+
+-- there is room for its end, and for the ends of all actors' operations
+pub record HasRoom {W : Type 0} (b : Body W) : Type 0 where
+  pub ends : vec_len b.ends < vec_capacity b.ends
+  pub finished : length b.hands.items ≤ vec_capacity b.finished - vec_len b.finished
+
+-- the end that an event has by the operations that ended in it
+abbrev pub one_end : List ActorEnd → EventEnd
+one_end [] = Done
+one_end (x ∷ xs) = Ended x.end
+
+abbrev pub end_of : Event → List ActorEnd → EventEnd
+end_of (Mix seed) xs = Mixed xs
+end_of (Do a op) xs = one_end xs
+end_of (Start a op) xs = one_end xs
+end_of (Step a n) xs = one_end xs
+end_of (Run a) xs = one_end xs
+end_of (Kill a) xs = one_end xs
+end_of Restart xs = one_end xs
+end_of (Recover a) xs = one_end xs
+
+-- the entries of the event that goes on
+abbrev pub event_entries : {W : Type 0} → Body W → List Entry
+event_entries b = of_event (length b.ends.items + 1) b.journal.entries
+
+-- its entries are by turns, and its end tells what ended in it
+pub record ByTurns {W : Type 0} (b : Body W) (event : Event) : Type 0 where
+  pub turns : Turns b.script (past b.script b.ends.items).state event (end_of event b.finished.items) (event_entries b)
+  pub told : told event (end_of event b.finished.items) ≡ b.finished.items
+
+-- the script's next event has its end
+pub record Grown {W : Type 0} (b c : Body W) : Type 0 where
+  pub script : c.script ≡ b.script
+  pub opening : c.opening ≡ b.opening
+  pub end : EventEnd
+  pub ends : c.ends.items ≡ b.ends.items ++ end ∷ []
+  -- entries are only added
+  pub more : (part : List Entry) × (c.journal.entries ≡ b.journal.entries ++ part)
+
+-- nothing but room was taken
+pub record IsAsBefore {W : Type 0} (b c : Body W) : Type 0 where
+  pub script : c.script ≡ b.script
+  pub opening : c.opening ≡ b.opening
+  pub ends : c.ends.items ≡ b.ends.items
+  pub journal : c.journal ≡ b.journal
+  pub hands : c.hands ≡ b.hands
+  pub picks : c.picks ≡ b.picks
+
+-- ---- kinds of events
+
+-- it begins this operation of an actor
+abbrev pub BeginsBy : Event → Actor → Op → Type 0
+BeginsBy (Do b o) a op = (b ≡ a) × (o ≡ op)
+BeginsBy (Start b o) a op = (b ≡ a) × (o ≡ op)
+BeginsBy (Step b n) a op = ⊥
+BeginsBy (Run b) a op = ⊥
+BeginsBy (Kill b) a op = ⊥
+BeginsBy (Mix seed) a op = ⊥
+BeginsBy Restart a op = ⊥
+BeginsBy (Recover b) a op = ⊥
+
+-- it begins none
+abbrev pub BeginsNone : Event → Type 0
+BeginsNone (Do a op) = ⊥
+BeginsNone (Start a op) = ⊥
+BeginsNone (Step a n) = Unit {0}
+BeginsNone (Run a) = Unit {0}
+BeginsNone (Kill a) = Unit {0}
+BeginsNone (Mix seed) = Unit {0}
+BeginsNone Restart = Unit {0}
+BeginsNone (Recover a) = Unit {0}
+
+-- it moves nobody
+abbrev pub IsStill : Event → Type 0
+IsStill (Do a op) = ⊥
+IsStill (Start a op) = ⊥
+IsStill (Step a n) = ⊥
+IsStill (Run a) = ⊥
+IsStill (Kill a) = Unit {0}
+IsStill (Mix seed) = ⊥
+IsStill Restart = Unit {0}
+IsStill (Recover a) = Unit {0}
+
+-- ---- an event begins
+
+-- the states are as the event leaves them before its requests, and it goes on
+pub record IsOpened {W : Type 0} (event : Event) (b c : Body W) : Type 0 where
+  pub is : c ≡ record b { states = c.states; event = Some event }
+  pub stands : (p : Past) → Stands b.script b.states p → Stands b.script c.states (open_event b.script p event)
+
+-- the hand at a place was taken out, and picks may have been put by
+pub record Emptied {W : Type 0} (place : ℕ) (b c : Body W) : Type 0 where
+  pub is : c ≡ record b { hands = c.hands; picks = c.picks }
+  pub places : length c.hands.items ≡ length b.hands.items
+  pub others : (q : ℕ) → (q ≡ place → ⊥) → slice_get c.hands.items q ≡ slice_get b.hands.items q
+
+-- the picks of what was in hand, or, where it has none, those that were put by
+abbrev pub put_away : {W : Type 0} → (W → Option (List Pick)) → Option (Hand W) → List Pick → List Pick
+put_away picks_of (Some (At m)) ps = unwrap_or (picks_of m) ps
+put_away picks_of (Some (Plan p)) ps = ps
+put_away picks_of (Some Empty) ps = ps
+put_away picks_of None ps = ps
+
+-- what an actor knows by its own entries
+abbrev pub knows_of : {W : Type 0} → Body W → Actor → Known
+knows_of b a = knows b.script (who a) (by_actor a b.journal.entries)
+
+-- a hand gives the plan that an attempt goes by, which knows this: it is at nothing, or its operation ended
+abbrev pub GivesPlan : {W : Type 0} → (W → Option Request) → (Setting → Actor → W → Type 0) → (Known → W → Running) → Setting → Actor → Known → Option (Hand W) → Type 0
+GivesPlan wants is_of running g a k (Some (Plan p)) = IsPlanOf g a k p
+GivesPlan wants is_of running g a k (Some (At m)) = is_of g a m × (wants m ≡ None) × ((running k m).known ≡ k)
+GivesPlan wants is_of running g a k (Some Empty) = ⊥
+GivesPlan wants is_of running g a k None = ⊥
+
+-- the operation that an actor begins, by what is past
+pub record IsWork {W : Type 0} (is_of : Setting → Actor → W → Type 0) (running : Known → W → Running) (picks_of : W → Option (List Pick)) (b : Body W) (a : Actor) (op : Op) (work : W) : Type 0 where
+  pub goes_by : is_of (setting_of b) a work
+  pub starts : (p : Past) → Stands b.script b.states p → begun (start_of (setting_of b) a op (missing b.script p.reported) (knows_of b a)) (knows_of b a) ≡ Some (running (knows_of b a) work)
+  pub picks : (ps : List Pick) → picks_of work ≡ Some ps → ps ≡ []
+
+-- An event goes on in which the actor at a place began an operation: all holds, but for its hand; and the operation, where memory was
+-- there for it, fits that.
+pub record Begun {W E : Type 0} (wants : W → Option Request) (is_of : Setting → Actor → W → Type 0) (running : Known → W → Running) (picks_of : W → Option (List Pick)) (place : ℕ) (a : Actor) (b : Body W) (work : Result W E) : Type 0 where
+  pub holds : Holds is_of running picks_of (all_but place) b
+  pub actor : IsPlace b.script a (Some place)
+  pub fits : IfOk work (λ m. HandIs is_of running picks_of (setting_of b) b.opening holds.play a (At m))
+  pub busy : is_busy_at b.states.actors place ≡ true
+  pub others : (q : ℕ) (h : Hand W) → (q ≡ place → ⊥) → is_busy_at b.states.actors q ≡ true → slice_get b.hands.items q ≡ Some h → Asks wants h
+  pub during : IsSome b.event
+  pub none : b.finished.items ≡ []
+  pub room : vec_len b.finished < vec_capacity b.finished
+
+-- the hand at a place is another one
+pub record Handed {W : Type 0} (place : ℕ) (hand : Hand W) (b c : Body W) : Type 0 where
+  pub is : c ≡ record b { hands = c.hands }
+  pub places : length c.hands.items ≡ length b.hands.items
+  pub here : slice_get c.hands.items place ≡ Some hand
+  pub others : (q : ℕ) → (q ≡ place → ⊥) → slice_get c.hands.items q ≡ slice_get b.hands.items q
+
+-- all holds in it, and the actor at a place has the operation in hand
+pub record InHand {W : Type 0} (wants : W → Option Request) (is_of : Setting → Actor → W → Type 0) (running : Known → W → Running) (picks_of : W → Option (List Pick)) (place : ℕ) (a : Actor) (b : Body W) : Type 0 where
+  pub holds : Holds is_of running picks_of all_sound b
+  pub actor : IsPlace b.script a (Some place)
+  pub work : W
+  pub hand : slice_get b.hands.items place ≡ Some (At work)
+  pub busy : is_busy_at b.states.actors place ≡ true
+  pub others : (q : ℕ) (h : Hand W) → (q ≡ place → ⊥) → is_busy_at b.states.actors q ≡ true → slice_get b.hands.items q ≡ Some h → Asks wants h
+  pub during : IsSome b.event
+  pub none : b.finished.items ≡ []
+  pub room : vec_len b.finished < vec_capacity b.finished
+
+-- the actor at a place goes on, or its operation ended at once
+abbrev pub TakenUp : {W : Type 0} → ℕ → Actor → Body W → Bool → Type 0
+TakenUp place a b true = (is_busy_at b.states.actors place ≡ true) × (b.finished.items ≡ []) × (vec_len b.finished < vec_capacity b.finished)
+TakenUp place a b false = (end : OpEnd) × (b.finished.items ≡ record { actor = a; end = end } ∷ [])
+
+-- an event goes on that was opened, and has no entry yet
+pub record Entered {W : Type 0} (event : Event) (b c : Body W) : Type 0 where
+  pub script : c.script ≡ b.script
+  pub opening : c.opening ≡ b.opening
+  pub ends : c.ends ≡ b.ends
+  pub now : c.event ≡ Some event
+  pub journal : c.journal ≡ b.journal
+  pub fresh : event_entries c ≡ []
+
+-- ---- an event ends
+
+-- all that was sent in it an actor sent, and its operation ended
+pub record AllOf {W : Type 0} (a : Actor) (b : Body W) : Type 0 where
+  pub by : AllBy a (event_entries b)
+  pub end : OpEnd
+  pub finished : b.finished.items ≡ record { actor = a; end = end } ∷ []

@@ -1,0 +1,178 @@
+-- What a world keeps.
+use Rattle.std.specs.Prelude.{◌≡◌, ℕ, zero, suc, ◌+◌, ◌*◌, ◌-◌, ◌≤◌, ◌^◌, ◌⊎◌, not, nat_eq, Bool, true, false, cond, List, [], ◌∷◌, ◌++◌, length, slice_get, Option, Some, None, IsSome, vec_len, vec_capacity, refl}
+use Rattle.std.proofs.Common.{◌∙◌, sym, ap, append-nil, append_assoc}
+use Rattle.s3_types.specs.Store.{Content, Scene}
+use Rattle.s3_types.specs.Fates.{fate_at}
+use Rattle.s3_types.specs.declared.request.Request.{Request}
+use Rattle.s3_types.specs.declared.request.Actor.{Actor}
+use Rattle.s3_types.specs.declared.request.Actor.TheVariants.{Driver, Shell}
+use Rattle.s3_types.specs.declared.request.Committer.TheVariants.{Magic}
+use Rattle.s3_types.specs.declared.journal.Entry.{Entry}
+use Rattle.job_model.specs.Known.{Known}
+use Rattle.job_model.specs.JobScript.{Script}
+use Rattle.job_model.specs.Legal.{IsLegal}
+use Rattle.job_model.specs.declared.ends.OpEnd.{OpEnd}
+use Rattle.job_model.specs.declared.ends.EventEnd.{EventEnd}
+use Rattle.job_model.specs.declared.ends.Pick.{Pick}
+use Rattle.job_model.specs.declared.states.Life.TheVariants.{Dead}
+use Rattle.job_operations.specs.Operations.{Setting, Running}
+use Rattle.job_promise.specs.States.{actors}
+use Rattle.job_promise.specs.Turns.{is_busy, of_event}
+use Rattle.job_promise.specs.Promise.{ArePicked, all_picks, lacked_memory}
+use Rattle.job_facts.specs.Runs.{IsOpening}
+use Rattle.job_states.specs.Stands.{Stands}
+use Rattle.job_states.specs.declared.standing.Standing.{Standing}
+use Rattle.job_turns.specs.Turning.{Table, KeepsLaws}
+use Rattle.job_happenings.specs.Happenings.{Play, Happened, scene_of, knows_now}
+use Rattle.acting.specs.Plans.{IsPlanOf}
+use Rattle.job_happenings.specs.Running.{Ahead}
+use Rattle.job_works.specs.Picks.{ArePicksOf, HasPicked, is_committing}
+use Rattle.job_world.specs.Sending.{Asks}
+use Rattle.job_world.specs.declared.hands.Hand.{Hand}
+use Rattle.job_world.specs.declared.hands.Hand.TheVariants.{Plan, At, Empty}
+use Rattle.job_world.specs.declared.body.Body.{Body}
+
+-- what a world goes by
+abbrev pub setting_of : {W : Type 0} → Body W → Setting
+setting_of b = record { script = b.script; minimum = b.opening.minimum }
+
+-- it ended for want of memory; of the job's commit that is told
+pub record IsLost (x : Play) (a : Actor) : Type 0 where
+  pub idle : is_busy (x.live.state a).life ≡ false
+  pub wanting : a ≡ Driver → is_committing (x.running Driver) ≡ true → lacked_memory x.live.commit ≡ true
+  -- an attempt does not come back from that
+  pub dead : (a ≡ Driver → ⊥) → (x.live.state a).life ≡ Dead
+
+-- an actor's hand is as the play says: an attempt's plan while it is at nothing, the operation that it began last, or nothing
+abbrev pub HandIs : {W : Type 0} → (Setting → Actor → W → Type 0) → (Known → W → Running) → (W → Option (List Pick)) → Setting → Content → Play → Actor → Hand W → Type 0
+HandIs is_of running picks_of g opening x a (Plan p) = (is_busy (x.live.state a).life ≡ false) × IsPlanOf g a (knows_now g x a) p × (a ≡ Driver → ⊥)
+HandIs is_of running picks_of g opening x a (At m) = is_of g a m × ((x.running a ≡ Some (running (knows_now g x a) m)) × HasPicked g opening x (picks_of m))
+HandIs is_of running picks_of g opening x a Empty = IsLost x a ⊎ ((a ≡ Driver) × ((x.running Driver) ≡ None))
+
+-- every hand is, but at the places that are left out
+abbrev pub HandsAre : {W : Type 0} → (Setting → Actor → W → Type 0) → (Known → W → Running) → (W → Option (List Pick)) → (ℕ → Bool) → Setting → Content → Play → List (Hand W) → Type 0
+HandsAre is_of running picks_of sound g opening x hands = (place : ℕ) (a : Actor) (h : Hand _) → sound place ≡ true → slice_get (actors g.script) place ≡ Some a → slice_get hands place ≡ Some h → HandIs is_of running picks_of g opening x a h
+
+abbrev pub all_sound : ℕ → Bool
+all_sound place = true
+
+abbrev pub all_but : ℕ → ℕ → Bool
+all_but p place = not (nat_eq place p)
+
+-- The picks that are put by: none while the job's commit is what the driver began last, and else the first of those that are seen, or all where it did not end for want of memory.
+pub record PutBy (g : Setting) (opening : Content) (x : Play) (ps : List Pick) : Type 0 where
+  pub none : is_committing (x.running Driver) ≡ true → ps ≡ []
+  pub first : is_committing (x.running Driver) ≡ false → (xs : List EventEnd) → Ahead x xs → ArePicked ps (all_picks g.script opening x.journal xs)
+  pub all : is_committing (x.running Driver) ≡ false → lacked_memory x.live.commit ≡ false → ArePicksOf g opening x ps
+
+-- What holds of a world while an event goes on, and between events: all that happened was allowed, and gives what it keeps. At the
+-- places that are left out the hand may be anything.
+pub record Holds {W : Type 0} (is_of : Setting → Actor → W → Type 0) (running : Known → W → Running) (picks_of : W → Option (List Pick)) (sound : ℕ → Bool) (b : Body W) : Type 0 where
+  pub legal : IsLegal b.script
+  pub magic : b.script.committer ≡ Magic
+  pub opens : IsOpening (setting_of b) b.opening
+  pub play : Play
+  pub happened : Happened (setting_of b) b.opening play
+  pub journal : b.journal.entries ≡ play.journal
+  pub ends : b.ends.items ≡ play.ends
+  pub now : b.event ≡ play.now
+  pub finished : b.finished.items ≡ play.finished
+  pub scene : b.store.scene ≡ scene_of b.opening play
+  pub fates : (n : ℕ) → fate_at b.store.fates n ≡ fate_at b.script.fates n
+  pub requests : b.store.requests ≡ length play.journal
+  pub few : b.store.scene.content.next ≤ 2 ^ 62 + b.store.requests
+  pub stands : Stands b.script b.states play.live
+  pub places : length b.hands.items ≡ length (actors b.script)
+  pub hands : HandsAre is_of running picks_of sound (setting_of b) b.opening play b.hands.items
+  pub picks : PutBy (setting_of b) b.opening play b.picks
+
+abbrev pub busy_in : Option Standing → Bool
+busy_in None = false
+busy_in (Some s) = is_busy s.state.life
+
+-- the actor at a place is busy
+abbrev pub is_busy_at : List Standing → ℕ → Bool
+is_busy_at standings place = busy_in (slice_get standings place)
+
+-- who is busy has more to send
+abbrev pub NoneOver : {W : Type 0} → (W → Option Request) → Body W → Type 0
+NoneOver wants b = (place : ℕ) (h : Hand _) → is_busy_at b.states.actors place ≡ true → slice_get b.hands.items place ≡ Some h → Asks wants h
+
+-- while an event goes on
+pub record Going {W : Type 0} (wants : W → Option Request) (is_of : Setting → Actor → W → Type 0) (running : Known → W → Running) (picks_of : W → Option (List Pick)) (b : Body W) : Type 0 where
+  pub holds : Holds is_of running picks_of all_sound b
+  pub none_over : NoneOver wants b
+  pub during : IsSome b.event
+
+-- between events
+pub record Quiet {W : Type 0} (wants : W → Option Request) (is_of : Setting → Actor → W → Type 0) (running : Known → W → Running) (picks_of : W → Option (List Pick)) (b : Body W) : Type 0 where
+  pub holds : Holds is_of running picks_of all_sound b
+  pub none_over : NoneOver wants b
+  pub idle : b.event ≡ None
+  pub none : b.finished.items ≡ []
+
+-- what no turn changes
+pub record Same {W : Type 0} (b c : Body W) : Type 0 where
+  pub script : c.script ≡ b.script
+  pub opening : c.opening ≡ b.opening
+  pub ends : c.ends ≡ b.ends
+  pub event : c.event ≡ b.event
+  pub places : length c.hands.items ≡ length b.hands.items
+  -- entries are only added
+  pub more : (part : List Entry) × (c.journal.entries ≡ b.journal.entries ++ part)
+
+abbrev pub same_laws : {W : Type 0} → KeepsLaws (Same {W = W})
+same_laws = record {
+  self = λ b. record { script = refl; opening = refl; ends = refl; event = refl; places = refl; more = ([], sym (append-nil b.journal.entries)) };
+  chain = λ a b c f g. record {
+    script = g.script ∙ f.script;
+    opening = g.opening ∙ f.opening;
+    ends = g.ends ∙ f.ends;
+    event = g.event ∙ f.event;
+    places = g.places ∙ f.places;
+    more = (f.more.0 ++ g.more.0, g.more.1 ∙ ap (λ es. es ++ g.more.0) f.more.1 ∙ append_assoc a.journal.entries f.more.0 g.more.0);
+  };
+}
+
+-- the operation of the actor at a place is over, and told so
+pub record IsOver {W : Type 0} (place : ℕ) (actor : Actor) (end : OpEnd) (b c : Body W) : Type 0 where
+  pub same : Same b c
+  pub journal : c.journal ≡ b.journal
+  pub store : c.store ≡ b.store
+  pub finished : c.finished.items ≡ b.finished.items ++ record { actor = actor; end = end } ∷ []
+  pub capacity : vec_capacity b.finished ≤ vec_capacity c.finished
+  pub idle : is_busy_at c.states.actors place ≡ false
+  pub others : (q : ℕ) → (q ≡ place → ⊥) → is_busy_at c.states.actors q ≡ is_busy_at b.states.actors q
+  pub hands : (q : ℕ) → (q ≡ place → ⊥) → slice_get c.hands.items q ≡ slice_get b.hands.items q
+
+-- ---- what of a world matters to turns
+
+abbrev pub actor_or : Option Actor → Actor
+actor_or (Some a) = a
+actor_or None = Shell
+
+-- of a hand what it has left
+abbrev pub hand_left : {W : Type 0} → (W → Scene → ℕ) → Scene → Hand W → ℕ
+hand_left left s (At m) = left m s
+hand_left left s (Plan p) = 0
+hand_left left s Empty = 0
+
+-- what a busy actor weighs: an attempt's sendings count for what they may raise the driver's by
+abbrev pub weight : ℕ → ℕ → ℕ → ℕ
+weight rise zero left = left + 1
+weight rise (suc place) left = (rise + 1) * (left + 1)
+
+-- the weights of the busy actors from a place on
+abbrev pub weights : {W : Type 0} → (W → Scene → ℕ) → ℕ → Scene → List Standing → ℕ → List (Hand W) → ℕ
+weights left rise s standings place [] = 0
+weights left rise s standings place (h ∷ hs) = cond (is_busy_at standings place) (weight rise place (hand_left left s h)) 0 + weights left rise s standings (place + 1) hs
+
+abbrev pub table_of : {W : Type 0} → (W → Scene → ℕ) → (Script → ℕ) → Body W → Table
+table_of left rise b = record {
+  entries = of_event (length b.ends.items + 1) b.journal.entries;
+  ended = b.finished.items;
+  actor = λ place. actor_or (slice_get (actors b.script) place);
+  goes_on = is_busy_at b.states.actors;
+  room = vec_capacity b.finished - vec_len b.finished;
+  left = weights left (rise b.script) b.store.scene b.states.actors 0 b.hands.items;
+}

@@ -1,0 +1,5 @@
+pub mod Sending
+pub mod Holds
+pub mod Posts
+pub mod Events
+pub mod Worlds

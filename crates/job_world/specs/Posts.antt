@@ -1,0 +1,55 @@
+-- What one sending of a busy actor of a world leaves.
+use Rattle.std.specs.Prelude.{◌≡◌, ℕ, zero, suc, ◌+◌, ◌<◌, ◌≤◌, true, List, [], ◌∷◌, ◌++◌, length, slice_get, Option, Some}
+use Rattle.s3_types.specs.Store.{Scene}
+use Rattle.s3_types.specs.declared.request.Actor.{Actor}
+use Rattle.s3_types.specs.declared.journal.Entry.{Entry}
+use Rattle.job_model.specs.Known.{Known}
+use Rattle.job_model.specs.JobScript.{Script}
+use Rattle.job_model.specs.declared.ends.Pick.{Pick}
+use Rattle.job_operations.specs.Operations.{Setting, Running}
+use Rattle.acting.specs.declared.posting.Posted.{Posted}
+use Rattle.acting.specs.declared.posting.Posted.TheVariants.{Unsent, Broken, Heard}
+use Rattle.job_world.specs.Holds.{Holds, all_sound, all_but, is_busy_at, hand_left}
+use Rattle.job_world.specs.declared.hands.Hand.{Hand}
+use Rattle.job_world.specs.declared.hands.Hand.TheVariants.{At}
+use Rattle.job_world.specs.declared.body.Body.{Body}
+
+-- all is as it was but the store, the journal and the hand at a place
+pub record Around {W : Type 0} (place : ℕ) (b c : Body W) : Type 0 where
+  pub script : c.script ≡ b.script
+  pub opening : c.opening ≡ b.opening
+  pub ends : c.ends ≡ b.ends
+  pub event : c.event ≡ b.event
+  pub finished : c.finished ≡ b.finished
+  pub states : c.states ≡ b.states
+  pub places : length c.hands.items ≡ length b.hands.items
+  pub hands : (q : ℕ) → (q ≡ place → ⊥) → slice_get c.hands.items q ≡ slice_get b.hands.items q
+
+-- an actor sent a request in the event that goes on, and its entry stands
+pub record Wrote {W : Type 0} (actor : Actor) (b c : Body W) : Type 0 where
+  pub entry : Entry
+  pub by : entry.actor ≡ actor
+  pub number : entry.event ≡ length b.ends.items + 1
+  pub appended : c.journal.entries ≡ b.journal.entries ++ entry ∷ []
+
+-- by so much another actor's request may raise what the actor at a place has left: the driver's alone rises
+abbrev pub raised : ℕ → ℕ → ℕ
+raised rise zero = rise
+raised rise (suc place) = 0
+
+-- in this scene the busy actors beside the one at a place have no more left than that
+abbrev pub RaisedBy : {W : Type 0} → (W → Scene → ℕ) → (Script → ℕ) → ℕ → Body W → Scene → Type 0
+RaisedBy left rise place b s = (q : ℕ) (h : Hand _) → (q ≡ place → ⊥) → is_busy_at b.states.actors q ≡ true → slice_get b.hands.items q ≡ Some h → hand_left left s h ≤ hand_left left b.store.scene h + raised (rise b.script) q
+
+-- the actor at a place has less left
+abbrev pub FellAt : {W : Type 0} → (W → Scene → ℕ) → ℕ → Body W → Body W → Type 0
+FellAt left place b c = (h k : Hand _) → slice_get b.hands.items place ≡ Some h → slice_get c.hands.items place ≡ Some k → hand_left left c.store.scene k < hand_left left b.store.scene h
+
+-- it is at an operation
+abbrev pub IsWorking : {W : Type 0} → ℕ → Body W → Type 0
+IsWorking place b = (m : _) × (slice_get b.hands.items place ≡ Some (At m))
+
+abbrev pub PostedAt : {W : Type 0} → (W → Scene → ℕ) → (Setting → Actor → W → Type 0) → (Known → W → Running) → (Script → ℕ) → (W → Option (List Pick)) → ℕ → Actor → Body W → Body W → Posted → Type 0
+PostedAt left is_of running rise picks_of place actor b c Unsent = Holds is_of running picks_of (all_but place) c × (c.journal.entries ≡ b.journal.entries) × (c.store.scene ≡ b.store.scene)
+PostedAt left is_of running rise picks_of place actor b c Broken = Holds is_of running picks_of (all_but place) c × Wrote actor b c × RaisedBy left rise place b c.store.scene
+PostedAt left is_of running rise picks_of place actor b c Heard = Holds is_of running picks_of all_sound c × Wrote actor b c × RaisedBy left rise place b c.store.scene × FellAt left place b c × IsWorking place c

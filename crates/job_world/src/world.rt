@@ -1,0 +1,169 @@
+ghost use Rattle.std.specs.Prelude.{◌≡◌, length, slice_get, Some, IfOk, OnOk, OnErr, IsErr, true};
+ghost use Rattle.s3_types.specs.Moment.{moment};
+ghost use Rattle.s3_types.specs.declared.request.Committer.TheVariants.{Magic};
+ghost use Rattle.job_model.specs.Attempts.{is_known};
+ghost use Rattle.job_promise.specs.States.{past, verdict};
+ghost use Rattle.job_promise.specs.Promise.{Finished};
+ghost use Rattle.job_world.specs.Worlds.{MayBegin, begun, Keeps, WentOn, FoundNone};
+
+use crate::body::Body;
+use crate::played::{Played, picks_in};
+use job_model::{ActorState, Event, EventEnd, PickList, Script};
+use job_works::Works;
+use s3_service::Service;
+use s3_types::{Actor, Journal};
+use std::alloc::{AllocError, Global};
+use std::marker::Model;
+
+/// A job's driver and attempts over one store, moved by the events of a script: the script, the store's
+/// content as the run began, all that was sent, the picks of the job's commit, the ends of the events so far,
+/// and whether an event found no memory. At each call's end it keeps what is promised of the job.
+#[derive(Drop)]
+pub struct World<W: Works> {
+    body: Body<W>,
+    stuck: bool,
+}
+
+impl<W: Works> Model for World<W> {
+    ghost use Rattle.std.specs.Coded.{codes};
+    ghost use Rattle.s3_types.specs.Coded.{coded_content};
+    ghost use Rattle.job_model.specs.Codes.{coded_script};
+    ghost use Rattle.job_world.specs.Holds.{Quiet};
+    ghost use Rattle.job_world.specs.Worlds.{Run, run_of};
+
+    ghost Value = { Run };
+
+    ghost coded = { Prim.hlevel (codes, coded_content, coded_script) };
+
+    ghost view = { λ w. run_of W.picks_of w.body w.stuck };
+
+    ghost invariant = { λ w. Quiet W.wants W.is_of W.running W.picks_of w.body };
+}
+
+impl<W: Works> World<W> {
+    /// No event has happened yet. The store's content is copied, so that the run's opening stays known; bytes
+    /// are shared. AllocError comes where memory ran out alone.
+    pub fn new(alloc: Global, script: Script, service: Service) -> Result<World<W>, AllocError>
+        requires magic { script.committer ≡ Magic }
+        requires store { MayBegin service }
+        ensures { IfOk result (λ world. world ≡ begun script service) }
+    {
+        let body = Body::new(alloc, script, service)?;
+        Ok(World { body, stuck: false })
+    }
+
+    /// Plays the script's next event, whose end stands behind the others then. What it takes of memory for
+    /// itself it takes before anything happens; where it finds none nothing happens, then and at each later call.
+    /// An actor that finds none has ended so, and is dead.
+    pub fn event(&mut self, event: &Event) -> Result<(), AllocError>
+        requires next { slice_get self.old.script.events (length self.old.ends) ≡ Some event.now }
+        ensures keeps { Keeps self.new }
+        ensures ok { OnOk result (WentOn self.old self.new) }
+        ensures err { OnErr result (FoundNone self.old self.new) }
+        ensures stuck { self.old.stuck ≡ true → IsErr result }
+    {
+        W::laws();
+        if self.stuck {
+            return Err(AllocError);
+        }
+        match self.body.event(*event) {
+            Ok(()) => Ok(()),
+            Err(error) => {
+                self.stuck = true;
+                Err(error)
+            }
+        }
+    }
+
+    /// The script. Takes no memory.
+    pub fn script(&self) -> &Script
+        ensures { result.now ≡ self.now.script }
+    {
+        &self.body.script
+    }
+
+    /// The script's next event, or None where all have their ends. Takes no memory.
+    pub fn next(&self) -> Option<Event>
+        ensures { result ≡ slice_get self.now.script.events (length self.now.ends) }
+    {
+        self.body
+            .script
+            .events
+            .as_slice()
+            .get(self.body.ends.len())
+            .copied()
+    }
+
+    /// What holds of every world.
+    pub fn keeps(&self)
+        ensures { Keeps self.now }
+    {
+        W::laws();
+        let _ = &self.body;
+    }
+
+    /// How an actor of the script stands, in O(1). Takes no memory.
+    pub fn state(&self, actor: Actor) -> ActorState
+        requires { is_known self.now.script.attempts actor ≡ true }
+        ensures { result ≡ (past self.now.script self.now.ends).state actor }
+    {
+        self.body.states.state(&self.body.script, actor)
+    }
+
+    /// The status that is due by the ends so far: 0, 1, 8 or 9. Takes no memory.
+    pub fn verdict(&self) -> u8
+        ensures { result ≡ verdict self.now.script self.now.ends }
+    {
+        self.body.states.verdict()
+    }
+
+    /// The job attempt's number: one more than the restarts so far.
+    pub fn job_attempt(&self) -> u32
+        ensures { result ≡ (past self.now.script self.now.ends).attempt }
+    {
+        self.body.states.attempt()
+    }
+
+    /// Every sending so far, in order. Takes no memory.
+    pub fn journal(&self) -> &Journal
+        ensures { result.now.entries ≡ self.now.journal }
+    {
+        &self.body.journal
+    }
+
+    /// The attempts whose sets the job's commit has read, by task. Takes no memory.
+    pub fn picks(&self) -> &PickList
+        ensures { result.now ≡ self.now.picks }
+    {
+        picks_in(&self.body.hands[0], &self.body.picks)
+    }
+
+    /// The ends of the events so far. Takes no memory.
+    pub fn ends(&self) -> &[EventEnd]
+        ensures { result.now ≡ self.now.ends }
+    {
+        self.body.ends.as_slice()
+    }
+
+    /// The store as the sendings so far have left it. Takes no memory.
+    pub fn service(&self) -> &Service
+        ensures { result.now ≡ (moment self.now.opening self.now.journal (length self.now.journal)).content }
+    {
+        self.body.store.service()
+    }
+
+    /// Hands out what the run leaves. Takes no memory.
+    pub fn finish(self) -> Played
+        ensures script { result.script ≡ self.script }
+        ensures service { result.service ≡ (moment self.opening self.journal (length self.journal)).content }
+        ensures journal { result.journal.entries ≡ self.journal }
+        ensures picks { result.picks ≡ self.picks }
+        ensures ends { result.ends ≡ self.ends }
+        ensures keeps { Keeps self }
+        ensures finished { length self.ends ≡ length self.script.events → Finished self.script self.opening self.journal self.picks self.ends }
+    {
+        W::laws();
+        let World { body, stuck: _ } = self;
+        body.finish()
+    }
+}
