@@ -1,0 +1,151 @@
+-- The paths above a path.
+use Rattle.std.proofs.Common.{◌≡◌, ◌⊎◌, inl, inr, ℕ, zero, suc, ◌<◌, ◌&&◌, ◌==◌, not, nat_eq, Bool, true, false, List, [], ◌∷◌, ◌++◌, map, length, refl, sym, ap, subst, ◌∙◌, arith, length-append}
+use Rattle.std.specs.List.{list_all, join_with_byte}
+use Rattle.std.proofs.lemmas.Bool.{false≢true, eqb-true}
+use Rattle.std.proofs.lemmas.List.Folds.{list_all-append}
+use Rattle.words.specs.Parts.{parts_of, is_other}
+use Rattle.words.proofs.Pieces.{one_part, parts_append}
+use Rattle.s3_types.specs.Names.{is_element}
+use Rattle.s3_types.specs.Pages.{begins}
+use Rattle.path_keys.specs.Paths.{is_key}
+use Rattle.path_keys.proofs.Keys.{some_key}
+use Rattle.path_keys.proofs.Last.{parts_round, before_slash, before_none}
+use Rattle.dir_markers.specs.Markers.{marker_of, fronts, keys_above}
+use Rattle.dir_markers.proofs.Above.{above_more}
+use Rattle.request_frame.specs.Members.{IsIn}
+use Rattle.request_frame.proofs.Members.{eq_nat, in_append, in_front, in_last}
+use Rattle.fs_tree.specs.Tree.{is_marker}
+use Rattle.fs_tree.specs.Changes.{parent}
+use Rattle.fs_tree.proofs.Begins.{both, begins_more, begins_all, begins_trans, begins_marker, marker_at, no_empty}
+
+-- ---- a text cut at its last `/`
+
+abbrev pub NoSlash : List ℕ → Type 0
+NoSlash p = list_all (is_other 47) p ≡ true
+
+abbrev pub Cut : List ℕ → Type 0
+Cut p = NoSlash p ⊎ ((front : List ℕ) × (back : List ℕ) × (p ≡ front ++ 47 ∷ back) × NoSlash back)
+
+pub cut : (p : List ℕ) → Cut p
+cut [] = inl refl
+cut (x ∷ p) = by (cut p)
+  where
+    here : (b : Bool) → (x == 47) ≡ b → NoSlash p → Cut (x ∷ p)
+    here true e n = inr ([], p, ap (λ v. v ∷ p) (eqb-true x 47 e), n)
+    here false e n = inl (ap (λ b. not b && list_all (is_other 47) p) e ∙ n)
+
+    by : Cut p → Cut (x ∷ p)
+    by (inl n) = here (x == 47) refl n
+    by (inr c) = inr (x ∷ c.0, c.1, ap (λ l. x ∷ l) c.2, c.3)
+
+no_begin : (q p : List ℕ) → NoSlash p → begins (marker_of q) p ≡ true → ⊥
+no_begin q [] n h = no_empty q h
+no_begin [] (x ∷ p) n h =
+    let e : 47 ≡ x = eq_nat 47 x (both (nat_eq 47 x) true h).0 in
+    false≢true (ap (λ v. not (v == 47) && list_all (is_other 47) p) e ∙ n)
+no_begin (y ∷ q) (x ∷ p) n h = no_begin q p (both (not (x == 47)) (list_all (is_other 47) p) n).1 (both (nat_eq y x) (begins (marker_of q) p) h).1
+
+begins_cut : (q front back : List ℕ) → NoSlash back → begins (marker_of q) (front ++ 47 ∷ back) ≡ true → begins (marker_of q) (marker_of front) ≡ true
+begins_cut [] [] back n h = refl
+begins_cut [] (x ∷ front) back n h = h
+begins_cut (y ∷ q) [] back n h = absurd (no_begin q back n (both (nat_eq y 47) (begins (marker_of q) back) h).1)
+begins_cut (y ∷ q) (x ∷ front) back n h =
+    let w = both (nat_eq y x) (begins (marker_of q) (front ++ 47 ∷ back)) h in
+    ap (λ b. b && begins (marker_of q) (marker_of front)) w.0 ∙ begins_cut q front back n w.1
+
+front_begins : (front back : List ℕ) → begins (marker_of front) (front ++ 47 ∷ back) ≡ true
+front_begins [] back = refl
+front_begins (x ∷ front) back = ap (λ b. b && begins (marker_of front) (front ++ 47 ∷ back)) (both (nat_eq x x) (begins front front) (begins_all (x ∷ front))).0 ∙ front_begins front back
+
+-- ---- the path above a path
+
+-- the marker of a path above a path begins that of its parent
+pub above_parent : (q p : List ℕ) → begins (marker_of q) p ≡ true → begins (marker_of q) (marker_of (parent p)) ≡ true
+above_parent q p h = by (cut p)
+  where
+    by : Cut p → begins (marker_of q) (marker_of (parent p)) ≡ true
+    by (inl n) = absurd (no_begin q p n h)
+    by (inr c) =
+        subst (λ v. begins (marker_of q) (marker_of v) ≡ true) (before_slash p c.0 c.1 c.2 c.3)
+        (begins_cut q c.0 c.1 c.3 (ap (begins (marker_of q)) (sym c.2) ∙ h))
+
+no_cons : (x : ℕ) (u : List ℕ) → [] ≡ x ∷ u → ⊥
+no_cons x u h = cc
+
+-- a path is below its parent
+pub parent_begins : (p : List ℕ) (x : ℕ) (u : List ℕ) → parent p ≡ x ∷ u → begins (marker_of (x ∷ u)) p ≡ true
+parent_begins p x u h = by (cut p)
+  where
+    by : Cut p → begins (marker_of (x ∷ u)) p ≡ true
+    by (inl n) = absurd (no_cons x u (before_none p n ∙ h))
+    by (inr c) =
+        subst (λ v. begins (marker_of v) p ≡ true) (before_slash p c.0 c.1 c.2 c.3 ∙ h)
+        (ap (begins (marker_of c.0)) c.2 ∙ front_begins c.0 c.1)
+
+-- ---- all of them
+
+pub none_above : (p : List ℕ) → NoSlash p → keys_above p ≡ []
+none_above p n = ap (λ (l : List (List ℕ)). map (join_with_byte 47) (fronts l)) (one_part 47 p n)
+
+pub more_above : (p front back : List ℕ) → p ≡ front ++ 47 ∷ back → NoSlash back → keys_above p ≡ keys_above front ++ front ∷ []
+more_above p front back e n = above_more p front back (parts_round p front back e n)
+
+cut_shorter : (p front back : List ℕ) (n : ℕ) → p ≡ front ++ 47 ∷ back → length p < suc n → length front < n
+cut_shorter p front back n e h = let l = ap length e ∙ length-append front (47 ∷ back) in omega (arith, l, h)
+
+above_in : (n : ℕ) (q p : List ℕ) → length p < n → IsIn q (keys_above p) → begins (marker_of q) p ≡ true
+above_in zero q p l h = absurd (omega (arith, l))
+above_in (suc n) q p l h = by (cut p) (λ front g. above_in n q front g)
+  where
+    found : (front back : List ℕ) → p ≡ front ++ 47 ∷ back → (IsIn q (keys_above front) → begins (marker_of q) front ≡ true) → IsIn q (keys_above front) ⊎ IsIn q (front ∷ []) → begins (marker_of q) p ≡ true
+    found front back e ih (inl g) = begins_trans (marker_of q) front p (ih g) (ap (begins front) e ∙ begins_more front (47 ∷ back))
+    found front back e ih (inr (inl g)) = ap (λ v. begins (marker_of v) p) g ∙ ap (begins (marker_of front)) e ∙ front_begins front back
+    found front back e ih (inr (inr g)) = absurd g
+
+    by : Cut p → ((front : List ℕ) → length front < n → IsIn q (keys_above front) → begins (marker_of q) front ≡ true) → begins (marker_of q) p ≡ true
+    by (inl m) ih = absurd (subst (IsIn q) (none_above p m) h)
+    by (inr c) ih = found c.0 c.1 c.2 (ih c.0 (cut_shorter p c.0 c.1 n c.2 l)) (in_append q (keys_above c.0) (c.0 ∷ []) (subst (IsIn q) (more_above p c.0 c.1 c.2 c.3) h))
+
+-- the marker of a directory above a path begins the path
+pub above_begins : (q p : List ℕ) → IsIn q (keys_above p) → begins (marker_of q) p ≡ true
+above_begins q p h = above_in (suc (length p)) q p (omega arith) h
+
+in_above : (n : ℕ) (q p : List ℕ) → length p < n → begins (marker_of q) p ≡ true → IsIn q (keys_above p)
+in_above zero q p l h = absurd (omega (arith, l))
+in_above (suc n) q p l h = by (cut p) (λ front g. in_above n q front g)
+  where
+    found : (front : List ℕ) → (begins (marker_of q) front ≡ true → IsIn q (keys_above front)) → (q ≡ front) ⊎ (begins (marker_of q) front ≡ true) → IsIn q (keys_above front ++ front ∷ [])
+    found front ih (inl e) = subst (λ v. IsIn v (keys_above front ++ front ∷ [])) (sym e) (in_last front (keys_above front))
+    found front ih (inr g) = in_front q (keys_above front) (front ∷ []) (ih g)
+
+    by : Cut p → ((front : List ℕ) → length front < n → begins (marker_of q) front ≡ true → IsIn q (keys_above front)) → IsIn q (keys_above p)
+    by (inl m) ih = absurd (no_begin q p m h)
+    by (inr c) ih =
+        subst (IsIn q) (sym (more_above p c.0 c.1 c.2 c.3))
+        (found c.0 (ih c.0 (cut_shorter p c.0 c.1 n c.2 l)) (marker_at q c.0 (begins_cut q c.0 c.1 c.3 (ap (begins (marker_of q)) (sym c.2) ∙ h))))
+
+-- and only theirs do
+pub begins_above : (q p : List ℕ) → begins (marker_of q) p ≡ true → IsIn q (keys_above p)
+begins_above q p h = in_above (suc (length p)) q p (omega arith) h
+
+pub above_marker : (q p : List ℕ) → IsIn q (keys_above p) → begins (marker_of q) (marker_of p) ≡ true
+above_marker q p h = begins_trans (marker_of q) p (marker_of p) (above_begins q p h) (begins_marker p)
+
+-- ---- a path's key
+
+marker_ends : (p : List ℕ) → is_marker p ≡ true → (front : List ℕ) × (p ≡ front ++ 47 ∷ [])
+marker_ends [] h = absurd (false≢true h)
+marker_ends (x ∷ []) h = ([], ap (λ v. v ∷ []) (eqb-true x 47 h))
+marker_ends (x ∷ y ∷ p) h = let w = marker_ends (y ∷ p) h in (x ∷ w.0, ap (λ l. x ∷ l) w.1)
+
+-- it is no marker's
+pub key_no_marker : (x : ℕ) (p : List ℕ) → is_key (x ∷ p) ≡ true → is_marker (x ∷ p) ≡ false
+key_no_marker x p k = by (is_marker (x ∷ p)) refl
+  where
+    by : (b : Bool) → is_marker (x ∷ p) ≡ b → is_marker (x ∷ p) ≡ false
+    by false e = e
+    by true e =
+        let w = marker_ends (x ∷ p) e in
+        let parts = ap (parts_of 47) w.1 ∙ parts_append 47 w.0 [] ∙ ap (λ (l : List (List ℕ)). parts_of 47 w.0 ++ l) (one_part 47 [] refl) in
+        let all : (list_all is_element (parts_of 47 w.0) && false) ≡ true = sym (ap (list_all is_element) parts ∙ list_all-append is_element (parts_of 47 w.0) ([] ∷ [])) ∙ (some_key (x ∷ p) (omega arith) k).0 in
+        absurd (false≢true (both (list_all is_element (parts_of 47 w.0)) false all).1)

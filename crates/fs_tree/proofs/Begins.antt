@@ -1,0 +1,73 @@
+-- Texts that begin with others, and markers.
+use Rattle.std.proofs.Common.{◌≡◌, ◌⊎◌, inl, inr, ℕ, ◌&&◌, ◌≤◌, nat_eq, Bool, true, false, List, [], ◌∷◌, ◌++◌, length, refl, sym, ap, ◌∙◌, arith}
+use Rattle.std.proofs.lemmas.Bool.{false≢true}
+use Rattle.s3_types.specs.Pages.{begins}
+use Rattle.dir_markers.specs.Markers.{marker_of}
+use Rattle.request_frame.proofs.Members.{eq_nat, nat_true}
+use Rattle.fs_tree.specs.Tree.{is_marker}
+
+pub both : (a b : Bool) → (a && b) ≡ true → (a ≡ true) × (b ≡ true)
+both true b h = (refl, h)
+both false b h = absurd (false≢true h)
+
+pub begins_more : (p t : List ℕ) → begins p (p ++ t) ≡ true
+begins_more [] t = refl
+begins_more (x ∷ p) t = ap (λ b. b && begins p (p ++ t)) (nat_true x x refl) ∙ begins_more p t
+
+pub begins_all : (p : List ℕ) → begins p p ≡ true
+begins_all [] = refl
+begins_all (x ∷ p) = ap (λ b. b && begins p p) (nat_true x x refl) ∙ begins_all p
+
+pub begins_marker : (p : List ℕ) → begins p (marker_of p) ≡ true
+begins_marker p = begins_more p (47 ∷ [])
+
+pub begins_trans : (p q k : List ℕ) → begins p q ≡ true → begins q k ≡ true → begins p k ≡ true
+begins_trans [] q k h g = refl
+begins_trans (x ∷ p) [] k h g = absurd (false≢true h)
+begins_trans (x ∷ p) (y ∷ q) [] h g = absurd (false≢true g)
+begins_trans (x ∷ p) (y ∷ q) (z ∷ k) h g =
+    let a = both (nat_eq x y) (begins p q) h in
+    let b = both (nat_eq y z) (begins q k) g in
+    ap (λ c. c && begins p k) (ap (λ v. nat_eq v z) (eq_nat x y a.0) ∙ b.0) ∙ begins_trans p q k a.1 b.1
+
+-- of two beginnings of one text, one begins with the other
+pub one_begins : (a b k : List ℕ) → begins a k ≡ true → begins b k ≡ true → (begins a b ≡ true) ⊎ (begins b a ≡ true)
+one_begins [] b k h g = inl refl
+one_begins (x ∷ a) [] k h g = inr refl
+one_begins (x ∷ a) (y ∷ b) [] h g = absurd (false≢true h)
+one_begins (x ∷ a) (y ∷ b) (z ∷ k) h g =
+    let i = both (nat_eq x z) (begins a k) h in
+    let j = both (nat_eq y z) (begins b k) g in
+    by (eq_nat x z i.0 ∙ sym (eq_nat y z j.0)) (one_begins a b k i.1 j.1)
+  where
+    by : x ≡ y → (begins a b ≡ true) ⊎ (begins b a ≡ true) → (begins (x ∷ a) (y ∷ b) ≡ true) ⊎ (begins (y ∷ b) (x ∷ a) ≡ true)
+    by e (inl i) = inl (ap (λ c. c && begins a b) (nat_true x y e) ∙ i)
+    by e (inr i) = inr (ap (λ c. c && begins b a) (nat_true y x (sym e)) ∙ i)
+
+pub begins_length : (p q : List ℕ) → begins p q ≡ true → length p ≤ length q
+begins_length [] q h = omega arith
+begins_length (x ∷ p) [] h = absurd (false≢true h)
+begins_length (x ∷ p) (y ∷ q) h = let e = begins_length p q (both (nat_eq x y) (begins p q) h).1 in omega (arith, e)
+
+-- a marker's key ends in `/`
+pub marker_is : (p : List ℕ) → is_marker (marker_of p) ≡ true
+marker_is [] = refl
+marker_is (x ∷ []) = refl
+marker_is (x ∷ y ∷ p) = marker_is (y ∷ p)
+
+pub no_empty : (q : List ℕ) → begins (marker_of q) [] ≡ true → ⊥
+no_empty [] h = false≢true h
+no_empty (y ∷ q) h = false≢true h
+
+-- a marker that begins with another is that of the same path, or of one below it
+pub marker_at : (q p : List ℕ) → begins (marker_of q) (marker_of p) ≡ true → (q ≡ p) ⊎ (begins (marker_of q) p ≡ true)
+marker_at [] [] h = inl refl
+marker_at (y ∷ q) [] h = absurd (no_empty q (both (nat_eq y 47) (begins (marker_of q) []) h).1)
+marker_at [] (x ∷ p) h = inr h
+marker_at (y ∷ q) (x ∷ p) h =
+    let w = both (nat_eq y x) (begins (marker_of q) (marker_of p)) h in
+    by w.0 (marker_at q p w.1)
+  where
+    by : nat_eq y x ≡ true → (q ≡ p) ⊎ (begins (marker_of q) p ≡ true) → (y ∷ q ≡ x ∷ p) ⊎ (begins (marker_of (y ∷ q)) (x ∷ p) ≡ true)
+    by e (inl g) = inl (λ i. eq_nat y x e i ∷ g i)
+    by e (inr g) = inr (ap (λ b. b && begins (marker_of q) p) e ∙ g)

@@ -1,0 +1,170 @@
+-- Deleting a file or a directory, in the tree.
+use Rattle.std.proofs.Common.{◌≡◌, ◌⊎◌, inl, inr, ℕ, true, false, List, [], ◌∷◌, Option, Some, None, refl, sym, ap, subst, ◌∙◌, arith, length-append}
+use Rattle.std.proofs.lemmas.Bool.{false≢true}
+use Rattle.std.specs.FinMap as fin
+use Rattle.s3_types.specs.Store.{Objects}
+use Rattle.s3_types.specs.Pages.{begins}
+use Rattle.dir_markers.specs.Markers.{marker_of}
+use Rattle.request_frame.proofs.Members.{none_some, some_is, true_or_false, same_or_other, text_gone, text_left, text_other}
+use Rattle.fs_tree.specs.Tree.{Stands, SomeBelow, NoneBelow, is_marker, marker, HasDir}
+use Rattle.fs_tree.specs.Changes.{DropsFile, DropsDir, parent, marker_if, IsMarked, IsWithoutBelow}
+use Rattle.fs_tree.proofs.Begins.{begins_all, begins_trans, begins_marker, begins_length, one_begins, marker_is, marker_at}
+use Rattle.fs_tree.proofs.Above.{above_parent, parent_begins}
+use Rattle.fs_tree.proofs.Making.{put_stands, put_was, dir_of, has_marker}
+
+-- ---- a marker that is put where nothing is left
+
+if_marker : (u k : List ℕ) → marker_if u ≡ Some k → marker_of u ≡ k
+if_marker [] k h = absurd (cc)
+if_marker (x ∷ u) k h = some_is h
+
+-- what stands then stood before, or is the marker
+marked_was : (u : Option (List ℕ)) (n m : Objects) → IsMarked u n m → (k : List ℕ) → Stands m k → Stands n k ⊎ (u ≡ Some k)
+marked_was None n m g k h = inl (subst (λ m. Stands m k) g h)
+marked_was (Some u) n m (inl g) k h = inl (subst (λ m. Stands m k) g.1 h)
+marked_was (Some u) n m (inr g) k h = by (put_was n u k marker (subst (λ m. Stands m k) g.1 h))
+  where
+    by : (k ≡ u) ⊎ Stands n k → Stands n k ⊎ (Some u ≡ Some k)
+    by (inl e) = inr (ap Some (sym e))
+    by (inr s) = inl s
+
+marked_stands : (u : Option (List ℕ)) (n m : Objects) → IsMarked u n m → (k : List ℕ) → Stands n k → Stands m k
+marked_stands None n m g k h = subst (λ m. Stands m k) (sym g) h
+marked_stands (Some u) n m (inl g) k h = subst (λ m. Stands m k) (sym g.1) h
+marked_stands (Some u) n m (inr g) k h = subst (λ m. Stands m k) (sym g.1) (put_stands n u k marker h)
+
+-- other keys are as they were
+pub marked_other : (u : Option (List ℕ)) (n m : Objects) → IsMarked u n m → (k : List ℕ) → (u ≡ Some k → ⊥) → fin.get m k ≡ fin.get n k
+marked_other None n m g k f = ap (λ m. fin.get m k) g
+marked_other (Some u) n m (inl g) k f = ap (λ m. fin.get m k) g.1
+marked_other (Some u) n m (inr g) k f = ap (λ m. fin.get m k) g.1 ∙ text_other n u k marker (λ e. f (ap Some (sym e)))
+
+marker_key : (u k : List ℕ) → marker_if u ≡ Some k → is_marker k ≡ true
+marker_key u k e = ap is_marker (sym (if_marker u k e)) ∙ marker_is u
+
+marked_files : (u : List ℕ) (n m : Objects) → IsMarked (marker_if u) n m → (k : List ℕ) → is_marker k ≡ false → fin.get m k ≡ fin.get n k
+marked_files u n m g k f = marked_other (marker_if u) n m g k (λ e. false≢true (sym f ∙ marker_key u k e))
+
+-- ---- the path above
+
+module _ (p : List ℕ) where
+  -- the directory above is one still, and so are those above it
+  above_kept : (u : List ℕ) → parent p ≡ u → (n m : Objects) → IsMarked (marker_if u) n m → (q : List ℕ) → begins (marker_of q) p ≡ true → HasDir m q
+  above_kept u e n m g [] b = tt
+  above_kept [] e n m g (y ∷ q) b = absurd (too_long (above_parent (y ∷ q) p b))
+    where
+      too_long : begins (marker_of (y ∷ q)) (marker_of (parent p)) ≡ true → ⊥
+      too_long h =
+          let l = begins_length (marker_of (y ∷ q)) (marker_of []) (subst (λ v. begins (marker_of (y ∷ q)) (marker_of v) ≡ true) e h) in
+          omega (arith, l, length-append q (47 ∷ []))
+  above_kept (x ∷ u) e n m g (y ∷ q) b = by g
+    where
+      up : begins (marker_of (y ∷ q)) (marker_of (x ∷ u)) ≡ true
+      up = subst (λ v. begins (marker_of (y ∷ q)) (marker_of v) ≡ true) e (above_parent (y ∷ q) p b)
+
+      by : (SomeBelow n (marker_of (x ∷ u)) × (m ≡ n)) ⊎ (NoneBelow n (marker_of (x ∷ u)) × (m ≡ fin.insert n (marker_of (x ∷ u)) marker)) → HasDir m (y ∷ q)
+      by (inl h) = subst (λ m. HasDir m (y ∷ q)) (sym h.1) (dir_of n (y ∷ q) (marker_of (x ∷ u)) up h.0)
+      by (inr h) = subst (λ m. HasDir m (y ∷ q)) (sym h.1) (dir_of (fin.insert n (marker_of (x ∷ u)) marker) (y ∷ q) (marker_of (x ∷ u)) up (has_marker n (x ∷ u)))
+
+  -- a marker that begins the one above begins the path
+  through : (u : List ℕ) → parent p ≡ u → (k q : List ℕ) → marker_if u ≡ Some k → begins (marker_of q) k ≡ true → begins (marker_of q) p ≡ true
+  through [] e k q f b = absurd (cc)
+  through (x ∷ u) e k q f b =
+      begins_trans (marker_of q) (marker_of (x ∷ u)) p (ap (begins (marker_of q)) (some_is f) ∙ b) (parent_begins p x u e)
+
+-- ---- a file
+
+drop_was : (z : Objects) (p k : List ℕ) → Stands (fin.remove z p) k → Stands z k
+drop_was z p k h = by (same_or_other k p)
+  where
+    by : (k ≡ p) ⊎ (k ≡ p → ⊥) → Stands z k
+    by (inl e) = absurd (none_some (text_gone z p k e) h.1)
+    by (inr n) = (h.0, sym (text_left z p k n) ∙ h.1)
+
+module _ (p : List ℕ) (z m : Objects) (g : IsMarked (marker_if (parent p)) (fin.remove z p) m) where
+  file_dirs_kept : (q : List ℕ) → HasDir z q → HasDir m q
+  file_dirs_kept [] h = tt
+  file_dirs_kept (x ∷ q) h = by (same_or_other h.0 p)
+    where
+      by : (h.0 ≡ p) ⊎ (h.0 ≡ p → ⊥) → HasDir m (x ∷ q)
+      by (inl e) = above_kept p (parent p) refl (fin.remove z p) m g (x ∷ q) (ap (begins (marker_of (x ∷ q))) (sym e) ∙ h.1)
+      by (inr n) = let w = marked_stands (marker_if (parent p)) (fin.remove z p) m g h.0 (h.2, text_left z p h.0 n ∙ h.3) in (h.0, h.1, w.0, w.1)
+
+  file_dirs_only : Stands z p → (q : List ℕ) → HasDir m q → HasDir z q
+  file_dirs_only f [] h = tt
+  file_dirs_only f (x ∷ q) h = by (marked_was (marker_if (parent p)) (fin.remove z p) m g h.0 (h.2, h.3))
+    where
+      by : Stands (fin.remove z p) h.0 ⊎ (marker_if (parent p) ≡ Some h.0) → HasDir z (x ∷ q)
+      by (inl s) = let w = drop_was z p h.0 s in (h.0, h.1, w.0, w.1)
+      by (inr e) = (p, through p (parent p) refl h.0 (x ∷ q) e h.1, f.0, f.1)
+
+  -- a file that goes is gone in the tree, and nothing else is
+  pub drops_file : is_marker p ≡ false → Stands z p → DropsFile p z m
+  drops_file f s = record {
+    gone = marked_files (parent p) (fin.remove z p) m g p f ∙ text_gone z p p refl;
+    files = λ k i n. marked_files (parent p) (fin.remove z p) m g k i ∙ text_left z p k n;
+    kept = λ q h. file_dirs_kept q h;
+    only = λ q h. file_dirs_only s q h;
+  }
+
+-- ---- a directory
+
+module _ (x : ℕ) (p : List ℕ) (z n m : Objects) (w : IsWithoutBelow (marker_of (x ∷ p)) z n) (g : IsMarked (marker_if (parent (x ∷ p))) n m) where
+  abbrev Q : List ℕ
+  Q = marker_of (x ∷ p)
+
+  -- the marker above is no key below the path
+  not_below : (u k : List ℕ) → parent (x ∷ p) ≡ u → marker_if u ≡ Some k → begins Q k ≡ true → ⊥
+  not_below [] k e f b = absurd (cc)
+  not_below (y ∷ u) k e f b =
+      let l = begins_length Q (marker_of (y ∷ u)) (ap (begins Q) (some_is f) ∙ b) in
+      let s = begins_length (marker_of (y ∷ u)) (x ∷ p) (parent_begins (x ∷ p) y u e) in
+      omega (arith, l, s, length-append p (47 ∷ []))
+
+  gone_below : (k : List ℕ) → begins Q k ≡ true → fin.get m k ≡ None
+  gone_below k b = marked_other (marker_if (parent (x ∷ p))) n m g k (λ e. not_below (parent (x ∷ p)) k refl e b) ∙ w.gone k b
+
+  stood : (k : List ℕ) → Stands n k → Stands z k
+  stood k h = by (true_or_false (begins Q k))
+    where
+      by : (begins Q k ≡ true) ⊎ (begins Q k ≡ false) → Stands z k
+      by (inl t) = absurd (none_some (w.gone k t) h.1)
+      by (inr f) = (h.0, sym (w.others k f) ∙ h.1)
+
+  no_dir : (q : List ℕ) → begins Q (marker_of q) ≡ true → HasDir m q → ⊥
+  no_dir [] b h = let l = begins_length Q (marker_of []) b in omega (arith, l, length-append p (47 ∷ []))
+  no_dir (y ∷ q) b h = none_some (gone_below h.0 (begins_trans Q (marker_of (y ∷ q)) h.0 b h.1)) h.3
+
+  dirs_kept : (q : List ℕ) → begins Q (marker_of q) ≡ false → HasDir z q → HasDir m q
+  dirs_kept [] b h = tt
+  dirs_kept (y ∷ q) b h = by (true_or_false (begins Q h.0))
+    where
+      up : (y ∷ q ≡ x ∷ p) ⊎ (begins (marker_of (y ∷ q)) (x ∷ p) ≡ true) → HasDir m (y ∷ q)
+      up (inl e) = absurd (false≢true (sym b ∙ ap (λ v. begins Q (marker_of v)) e ∙ begins_all Q))
+      up (inr i) = above_kept (x ∷ p) (parent (x ∷ p)) refl n m g (y ∷ q) i
+
+      one : (begins (marker_of (y ∷ q)) Q ≡ true) ⊎ (begins Q (marker_of (y ∷ q)) ≡ true) → HasDir m (y ∷ q)
+      one (inl i) = up (marker_at (y ∷ q) (x ∷ p) i)
+      one (inr i) = absurd (false≢true (sym b ∙ i))
+
+      by : (begins Q h.0 ≡ true) ⊎ (begins Q h.0 ≡ false) → HasDir m (y ∷ q)
+      by (inl t) = one (one_begins (marker_of (y ∷ q)) Q h.0 h.1 t)
+      by (inr f) = let s = marked_stands (marker_if (parent (x ∷ p))) n m g h.0 (h.2, w.others h.0 f ∙ h.3) in (h.0, h.1, s.0, s.1)
+
+  dirs_only : SomeBelow z Q → (q : List ℕ) → HasDir m q → HasDir z q
+  dirs_only d [] h = tt
+  dirs_only d (y ∷ q) h = by (marked_was (marker_if (parent (x ∷ p))) n m g h.0 (h.2, h.3))
+    where
+      by : Stands n h.0 ⊎ (marker_if (parent (x ∷ p)) ≡ Some h.0) → HasDir z (y ∷ q)
+      by (inl s) = let v = stood h.0 s in (h.0, h.1, v.0, v.1)
+      by (inr e) = dir_of z (y ∷ q) Q (begins_trans (marker_of (y ∷ q)) (x ∷ p) Q (through (x ∷ p) (parent (x ∷ p)) refl h.0 (y ∷ q) e h.1) (begins_marker (x ∷ p))) d
+
+  -- a directory that goes with what is below it is gone in the tree, and nothing else is
+  pub drops_dir : SomeBelow z Q → DropsDir (x ∷ p) z m
+  drops_dir d = record {
+    below = gone_below;
+    files = λ k i b. marked_files (parent (x ∷ p)) n m g k i ∙ w.others k b;
+    gone = λ q b h. no_dir q b h;
+    kept = λ q b h. dirs_kept q b h;
+    only = λ q h. dirs_only d q h;
+  }

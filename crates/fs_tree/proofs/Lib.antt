@@ -1,0 +1,4 @@
+pub mod Begins
+pub mod Above
+pub mod Making
+pub mod Dropping

@@ -1,0 +1,83 @@
+-- What each file operation answers among the objects z of its bucket, and leaves: refusals in their order, each of which changes nothing (Hadoop FileSystem specification: getFileStatus, open, listStatus, create, mkdirs, delete).
+use Rattle.std.specs.Prelude.{◌≡◌, ◌⊎◌, ℕ, Bool, true, false, List, [], ◌∷◌, Result, Ok, Err, None, length}
+use Rattle.std.specs.FinMap as fin
+use Rattle.s3_types.specs.Store.{Objects}
+use Rattle.s3_types.specs.declared.object.Object.{Object}
+use Rattle.s3_types.specs.Answer.{without}
+use Rattle.path_keys.specs.Paths.{Path}
+use Rattle.dir_markers.specs.Markers.{marker_of, keys_above, created}
+use Rattle.dir_markers.specs.declared.marker.MarkerPolicy.{MarkerPolicy}
+use Rattle.dir_markers.specs.declared.status.Status.{Status}
+use Rattle.dir_markers.specs.declared.status.Status.TheVariants.{File}
+use Rattle.fs_tree.specs.declared.answers.DirEntry.{DirEntry}
+use Rattle.fs_tree.specs.declared.answers.FsRefusal.{FsRefusal}
+use Rattle.fs_tree.specs.declared.answers.FsRefusal.TheVariants.{NotFound, AlreadyExists, IsDirectory as ADirectory, NotDirectory, NotEmpty, IsRoot}
+use Rattle.fs_tree.specs.Tree.{marker, IsFile, HasFile, IsDirectory, IsAbsent, IsStatus, NoFiles, IsFirstFile, HasChildren, IsEmpty}
+use Rattle.fs_tree.specs.Changes.{MakesDirs, MakesFile, HasEntries, own_name, DropsFile, DropsDir, IsMarkedAbove, IsWithoutBelow}
+
+-- the status of a path
+abbrev pub Stats : List ℕ → Objects → Result Status FsRefusal → Objects → Type 0
+Stats p z (Ok s) m = IsStatus z p s × (m ≡ z)
+Stats p z (Err NotFound) m = IsAbsent z p × (m ≡ z)
+Stats p z (Err r) m = ⊥
+
+-- the bytes of a file
+abbrev pub Reads : List ℕ → Objects → Result (List ℕ) FsRefusal → Objects → Type 0
+Reads p z (Ok bytes) m = ((o : Object) × IsFile z p o × (o.bytes ≡ bytes)) × (m ≡ z)
+Reads p z (Err ADirectory) m = IsDirectory z p × (m ≡ z)
+Reads p z (Err NotFound) m = IsAbsent z p × (m ≡ z)
+Reads p z (Err r) m = ⊥
+
+-- what a directory holds, or a file's own entry
+abbrev pub Lists : List ℕ → Objects → Result (List DirEntry) FsRefusal → Objects → Type 0
+Lists p z (Ok es) m = (((o : Object) × IsFile z p o × (es ≡ record { name = own_name p; status = File (length o.bytes) } ∷ [])) ⊎ (IsDirectory z p × HasEntries p z es)) × (m ≡ z)
+Lists p z (Err NotFound) m = IsAbsent z p × (m ≡ z)
+Lists p z (Err r) m = ⊥
+
+-- a file is created: nothing stands at the path, or a file that may be replaced, and no file above it; and the markers above it go that are not kept
+abbrev pub Creates : Path → List ℕ → Bool → MarkerPolicy → Objects → Result (Unit {0}) FsRefusal → Objects → Type 0
+Creates p bytes overwrite policy z (Ok x) m =
+    ((HasFile z p.key × (overwrite ≡ true)) ⊎ IsAbsent z p.key) × NoFiles z (keys_above p.key) × MakesFile p.key bytes z m
+    × (m ≡ without (fin.insert z p.key (record { bytes = bytes; header = None })) (created policy p))
+Creates p bytes overwrite policy z (Err AlreadyExists) m = HasFile z p.key × (overwrite ≡ false) × (m ≡ z)
+Creates p bytes overwrite policy z (Err ADirectory) m = IsDirectory z p.key × (m ≡ z)
+Creates p bytes overwrite policy z (Err (NotDirectory a)) m = ((HasFile z p.key × (overwrite ≡ true)) ⊎ IsAbsent z p.key) × IsFirstFile z (keys_above p.key) a × (m ≡ z)
+Creates p bytes overwrite policy z (Err r) m = ⊥
+
+-- a directory stands already, and nothing changes; or nothing stands at the path and no file above it, and its marker is put
+abbrev pub PutsDir : List ℕ → Objects → Objects → Type 0
+PutsDir p z m = (IsDirectory z p × (m ≡ z)) ⊎ (IsAbsent z p × NoFiles z (keys_above p) × (m ≡ fin.insert z (marker_of p) marker))
+
+-- a directory is made
+abbrev pub Makes : List ℕ → Objects → Result (Unit {0}) FsRefusal → Objects → Type 0
+Makes p z (Ok x) m = MakesDirs p z m × PutsDir p z m
+Makes p z (Err AlreadyExists) m = HasFile z p × (m ≡ z)
+Makes p z (Err (NotDirectory a)) m = IsAbsent z p × IsFirstFile z (keys_above p) a × (m ≡ z)
+Makes p z (Err r) m = ⊥
+
+-- a file goes, and the marker above it is put where its directory is left empty
+pub record DeletesFile (p : List ℕ) (z m : Objects) : Type 0 where
+  pub file : HasFile z p
+  pub tree : DropsFile p z m
+  pub marked : IsMarkedAbove p (fin.remove z p) m
+
+-- a directory goes with all that is below it, of which there is nothing unless the deletion is recursive; and so for the marker above it
+pub record DeletesDir (recursive : Bool) (p : List ℕ) (z m : Objects) : Type 0 where
+  pub directory : IsDirectory z p
+  pub empty : recursive ≡ false → IsEmpty z p
+  pub tree : DropsDir p z m
+  pub without : Objects
+  pub emptied : IsWithoutBelow (marker_of p) z without
+  pub marked : IsMarkedAbove p without m
+
+-- a path is deleted that is not the root
+abbrev pub DeletesPath : Bool → List ℕ → Objects → Result (Unit {0}) FsRefusal → Objects → Type 0
+DeletesPath recursive p z (Ok x) m = DeletesFile p z m ⊎ DeletesDir recursive p z m
+DeletesPath recursive p z (Err NotFound) m = IsAbsent z p × (m ≡ z)
+DeletesPath recursive p z (Err NotEmpty) m = (recursive ≡ false) × IsDirectory z p × HasChildren z p × (m ≡ z)
+DeletesPath recursive p z (Err r) m = ⊥
+
+-- a path is deleted
+abbrev pub Deletes : Bool → List ℕ → Objects → Result (Unit {0}) FsRefusal → Objects → Type 0
+Deletes recursive [] z a m = (a ≡ Err IsRoot) × (m ≡ z)
+Deletes recursive (x ∷ p) z a m = DeletesPath recursive (x ∷ p) z a m

@@ -1,0 +1,106 @@
+-- What file operations do to the tree, and what a directory holds (Hadoop FileSystem specification: mkdirs, delete, create, listStatus).
+use Rattle.std.specs.Prelude.{◌≡◌, ◌⊎◌, ℕ, ◌&&◌, true, false, List, [], ◌∷◌, map, Some, None, Option}
+use Rattle.std.specs.List.{join_with_byte, list_all}
+use Rattle.std.specs.List.Sorted.{IsStrictlySortedBy}
+use Rattle.std.specs.FinMap as fin
+use Rattle.proof_base.specs.Order.{text_cmp}
+use Rattle.words.specs.Parts.{parts_of, is_other}
+use Rattle.s3_types.specs.Names.{is_element}
+use Rattle.s3_types.specs.Store.{Objects}
+use Rattle.s3_types.specs.Pages.{begins}
+use Rattle.path_keys.specs.Paths.{without_last, below}
+use Rattle.dir_markers.specs.Markers.{marker_of, keys_above}
+use Rattle.dir_markers.specs.declared.status.Status.{Status}
+use Rattle.dir_markers.specs.declared.status.Status.TheVariants.{Directory, File}
+use Rattle.request_frame.specs.Members.{IsIn}
+use Rattle.fs_tree.specs.declared.answers.DirEntry.{DirEntry}
+use Rattle.fs_tree.specs.Tree.{SomeBelow, NoneBelow, is_marker, marker, HasDir, IsStatus}
+
+-- every file is as it was, header included
+abbrev pub SameFiles : Objects → Objects → Type 0
+SameFiles z m = (k : List ℕ) → is_marker k ≡ false → fin.get m k ≡ fin.get z k
+
+-- the path and the paths above it are directories, and no other is new
+pub record MakesDirs (p : List ℕ) (z m : Objects) : Type 0 where
+  pub files : SameFiles z m
+  pub kept : (q : List ℕ) → HasDir z q → HasDir m q
+  pub path : HasDir m p
+  pub above : (q : List ℕ) → IsIn q (keys_above p) → HasDir m q
+  pub only : (q : List ℕ) → HasDir m q → HasDir z q ⊎ IsIn q (p ∷ keys_above p)
+
+-- the file is no more, and all else is as it was
+pub record DropsFile (p : List ℕ) (z m : Objects) : Type 0 where
+  pub gone : fin.get m p ≡ None
+  pub files : (k : List ℕ) → is_marker k ≡ false → (k ≡ p → ⊥) → fin.get m k ≡ fin.get z k
+  pub kept : (q : List ℕ) → HasDir z q → HasDir m q
+  pub only : (q : List ℕ) → HasDir m q → HasDir z q
+
+-- the directory is no more, and no file or directory is below it; every other file and directory is as it was
+pub record DropsDir (p : List ℕ) (z m : Objects) : Type 0 where
+  pub below : (k : List ℕ) → begins (marker_of p) k ≡ true → fin.get m k ≡ None
+  pub files : (k : List ℕ) → is_marker k ≡ false → begins (marker_of p) k ≡ false → fin.get m k ≡ fin.get z k
+  pub gone : (q : List ℕ) → begins (marker_of p) (marker_of q) ≡ true → HasDir m q → ⊥
+  pub kept : (q : List ℕ) → begins (marker_of p) (marker_of q) ≡ false → HasDir z q → HasDir m q
+  pub only : (q : List ℕ) → HasDir m q → HasDir z q
+
+-- a file stands at the path with these bytes and no header, the paths above it are directories, and all else is as it was
+pub record MakesFile (p bytes : List ℕ) (z m : Objects) : Type 0 where
+  pub file : fin.get m p ≡ Some (record { bytes = bytes; header = None })
+  pub files : (k : List ℕ) → is_marker k ≡ false → (k ≡ p → ⊥) → fin.get m k ≡ fin.get z k
+  pub above : (q : List ℕ) → IsIn q (keys_above p) → HasDir m q
+  pub kept : (q : List ℕ) → HasDir z q → HasDir m q
+  pub only : (q : List ℕ) → HasDir m q → HasDir z q ⊎ IsIn q (keys_above p)
+
+-- ---- what a directory holds
+
+-- a name of a child: an element of a path
+abbrev pub IsName : List ℕ → Type 0
+IsName n = is_element n && list_all (is_other 47) n ≡ true
+
+-- children are ordered by their names, with `/` after a directory's
+abbrev pub text_by : List ℕ → Status → List ℕ
+text_by n Directory = marker_of n
+text_by n (File length) = n
+
+abbrev pub text_of : DirEntry → List ℕ
+text_of e = text_by e.name e.status
+
+-- each child of a directory once, a file where it is one, and nothing else of a child's name
+pub record HasEntries (p : List ℕ) (z : Objects) (es : List DirEntry) : Type 0 where
+  pub child : (e : DirEntry) → IsIn e es → IsName e.name → IsStatus z (below p e.name) e.status
+  pub all : (n : List ℕ) (s : Status) → IsName n → IsStatus z (below p n) s → IsIn (record { name = n; status = s }) es
+  pub rises : IsStrictlySortedBy text_cmp (map text_of es)
+
+-- the last element of a path
+abbrev pub last_of : List (List ℕ) → List ℕ
+last_of [] = []
+last_of (e ∷ []) = e
+last_of (e ∷ f ∷ es) = last_of (f ∷ es)
+
+abbrev pub own_name : List ℕ → List ℕ
+own_name p = last_of (parts_of 47 p)
+
+-- ---- markers
+
+-- the path above a path, empty at the root
+abbrev pub parent : List ℕ → List ℕ
+parent p = join_with_byte 47 (without_last (parts_of 47 p))
+
+-- a directory's marker; the root has none
+abbrev pub marker_if : List ℕ → Option (List ℕ)
+marker_if [] = None
+marker_if (x ∷ p) = Some (marker_of (x ∷ p))
+
+-- m is n with the marker of a directory that has nothing below it; the root gets none
+abbrev pub IsMarked : Option (List ℕ) → Objects → Objects → Type 0
+IsMarked None n m = m ≡ n
+IsMarked (Some k) n m = (SomeBelow n k × (m ≡ n)) ⊎ (NoneBelow n k × (m ≡ fin.insert n k marker))
+
+-- m is n with the marker of the directory above the path, where that is left empty
+abbrev pub IsMarkedAbove : List ℕ → Objects → Objects → Type 0
+IsMarkedAbove p n m = IsMarked (marker_if (parent p)) n m
+
+-- m is z without its keys that begin with q
+pub record IsWithoutBelow (q : List ℕ) (z m : Objects) : Type 0 where
+  pub gone : (k : List ℕ) → begins q k ≡ true → fin.get m k ≡ None
+  pub others : (k : List ℕ) → begins q k ≡ false → fin.get m k ≡ fin.get z k
