@@ -1,0 +1,75 @@
+-- Requests on the objects of one bucket, and what they do there.
+use Rattle.std.specs.Prelude.{ℕ, Bool, nat_lt, cond, List, Option, Some, None, length}
+use Rattle.std.specs.FinMap as fin
+use Rattle.s3_types.specs.Store.{Objects, BucketContent, Scene}
+use Rattle.s3_types.specs.Tags.{plain_tag}
+use Rattle.s3_types.specs.Pages.{page, listed}
+use Rattle.s3_types.specs.Answer.{head, found, copy_answer, copied, without}
+use Rattle.s3_types.specs.declared.request.Request.{Request}
+use Rattle.s3_types.specs.declared.request.Request.TheVariants.{HeadObject, GetObject, ListPage, PutObject, DeleteObject, DeleteObjects, CopyObject}
+use Rattle.s3_types.specs.declared.reply.Reply.{Reply}
+use Rattle.s3_types.specs.declared.reply.Reply.TheVariants.{Stored, Deleted, Refused}
+use Rattle.s3_types.specs.declared.reply.Refusal.TheVariants.{NoSuchBucket, TooManyKeys}
+
+-- what is asked of a bucket
+pub data Ask : Type 0 where
+  -- whether an object stands at a key
+  Head : (key : List ℕ) → Ask
+  -- what stands there
+  Get : (key : List ℕ) → Ask
+  -- the first so many entries below a prefix, behind a text
+  Page : (prefix : List ℕ) → (delimited : Bool) → (behind : List ℕ) → (limit : ℕ) → Ask
+  -- an object with no header
+  Put : (key : List ℕ) → (bytes : List ℕ) → Ask
+  Drop : (key : List ℕ) → Ask
+  DropAll : (keys : List (List ℕ)) → Ask
+  Copy : (source : List ℕ) → (target : List ℕ) → Ask
+
+abbrev pub request_of : List ℕ → Ask → Request
+request_of b (Head k) = HeadObject b k
+request_of b (Get k) = GetObject b k
+request_of b (Page p d q n) = ListPage b p d q n
+request_of b (Put k bytes) = PutObject b k bytes None
+request_of b (Drop k) = DeleteObject b k
+request_of b (DropAll ks) = DeleteObjects b ks
+request_of b (Copy k q) = CopyObject b k q
+
+-- what is answered where these objects stand
+abbrev pub reply_in : Objects → Ask → Reply
+reply_in m (Head k) = head (fin.get m k)
+reply_in m (Get k) = found (fin.get m k)
+reply_in m (Page p d q n) = page n (listed p d q m)
+reply_in m (Put k bytes) = Stored (plain_tag bytes)
+reply_in m (Drop k) = Deleted
+reply_in m (DropAll ks) = cond (nat_lt 1000 (length ks)) (Refused TooManyKeys) Deleted
+reply_in m (Copy k q) = copy_answer (fin.get m k)
+
+-- the objects after it
+abbrev pub edited : Ask → Objects → Objects
+edited (Head k) m = m
+edited (Get k) m = m
+edited (Page p d q n) m = m
+edited (Put k bytes) m = fin.insert m k (record { bytes = bytes; header = None })
+edited (Drop k) m = fin.remove m k
+edited (DropAll ks) m = cond (nat_lt 1000 (length ks)) m (without m ks)
+edited (Copy k q) m = copied m q (fin.get m k)
+
+abbrev pub reply_at : Option Objects → Ask → Reply
+reply_at None a = Refused NoSuchBucket
+reply_at (Some m) a = reply_in m a
+
+-- the objects of a bucket, where it is there
+abbrev pub objects_of : Option BucketContent → Option Objects
+objects_of None = None
+objects_of (Some c) = Some c.objects
+
+abbrev pub objects_at : Scene → List ℕ → Option Objects
+objects_at s b = objects_of (fin.get s.content.buckets b)
+
+-- the scene with these objects in a bucket that is there
+abbrev pub with_objects_if : Option BucketContent → Scene → List ℕ → Objects → Scene
+with_objects_if None s b m = s
+with_objects_if (Some c) s b m = record { content = record { buckets = fin.insert s.content.buckets b (record { objects = m; uploads = c.uploads }); next = s.content.next; minimum = s.content.minimum }; files = s.files }
+
+abbrev pub with_objects : Scene → List ℕ → Objects → Scene
+with_objects s b m = with_objects_if (fin.get s.content.buckets b) s b m

@@ -1,0 +1,5 @@
+pub mod Asks
+pub mod AskLaws
+pub mod Phases
+pub mod PhaseLaws
+pub mod Looks

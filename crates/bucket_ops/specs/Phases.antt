@@ -1,0 +1,69 @@
+-- Operations on the objects of one bucket.
+use Rattle.std.specs.Prelude.{◌≡◌, ℕ, List, Option, Some, None}
+use Rattle.s3_types.specs.Store.{Objects, Scene}
+use Rattle.s3_types.specs.declared.reply.Reply.{Reply}
+use Rattle.s3_types.specs.declared.reply.Reply.TheVariants.{Refused}
+use Rattle.s3_types.specs.declared.reply.Refusal.TheVariants.{NoSuchBucket}
+use Rattle.s3_types.specs.declared.request.Request.{Request}
+use Rattle.operations.specs.declared.plan.Step.{Step}
+use Rattle.operations.specs.declared.plan.Step.TheVariants.{Next, End}
+use Rattle.bucket_ops.specs.declared.bucket.InBucket.{InBucket}
+use Rattle.bucket_ops.specs.Asks.{Ask, request_of, reply_in, edited, objects_at, with_objects}
+use Rattle.operations.specs.Plans.{Goes, Falls}
+
+-- what an operation O of stages X owes that ends with A
+pub record IsPhases {O X A : Type 0} (first : O → X) (asks : O → X → Ask) (goes : O → X → Reply → Step X A) (holds : O → Objects → X → Objects → Type 0) (gives : O → Objects → A → Objects → Type 0) (always : O → Objects → Objects → Type 0) (left : O → X → Objects → ℕ) (absent : A) : Type 0 where
+  pub begin : (o : O) (z : Objects) → holds o z (first o) z
+  pub goes_on : (o : O) (z : Objects) (x : X) (m : Objects) → holds o z x m → Goes (holds o z) (gives o z) (goes o x (reply_in m (asks o x))) (edited (asks o x) m)
+  pub falls : (o : O) (z : Objects) (x : X) (m : Objects) → holds o z x m → Falls (left o) (goes o x (reply_in m (asks o x))) (edited (asks o x) m) (left o x m)
+  pub stays : (o : O) (z : Objects) (x : X) (m : Objects) → holds o z x m → left o x (edited (asks o x) m) ≡ left o x m
+  pub during : (o : O) (z : Objects) (x : X) (m : Objects) → holds o z x m → always o z m
+  pub at_end : (o : O) (z : Objects) (a : A) (m : Objects) → gives o z a m → always o z m
+  -- where there is no bucket
+  pub missing : (o : O) (x : X) → goes o x (Refused NoSuchBucket) ≡ End absent
+
+-- the scene is z with other objects in the bucket, of which something holds; or z, where there is no bucket
+abbrev pub InScene : Option Objects → (Objects → Objects → Type 0) → Type 0 → Scene → List ℕ → Scene → Type 0
+InScene None holds absent z b s = (s ≡ z) × absent
+InScene (Some m) holds absent z b s = (n : Objects) × (s ≡ with_objects z b n) × holds m n
+
+abbrev pub InBucketHolds : Scene → List ℕ → (Objects → Objects → Type 0) → Type 0 → Scene → Type 0
+InBucketHolds z b holds absent s = InScene (objects_at z b) holds absent z b s
+
+module _ {O X : Type 0} where
+  abbrev pub request : (O → X → Ask) → InBucket O X → Request
+  request asks p = request_of p.bucket (asks p.names p.stage)
+
+  abbrev pub stepped : {A : Type 0} → List ℕ → O → Step X A → Step (InBucket O X) A
+  stepped b o (Next x) = Next (record { bucket = b; names = o; stage = x })
+  stepped b o (End a) = End a
+
+  abbrev pub led : {A : Type 0} → (O → X → Reply → Step X A) → InBucket O X → Reply → Step (InBucket O X) A
+  led goes p r = stepped p.bucket p.names (goes p.names p.stage r)
+
+  abbrev pub Holds : (O → Objects → X → Objects → Type 0) → InBucket O X → Scene → InBucket O X → Scene → Type 0
+  Holds holds o z p s = (p.bucket ≡ o.bucket) × (p.names ≡ o.names) × InBucketHolds z o.bucket (λ m n. holds o.names m p.stage n) (Unit {0}) s
+
+-- in a bucket that is there an operation gives what it gives of the bucket's objects, and nothing else changes; where there is none, nothing changes
+abbrev pub GivesIn : {A : Type 0} → List ℕ → (Objects → A → Objects → Type 0) → A → Scene → A → Scene → Type 0
+GivesIn b gives absent z a s = InBucketHolds z b (λ m n. gives m a n) (a ≡ absent) s
+
+-- and so at any moment
+abbrev pub AlwaysIn : List ℕ → (Objects → Objects → Type 0) → Scene → Scene → Type 0
+AlwaysIn b always z s = InBucketHolds z b (λ m n. always m n) (Unit {0}) s
+
+abbrev pub Gives : {O X A : Type 0} → (O → Objects → A → Objects → Type 0) → A → InBucket O X → Scene → A → Scene → Type 0
+Gives gives absent o z a s = GivesIn o.bucket (gives o.names) absent z a s
+
+abbrev pub Always : {O X : Type 0} → (O → Objects → Objects → Type 0) → InBucket O X → Scene → Scene → Type 0
+Always always o z s = AlwaysIn o.bucket (always o.names) z s
+
+abbrev pub left_at : {O X : Type 0} → Option Objects → (O → X → Objects → ℕ) → O → X → ℕ
+left_at None left o x = 0
+left_at (Some m) left o x = left o x m
+
+abbrev pub left_in : {O X : Type 0} → (O → X → Objects → ℕ) → InBucket O X → Scene → ℕ
+left_in left p s = left_at (objects_at s p.bucket) left p.names p.stage
+
+abbrev pub Starts : {O X : Type 0} → (O → X) → InBucket O X → Type 0
+Starts first p = p.stage ≡ first p.names

@@ -1,0 +1,147 @@
+ghost use Rattle.std.specs.Prelude.{◌≡◌, ℕ, ◌<◌, ◌≤◌, length, IfOk, IsErrOf};
+ghost use Rattle.s3_types.specs.Store.{Objects};
+ghost use Rattle.s3_types.specs.declared.reply.Reply.{Reply};
+ghost use Rattle.operations.specs.declared.plan.Step.{Step};
+ghost use Rattle.operations.specs.Courses.{once, reached};
+ghost use Rattle.operations.specs.PlanLaws.{course_of};
+ghost use Rattle.operations.specs.Performed.{Performed};
+ghost use Rattle.bucket_ops.specs.Asks.{Ask, request_of};
+ghost use Rattle.bucket_ops.specs.Phases.{IsPhases, request, led, Holds, Gives, Always, GivesIn, AlwaysIn, left_in, Starts};
+ghost use Rattle.bucket_ops.specs.PhaseLaws.{in_bucket};
+
+use machine::DriveStop;
+use operations::{Plan, Step, perform};
+use s3_types::{Actor, Bucket, Journal, ObjectStore, Reply, Request};
+use std::alloc::{AllocError, Global};
+
+/// An operation on the objects of one bucket, by its stages. Self is what it names.
+pub trait Phases: Drop {
+    type Stage: Drop;
+
+    type Answer: Drop;
+
+    /// The first stage.
+    ghost first: { Self → Self.Stage };
+
+    /// What a stage asks of the bucket.
+    ghost asks: { Self → Self.Stage → Ask };
+
+    /// Where a reply leads.
+    ghost goes: { Self → Self.Stage → Reply → Step Self.Stage Self.Answer };
+
+    /// Begun at those objects, it may be in this stage at these.
+    ghost holds: { Self → Objects → Self.Stage → Objects → Type 0 };
+
+    /// Begun at those objects, it may give this answer and leave these.
+    ghost gives: { Self → Objects → Self.Answer → Objects → Type 0 };
+
+    /// Begun at those objects, these may stand at any moment.
+    ghost always: { Self → Objects → Objects → Type 0 };
+
+    /// At most so many stages are to come.
+    ghost left: { Self → Self.Stage → Objects → ℕ };
+
+    /// The answer where there is no bucket.
+    ghost absent: { Self.Answer };
+
+    /// The first stage. Takes no memory.
+    fn start(&self) -> Self::Stage
+        ensures { result ≡ first self.now };
+
+    /// The request of a stage.
+    fn ask(&self, bucket: &Bucket, stage: &Self::Stage) -> Result<Request, AllocError>
+        ensures { IfOk result (λ request. request ≡ request_of bucket.now (asks self.now stage.now)) };
+
+    /// Where the reply leads.
+    fn next(
+        &self,
+        stage: Self::Stage,
+        reply: &Reply,
+    ) -> Result<Step<Self::Stage, Self::Answer>, AllocError>
+        ensures { IfOk result (λ step. step ≡ goes self.now stage reply.now) };
+
+    /// What holds of these.
+    ghost laws: { IsPhases first asks goes holds gives always left absent };
+}
+
+/// An operation in a bucket at a stage.
+#[derive(Drop)]
+pub struct InBucket<O, X> {
+    pub bucket: Bucket,
+    pub names: O,
+    pub stage: X,
+}
+
+impl<O: Phases> Plan for InBucket<O, O::Stage> {
+    type Answer = O::Answer;
+
+    ghost starts = { Starts O.first };
+
+    ghost asks = { request O.asks };
+
+    ghost goes = { once (led O.goes) };
+
+    ghost holds = { reached (request O.asks) (Holds O.holds) };
+
+    ghost gives = { Gives O.gives O.absent };
+
+    ghost always = { Always O.always };
+
+    ghost left = { left_in O.left };
+
+    ghost laws = { course_of (in_bucket O.laws) };
+
+    fn ask(&self) -> Result<Request, AllocError> {
+        self.names.ask(&self.bucket, &self.stage)
+    }
+
+    fn next(
+        self,
+        reply: &Reply,
+        _repeated: bool,
+    ) -> Result<Step<InBucket<O, O::Stage>, O::Answer>, AllocError> {
+        let InBucket {
+            bucket,
+            names,
+            stage,
+        } = self;
+        match names.next(stage, reply)? {
+            Step::Next(stage) => Ok(Step::Next(InBucket {
+                bucket,
+                names,
+                stage,
+            })),
+            Step::End(answer) => Ok(Step::End(answer)),
+        }
+    }
+}
+
+/// Performs an operation on the objects of a bucket that is alone, whatever the store loses: each request is
+/// sent at most `retries + 1` times. StoreFault comes exactly where a request wore out. The journal gains an
+/// entry for each sending. Nothing but the bucket's objects changes.
+pub fn perform_in<O: Phases, S: ObjectStore>(
+    alloc: Global,
+    bucket: Bucket,
+    names: O,
+    retries: u32,
+    store: &mut S,
+    actor: Actor,
+    event: u32,
+    journal: &mut Journal,
+) -> Result<O::Answer, DriveStop>
+    requires counted { S.requests store.old ≤ length journal.old.entries }
+    ensures given { IfOk result (λ answer. GivesIn bucket (O.gives names) O.absent (S.scene store.old) answer (S.scene store.new)) }
+    ensures performed { Performed actor event retries (AlwaysIn bucket (O.always names) (S.scene store.old)) (S.scene store.old) (S.scene store.new) journal.old.entries journal.new.entries (S.requests store.old) (S.requests store.new) (S.losses store.old) (S.losses store.new) (S.foretold store.old) (S.foretold store.new) result }
+    ensures fault { IsErrOf result DriveStop.StoreFault → S.losses store.old < S.losses store.new }
+{
+    let stage = names.start();
+    let plan = InBucket {
+        bucket,
+        names,
+        stage,
+    };
+    match perform(alloc, plan, retries, store, actor, event, journal) {
+        Ok(answer) => Ok(answer),
+        Err(stop) => Err(stop),
+    }
+}
