@@ -1,0 +1,5 @@
+use Rattle.fs_ops.proofs.Fits.{sweep_fits_so}
+use Rattle.fs_ops.proofs.delete.DeleteNames.on_sweep.Goals as goal
+
+pub hear-requires : goal.hear-requires
+hear-requires c = sweep_fits_so c.fits.result c.args.sweep c.args.reply.now c.fits.ensures c.if-not-fits.false

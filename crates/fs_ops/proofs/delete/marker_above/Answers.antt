@@ -1,0 +1,11 @@
+use Rattle.std.proofs.Common.{false}
+use Rattle.dir_markers.specs.Markers.{deleted}
+use Rattle.fs_tree.specs.Changes.{parent, marker_if}
+use Rattle.fs_ops.proofs.Fits.{marker_parent, root_marker, marked_so}
+use Rattle.fs_ops.proofs.delete.marker_above.Goals as goal
+
+pub returns-in-Some : goal.returns-in-Some
+returns-in-Some c = marked_so c.after_delete.result (deleted c.in-Some.parent false) (marker_if (parent c.args.path.now.key)) c.after_delete.ensures (marker_parent c.args.path.now c.in_ok-parent.field-0 c.in-Some.parent c.in_ok-parent.ensures c.in-Some.is)
+
+pub returns-in-None : goal.returns-in-None
+returns-in-None c = root_marker c.args.path.now c.in_ok-parent.field-0 c.in_ok-parent.ensures c.in-None.is

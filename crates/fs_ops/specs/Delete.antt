@@ -1,0 +1,150 @@
+-- Deleting a path, by its stages.
+use Rattle.std.specs.Prelude.{◌≡◌, ◌⊎◌, ℕ, ◌+◌, ◌==◌, ◌&&◌, Bool, true, false, List, [], ◌∷◌, Result, Ok, Err, Option, Some, None, length, if◌then◌else◌}
+use Rattle.std.specs.FinMap as fin
+use Rattle.proof_base.specs.Order.{text_eq}
+use Rattle.s3_types.specs.Store.{Objects}
+use Rattle.s3_types.specs.Pages.{begins, text_in}
+use Rattle.s3_types.specs.declared.reply.PageEntry.{PageEntry}
+use Rattle.s3_types.specs.declared.reply.Reply.{Reply}
+use Rattle.s3_types.specs.declared.reply.Reply.TheVariants.{Page as APage}
+use Rattle.operations.specs.declared.plan.Step.{Step}
+use Rattle.operations.specs.declared.plan.Step.TheVariants.{Next, End}
+use Rattle.bucket_ops.specs.declared.look.Look.{Look}
+use Rattle.bucket_ops.specs.declared.look.Look.TheVariants.{There}
+use Rattle.bucket_ops.specs.Looks.{look_of}
+use Rattle.bucket_ops.specs.Asks.{Ask, Page, Put}
+use Rattle.job_operations.specs.Walks.{sweep_start, sweep_hears, all_go}
+use Rattle.job_operations.specs.Walks as walks
+use Rattle.fs_tree.specs.declared.answers.FsRefusal.{FsRefusal}
+use Rattle.fs_tree.specs.declared.answers.FsRefusal.TheVariants.{NotFound, NotEmpty, IsRoot}
+use Rattle.fs_tree.specs.Tree.{SomeBelow, NoneBelow, marker, HasFile, IsAbsent, IsEmpty, HasChildren}
+use Rattle.fs_tree.specs.Changes.{parent, marker_if, IsMarked, IsWithoutBelow}
+use Rattle.fs_ops.specs.declared.delete.Inside.{Inside}
+use Rattle.fs_ops.specs.declared.delete.Inside.TheVariants.{Empty, MarkerAlone, Children}
+use Rattle.fs_ops.specs.declared.delete.DeleteStage.{DeleteStage}
+use Rattle.fs_ops.specs.declared.delete.DeleteStage.TheVariants.{Here, DropFile, Below, DropMarker, Sweep, Parent, PutMarker}
+use Rattle.fs_ops.specs.Places.{look_asks, below_asks, drop_asks, drop_marker_asks, prefix_of, NoFileAt}
+use Rattle.fs_ops.specs.Sweeping.{sweep_asks, fits, IsSweeping, sweep_left}
+
+-- a path, and whether what is below it goes with it
+pub record Deletion : Type 0 where
+  pub path : List ℕ
+  pub recursive : Bool
+
+-- and its bucket
+pub record DeletionIn : Type 0 where
+  pub bucket : List ℕ
+  pub key : List ℕ
+  pub recursive : Bool
+
+abbrev pub Answer : Type 0
+Answer = Result (Unit {0}) FsRefusal
+
+abbrev pub first : Deletion → DeleteStage
+first o = Here
+
+abbrev pub asks : Deletion → DeleteStage → Ask
+asks o Here = look_asks o.path
+asks o DropFile = drop_asks o.path
+asks o Below = below_asks o.path 2
+asks o DropMarker = drop_marker_asks o.path
+asks o (Sweep w) = sweep_asks (prefix_of o.path) w
+asks o (Parent k) = Page k false [] 1
+asks o (PutMarker k) = Put k []
+
+-- whether something is left below the parent is looked at, unless that is the root
+abbrev pub up_to : Option (List ℕ) → Step DeleteStage Answer
+up_to None = End (Ok tt)
+up_to (Some k) = Next (Parent k)
+
+abbrev pub up : Deletion → Step DeleteStage Answer
+up o = up_to (marker_if (parent o.path))
+
+abbrev pub here : Look → Step DeleteStage Answer
+here There = Next DropFile
+here _ = Next Below
+
+abbrev pub on_here : List ℕ → Look → Step DeleteStage Answer
+on_here [] l = End (Err IsRoot)
+on_here (x ∷ p) l = here l
+
+-- what the first two entries below a directory tell
+abbrev pub inside : List ℕ → List PageEntry → Inside
+inside q [] = Empty
+inside q (e ∷ es) = if (length (e ∷ es) == 1) && text_eq (text_in e) q then MarkerAlone else Children
+
+abbrev pub entries_in : Reply → List PageEntry
+entries_in (APage es more) = es
+entries_in _ = []
+
+abbrev pub children : Bool → Step DeleteStage Answer
+children true = Next (Sweep sweep_start)
+children false = End (Err NotEmpty)
+
+abbrev pub on_inside : Bool → Inside → Step DeleteStage Answer
+on_inside recursive Empty = End (Err NotFound)
+on_inside recursive MarkerAlone = Next DropMarker
+on_inside recursive Children = children recursive
+
+abbrev pub on_below : Deletion → Reply → Step DeleteStage Answer
+on_below o r = on_inside o.recursive (inside (prefix_of o.path) (entries_in r))
+
+abbrev pub swept : Deletion → Option walks.Sweep → Step DeleteStage Answer
+swept o (Some w) = Next (Sweep w)
+swept o None = up o
+
+abbrev pub on_sweep : Deletion → walks.Sweep → Reply → Bool → Step DeleteStage Answer
+on_sweep o w r true = swept o (sweep_hears all_go w r)
+on_sweep o w r false = Next (Sweep w)
+
+abbrev pub on_parent : List ℕ → Look → Step DeleteStage Answer
+on_parent k There = End (Ok tt)
+on_parent k _ = Next (PutMarker k)
+
+abbrev pub on : Deletion → DeleteStage → Reply → Step DeleteStage Answer
+on o Here r = on_here o.path (look_of r)
+on o DropFile r = up o
+on o Below r = on_below o r
+on o DropMarker r = up o
+on o (Sweep w) r = on_sweep o w r (fits r)
+on o (Parent k) r = on_parent k (look_of r)
+on o (PutMarker k) r = End (Ok tt)
+
+-- ---- what holds
+
+-- n is z without the file, or without the directory's marker and all that was below it
+abbrev pub Removed : Deletion → Objects → Objects → Type 0
+Removed o z n = (HasFile z o.path × (n ≡ fin.remove z o.path)) ⊎ (NoFileAt z o.path × SomeBelow z (prefix_of o.path) × (o.recursive ≡ false → IsEmpty z o.path) × IsWithoutBelow (prefix_of o.path) z n)
+
+abbrev pub holds : Deletion → Objects → DeleteStage → Objects → Type 0
+holds o z Here m = m ≡ z
+holds o z DropFile m = HasFile z o.path × (m ≡ z)
+holds o z Below m = NoFileAt z o.path × (m ≡ z)
+holds o z DropMarker m = NoFileAt z o.path × IsEmpty z o.path × (m ≡ z)
+holds o z (Sweep w) m = NoFileAt z o.path × SomeBelow z (prefix_of o.path) × (o.recursive ≡ true) × IsSweeping (prefix_of o.path) z w m
+holds o z (Parent k) m = (marker_if (parent o.path) ≡ Some k) × Removed o z m
+holds o z (PutMarker k) m = (marker_if (parent o.path) ≡ Some k) × Removed o z m × NoneBelow m k
+
+-- what is deleted, and the marker that is put
+abbrev pub gives : Deletion → Objects → Answer → Objects → Type 0
+gives o z (Ok x) m = (n : Objects) × Removed o z n × IsMarked (marker_if (parent o.path)) n m
+gives o z (Err IsRoot) m = (o.path ≡ []) × (m ≡ z)
+gives o z (Err NotFound) m = IsAbsent z o.path × (m ≡ z)
+gives o z (Err NotEmpty) m = (o.recursive ≡ false) × NoFileAt z o.path × HasChildren z o.path × (m ≡ z)
+gives o z (Err r) m = ⊥
+
+-- at any moment a key is as it was, or it is the path or below it and is gone, or it is the marker of the directory above, which is put
+abbrev pub IsKept : Deletion → Objects → Objects → List ℕ → Type 0
+IsKept o z m k = (fin.get m k ≡ fin.get z k) ⊎ (((fin.get m k ≡ None) × ((k ≡ o.path) ⊎ (begins (prefix_of o.path) k ≡ true))) ⊎ ((marker_if (parent o.path) ≡ Some k) × (fin.get m k ≡ Some marker)))
+
+abbrev pub always : Deletion → Objects → Objects → Type 0
+always o z m = (k : List ℕ) → IsKept o z m k
+
+abbrev pub left : Deletion → DeleteStage → Objects → ℕ
+left o Here m = sweep_left (prefix_of o.path) sweep_start m + 4
+left o DropFile m = 2
+left o Below m = sweep_left (prefix_of o.path) sweep_start m + 3
+left o DropMarker m = 2
+left o (Sweep w) m = sweep_left (prefix_of o.path) w m + 2
+left o (Parent k) m = 1
+left o (PutMarker k) m = 0

@@ -1,0 +1,13 @@
+pub mod Places
+pub mod Steps
+pub mod StepLaws
+pub mod Looks
+pub mod Stat
+pub mod StatLaws
+pub mod Read
+pub mod ReadLaws
+pub mod Make
+pub mod MakeLaws
+pub mod Sweeping
+pub mod Delete
+pub mod DeleteLaws

@@ -1,0 +1,48 @@
+-- What is asked of a path.
+use Rattle.std.specs.Prelude.{◌≡◌, ℕ, false, List, [], ◌∷◌, Option, Some, None}
+use Rattle.std.specs.FinMap as fin
+use Rattle.s3_types.specs.Store.{Objects}
+use Rattle.path_keys.specs.Paths.{below}
+use Rattle.dir_markers.specs.Markers.{marker_of}
+use Rattle.bucket_ops.specs.Asks.{Ask, Head, Get, Page, Put, Drop}
+
+-- the key of a path; the root has none
+abbrev pub key_if : List ℕ → Option (List ℕ)
+key_if [] = None
+key_if (x ∷ p) = Some (x ∷ p)
+
+-- what the keys below a path begin with
+abbrev pub prefix_of : List ℕ → List ℕ
+prefix_of p = below p []
+
+-- the first so many keys below a path, and its marker
+abbrev pub below_asks : List ℕ → ℕ → Ask
+below_asks p n = Page (prefix_of p) false [] n
+
+-- whether a file stands at a path; at the root, whether there is the bucket
+abbrev pub look_asks : List ℕ → Ask
+look_asks [] = below_asks [] 1
+look_asks (x ∷ p) = Head (x ∷ p)
+
+-- what stands at a path
+abbrev pub get_asks : List ℕ → Ask
+get_asks [] = below_asks [] 1
+get_asks (x ∷ p) = Get (x ∷ p)
+
+-- a file's deletion, that of a marker, and the putting of one; at the root nothing of this is asked
+abbrev pub drop_asks : List ℕ → Ask
+drop_asks [] = below_asks [] 1
+drop_asks (x ∷ p) = Drop (x ∷ p)
+
+abbrev pub drop_marker_asks : List ℕ → Ask
+drop_marker_asks [] = below_asks [] 1
+drop_marker_asks (x ∷ p) = Drop (marker_of (x ∷ p))
+
+abbrev pub put_marker_asks : List ℕ → Ask
+put_marker_asks [] = below_asks [] 1
+put_marker_asks (x ∷ p) = Put (marker_of (x ∷ p)) []
+
+-- a path that is not the root, at which no file stands
+abbrev pub NoFileAt : Objects → List ℕ → Type 0
+NoFileAt m [] = ⊥
+NoFileAt m (x ∷ p) = fin.get m (x ∷ p) ≡ None

@@ -1,0 +1,339 @@
+ghost use Rattle.std.specs.Prelude.{◌≡◌, ◌<◌, ◌≤◌, length, IfOk, IsErrOf, Err};
+ghost use Rattle.operations.specs.Performed.{Performed};
+ghost use Rattle.s3_types.specs.Pages.{text_in};
+ghost use Rattle.proof_base.specs.Order.{text_eq};
+ghost use Rattle.job_operations.specs.Walks as walks;
+ghost use Rattle.bucket_ops.specs.Asks.{request_of};
+ghost use Rattle.bucket_ops.specs.Phases.{GivesIn, AlwaysIn};
+ghost use Rattle.fs_tree.specs.Answers.{Deletes};
+ghost use Rattle.fs_tree.specs.Changes.{parent, marker_if};
+ghost use Rattle.fs_tree.specs.declared.answers.FsRefusal.TheVariants.{NoSuchBucket};
+ghost use Rattle.fs_ops.specs.Delete.{first, asks, on, on_here, inside, on_inside, on_below, on_sweep, on_parent, up, up_to, holds, gives, always, left};
+ghost use Rattle.fs_ops.specs.Sweeping.{fits, sweep_asks};
+ghost use Rattle.fs_ops.specs.Steps.{goes_by};
+ghost use Rattle.fs_ops.specs.DeleteLaws.{delete_laws};
+
+use crate::place::Place;
+use bucket_ops::{Look, Phases, perform_in, seen_in};
+use dir_markers::after_delete;
+use fs_tree::FsRefusal;
+use machine::DriveStop;
+use operations::Step;
+use path_keys::S3Path;
+use s3_types::{
+    Actor, Bucket, Bytes, Journal, Key, ObjectStore, PageEntry, PageLimit, Reply, Request, Text,
+};
+use std::alloc::{AllocError, Global};
+use std::marker::Model;
+use sweep::{AllKeys, fits_page};
+
+/// What stands below a path.
+#[derive(Clone, Copy, Debug)]
+pub enum Inside {
+    Empty,
+    /// The directory's marker, and nothing else.
+    MarkerAlone,
+    Children,
+}
+
+/// Where a deletion stands.
+#[derive(Drop)]
+pub enum DeleteStage {
+    /// Whether a file stands at the path.
+    Here,
+    /// The file is deleted.
+    DropFile,
+    /// What stands below the path.
+    Below,
+    /// The marker of an empty directory is deleted.
+    DropMarker,
+    /// All keys below the path are listed and deleted.
+    Sweep(sweep::Sweep),
+    /// Whether something is left below the directory above, whose marker this is.
+    Parent(Key),
+    /// The marker of the directory above is put.
+    PutMarker(Key),
+}
+
+/// The path to be deleted, whether what is below it goes with it, and the marker of the directory above,
+/// unless that is the root.
+#[derive(Drop)]
+pub(crate) struct DeleteNames {
+    alloc: Global,
+    place: Place,
+    above: Option<Key>,
+    recursive: bool,
+}
+
+impl Model for DeleteNames {
+    ghost use Rattle.std.specs.Prelude.{◌≡◌};
+    ghost use Rattle.fs_tree.specs.Changes.{parent, marker_if};
+    ghost use Rattle.fs_ops.specs.Delete.{Deletion};
+
+    ghost Value = { Deletion };
+
+    ghost view = { λ o. record { path = o.place; recursive = o.recursive } };
+
+    ghost invariant = { λ o. o.above ≡ marker_if (parent o.place) };
+}
+
+type Answer = Result<(), FsRefusal>;
+
+fn is_at(entry: &PageEntry, text: &Text) -> bool
+    ensures { result ≡ text_eq (text_in entry.now) text.now }
+{
+    match entry {
+        PageEntry::Object { key, .. } => key.as_text() == text,
+        PageEntry::Prefix(prefix) => prefix == text,
+    }
+}
+
+/// What the first two entries below a path tell.
+fn first_below(prefix: &Text, entries: &[PageEntry]) -> Inside
+    ensures { result ≡ inside prefix.now entries.now }
+{
+    match entries.first() {
+        None => Inside::Empty,
+        Some(entry) => {
+            if entries.len() == 1 && is_at(entry, prefix) {
+                Inside::MarkerAlone
+            } else {
+                Inside::Children
+            }
+        }
+    }
+}
+
+fn on_parent(marker: Key, seen: Look) -> Step<DeleteStage, Answer>
+    ensures { result ≡ on_parent marker seen }
+{
+    match seen {
+        Look::There => Step::End(Ok(())),
+        _ => Step::Next(DeleteStage::PutMarker(marker)),
+    }
+}
+
+/// Whether a sweep may be told a reply.
+fn fits(reply: &Reply) -> bool
+    ensures { result ≡ fits reply.now }
+{
+    fits_page(reply)
+}
+
+fn up_to(above: &Option<Key>) -> Result<Step<DeleteStage, Answer>, AllocError>
+    ensures { IfOk result (λ step. step ≡ up_to above.now) }
+{
+    match above {
+        Some(marker) => Ok(Step::Next(DeleteStage::Parent(marker.clone()?))),
+        None => Ok(Step::End(Ok(()))),
+    }
+}
+
+impl DeleteNames {
+    fn up(&self) -> Result<Step<DeleteStage, Answer>, AllocError>
+        ensures { IfOk result (λ step. step ≡ up self.now) }
+    {
+        up_to(&self.above)
+    }
+
+    fn on_here(&self, seen: Look) -> Step<DeleteStage, Answer>
+        ensures { result ≡ on_here self.now.path seen }
+    {
+        if self.place.is_root() {
+            return Step::End(Err(FsRefusal::IsRoot));
+        }
+        match seen {
+            Look::There => Step::Next(DeleteStage::DropFile),
+            _ => Step::Next(DeleteStage::Below),
+        }
+    }
+
+    fn on_inside(&self, inside: Inside) -> Step<DeleteStage, Answer>
+        ensures { result ≡ on_inside self.now.recursive inside }
+    {
+        match inside {
+            Inside::Empty => Step::End(Err(FsRefusal::NotFound)),
+            Inside::MarkerAlone => Step::Next(DeleteStage::DropMarker),
+            Inside::Children => {
+                if self.recursive {
+                    Step::Next(DeleteStage::Sweep(sweep::Sweep::new(self.alloc)))
+                } else {
+                    Step::End(Err(FsRefusal::NotEmpty))
+                }
+            }
+        }
+    }
+
+    fn on_below(&self, reply: &Reply) -> Step<DeleteStage, Answer>
+        ensures { result ≡ on_below self.now reply.now }
+    {
+        match reply {
+            Reply::Page { entries, .. } => {
+                self.on_inside(first_below(self.place.prefix(), entries.as_slice()))
+            }
+            _ => self.on_inside(Inside::Empty),
+        }
+    }
+
+    fn on_sweep(
+        &self,
+        sweep: sweep::Sweep,
+        reply: &Reply,
+    ) -> Result<Step<DeleteStage, Answer>, AllocError>
+        ensures { IfOk result (λ step. step ≡ on_sweep self.now sweep reply.now (fits reply.now)) }
+    {
+        let mut sweep = sweep;
+        if !fits(reply) {
+            return Ok(Step::Next(DeleteStage::Sweep(sweep)));
+        }
+        if sweep.hear(self.alloc, &AllKeys, reply)? {
+            Ok(Step::Next(DeleteStage::Sweep(sweep)))
+        } else {
+            self.up()
+        }
+    }
+}
+
+impl Phases for DeleteNames {
+    type Stage = DeleteStage;
+
+    type Answer = Result<(), FsRefusal>;
+
+    ghost first = { first };
+
+    ghost asks = { asks };
+
+    ghost goes = { goes_by on };
+
+    ghost holds = { holds };
+
+    ghost gives = { gives };
+
+    ghost always = { always };
+
+    ghost left = { left };
+
+    ghost absent = { Err NoSuchBucket };
+
+    ghost laws = { delete_laws };
+
+    fn start(&self) -> DeleteStage {
+        DeleteStage::Here
+    }
+
+    fn ask(&self, bucket: &Bucket, stage: &DeleteStage) -> Result<Request, AllocError> {
+        match stage {
+            DeleteStage::Here => self.place.look(bucket),
+            DeleteStage::DropFile => self.place.drop_file(bucket),
+            DeleteStage::Below => self.place.below(bucket, PageLimit::new(2)),
+            DeleteStage::DropMarker => self.place.drop_marker(bucket),
+            DeleteStage::Sweep(sweep) => sweep.request(self.alloc, bucket, self.place.prefix()),
+            DeleteStage::Parent(marker) => Request::list_page(
+                bucket,
+                marker.as_text(),
+                false,
+                &Text::empty(),
+                PageLimit::new(1),
+            ),
+            DeleteStage::PutMarker(marker) => {
+                Request::put_object(bucket, marker, &Bytes::empty(), None)
+            }
+        }
+    }
+
+    fn next(
+        &self,
+        stage: DeleteStage,
+        reply: &Reply,
+    ) -> Result<Step<DeleteStage, Answer>, AllocError> {
+        let seen = seen_in(reply);
+        if let Look::NoBucket = seen {
+            return Ok(Step::End(Err(FsRefusal::NoSuchBucket)));
+        }
+        match stage {
+            DeleteStage::Here => Ok(self.on_here(seen)),
+            DeleteStage::DropFile => self.up(),
+            DeleteStage::Below => Ok(self.on_below(reply)),
+            DeleteStage::DropMarker => self.up(),
+            DeleteStage::Sweep(sweep) => self.on_sweep(sweep, reply),
+            DeleteStage::Parent(marker) => Ok(on_parent(marker, seen)),
+            DeleteStage::PutMarker(_) => Ok(Step::End(Ok(()))),
+        }
+    }
+}
+
+/// The marker of the directory above a path, unless that is the root.
+fn marker_above(alloc: Global, path: &S3Path) -> Result<Option<Key>, AllocError>
+    ensures { IfOk result (λ marker. marker ≡ marker_if (parent path.now.key)) }
+{
+    match path.parent(alloc)? {
+        Some(parent) => after_delete(alloc, &parent, false),
+        None => Ok(None),
+    }
+}
+
+/// The deletion of a path.
+#[derive(Drop)]
+pub struct DeletePath {
+    bucket: Bucket,
+    names: DeleteNames,
+}
+
+impl Model for DeletePath {
+    ghost use Rattle.std.specs.Prelude.{◌≡◌, true};
+    ghost use Rattle.path_keys.specs.Paths.{is_key};
+    ghost use Rattle.fs_ops.specs.Delete.{DeletionIn};
+
+    ghost Value = { DeletionIn };
+
+    ghost view = { λ s. record { bucket = s.bucket; key = s.names.path; recursive = s.names.recursive } };
+
+    ghost invariant = { λ s. is_key s.names.path ≡ true };
+}
+
+impl DeletePath {
+    /// The deletion of a path: of a file, of an empty directory, or, where it is recursive, of a directory with all
+    /// that is below it.
+    pub fn new(alloc: Global, path: &S3Path, recursive: bool) -> Result<DeletePath, AllocError>
+        ensures { IfOk result (λ deletion. deletion ≡ record { bucket = path.now.bucket; key = path.now.key; recursive = recursive }) }
+    {
+        let bucket = path.bucket().clone()?;
+        let place = Place::of(alloc, path)?;
+        let above = marker_above(alloc, path)?;
+        Ok(DeletePath {
+            bucket,
+            names: DeleteNames {
+                alloc,
+                place,
+                above,
+                recursive,
+            },
+        })
+    }
+
+    /// Deletes the path; then the marker of the directory above is put where that is no root and is left empty.
+    /// Refused IsRoot at the root, NotFound where nothing stands at the path, and NotEmpty where something else than
+    /// a directory's marker stands below it and the deletion is not recursive; and before that NoSuchBucket. Five
+    /// requests at most, and for a recursive deletion one page and one batch more for each 1,000 keys. (Hadoop
+    /// FileSystem specification, delete.)
+    pub fn perform<S: ObjectStore>(
+        self,
+        alloc: Global,
+        retries: u32,
+        store: &mut S,
+        actor: Actor,
+        event: u32,
+        journal: &mut Journal,
+    ) -> Result<Result<(), FsRefusal>, DriveStop>
+        requires counted { S.requests store.old ≤ length journal.old.entries }
+        ensures deletes { IfOk result (λ answer. GivesIn self.bucket (Deletes self.recursive self.key) (Err NoSuchBucket) (S.scene store.old) answer (S.scene store.new)) }
+        ensures performed { Performed actor event retries (AlwaysIn self.bucket (always (record { path = self.key; recursive = self.recursive })) (S.scene store.old)) (S.scene store.old) (S.scene store.new) journal.old.entries journal.new.entries (S.requests store.old) (S.requests store.new) (S.losses store.old) (S.losses store.new) (S.foretold store.old) (S.foretold store.new) result }
+        ensures fault { IsErrOf result DriveStop.StoreFault → S.losses store.old < S.losses store.new }
+    {
+        let DeletePath { bucket, names } = self;
+        match perform_in(alloc, bucket, names, retries, store, actor, event, journal) {
+            Ok(answer) => Ok(answer),
+            Err(stop) => Err(stop),
+        }
+    }
+}

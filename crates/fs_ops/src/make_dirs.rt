@@ -1,0 +1,210 @@
+ghost use Rattle.std.specs.Prelude.{◌≡◌, ◌<◌, ◌≤◌, length, IfOk, IsErrOf, Err};
+ghost use Rattle.operations.specs.Performed.{Performed};
+ghost use Rattle.bucket_ops.specs.Phases.{GivesIn, AlwaysIn};
+ghost use Rattle.fs_tree.specs.Answers.{Makes};
+ghost use Rattle.fs_tree.specs.declared.answers.FsRefusal.TheVariants.{NoSuchBucket};
+ghost use Rattle.fs_ops.specs.Make.{first, asks, up_from, on, on_here, on_below, on_up, holds, always, left};
+ghost use Rattle.fs_ops.specs.Steps.{goes_by};
+ghost use Rattle.fs_ops.specs.MakeLaws.{make_laws};
+
+use crate::above::keys_above;
+use crate::place::Place;
+use bucket_ops::{Look, Phases, perform_in, seen_in};
+use fs_tree::FsRefusal;
+use machine::DriveStop;
+use operations::Step;
+use path_keys::S3Path;
+use s3_types::{
+    Actor, Bucket, Journal, Key, KeyList, ObjectStore, PageLimit, Reply, Request, Sequence,
+    copied_keys,
+};
+use std::alloc::{AllocError, Global};
+use std::marker::Model;
+
+/// Where the making of a directory stands.
+#[derive(Drop)]
+pub enum MakeStage {
+    /// Whether a file stands at the path.
+    Here,
+    /// Whether something stands below it.
+    Below,
+    /// Whether a file stands at this one of the directories above, before these others.
+    Up { first: Key, rest: KeyList },
+    /// The marker is put.
+    PutMarker,
+}
+
+/// The path that is to be a directory, and the keys of the directories above it, from the root on.
+#[derive(Drop)]
+pub(crate) struct MakeNames {
+    alloc: Global,
+    place: Place,
+    above: KeyList,
+}
+
+impl Model for MakeNames {
+    ghost use Rattle.std.specs.Prelude.{◌≡◌, ℕ, List};
+    ghost use Rattle.dir_markers.specs.Markers.{keys_above};
+
+    ghost Value = { List ℕ };
+
+    ghost view = { λ o. o.place };
+
+    ghost invariant = { λ o. o.above ≡ keys_above o.place };
+}
+
+type Answer = Result<(), FsRefusal>;
+
+fn up_from(keys: KeyList) -> Step<MakeStage, Answer>
+    ensures { result ≡ up_from keys }
+{
+    let mut items = keys.into_vec();
+    if items.is_empty() {
+        return Step::Next(MakeStage::PutMarker);
+    }
+    let first = items.remove(0);
+    Step::Next(MakeStage::Up {
+        first,
+        rest: Sequence::from_vec(items),
+    })
+}
+
+fn on_up(first: Key, rest: KeyList, seen: Look) -> Result<Step<MakeStage, Answer>, AllocError>
+    ensures { IfOk result (λ step. step ≡ on_up first rest seen) }
+{
+    match seen {
+        Look::There => Ok(Step::End(Err(FsRefusal::NotDirectory(first.as_text().clone()?)))),
+        _ => Ok(up_from(rest)),
+    }
+}
+
+impl MakeNames {
+    fn on_here(&self, seen: Look) -> Step<MakeStage, Answer>
+        ensures { result ≡ on_here self.now seen }
+    {
+        if self.place.is_root() {
+            return Step::End(Ok(()));
+        }
+        match seen {
+            Look::There => Step::End(Err(FsRefusal::AlreadyExists)),
+            _ => Step::Next(MakeStage::Below),
+        }
+    }
+
+    fn on_below(&self, seen: Look) -> Result<Step<MakeStage, Answer>, AllocError>
+        ensures { IfOk result (λ step. step ≡ on_below self.now seen) }
+    {
+        match seen {
+            Look::There => Ok(Step::End(Ok(()))),
+            _ => Ok(up_from(copied_keys(self.alloc, &self.above)?)),
+        }
+    }
+}
+
+impl Phases for MakeNames {
+    type Stage = MakeStage;
+
+    type Answer = Result<(), FsRefusal>;
+
+    ghost first = { first };
+
+    ghost asks = { asks };
+
+    ghost goes = { goes_by on };
+
+    ghost holds = { holds };
+
+    ghost gives = { Makes };
+
+    ghost always = { always };
+
+    ghost left = { left };
+
+    ghost absent = { Err NoSuchBucket };
+
+    ghost laws = { make_laws };
+
+    fn start(&self) -> MakeStage {
+        MakeStage::Here
+    }
+
+    fn ask(&self, bucket: &Bucket, stage: &MakeStage) -> Result<Request, AllocError> {
+        match stage {
+            MakeStage::Here => self.place.look(bucket),
+            MakeStage::Below => self.place.below(bucket, PageLimit::new(1)),
+            MakeStage::Up { first, .. } => Request::head_object(bucket, first),
+            MakeStage::PutMarker => self.place.put_marker(bucket),
+        }
+    }
+
+    fn next(&self, stage: MakeStage, reply: &Reply) -> Result<Step<MakeStage, Answer>, AllocError> {
+        let seen = seen_in(reply);
+        if let Look::NoBucket = seen {
+            return Ok(Step::End(Err(FsRefusal::NoSuchBucket)));
+        }
+        match stage {
+            MakeStage::Here => Ok(self.on_here(seen)),
+            MakeStage::Below => self.on_below(seen),
+            MakeStage::Up { first, rest } => on_up(first, rest, seen),
+            MakeStage::PutMarker => Ok(Step::End(Ok(()))),
+        }
+    }
+}
+
+/// The making of a directory.
+#[derive(Drop)]
+pub struct MakeDirs {
+    bucket: Bucket,
+    names: MakeNames,
+}
+
+impl Model for MakeDirs {
+    ghost use Rattle.path_keys.specs.Paths.{Path};
+
+    ghost Value = { Path };
+
+    ghost view = { λ s. record { bucket = s.bucket; key = s.names } };
+}
+
+impl MakeDirs {
+    pub fn new(alloc: Global, path: &S3Path) -> Result<MakeDirs, AllocError>
+        ensures { IfOk result (λ dirs. dirs ≡ path.now) }
+    {
+        let bucket = path.bucket().clone()?;
+        let place = Place::of(alloc, path)?;
+        let above = keys_above(alloc, path.key().as_str())?;
+        Ok(MakeDirs {
+            bucket,
+            names: MakeNames {
+                alloc,
+                place,
+                above,
+            },
+        })
+    }
+
+    /// Makes a directory: its marker is put where nothing stands at the path, and nothing changes where a directory
+    /// stands. Refused AlreadyExists where a file stands, and NotDirectory with the key of the first directory above,
+    /// from the root on, at which a file stands; and before that NoSuchBucket. One request for each directory above,
+    /// and three more. (Hadoop FileSystem specification, mkdirs.)
+    pub fn perform<S: ObjectStore>(
+        self,
+        alloc: Global,
+        retries: u32,
+        store: &mut S,
+        actor: Actor,
+        event: u32,
+        journal: &mut Journal,
+    ) -> Result<Result<(), FsRefusal>, DriveStop>
+        requires counted { S.requests store.old ≤ length journal.old.entries }
+        ensures makes { IfOk result (λ answer. GivesIn self.bucket (Makes self.key) (Err NoSuchBucket) (S.scene store.old) answer (S.scene store.new)) }
+        ensures performed { Performed actor event retries (AlwaysIn self.bucket (always self.key) (S.scene store.old)) (S.scene store.old) (S.scene store.new) journal.old.entries journal.new.entries (S.requests store.old) (S.requests store.new) (S.losses store.old) (S.losses store.new) (S.foretold store.old) (S.foretold store.new) result }
+        ensures fault { IsErrOf result DriveStop.StoreFault → S.losses store.old < S.losses store.new }
+    {
+        let MakeDirs { bucket, names } = self;
+        match perform_in(alloc, bucket, names, retries, store, actor, event, journal) {
+            Ok(answer) => Ok(answer),
+            Err(stop) => Err(stop),
+        }
+    }
+}

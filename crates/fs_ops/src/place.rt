@@ -1,0 +1,120 @@
+ghost use Rattle.std.specs.Prelude.{◌≡◌, ◌==◌, length, IfOk};
+ghost use Rattle.bucket_ops.specs.Asks.{request_of};
+ghost use Rattle.fs_ops.specs.Places.{look_asks, get_asks, below_asks, drop_asks, drop_marker_asks, put_marker_asks, prefix_of};
+
+use dir_markers::marker_key;
+use path_keys::S3Path;
+use s3_types::{Bucket, Bytes, Key, PageLimit, Request, Text};
+use std::alloc::{AllocError, Global};
+use std::marker::Model;
+
+/// A path's key, the key of its marker, and what the keys below it begin with. The root has neither key.
+#[derive(Drop)]
+pub(crate) struct Place {
+    path: Text,
+    key: Option<Key>,
+    marker: Option<Key>,
+    prefix: Text,
+}
+
+impl Model for Place {
+    ghost use Rattle.std.specs.Prelude.{◌≡◌, ℕ, List, true};
+    ghost use Rattle.path_keys.specs.Paths.{is_key};
+    ghost use Rattle.fs_tree.specs.Changes.{marker_if};
+    ghost use Rattle.fs_ops.specs.Places.{key_if, prefix_of};
+
+    ghost Value = { List ℕ };
+
+    ghost view = { λ p. p.path };
+
+    ghost invariant = { λ p. (p.key ≡ key_if p.path) × (p.marker ≡ marker_if p.path) × (p.prefix ≡ prefix_of p.path) × (is_key p.path ≡ true) };
+}
+
+impl Place {
+    pub(crate) fn of(alloc: Global, path: &S3Path) -> Result<Place, AllocError>
+        ensures { IfOk result (λ place. place ≡ path.now.key) }
+    {
+        let text = path.key().clone()?;
+        if path.is_root() {
+            return Ok(Place {
+                path: text,
+                key: None,
+                marker: None,
+                prefix: Text::empty(),
+            });
+        }
+        let marker = marker_key(alloc, path)?;
+        let prefix = marker.as_text().clone()?;
+        Ok(Place {
+            key: Some(Key::new(text.clone()?)),
+            path: text,
+            marker: Some(marker),
+            prefix,
+        })
+    }
+
+    /// Whether it is the root. Takes no memory.
+    pub(crate) fn is_root(&self) -> bool
+        ensures { result ≡ (length self.now == 0) }
+    {
+        self.path.as_bytes().is_empty()
+    }
+
+    /// What the keys below it begin with. Takes no memory.
+    pub(crate) fn prefix(&self) -> &Text
+        ensures { result.now ≡ prefix_of self.now }
+    {
+        &self.prefix
+    }
+
+    pub(crate) fn below(&self, bucket: &Bucket, limit: PageLimit) -> Result<Request, AllocError>
+        ensures { IfOk result (λ request. request ≡ request_of bucket.now (below_asks self.now limit)) }
+    {
+        Request::list_page(bucket, &self.prefix, false, &Text::empty(), limit)
+    }
+
+    pub(crate) fn look(&self, bucket: &Bucket) -> Result<Request, AllocError>
+        ensures { IfOk result (λ request. request ≡ request_of bucket.now (look_asks self.now)) }
+    {
+        match &self.key {
+            Some(key) => Request::head_object(bucket, key),
+            None => self.below(bucket, PageLimit::new(1)),
+        }
+    }
+
+    pub(crate) fn get(&self, bucket: &Bucket) -> Result<Request, AllocError>
+        ensures { IfOk result (λ request. request ≡ request_of bucket.now (get_asks self.now)) }
+    {
+        match &self.key {
+            Some(key) => Request::get_object(bucket, key),
+            None => self.below(bucket, PageLimit::new(1)),
+        }
+    }
+
+    pub(crate) fn drop_file(&self, bucket: &Bucket) -> Result<Request, AllocError>
+        ensures { IfOk result (λ request. request ≡ request_of bucket.now (drop_asks self.now)) }
+    {
+        match &self.key {
+            Some(key) => Request::delete_object(bucket, key),
+            None => self.below(bucket, PageLimit::new(1)),
+        }
+    }
+
+    pub(crate) fn drop_marker(&self, bucket: &Bucket) -> Result<Request, AllocError>
+        ensures { IfOk result (λ request. request ≡ request_of bucket.now (drop_marker_asks self.now)) }
+    {
+        match &self.marker {
+            Some(marker) => Request::delete_object(bucket, marker),
+            None => self.below(bucket, PageLimit::new(1)),
+        }
+    }
+
+    pub(crate) fn put_marker(&self, bucket: &Bucket) -> Result<Request, AllocError>
+        ensures { IfOk result (λ request. request ≡ request_of bucket.now (put_marker_asks self.now)) }
+    {
+        match &self.marker {
+            Some(marker) => Request::put_object(bucket, marker, &Bytes::empty(), None),
+            None => self.below(bucket, PageLimit::new(1)),
+        }
+    }
+}
