@@ -1,4 +1,4 @@
-ghost use Rattle.std.specs.Prelude.{◌≡◌, ◌↔◌, ℕ, ◌+◌, ◌≤◌, false, OnOk, OnErr, IsErrOf, IsSome};
+ghost use Rattle.std.specs.Prelude.{◌≡◌, ◌↔◌, ℕ, ◌+◌, ◌≤◌, false, IfOk, OnOk, OnErr, IsErrOf, IsSome};
 ghost use Rattle.std.specs.FinMap as map;
 ghost use Rattle.s3_types.specs.Fates.{with_fates, fate_at, is_answer, IsFirstNamed, IsFirstFrom};
 ghost use Rattle.s3_types.specs.Spans.{from_on, first_in};
@@ -111,6 +111,14 @@ impl Fates {
         Fates {
             spans: BTreeMap::new(alloc),
         }
+    }
+
+    /// The same fates, in O(f). AllocError comes where memory ran out alone.
+    pub fn copied(&self) -> Result<Fates, AllocError>
+        ensures { IfOk result (λ copy. copy ≡ self.now) }
+    {
+        let spans = self.spans.clone()?;
+        Ok(Fates { spans })
     }
 
     /// Gives `count` sendings from `first` on a fate, in O(log f). Taken tells the least of them that has
