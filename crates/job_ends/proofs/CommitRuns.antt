@@ -45,7 +45,7 @@ use Rattle.job_facts.proofs.Legal.{some_dest}
 use Rattle.job_facts.proofs.Owning.{operation_own}
 use Rattle.job_facts.proofs.Keeping.{Quiet, attempt_quiet}
 use Rattle.job_facts.proofs.Running.{InCommit, Idle, At}
-use Rattle.job_facts.proofs.EveryRun.{good, late}
+use Rattle.job_facts.proofs.EveryRun.{good, just_set, late}
 use Rattle.job_ends.specs.CommitRuns.{IsDue, HasMarked, CommitStands, PicksOneMore, PicksGrow, EndsDue, CommitRuns}
 use Rattle.job_ends.proofs.Shared.{same_shared}
 use Rattle.job_ends.proofs.CommitSteps.{at_start, one_start, marked_at_start, marked_next, sound_now, sound_more}
@@ -77,15 +77,6 @@ module _ (g : Setting) (j : IsLegal g.script) (k : Option ℕ) (opening : Conten
   just_idle (Some (TheTaskAbort t)) s m es y e = absurd y
   just_idle (Some (TheCommit c)) s m es y e = absurd (false_true refl e)
   just_idle (Some (TheClean t)) s m es y e = absurd (false_true refl e)
-
-  just_set : (d : Option Operation) → is_just_set d ≡ true → is_set d ≡ true
-  just_set None e = absurd (false_true refl e)
-  just_set (Some (TheSetup t)) e = e
-  just_set (Some (TheWrite t)) e = absurd (false_true refl e)
-  just_set (Some (TheTaskCommit t)) e = absurd (false_true refl e)
-  just_set (Some (TheTaskAbort t)) e = absurd (false_true refl e)
-  just_set (Some (TheCommit c)) e = absurd (false_true refl e)
-  just_set (Some (TheClean t)) e = absurd (false_true refl e)
 
   starts : (es : List Entry) (y : Stand) → Runs g k opening es y → (missing : Option ℕ) → is_just_set y.driver ≡ true
       → CommitStands g (record { seen = y.seen; told = y.told; attempts = y.attempts; driver = Some (TheCommit (commit_start w missing)); commit = [] }) (commit_start w missing)

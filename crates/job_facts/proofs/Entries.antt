@@ -20,7 +20,7 @@ use Rattle.job_facts.proofs.EveryRun.{good, kept_now, late}
 
 -- ---- one more entry
 
-see_more : (w : Script) (k : Option ℕ) (s : Seen) (es : List Entry) (e : Entry) → see_all w k s (es ++ e ∷ []) ≡ see w k (see_all w k s es) e
+pub see_more : (w : Script) (k : Option ℕ) (s : Seen) (es : List Entry) (e : Entry) → see_all w k s (es ++ e ∷ []) ≡ see w k (see_all w k s es) e
 see_more w k s [] e = refl
 see_more w k s (x ∷ es) e = see_more w k (see w k s x) es e
 

@@ -66,6 +66,16 @@ use Rattle.job_facts.proofs.Running.{Untouched, Idle, At, Early, Late, kept_unto
 use Rattle.job_facts.proofs.Steps.{hidden_same, commit_next}
 use Rattle.job_facts.proofs.Keeping.{kept_next, at_beside, other_fits, other_known, commit_starts}
 
+-- who has just set up has set up
+pub just_set : (d : Option Operation) → is_just_set d ≡ true → is_set d ≡ true
+just_set None e = absurd (false_true refl e)
+just_set (Some (TheSetup t)) e = e
+just_set (Some (TheWrite t)) e = absurd (false_true refl e)
+just_set (Some (TheTaskCommit t)) e = absurd (false_true refl e)
+just_set (Some (TheTaskAbort t)) e = absurd (false_true refl e)
+just_set (Some (TheCommit c)) e = absurd (false_true refl e)
+just_set (Some (TheClean t)) e = absurd (false_true refl e)
+
 module _ (g : Setting) (k : Option ℕ) (opening : Content) (j : IsLegal g.script) (is_opening : IsOpening g opening) where
   abbrev w : Script
   w = g.script
@@ -92,15 +102,6 @@ module _ (g : Setting) (k : Option ℕ) (opening : Content) (j : IsLegal g.scrip
   just_idle (Some (TheTaskAbort t)) s m es y e = absurd y
   just_idle (Some (TheCommit c)) s m es y e = absurd (false_true refl e)
   just_idle (Some (TheClean t)) s m es y e = absurd (false_true refl e)
-
-  just_set : (d : Option Operation) → is_just_set d ≡ true → is_set d ≡ true
-  just_set None e = absurd (false_true refl e)
-  just_set (Some (TheSetup t)) e = e
-  just_set (Some (TheWrite t)) e = absurd (false_true refl e)
-  just_set (Some (TheTaskCommit t)) e = absurd (false_true refl e)
-  just_set (Some (TheTaskAbort t)) e = absurd (false_true refl e)
-  just_set (Some (TheCommit c)) e = absurd (false_true refl e)
-  just_set (Some (TheClean t)) e = absurd (false_true refl e)
 
   done_so : (t : Setup) → is_done t ≡ true → t ≡ SetupOver setups.Done
   done_so Heading e = absurd (false_true refl e)

@@ -9,4 +9,5 @@ pub mod Cleans
 pub mod Tasks
 pub mod After
 pub mod Commits
+pub mod Owned
 pub mod Kept

@@ -4,6 +4,7 @@ use Rattle.s3_types.specs.Store.{Content}
 use Rattle.job_model.specs.Legal.{IsLegal}
 use Rattle.job_model.specs.declared.ends.Pick.{Pick}
 use Rattle.job_operations.specs.Operations.{Setting}
+use Rattle.job_promise.specs.Entries.{AreOwn}
 use Rattle.job_promise.specs.Promise.{Promised, ArePicked, all_picks}
 use Rattle.job_facts.specs.Runs.{IsOpening}
 use Rattle.job_happenings.specs.Happenings.{Play, Happened}
@@ -12,3 +13,7 @@ use Rattle.job_happenings.specs.Happenings.{Play, Happened}
 abbrev pub RunsAreKept : Type 0
 RunsAreKept = (g : Setting) (opening : Content) (x : Play) → IsLegal g.script → IsOpening g opening → Happened g opening x → x.now ≡ None
     → (ps : List Pick) → ArePicked ps (all_picks g.script opening x.journal x.ends) → Promised g.script opening x.journal ps x.ends
+
+-- and each entry is of one of the job's actors
+abbrev pub RunsAreOwn : Type 0
+RunsAreOwn = (g : Setting) (opening : Content) (x : Play) → IsLegal g.script → IsOpening g opening → Happened g opening x → x.now ≡ None → AreOwn x.journal

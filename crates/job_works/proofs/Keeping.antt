@@ -29,7 +29,7 @@ use Rattle.job_facts.specs.Runs.{IsOpening, is_set}
 use Rattle.job_facts.proofs.Whose.{or_true}
 use Rattle.job_facts.proofs.Agreeing.{AgreeBelow, Agrees}
 use Rattle.job_facts.proofs.Running.{At, InCommit}
-use Rattle.job_facts.proofs.Entries.{take_all, sees, late_now}
+use Rattle.job_facts.proofs.Entries.{take_all, see_more, sees, late_now}
 use Rattle.job_facts.proofs.Changes.{moment_scene}
 use Rattle.job_happenings.specs.Happenings.{Play, Sends, happen, MaySend, Happened}
 use Rattle.job_happenings.specs.Running.{operation_of}
@@ -123,10 +123,6 @@ module _ (w : Script) (minimum : ℕ) (j : IsLegal w) (k : Option ℕ) (s : Seen
   sent_picks c decides agree free r e ReplyLost honest = missed c ReplyLost (λ x d. absurd cc) ∙ are
 
 -- ---- in a run
-
-see_more : (w : Script) (k : Option ℕ) (s : Seen) (es : List Entry) (e : Entry) → see_all w k s (es ++ e ∷ []) ≡ see w k (see_all w k s es) e
-see_more w k s [] e = refl
-see_more w k s (x ∷ es) e = see_more w k (see w k s x) es e
 
 module _ (g : Setting) (opening : Content) (j : IsLegal g.script) (is_opening : IsOpening g opening) (x : Play) (past : Happened g opening x) where
   abbrev w : Script

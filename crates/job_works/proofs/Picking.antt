@@ -23,6 +23,7 @@ use Rattle.job_facts.specs.Told.{Told}
 use Rattle.job_facts.specs.Runs.{IsOpening, is_set, is_just_set}
 use Rattle.job_facts.proofs.Running.{At}
 use Rattle.job_facts.proofs.Entries.{take_all, sees, late_now}
+use Rattle.job_facts.proofs.EveryRun.{just_set}
 use Rattle.job_happenings.specs.Happenings.{Play, Refuses, Opens, Sends, Finishes, Closes, begun, knows_now, open_running, hear, MayOpen, Happened, nothing_happened, happens}
 use Rattle.job_happenings.specs.Running.{operation_of}
 use Rattle.job_happenings.proofs.RunningStages.{DriverAt, begins_so, may_commit_job}
@@ -112,16 +113,7 @@ may_commit st (Mix seed) b r = absurd (false≢true b)
 may_commit st Restart b r = absurd (false≢true b)
 may_commit st (Recover a) b r = absurd (false≢true b)
 
-pub just_set : (d : Option Operation) → is_just_set d ≡ true → is_set d ≡ true
-just_set None e = absurd (false≢true e)
-just_set (Some (TheSetup t)) e = e
-just_set (Some (TheWrite t)) e = absurd (false≢true e)
-just_set (Some (TheTaskCommit t)) e = absurd (false≢true e)
-just_set (Some (TheTaskAbort t)) e = absurd (false≢true e)
-just_set (Some (TheCommit c)) e = absurd (false≢true e)
-just_set (Some (TheClean t)) e = absurd (false≢true e)
-
-none_below : (p : Picks) → ((t : ℕ) → p t ≡ None) → (n : ℕ) → picks_below p n ≡ []
+pub none_below : (p : Picks) → ((t : ℕ) → p t ≡ None) → (n : ℕ) → picks_below p n ≡ []
 none_below p h zero = refl
 none_below p h (suc n) = ap (λ l. l ++ picked n (p n)) (none_below p h n) ∙ ap (picked n) (h n)
 

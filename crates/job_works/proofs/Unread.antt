@@ -33,7 +33,8 @@ use Rattle.job_facts.proofs.Reading.{reads_it, reads_other}
 use Rattle.job_facts.proofs.Replies.{set_reply, bytes_read}
 use Rattle.job_facts.proofs.Running.{At, InCommit}
 use Rattle.job_facts.proofs.Entries.{late_now}
-use Rattle.job_works.proofs.Picking.{just_set, unpicked}
+use Rattle.job_facts.proofs.EveryRun.{just_set}
+use Rattle.job_works.proofs.Picking.{unpicked}
 
 -- ---- what is read of a task
 
