@@ -1,0 +1,25 @@
+-- What a file's bytes stand for.
+use Rattle.std.specs.Prelude.{◌≡◌, ◌≢◌, ◌⊎◌, ℕ, false, List, [], ◌∷◌, ◌++◌}
+use Rattle.std.specs.List.{AllByRecursion}
+use Rattle.log_format.specs.Change.{IsChange}
+use Rattle.log_format.specs.Log.{headed, opened}
+use Rattle.log_format.specs.Reading.{is_log}
+use Rattle.log_format.specs.declared.held.Held.{Held}
+
+-- a file that is no log is a base without changes
+pub record IsBare (file : List ℕ) (held : Held) : Type 0 where
+  pub other : is_log file ≡ false
+  pub base : held.base ≡ file
+  pub none : held.changes ≡ []
+
+-- a log is its base, its changes behind open gates, a gate that is not open, and any bytes
+pub record IsLog (file : List ℕ) (held : Held) : Type 0 where
+  pub gate : ℕ
+  pub behind : List ℕ
+  pub not_open : gate ≢ 1
+  pub spelled : file ≡ headed held.base ++ (opened held.changes ++ gate ∷ behind)
+  pub legal : AllByRecursion IsChange held.changes
+
+-- a file stands for a base and the changes after it
+abbrev pub StandsFor : List ℕ → Held → Type 0
+StandsFor file held = IsBare file held ⊎ IsLog file held

@@ -1,0 +1,5 @@
+pub mod Change
+pub mod Log
+pub mod Fault
+pub mod Reading
+pub mod File

@@ -1,0 +1,270 @@
+ghost use Rattle.std.specs.Prelude.{◌≡◌, ◌<◌, ◌^◌, ◌-◌, List, length, Ok, Err, IfOk, IfSome, IsErrOf, is_some, true};
+ghost use Rattle.std.specs.Int.{w32, w64};
+ghost use Rattle.std.specs.List.{list_all};
+ghost use Rattle.std.specs.Str.{is_utf8};
+ghost use Rattle.s3_types.specs.Names.{is_bucket, is_key};
+ghost use Rattle.s3_types.specs.Tags.{is_hex};
+ghost use Rattle.log_format.specs.Fault.{Gives, GivesBy};
+ghost use Rattle.log_format.specs.Reading.{place, bytes_at, byte_at, number_at, block_at, text_at, list_at, counted_at, digits_at, named_at, target_at, upload_at, header_in};
+
+use crate::fault::LogFault;
+use s3_types::{
+    Bucket, Bytes, Key, KeyList, LengthHeader, NameFault, NamedPart, PartList, Sequence, Tag, Text,
+};
+use std::alloc::Global;
+
+/// The bytes as text, where they are UTF-8.
+fn as_utf8(bytes: &[u8]) -> Option<&str>
+    ensures same { IfSome result (λ text. text.now ≡ bytes.now) }
+    ensures found { is_some result ≡ is_utf8 bytes.now }
+{
+    match str::from_utf8(bytes) {
+        Ok(text) => Some(text),
+        Err(_) => None,
+    }
+}
+
+/// The place of what is left of a whole of so many bytes.
+pub fn place_of(whole: u64, rest: &[u8]) -> u64
+    ensures { result ≡ place whole rest.now }
+{
+    whole.saturating_sub(rest.len() as u64)
+}
+
+/// The next `count` bytes, and what is left. The fault's place is `at`.
+#[tactic(auto, unfolding(crate::specs::Reading::bytes_at))]
+pub fn front<'b>(at: u64, count: u64, bytes: &'b [u8]) -> Result<(&'b [u8], &'b [u8]), LogFault>
+    ensures exact { GivesBy (λ x. (x.0.now, x.1.now)) result (bytes_at at count bytes.now) }
+    ensures len { IfOk result (λ x. length x.0.now ≡ count) }
+    ensures sure { IsErrOf result LogFault.NoMemory → ⊥ }
+{
+    if (bytes.len() as u64) < count {
+        return Err(LogFault::Bad(at));
+    }
+    Ok(bytes.split_at(count as usize))
+}
+
+#[tactic(auto, unfolding(crate::specs::Reading::bytes_at, crate::specs::Reading::byte_at))]
+pub fn byte_of(at: u64, bytes: &[u8]) -> Result<(u8, &[u8]), LogFault>
+    ensures { GivesBy (λ x. (x.0, x.1.now)) result (byte_at at bytes.now) }
+{
+    let (b, rest) = front(at, 1, bytes)?;
+    Ok((b[0], rest))
+}
+
+#[tactic(auto, unfolding(crate::specs::Reading::bytes_at, crate::specs::Reading::number_at))]
+pub fn u32_of(at: u64, bytes: &[u8]) -> Result<(u32, &[u8]), LogFault>
+    ensures { GivesBy (λ x. (x.0, x.1.now)) result (number_at w32 at bytes.now) }
+{
+    let (n, rest) = front(at, 4, bytes)?;
+    Ok((u32::from_be_bytes([n[0], n[1], n[2], n[3]]), rest))
+}
+
+#[tactic(auto, unfolding(crate::specs::Reading::bytes_at, crate::specs::Reading::number_at))]
+pub fn u64_of(at: u64, bytes: &[u8]) -> Result<(u64, &[u8]), LogFault>
+    ensures exact { GivesBy (λ x. (x.0, x.1.now)) result (number_at w64 at bytes.now) }
+    ensures sure { IsErrOf result LogFault.NoMemory → ⊥ }
+{
+    let (n, rest) = front(at, 8, bytes)?;
+    let number = u64::from_be_bytes([n[0], n[1], n[2], n[3], n[4], n[5], n[6], n[7]]);
+    Ok((number, rest))
+}
+
+/// Bytes with their length in 8 bytes before them.
+#[tactic(auto, unfolding(crate::specs::Reading::block_at))]
+pub fn block_of(at: u64, bytes: &[u8]) -> Result<(&[u8], &[u8]), LogFault>
+    ensures exact { GivesBy (λ x. (x.0.now, x.1.now)) result (block_at at bytes.now) }
+    ensures sure { IsErrOf result LogFault.NoMemory → ⊥ }
+{
+    let (count, rest) = u64_of(at, bytes)?;
+    front(at, count, rest)
+}
+
+/// The same, copied.
+pub fn bytes_of<'b>(alloc: Global, at: u64, bytes: &'b [u8]) -> Result<(Bytes, &'b [u8]), LogFault>
+    ensures { GivesBy (λ x. (x.0, x.1.now)) result (block_at at bytes.now) }
+{
+    let (block, rest) = block_of(at, bytes)?;
+    Ok((Bytes::from_slice(alloc, block)?, rest))
+}
+
+/// Any text.
+#[tactic(auto, unfolding(crate::specs::Reading::text_at))]
+pub fn text_of<'b>(alloc: Global, at: u64, bytes: &'b [u8]) -> Result<(Text, &'b [u8]), LogFault>
+    ensures { GivesBy (λ x. (x.0, x.1.now)) result (text_at is_utf8 at bytes.now) }
+{
+    let (block, rest) = block_of(at, bytes)?;
+    let Some(text) = as_utf8(block) else {
+        return Err(LogFault::Bad(at));
+    };
+    Ok((Text::copied(alloc, text)?, rest))
+}
+
+/// A bucket's name.
+#[tactic(auto, unfolding(crate::specs::Reading::text_at))]
+pub fn bucket_of<'b>(
+    alloc: Global,
+    at: u64,
+    bytes: &'b [u8],
+) -> Result<(Bucket, &'b [u8]), LogFault>
+    ensures { GivesBy (λ x. (x.0, x.1.now)) result (text_at is_bucket at bytes.now) }
+{
+    let (block, rest) = block_of(at, bytes)?;
+    match Bucket::read(alloc, block) {
+        Ok(bucket) => Ok((bucket, rest)),
+        Err(NameFault::BadName) => Err(LogFault::Bad(at)),
+        Err(NameFault::NoMemory) => Err(LogFault::NoMemory),
+    }
+}
+
+/// A key.
+#[tactic(auto, unfolding(crate::specs::Reading::text_at))]
+pub fn key_of<'b>(alloc: Global, at: u64, bytes: &'b [u8]) -> Result<(Key, &'b [u8]), LogFault>
+    ensures { GivesBy (λ x. (x.0, x.1.now)) result (text_at is_key at bytes.now) }
+{
+    let (block, rest) = block_of(at, bytes)?;
+    match Key::read(alloc, block) {
+        Ok(key) => Ok((key, rest)),
+        Err(NameFault::BadName) => Err(LogFault::Bad(at)),
+        Err(NameFault::NoMemory) => Err(LogFault::NoMemory),
+    }
+}
+
+/// So many keys.
+#[tactic(auto, unfolding(crate::specs::Reading::list_at))]
+fn keys_in<'b>(
+    alloc: Global,
+    at: u64,
+    count: u32,
+    bytes: &'b [u8],
+) -> Result<(KeyList, &'b [u8]), LogFault>
+    ensures { GivesBy (λ x. (x.0, x.1.now)) result (list_at (text_at is_key at) count bytes.now) }
+{
+    let mut keys = Vec::new(alloc);
+    let mut rest = bytes;
+    for _ in 0..count {
+        let (key, after) = key_of(alloc, at, rest)?;
+        keys.push(key)?;
+        rest = after;
+    }
+    Ok((Sequence::from_vec(keys), rest))
+}
+
+/// Keys with their count in 4 bytes before them.
+#[tactic(auto, unfolding(crate::specs::Reading::counted_at))]
+pub fn keys_of<'b>(alloc: Global, at: u64, bytes: &'b [u8]) -> Result<(KeyList, &'b [u8]), LogFault>
+    ensures { GivesBy (λ x. (x.0, x.1.now)) result (counted_at (text_at is_key at) at bytes.now) }
+{
+    let (count, rest) = u32_of(at, bytes)?;
+    keys_in(alloc, at, count, rest)
+}
+
+fn is_hex_digit(b: u8) -> bool
+    ensures { result ≡ is_hex b }
+{
+    (48 <= b && b <= 57) || (97 <= b && b <= 102)
+}
+
+fn are_hex_digits(bytes: &[u8]) -> bool
+    ensures { result ≡ list_all is_hex bytes.now }
+{
+    bytes.iter().all(|b| is_hex_digit(*b))
+}
+
+/// The 32 digits of a tag.
+#[tactic(auto, unfolding(crate::specs::Reading::bytes_at, crate::specs::Reading::digits_at))]
+fn digits_of(at: u64, bytes: &[u8]) -> Result<([u8; 32], &[u8]), LogFault>
+    ensures exact { GivesBy (λ x. (x.0, x.1.now)) result (digits_at at bytes.now) }
+    ensures hex { IfOk result (λ x. list_all is_hex x.0 ≡ true) }
+{
+    let (text, rest) = front(at, 32, bytes)?;
+    let Ok(digits) = <[u8; 32]>::try_from(text) else {
+        return Err(LogFault::Bad(at));
+    };
+    if !are_hex_digits(text) {
+        return Err(LogFault::Bad(at));
+    }
+    Ok((digits, rest))
+}
+
+/// A named part: its number, its tag's digits and the tag's count of parts.
+#[tactic(auto, unfolding(crate::specs::Reading::named_at, crate::specs::Reading::pair_at))]
+fn named_of(at: u64, bytes: &[u8]) -> Result<(NamedPart, &[u8]), LogFault>
+    ensures { GivesBy (λ x. (x.0, x.1.now)) result (named_at at bytes.now) }
+{
+    let (number, rest) = u32_of(at, bytes)?;
+    let (digits, rest) = digits_of(at, rest)?;
+    let (parts, rest) = u32_of(at, rest)?;
+    let tag = Tag::new(digits, parts);
+    Ok((NamedPart { number, tag }, rest))
+}
+
+/// So many named parts.
+#[tactic(auto, unfolding(crate::specs::Reading::list_at))]
+fn parts_in(alloc: Global, at: u64, count: u32, bytes: &[u8]) -> Result<(PartList, &[u8]), LogFault>
+    ensures { GivesBy (λ x. (x.0, x.1.now)) result (list_at (named_at at) count bytes.now) }
+{
+    let mut parts = Vec::new(alloc);
+    let mut rest = bytes;
+    for _ in 0..count {
+        match named_of(at, rest) {
+            Ok((part, after)) => {
+                parts.push(part)?;
+                rest = after;
+            }
+            Err(fault) => return Err(fault),
+        }
+    }
+    Ok((Sequence::from_vec(parts), rest))
+}
+
+/// Named parts with their count in 4 bytes before them.
+#[tactic(auto, unfolding(crate::specs::Reading::counted_at))]
+pub fn parts_of<'b>(
+    alloc: Global,
+    at: u64,
+    bytes: &'b [u8],
+) -> Result<(PartList, &'b [u8]), LogFault>
+    ensures { GivesBy (λ x. (x.0, x.1.now)) result (counted_at (named_at at) at bytes.now) }
+{
+    let (count, rest) = u32_of(at, bytes)?;
+    parts_in(alloc, at, count, rest)
+}
+
+/// A bucket and a key.
+#[tactic(auto, unfolding(crate::specs::Reading::target_at, crate::specs::Reading::pair_at))]
+pub fn target_of<'b>(
+    alloc: Global,
+    at: u64,
+    bytes: &'b [u8],
+) -> Result<((Bucket, Key), &'b [u8]), LogFault>
+    ensures { GivesBy (λ x. ((x.0.0, x.0.1), x.1.now)) result (target_at at bytes.now) }
+{
+    let (bucket, rest) = bucket_of(alloc, at, bytes)?;
+    let (key, rest) = key_of(alloc, at, rest)?;
+    Ok(((bucket, key), rest))
+}
+
+/// A bucket, a key and the number of an upload.
+#[tactic(auto, unfolding(crate::specs::Reading::upload_at, crate::specs::Reading::pair_at))]
+pub fn upload_of<'b>(
+    alloc: Global,
+    at: u64,
+    bytes: &'b [u8],
+) -> Result<(((Bucket, Key), u64), &'b [u8]), LogFault>
+    ensures { GivesBy (λ x. (((x.0.0.0, x.0.0.1), x.0.1), x.1.now)) result (upload_at at bytes.now) }
+{
+    let (target, rest) = target_of(alloc, at, bytes)?;
+    let (upload, rest) = u64_of(at, rest)?;
+    Ok(((target, upload), rest))
+}
+
+/// The header that a number stands for: 0 for none, and else the length plus 1.
+pub fn header_of(number: u64) -> Option<LengthHeader>
+    ensures { result ≡ header_in number }
+{
+    if number == 0 {
+        return None;
+    }
+    Some(LengthHeader::new(number - 1))
+}
