@@ -1,5 +1,6 @@
 -- What the devices of the outside hold and give. A device may tell its bytes, or tell nothing.
-use Rattle.std.specs.Prelude.{◌≡◌, ℕ, ◌<◌, ◌≤◌, ◌^◌, ◌-◌, ◌⊎◌, List, [], ◌++◌, Option, Some, None, length, take, drop}
+use Rattle.std.specs.Prelude.{◌≡◌, ℕ, ◌<◌, ◌≤◌, ◌^◌, ◌-◌, ◌⊎◌, List, [], ◌++◌, Option, Some, None, length, take, drop, Bool}
+use Rattle.shelf.specs.declared.calls.Calls.{Calls}
 
 -- the count of faults rose, or stands where it can rise no more
 abbrev pub Rose : ℕ → ℕ → Type 0
@@ -23,38 +24,18 @@ abbrev pub Appends : Option (List ℕ) → Option (List ℕ) → List ℕ → Ty
 Appends None after piece = after ≡ None
 Appends (Some before) after piece = after ≡ Some (before ++ piece)
 
--- the most bytes that are loaded
-abbrev pub most_held : ℕ
-most_held = 1073741824
-
--- what was loaded is what is held, and is not too much
-abbrev pub IsLoaded : Option (Option (List ℕ)) → Option (List ℕ) → Type 0
-IsLoaded None loaded = Unit {0}
-IsLoaded (Some held) None = held ≡ None
-IsLoaded (Some held) (Some bytes) = (held ≡ Some bytes) × (length bytes ≤ most_held)
-
--- more is held than is loaded
-abbrev pub IsTooLarge : Option (Option (List ℕ)) → Type 0
-IsTooLarge None = Unit {0}
-IsTooLarge (Some None) = ⊥
-IsTooLarge (Some (Some bytes)) = most_held < length bytes
-
--- these bytes are held now, where the shelf tells it
-abbrev pub HoldsNow : Option (Option (List ℕ)) → Option (Option (List ℕ)) → List ℕ → Type 0
-HoldsNow None after bytes = after ≡ None
-HoldsNow (Some held) after bytes = after ≡ Some (Some bytes)
-
--- a source in memory: the bytes that are left, and its count of faults
+-- a source in memory: the bytes that are left, and its calls
 pub record Left : Type 0 where
   pub bytes : List ℕ
-  pub faults : ℕ
+  pub calls : Calls
 
--- a sink in memory: the bytes that were written, and its count of faults
+-- a sink in memory: the bytes that were written, how many of them have gone out, and its calls
 pub record Written : Type 0 where
   pub bytes : List ℕ
-  pub faults : ℕ
+  pub out : ℕ
+  pub calls : Calls
 
--- a shelf in memory: what it holds, and its count of faults
-pub record Kept : Type 0 where
-  pub held : Option (List ℕ)
+-- a sink over a writer: whether all that was written has gone out, and its count of faults
+pub record Streamed : Type 0 where
+  pub is_out : Bool
   pub faults : ℕ

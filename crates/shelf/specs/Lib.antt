@@ -1,1 +1,5 @@
+pub mod Calls
 pub mod Devices
+pub mod Logged
+pub mod Causes
+pub mod Memory

@@ -1,16 +1,17 @@
-//! The outside of the program: where its input comes from, where its text goes and where the store's
-//! image is kept. Each device counts its faults. The objects in memory tell their bytes; those over
-//! the system's files and streams tell nothing of them.
+//! The outside of the program: where its input comes from, where its text goes and where its store is
+//! kept. Each device counts its faults. The objects in memory tell their bytes; those over the system's
+//! streams tell nothing of them.
 #![tactic(auto)]
 
+mod calls;
 mod device;
-mod folder;
+pub mod kept;
 mod memory;
 mod streams;
 
-pub use device::{CallList, Failed, LoadFault, MOST_HELD, Shelf, Sink, Source};
-pub use folder::FolderShelf;
-pub use memory::{MemShelf, MemSink, MemSource, SureSource};
+pub use calls::Calls;
+pub use device::{CallList, Failed, Sink, Source};
+pub use memory::{MemSink, MemSource, SureSource};
 pub use streams::{StdSink, StdSource};
 
 #[cfg(test)]

@@ -1,60 +1,13 @@
 ghost use Rattle.std.specs.Prelude.{◌≡◌, ℕ, ◌<◌, ◌≤◌, List, [], ◌++◌, Option, Some, None, length, take, drop, min, IfOk, OnOk, OnErr, option_map};
-ghost use Rattle.std.specs.Prelude.{IsErrOf};
-ghost use Rattle.std.specs.Option.{option_copied};
-ghost use Rattle.shelf.specs.Devices.{Rose, IsLoaded, IsTooLarge};
+ghost use Rattle.shelf.specs.Calls as calls_of;
+ghost use Rattle.shelf.specs.Calls.{unused};
+ghost use Rattle.shelf.specs.Devices.{Rose};
 
-use crate::device::{CallList, Failed, LoadFault, MOST_HELD, Shelf, Sink, Source};
+use crate::calls::Calls;
+use crate::device::{CallList, Failed, Sink, Source};
 use s3_types::Bytes;
 use std::alloc::{AllocError, Global};
 use std::marker::Model;
-
-/// Which calls of an object fail, how many it has had and how many failed.
-#[derive(Drop)]
-struct Calls {
-    made: u64,
-    fail: CallList,
-    faults: u64,
-}
-
-impl Model for Calls {
-    ghost use Rattle.std.specs.Prelude.{ℕ};
-
-    ghost Value = { ℕ };
-
-    ghost view = { λ c. c.faults };
-}
-
-impl Calls {
-    fn new(fail: CallList) -> Calls
-        ensures { result ≡ 0 }
-    {
-        Calls {
-            made: 0,
-            fail,
-            faults: 0,
-        }
-    }
-
-    /// Counts a fault.
-    fn fault(&mut self)
-        ensures { Rose self.old self.new }
-    {
-        self.faults = self.faults.saturating_add(1);
-    }
-
-    /// Counts one more call, and its fault where it is to fail.
-    fn next(&mut self) -> Result<(), Failed>
-        ensures calm { OnOk result (self.new ≡ self.old) }
-        ensures failed { OnErr result (Rose self.old self.new) }
-    {
-        self.made = self.made.saturating_add(1);
-        if self.fail.as_slice().contains(&self.made) {
-            self.faults = self.faults.saturating_add(1);
-            return Err(Failed);
-        }
-        Ok(())
-    }
-}
 
 /// Copies what fits of the bytes into the buffer's front, and answers how many they are.
 fn copy_front(bytes: &[u8], buffer: &mut [u8]) -> usize
@@ -80,7 +33,7 @@ impl Model for MemSource {
 
     ghost Value = { Left };
 
-    ghost view = { λ s. record { bytes = drop s.taken s.bytes; faults = s.calls } };
+    ghost view = { λ s. record { bytes = drop s.taken s.bytes; calls = s.calls } };
 
     ghost invariant = { λ s. s.taken ≤ length s.bytes };
 }
@@ -88,12 +41,12 @@ impl Model for MemSource {
 impl MemSource {
     /// Takes no memory.
     pub fn new(bytes: Bytes, fail: CallList) -> MemSource
-        ensures { result ≡ record { bytes = bytes; faults = 0 } }
+        ensures { result ≡ record { bytes = bytes; calls = unused fail None } }
     {
         MemSource {
             bytes,
             taken: 0,
-            calls: Calls::new(fail),
+            calls: Calls::new(fail, None),
         }
     }
 }
@@ -101,7 +54,11 @@ impl MemSource {
 impl Source for MemSource {
     ghost left = { λ s. Some s.bytes };
 
-    ghost faults = { λ s. s.faults };
+    ghost faults = { λ s. s.calls.faults };
+
+    ghost answers = { λ s t. calls_of.Answers s.calls t.calls };
+
+    ghost fails = { λ s t. calls_of.Fails s.calls t.calls };
 
     fn read(&mut self, buffer: &mut [u8]) -> Result<usize, Failed> {
         self.calls.next()?;
@@ -142,6 +99,10 @@ impl Source for SureSource {
 
     ghost faults = { λ s. 0 };
 
+    ghost answers = { λ s t. Unit {0} };
+
+    ghost fails = { λ s t. ⊥ };
+
     fn read(&mut self, buffer: &mut [u8]) -> Result<usize, Failed> {
         let n = copy_front(&self.bytes.as_slice()[self.taken..], buffer);
         self.taken += n;
@@ -153,6 +114,7 @@ impl Source for SureSource {
 #[derive(Drop)]
 pub struct MemSink {
     bytes: Bytes,
+    out: usize,
     calls: Calls,
     alloc: Global,
 }
@@ -162,7 +124,7 @@ impl Model for MemSink {
 
     ghost Value = { Written };
 
-    ghost view = { λ s. record { bytes = s.bytes; faults = s.calls } };
+    ghost view = { λ s. record { bytes = s.bytes; out = s.out; calls = s.calls } };
 }
 
 /// The bytes with a piece behind them.
@@ -177,11 +139,12 @@ fn extended(alloc: Global, bytes: &Bytes, piece: &[u8]) -> Result<Bytes, AllocEr
 impl MemSink {
     /// Takes no memory.
     pub fn new(alloc: Global, fail: CallList) -> MemSink
-        ensures { result ≡ record { bytes = []; faults = 0 } }
+        ensures { result ≡ record { bytes = []; out = 0; calls = unused fail None } }
     {
         MemSink {
             bytes: Bytes::empty(),
-            calls: Calls::new(fail),
+            out: 0,
+            calls: Calls::new(fail, None),
             alloc,
         }
     }
@@ -197,99 +160,27 @@ impl MemSink {
 impl Sink for MemSink {
     ghost written = { λ s. Some s.bytes };
 
-    ghost faults = { λ s. s.faults };
+    ghost faults = { λ s. s.calls.faults };
+
+    ghost is_out = { λ s. s.out ≡ length s.bytes };
+
+    ghost answers = { λ s t. calls_of.Answers s.calls t.calls };
+
+    ghost fails = { λ s t. calls_of.Fails s.calls t.calls };
 
     /// A piece that finds no memory is a fault.
     fn write(&mut self, piece: &[u8]) -> Result<usize, Failed> {
         self.calls.next()?;
         let Ok(all) = extended(self.alloc, &self.bytes, piece) else {
-            self.calls.fault();
-            return Err(Failed);
+            return Err(self.calls.starve());
         };
         self.bytes = all;
         Ok(piece.len())
     }
 
     fn flush(&mut self) -> Result<(), Failed> {
-        self.calls.next()
-    }
-}
-
-/// A shelf in memory, of which the calls that are named fail.
-#[derive(Drop)]
-pub struct MemShelf {
-    held: Option<Bytes>,
-    calls: Calls,
-    alloc: Global,
-}
-
-impl Model for MemShelf {
-    ghost use Rattle.shelf.specs.Devices.{Kept};
-
-    ghost Value = { Kept };
-
-    ghost view = { λ s. record { held = s.held; faults = s.calls } };
-}
-
-/// What is held, shared.
-fn loaded(held: &Option<Bytes>) -> Result<Option<Bytes>, LoadFault>
-    ensures found { IfOk result (λ loaded. loaded ≡ held.now) }
-    ensures small { IfOk result (λ loaded. IsLoaded (Some held.now) loaded) }
-    ensures large { IsErrOf result LoadFault.TooLarge → IsTooLarge (Some held.now) }
-    ensures sure { IsErrOf result LoadFault.Failed → ⊥ }
-{
-    let Some(bytes) = held else {
-        return Ok(None);
-    };
-    if bytes.as_slice().len() > MOST_HELD {
-        return Err(LoadFault::TooLarge);
-    }
-    match bytes.clone() {
-        Ok(bytes) => Ok(Some(bytes)),
-        Err(_) => Err(LoadFault::NoMemory),
-    }
-}
-
-impl MemShelf {
-    /// Takes no memory.
-    pub fn new(alloc: Global, held: Option<Bytes>, fail: CallList) -> MemShelf
-        ensures { result ≡ record { held = held; faults = 0 } }
-    {
-        MemShelf {
-            held,
-            calls: Calls::new(fail),
-            alloc,
-        }
-    }
-
-    /// What is held.
-    pub fn held(&self) -> Option<&Bytes>
-        ensures { option_copied result ≡ self.now.held }
-    {
-        self.held.as_ref()
-    }
-}
-
-impl Shelf for MemShelf {
-    ghost held = { λ s. Some s.held };
-
-    ghost faults = { λ s. s.faults };
-
-    fn load(&mut self) -> Result<Option<Bytes>, LoadFault> {
-        let Ok(()) = self.calls.next() else {
-            return Err(LoadFault::Failed);
-        };
-        loaded(&self.held)
-    }
-
-    /// Bytes that find no memory are a fault.
-    fn replace(&mut self, bytes: &[u8]) -> Result<(), Failed> {
         self.calls.next()?;
-        let Ok(bytes) = Bytes::from_slice(self.alloc, bytes) else {
-            self.calls.fault();
-            return Err(Failed);
-        };
-        self.held = Some(bytes);
+        self.out = self.bytes.as_slice().len();
         Ok(())
     }
 }

@@ -1,4 +1,4 @@
-ghost use Rattle.std.specs.Prelude.{◌≡◌, ℕ, None};
+ghost use Rattle.std.specs.Prelude.{◌≡◌, ℕ, None, true};
 
 use crate::device::{Failed, Sink, Source};
 use std::io;
@@ -32,6 +32,10 @@ impl<I: io::Read + Drop> Source for StdSource<I> {
 
     ghost faults = { λ s. s };
 
+    ghost answers = { λ s t. Unit {0} };
+
+    ghost fails = { λ s t. Unit {0} };
+
     fn read(&mut self, buffer: &mut [u8]) -> Result<usize, Failed> {
         match self.input.read(buffer) {
             Ok(n) => Ok(n),
@@ -47,35 +51,47 @@ impl<I: io::Read + Drop> Source for StdSource<I> {
 #[derive(Drop)]
 pub struct StdSink<O> {
     output: O,
+    is_out: bool,
     faults: u64,
 }
 
 impl<O> Model for StdSink<O> {
-    ghost use Rattle.std.specs.Prelude.{ℕ};
+    ghost use Rattle.shelf.specs.Devices.{Streamed};
 
-    ghost Value = { ℕ };
+    ghost Value = { Streamed };
 
-    ghost view = { λ s. s.faults };
+    ghost view = { λ s. record { is_out = s.is_out; faults = s.faults } };
 }
 
 impl<O: io::Write + Drop> StdSink<O> {
     pub fn new(output: O) -> StdSink<O>
-        ensures { result ≡ 0 }
+        ensures { result ≡ record { is_out = true; faults = 0 } }
     {
-        StdSink { output, faults: 0 }
+        StdSink {
+            output,
+            is_out: true,
+            faults: 0,
+        }
     }
 }
 
 impl<O: io::Write + Drop> Sink for StdSink<O> {
     ghost written = { λ s. None };
 
-    ghost faults = { λ s. s };
+    ghost faults = { λ s. s.faults };
+
+    ghost is_out = { λ s. s.is_out ≡ true };
+
+    ghost answers = { λ s t. Unit {0} };
+
+    ghost fails = { λ s t. Unit {0} };
 
     /// A write that takes nothing of a piece that is not empty is a fault.
     fn write(&mut self, piece: &[u8]) -> Result<usize, Failed> {
         if piece.is_empty() {
             return Ok(0);
         }
+        self.is_out = false;
         match self.output.write(piece) {
             Ok(n) if n > 0 => Ok(n),
             _ => {
@@ -87,7 +103,10 @@ impl<O: io::Write + Drop> Sink for StdSink<O> {
 
     fn flush(&mut self) -> Result<(), Failed> {
         match self.output.flush() {
-            Ok(()) => Ok(()),
+            Ok(()) => {
+                self.is_out = true;
+                Ok(())
+            }
             Err(_) => {
                 self.faults = self.faults.saturating_add(1);
                 Err(Failed)

@@ -1,38 +1,51 @@
-use crate::{FolderShelf, LoadFault, Shelf, Sink, Source, StdSink, StdSource};
-use s3_types::Bytes;
+use crate::{Sink, Source, StdSink, StdSource};
 use std::alloc::Global;
-use std::fs;
+use std::io;
 use std::test::Fail;
 
-fn is_held(loaded: &Result<Option<Bytes>, LoadFault>, bytes: &[u8]) -> bool {
-    match loaded {
-        Ok(Some(held)) => held.as_slice() == bytes,
-        _ => false,
+/// A stream that gives and takes so many bytes at a time, or fails.
+#[derive(Drop)]
+struct Stream {
+    most: usize,
+    fails: bool,
+}
+
+impl Stream {
+    fn fault(&self) -> io::Result<()> {
+        if self.fails {
+            return Err(io::Error::from(io::ErrorKind::Other));
+        }
+        Ok(())
     }
 }
 
-fn is_nothing(loaded: &Result<Option<Bytes>, LoadFault>) -> bool {
-    match loaded {
-        Ok(None) => true,
-        _ => false,
+impl io::Read for Stream {
+    fn read(&mut self, buffer: &mut [u8]) -> io::Result<usize> {
+        self.fault()?;
+        Ok(buffer.len().min(self.most))
     }
 }
 
-#[test]
-fn a_folder_holds_what_was_put(rt: HostRuntime) -> Result<(), Fail> {
-    let alloc = rt.alloc();
-    let folder = "shelf-test-folder";
-    fs::create_dir_all(&rt, folder)?;
-    let mut shelf = FolderShelf::new(alloc, &rt, String::from_str(alloc, folder)?);
-    assert!(rt; is_nothing(&shelf.load()));
-    assert!(rt; shelf.replace(b"first").is_ok());
-    assert!(rt; shelf.replace(b"second").is_ok());
-    assert!(rt; is_held(&shelf.load(), b"second"));
-    fs::remove_file(&rt, "shelf-test-folder/store.img")?;
-    assert!(rt; is_nothing(&shelf.load()));
-    fs::remove_dir(&rt, folder)?;
-    assert!(rt; shelf.replace(b"third").is_err());
-    Ok(())
+impl io::Write for Stream {
+    fn write(&mut self, piece: &[u8]) -> io::Result<usize> {
+        self.fault()?;
+        Ok(piece.len().min(self.most))
+    }
+
+    fn flush(&mut self) -> io::Result<()> {
+        self.fault()
+    }
+}
+
+fn of_most(most: usize) -> Stream {
+    Stream { most, fails: false }
+}
+
+fn broken() -> Stream {
+    Stream {
+        most: 0,
+        fails: true,
+    }
 }
 
 #[test]
@@ -44,6 +57,8 @@ fn a_reader_gives_its_bytes(rt: HostRuntime) -> Result<(), Fail> {
     assert!(rt; buffer == [97, 98]);
     assert!(rt; source.read(&mut buffer) == Ok(1));
     assert!(rt; source.read(&mut buffer) == Ok(0));
+    let mut broken = StdSource::new(broken());
+    assert!(rt; broken.read(&mut buffer).is_err());
     Ok(())
 }
 
@@ -54,5 +69,12 @@ fn a_writer_takes_what_is_written(rt: HostRuntime) -> Result<(), Fail> {
     assert!(rt; sink.write(b"abc") == Ok(3));
     assert!(rt; sink.write(b"") == Ok(0));
     assert!(rt; sink.flush().is_ok());
+    let mut short = StdSink::new(of_most(2));
+    assert!(rt; short.write(b"abc") == Ok(2));
+    let mut full = StdSink::new(of_most(0));
+    assert!(rt; full.write(b"abc").is_err());
+    let mut broken = StdSink::new(broken());
+    assert!(rt; broken.write(b"abc").is_err());
+    assert!(rt; broken.flush().is_err());
     Ok(())
 }

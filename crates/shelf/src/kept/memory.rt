@@ -1,0 +1,185 @@
+ghost use Rattle.std.specs.Prelude.{◌≡◌, ◌∷◌, [], ◌++◌, Some, None, IfOk, OnOk, OnErr, IsErrOf, true, false};
+ghost use Rattle.std.specs.Option.{option_copied};
+ghost use Rattle.shelf.specs.Devices.{Rose};
+ghost use Rattle.shelf.specs.Calls as calls_of;
+ghost use Rattle.shelf.specs.Calls.{unused};
+ghost use Rattle.shelf.specs.Logged.{IsLoaded, IsTooLarge};
+ghost use Rattle.shelf.specs.Causes.{IfBadLog};
+ghost use Rattle.shelf.specs.Memory.{stock};
+
+use super::{AppendFault, Held, LoadFault, MOST_BASE, RequestList, Shelf};
+use crate::calls::Calls;
+use crate::device::{CallList, Failed};
+use s3_types::{Bytes, Request, Sequence};
+use std::alloc::{AllocError, Global};
+use std::marker::Model;
+
+/// The same changes, whose bytes are shared.
+fn copied_changes(alloc: Global, changes: &[Request]) -> Result<RequestList, AllocError>
+    ensures { IfOk result (λ copy. copy ≡ changes.now) }
+{
+    let mut copy = Sequence::new(alloc);
+    for change in changes {
+        copy.push(change.copied(alloc)?)?;
+    }
+    Ok(copy)
+}
+
+fn copied_held(alloc: Global, held: &Held) -> Result<Held, AllocError>
+    ensures { IfOk result (λ copy. copy ≡ held.now) }
+{
+    let base = held.base.clone()?;
+    let changes = copied_changes(alloc, held.changes.as_slice())?;
+    Ok(Held { base, changes })
+}
+
+/// What is held, shared.
+fn loaded(alloc: Global, held: &Option<Held>) -> Result<Option<Held>, LoadFault>
+    ensures loaded { IfOk result (λ loaded. IsLoaded (Some (stock held.now)) loaded) }
+    ensures large { IsErrOf result LoadFault.TooLarge → IsTooLarge (Some (stock held.now)) }
+    ensures never { IfBadLog result (λ place. ⊥) }
+    ensures sure { IsErrOf result LoadFault.Failed → ⊥ }
+{
+    let Some(held) = held else {
+        return Ok(None);
+    };
+    if held.base.as_slice().len() as u64 > MOST_BASE {
+        return Err(LoadFault::TooLarge);
+    }
+    match copied_held(alloc, held) {
+        Ok(copy) => Ok(Some(copy)),
+        Err(_) => Err(LoadFault::NoMemory),
+    }
+}
+
+/// A base without changes.
+fn fresh(alloc: Global, bytes: &[u8]) -> Result<Held, AllocError>
+    ensures { IfOk result (λ held. held ≡ record { base = bytes.now; changes = [] }) }
+{
+    Ok(Held {
+        base: Bytes::from_slice(alloc, bytes)?,
+        changes: Sequence::new(alloc),
+    })
+}
+
+/// Adds a copy of a change.
+fn grow(alloc: Global, held: &mut Held, change: &Request) -> Result<(), AllocError>
+    ensures ok { OnOk result (held.new ≡ record { base = held.old.base; changes = held.old.changes ++ change.now ∷ [] }) }
+    ensures err { OnErr result (held.new ≡ held.old) }
+{
+    let copy = change.copied(alloc)?;
+    held.changes.push(copy)
+}
+
+/// A shelf in memory that takes changes, of which the calls that are named fail. It does not tell what a
+/// crash leaves.
+#[derive(Drop)]
+pub struct MemShelf {
+    held: Option<Held>,
+    takes: bool,
+    calls: Calls,
+    alloc: Global,
+}
+
+impl Model for MemShelf {
+    ghost use Rattle.std.specs.Prelude.{◌≡◌, is_some, true};
+    ghost use Rattle.shelf.specs.Memory.{Stocked};
+
+    ghost Value = { Stocked };
+
+    ghost view = { λ s. record { held = s.held; takes = s.takes; calls = s.calls } };
+
+    ghost invariant = { λ s. s.takes ≡ true → is_some s.held ≡ true };
+}
+
+impl MemShelf {
+    /// It takes no appends before a `replace`. Takes no memory.
+    pub fn new(alloc: Global, held: Option<Held>, fail: CallList) -> MemShelf
+        ensures { result ≡ record { held = held; takes = false; calls = unused fail None } }
+    {
+        MemShelf {
+            held,
+            takes: false,
+            calls: Calls::new(fail, None),
+            alloc,
+        }
+    }
+
+    /// What is held. Takes no memory.
+    pub fn held(&self) -> Option<&Held>
+        ensures { option_copied result ≡ self.now.held }
+    {
+        self.held.as_ref()
+    }
+}
+
+impl Shelf for MemShelf {
+    ghost held = { λ s. Some (stock s.held) };
+
+    ghost faults = { λ s. s.calls.faults };
+
+    ghost answers = { λ s t. calls_of.Answers s.calls t.calls };
+
+    ghost fails = { λ s t. calls_of.Fails s.calls t.calls };
+
+    ghost takes_appends = { λ s. s.takes ≡ true };
+
+    ghost may_leave = { λ s h. ⊥ };
+
+    ghost moment = { λ s. 0 };
+
+    ghost left_since = { λ s t h. ⊥ };
+
+    ghost counts_now = { λ s t h le left. left };
+
+    ghost only_now = { λ s h left. left };
+
+    fn load(&mut self) -> Result<Option<Held>, LoadFault> {
+        match self.calls.next() {
+            Ok(()) => loaded(self.alloc, &self.held),
+            Err(_) => {
+                self.takes = false;
+                Err(LoadFault::Failed)
+            }
+        }
+    }
+
+    /// A base that finds no memory is a fault.
+    fn replace(&mut self, bytes: &[u8]) -> Result<(), Failed> {
+        match self.calls.next() {
+            Ok(()) => {}
+            Err(_) => {
+                self.takes = false;
+                return Err(Failed);
+            }
+        }
+        match fresh(self.alloc, bytes) {
+            Ok(held) => {
+                self.held = Some(held);
+                self.takes = true;
+                Ok(())
+            }
+            Err(_) => {
+                self.takes = false;
+                Err(self.calls.starve())
+            }
+        }
+    }
+
+    fn append(&mut self, change: &Request) -> Result<(), AppendFault> {
+        match self.calls.next() {
+            Ok(()) => {}
+            Err(_) => {
+                self.takes = false;
+                return Err(AppendFault::Failed);
+            }
+        }
+        let Some(held) = &mut self.held else {
+            unreachable!();
+        };
+        match grow(self.alloc, held, change) {
+            Ok(()) => Ok(()),
+            Err(_) => Err(AppendFault::NoMemory),
+        }
+    }
+}
