@@ -1,0 +1,79 @@
+-- What the calls of a disk in memory leave: what is on the disk, what a read gives, and the ranges that were written since the last sync.
+use Rattle.std.specs.Prelude.{◌≡◌, ℕ, ◌≤◌, nat_le, Bool, false, cond, List, [], ◌∷◌, ◌++◌, length, replicate, take, Option, Some, None}
+use Rattle.folder_log.specs.Disk.{File, file_after, IsTorn}
+use Rattle.shelf.specs.declared.calls.Calls.{Calls}
+use Rattle.folder_log.specs.declared.state.Span.{Span}
+use Rattle.folder_log.specs.declared.state.State.{State}
+use Rattle.folder_log.specs.declared.state.DiskCall.{DiskCall}
+use Rattle.folder_log.specs.declared.state.DiskCall.TheVariants.{Swap, Write, Sync}
+use Rattle.folder_log.specs.declared.state.Choice.{Choice}
+use Rattle.folder_log.specs.declared.state.Choice.TheVariants.{Lost, Kept, Torn}
+
+-- all is on the disk
+abbrev pub at_rest : File → State
+at_rest file = record { synced = file; now = file; ranges = [] }
+
+-- there is a file and the place is not past its end
+abbrev pub is_within : ℕ → File → Bool
+is_within at None = false
+is_within at (Some bytes) = nat_le at (length bytes)
+
+-- with one range more, in which the file has these bytes now
+abbrev pub wrote : State → ℕ → List ℕ → State
+wrote s place bytes = record { synced = s.synced; now = file_after place bytes s.now; ranges = s.ranges ++ record { place = place; length = length bytes } ∷ [] }
+
+-- after one call that was answered well
+abbrev pub after : State → DiskCall → State
+after s (Swap bytes) = at_rest (Some bytes)
+after s (Write place bytes) = cond (is_within place s.now) (wrote s place bytes) s
+after s Sync = at_rest s.now
+
+abbrev pub after_all : State → List DiskCall → State
+after_all s [] = s
+after_all s (c ∷ cs) = after_all (after s c) cs
+
+-- after all calls of a disk that was made with this file
+abbrev pub state_of : File → List DiskCall → State
+state_of first calls = after_all (at_rest first) calls
+
+-- one range after the other was torn
+abbrev pub IsTornBy : List Span → File → File → Type 0
+IsTornBy [] old c = c ≡ old
+IsTornBy (r ∷ rs) old c = (d : File) × IsTorn r.place r.length old d × IsTornBy rs d c
+
+-- a crash in this state may leave the file
+abbrev pub IsImage : State → File → Type 0
+IsImage s c = IsTornBy s.ranges s.synced c
+
+-- a crash after one of the calls from the t-th on might have left the file
+abbrev pub LeftSince : File → List DiskCall → ℕ → File → Type 0
+LeftSince first calls t c = (k : ℕ) × (t ≤ k) × (k ≤ length calls) × IsImage (state_of first (take k calls)) c
+
+-- a file with ranges filled with a byte, one after the other
+abbrev pub filled : ℕ → List Span → File → File
+filled byte [] file = file
+filled byte (r ∷ rs) file = filled byte rs (file_after r.place (replicate r.length byte) file)
+
+-- what a crash leaves, by what becomes of the ranges that were not synced
+abbrev pub left_by : Choice → State → File
+left_by Lost s = s.synced
+left_by Kept s = s.now
+left_by (Torn byte) s = filled byte s.ranges s.synced
+
+-- a disk in memory: the file that it was made with, its calls that were answered well and may have changed what a crash leaves, and all its calls by number
+pub record Recorded : Type 0 where
+  pub first : File
+  pub calls : List DiskCall
+  pub turns : Calls
+
+abbrev pub state_in : Recorded → State
+state_in d = state_of d.first d.calls
+
+-- with one call more
+abbrev pub recorded : Recorded → DiskCall → Recorded
+recorded d call = record { first = d.first; calls = d.calls ++ call ∷ []; turns = d.turns }
+
+-- the state that was set last, or the first file at rest
+abbrev pub last_of : Option State → File → State
+last_of None first = at_rest first
+last_of (Some s) first = s

@@ -1,0 +1,81 @@
+-- What a disk of one file holds, what its calls do to that, and what a crash may do between two syncs.
+use Rattle.std.specs.Prelude.{◌≡◌, ◌⊎◌, ℕ, ◌+◌, ◌<◌, ◌≤◌, max, List, ◌++◌, length, take, drop, Option, Some, None}
+use Rattle.shelf.specs.Logged.{most_file}
+
+-- the bytes of the file, or none where there is no file
+abbrev pub File : Type 0
+File = Option (List ℕ)
+
+abbrev pub file_length : File → ℕ
+file_length None = 0
+file_length (Some bytes) = length bytes
+
+-- what is not told is no file
+pub untold : (c : File) → (let seen : Option File = None in seen ≡ Some c) → ⊥
+untold c e = cc
+
+-- what was read is the file, where it is told, and is not too large
+abbrev pub IsRead : Option File → File → Type 0
+IsRead None read = file_length read ≤ most_file
+IsRead (Some file) read = (file ≡ read) × (file_length file ≤ most_file)
+
+-- the file is longer than what is read
+abbrev pub IsTooLong : Option File → Type 0
+IsTooLong None = Unit {0}
+IsTooLong (Some file) = most_file < file_length file
+
+-- these are the file's bytes now, where it is told
+abbrev pub ShowsNow : Option File → Option File → List ℕ → Type 0
+ShowsNow None after bytes = after ≡ None
+ShowsNow (Some file) after bytes = after ≡ Some (Some bytes)
+
+-- there is a file and the place is not past its end, where it is told
+abbrev pub IsWithin : ℕ → Option File → Type 0
+IsWithin at None = Unit {0}
+IsWithin at (Some None) = ⊥
+IsWithin at (Some (Some bytes)) = at ≤ length bytes
+
+-- bytes with others written over them at a place, and past their end
+abbrev pub overwritten : ℕ → List ℕ → List ℕ → List ℕ
+overwritten at bytes old = take at old ++ bytes ++ drop (at + length bytes) old
+
+-- a file with bytes written over it
+abbrev pub file_after : ℕ → List ℕ → File → File
+file_after at bytes None = None
+file_after at bytes (Some old) = Some (overwritten at bytes old)
+
+-- the file has these bytes at the place now, where it is told
+abbrev pub Writes : ℕ → List ℕ → Option File → Option File → Type 0
+Writes at bytes None after = after ≡ None
+Writes at bytes (Some file) after = after ≡ Some (file_after at bytes file)
+
+-- after a write of n bytes that a crash cuts short: any bytes in the range and past the old end, the same elsewhere
+pub record Torn (at n : ℕ) (old new : List ℕ) : Type 0 where
+  pub before : take at new ≡ take at old
+  pub after : drop (at + n) new ≡ drop (at + n) old
+  pub no_shorter : length old ≤ length new
+  pub no_longer : length new ≤ max (length old) (at + n)
+
+abbrev pub IsTorn : ℕ → ℕ → File → File → Type 0
+IsTorn at n None new = new ≡ None
+IsTorn at n (Some old) None = ⊥
+IsTorn at n (Some old) (Some new) = Torn at n old new
+
+-- each new outcome of a crash is an old one after a step
+abbrev pub Follows : (File → File → Type 0) → (File → Type 0) → (File → Type 0) → Type 0
+Follows step old new = (c : File) → new c → (d : File) × old d × step d c
+
+-- a crash leaves this file and no other
+abbrev pub Only : File → (File → Type 0) → Type 0
+Only file leaves = (c : File) → leaves c → c ≡ file
+
+-- a crash leaves the file and no other, where it is told
+abbrev pub Settles : Option File → (File → Type 0) → Type 0
+Settles None leaves = Unit {0}
+Settles (Some file) leaves = Only file leaves
+
+-- time goes on: a crash since t might have left what it might have left before, or what it may leave now
+pub record Elapses (before now : ℕ) (past since : ℕ → File → Type 0) (may_leave : File → Type 0) : Type 0 where
+  pub later : before ≤ now
+  pub nothing_else : (t : ℕ) (c : File) → t ≤ before → since t c → past t c ⊎ may_leave c
+  pub keeps : (t : ℕ) (c : File) → t ≤ before → past t c → since t c

@@ -1,0 +1,96 @@
+-- The laws of a disk in memory.
+use Rattle.std.specs.Prelude.{◌≡◌, ℕ, ◌+◌, ◌≤◌, Bool, true, false, cond, List, [], ◌∷◌, ◌++◌, length, take, drop, Option, Some, None, refl}
+use Rattle.std.proofs.Common.{sym, ap, subst, ◌∙◌, arith, length-append, length-take, length-drop}
+use Rattle.std.proofs.lemmas.Bool.{leb-true, le-leb}
+use Rattle.std.proofs.lemmas.List.{take_all, take_at, drop_at}
+use Rattle.folder_log.specs.Disk.{File, Torn, IsTorn, IsWithin, Follows, overwritten, file_after}
+use Rattle.folder_log.specs.declared.state.Span.{Span}
+use Rattle.folder_log.specs.declared.state.State.{State}
+use Rattle.folder_log.specs.declared.state.DiskCall.{DiskCall}
+use Rattle.folder_log.specs.declared.state.DiskCall.TheVariants.{Swap, Write, Sync}
+use Rattle.folder_log.specs.Calls.{at_rest, is_within, wrote, after, after_all, state_of, IsTornBy, IsImage, LeftSince, Recorded, state_in}
+
+pub after_last : (s : State) (cs : List DiskCall) (c : DiskCall) → after_all s (cs ++ c ∷ []) ≡ after (after_all s cs) c
+after_last s [] c = refl
+after_last s (x ∷ cs) c = after_last (after s x) cs c
+
+pub torn_last : (rs : List Span) (r : Span) (a b c : File) → IsTornBy rs a b → IsTorn r.place r.length b c → IsTornBy (rs ++ r ∷ []) a c
+torn_last [] r a b c h t = (c, subst (λ (f : File). IsTorn r.place r.length f c) h t, refl)
+torn_last (x ∷ rs) r a b c h t = (h.0, h.1, torn_last rs r h.0 b c h.2 t)
+
+torn_split : (rs : List Span) (r : Span) (a c : File) → IsTornBy (rs ++ r ∷ []) a c → (b : File) × IsTornBy rs a b × IsTorn r.place r.length b c
+torn_split [] r a c h = (a, refl, subst (λ (f : File). IsTorn r.place r.length a f) (sym h.2) h.1)
+torn_split (x ∷ rs) r a c h = let s = torn_split rs r h.0 c h.2 in (s.0, (h.0, h.1, s.1), s.2)
+
+-- a range may stay as it is
+pub torn_same : (at n : ℕ) (c : File) → IsTorn at n c c
+torn_same at n None = refl
+torn_same at n (Some bytes) = record { before = refl; after = refl; no_shorter = omega arith; no_longer = omega arith }
+
+-- the range of a write
+abbrev pub span : ℕ → List ℕ → Span
+span place bytes = record { place = place; length = length bytes }
+
+-- what is written is one of the files that a torn write may leave
+written_torn : (at : ℕ) (bytes old : List ℕ) → at ≤ length old → Torn at (length bytes) old (overwritten at bytes old)
+written_torn at bytes old le =
+    let first : length (take at old) ≡ at = omega (arith, length-take at old) in
+    let both : length (take at old ++ bytes) ≡ at + length bytes = omega (arith, first, length-append (take at old) bytes) in
+    let all : length (overwritten at bytes old) ≡ at + length bytes + length (drop (at + length bytes) old) = omega (arith, both, length-append (take at old ++ bytes) (drop (at + length bytes) old)) in
+    record {
+      before = ap (take at) (append_three (take at old) bytes (drop (at + length bytes) old)) ∙ take_at (take at old) (bytes ++ drop (at + length bytes) old) at first;
+      after = drop_at (take at old ++ bytes) (drop (at + length bytes) old) (at + length bytes) both;
+      no_shorter = omega (arith, all, length-drop (at + length bytes) old, le);
+      no_longer = omega (arith, all, length-drop (at + length bytes) old, le);
+    }
+  where
+    append_three : (a b c : List ℕ) → (a ++ b) ++ c ≡ a ++ (b ++ c)
+    append_three [] b c = refl
+    append_three (x ∷ a) b c = ap (λ (l : List ℕ). x ∷ l) (append_three a b c)
+
+pub after_torn : (at : ℕ) (bytes : List ℕ) (file : File) → is_within at file ≡ true → IsTorn at (length bytes) file (file_after at bytes file)
+after_torn at bytes None h = refl
+after_torn at bytes (Some old) h = written_torn at bytes old (leb-true at (length old) h)
+
+-- what a read gives is an image
+image_after : (s : State) (c : DiskCall) → IsImage s s.now → IsImage (after s c) (after s c).now
+image_after s (Swap bytes) h = refl
+image_after s Sync h = refl
+image_after s (Write place bytes) h = by (is_within place s.now) refl
+  where
+    by : (b : Bool) → is_within place s.now ≡ b → IsImage (cond b (wrote s place bytes) s) (cond b (wrote s place bytes) s).now
+    by true e = torn_last s.ranges (span place bytes) s.synced s.now (file_after place bytes s.now) h (after_torn place bytes s.now e)
+    by false e = h
+
+pub image_now : (s : State) (cs : List DiskCall) → IsImage s s.now → IsImage (after_all s cs) (after_all s cs).now
+image_now s [] h = h
+image_now s (c ∷ cs) h = image_now (after s c) cs (image_after s c h)
+
+pub shown : (d : Recorded) → IsImage (state_in d) (state_in d).now
+shown d = image_now (at_rest d.first) d.calls refl
+
+-- a write is followed by what may be left of it
+pub write_follows : (s : State) (place : ℕ) (bytes : List ℕ) → is_within place s.now ≡ true → Follows (IsTorn place (length bytes)) (IsImage s) (IsImage (after s (Write place bytes)))
+write_follows s place bytes e c left =
+    torn_split s.ranges (span place bytes) s.synced c (subst (λ (b : Bool). IsImage (cond b (wrote s place bytes) s) c) e left)
+
+all_taken : (calls : List DiskCall) → take (length calls) calls ≡ calls
+all_taken calls = take_all (length calls) calls (omega arith)
+
+pub counted : (first : File) (calls : List DiskCall) (t : ℕ) (c : File) → t ≤ length calls → IsImage (state_of first calls) c → LeftSince first calls t c
+counted first calls t c le image = (length calls, le, omega arith, subst (λ (l : List DiskCall). IsImage (state_of first l) c) (sym (all_taken calls)) image)
+
+pub only_last : (first : File) (calls : List DiskCall) (c : File) → LeftSince first calls (length calls) c → IsImage (state_of first calls) c
+only_last first calls c left =
+    let same : left.0 ≡ length calls = omega (arith, left.1, left.2) in
+    subst (λ (l : List DiskCall). IsImage (state_of first l) c) (ap (λ k. take k calls) same ∙ all_taken calls) left.3
+
+some_is : (a b : File) → (let x : Option File = Some a in x ≡ Some b) → a ≡ b
+some_is a b e = cc
+
+pub shows_image : (d : Recorded) (c : File) → (let x : Option File = Some (state_in d).now in x ≡ Some c) → IsImage (state_in d) c
+shows_image d c e = subst (IsImage (state_in d)) (some_is (state_in d).now c e) (shown d)
+
+pub within_true : (at : ℕ) (file : File) → IsWithin at (Some file) → is_within at file ≡ true
+within_true at None h = absurd h
+within_true at (Some bytes) h = le-leb at (length bytes) h

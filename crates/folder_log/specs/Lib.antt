@@ -1,0 +1,5 @@
+pub mod Disk
+pub mod Kept
+pub mod Parts
+pub mod Calls
+pub mod Images

@@ -1,0 +1,277 @@
+ghost use Rattle.std.specs.Prelude.{◌≡◌, ℕ, ◌≤◌, None, IfOk, OnOk, OnErr, vec_len};
+ghost use Rattle.shelf.specs.Devices.{Rose};
+ghost use Rattle.shelf.specs.Logged.{most_file};
+ghost use Rattle.folder_log.specs.Disk.{file_length, untold};
+
+use crate::disk::{DiskFault, LogDisk};
+use s3_types::Bytes;
+use shelf::Failed;
+use shelf::kept::MOST_FILE;
+use std::alloc::Global;
+use std::fs::{OpenFile, OpenOptions};
+use std::io::{Read, Seek, SeekFrom, Write};
+use std::marker::Model;
+use std::rt::Files;
+use std::{fs, io};
+
+/// The file `store.img` of a folder as a disk. It tells nothing of its bytes.
+#[derive(Drop)]
+pub struct FileDisk<R: Files> {
+    rt: R,
+    folder: String,
+    /// The file, once it was written.
+    file: Option<R::File>,
+    /// That the folder has the file under its name is on the disk.
+    is_named: bool,
+    faults: u64,
+    alloc: Global,
+}
+
+impl<R: Files> Model for FileDisk<R> {
+    ghost use Rattle.std.specs.Prelude.{ℕ};
+
+    ghost Value = { ℕ };
+
+    ghost view = { λ d. d.faults };
+}
+
+/// Reads a file to its end, in memory for its bytes.
+fn read_whole<F: Read + OpenFile>(alloc: Global, file: &mut F) -> Result<Vec<u8>, DiskFault>
+    ensures { IfOk result (λ all. vec_len all ≤ most_file) }
+{
+    let length = match file.metadata() {
+        Ok(metadata) => metadata.len(),
+        Err(_) => return Err(DiskFault::Failed),
+    };
+    if length > MOST_FILE {
+        return Err(DiskFault::TooLarge);
+    }
+    let Ok(mut all) = Vec::with_capacity(alloc, length as usize) else {
+        return Err(DiskFault::NoMemory);
+    };
+    let mut chunk = [0u8; 65536];
+    for _ in 0..u64::MAX {
+        let Ok(n) = file.read(&mut chunk) else {
+            return Err(DiskFault::Failed);
+        };
+        if n == 0 {
+            return Ok(all);
+        }
+        if (all.len() + n) as u64 > MOST_FILE {
+            return Err(DiskFault::TooLarge);
+        }
+        let Ok(()) = all.extend_from_slice(&chunk[..n]) else {
+            return Err(DiskFault::NoMemory);
+        };
+    }
+    Err(DiskFault::Failed)
+}
+
+/// Writes a file whole, in three pieces, and syncs it.
+fn write_whole<R: Files>(
+    rt: &R,
+    path: &str,
+    head: &[u8],
+    body: &[u8],
+    tail: &[u8],
+) -> io::Result<R::File> {
+    let mut file = fs::create(rt, path)?;
+    file.write_all(head)?;
+    file.write_all(body)?;
+    file.write_all(tail)?;
+    file.flush()?;
+    file.sync_all()?;
+    Ok(file)
+}
+
+/// Opens a file that is there, to write over what it has.
+fn open_to_write<R: Files>(rt: &R, path: &str) -> io::Result<R::File> {
+    let mut options = OpenOptions::new();
+    options.write(true);
+    options.open(rt, path)
+}
+
+fn write_from<F: Write + Seek>(file: &mut F, place: u64, bytes: &[u8]) -> io::Result<()> {
+    file.seek(SeekFrom::Start(place))?;
+    file.write_all(bytes)?;
+    file.flush()
+}
+
+/// Syncs a file or a folder, by its path.
+fn sync_path<R: Files>(rt: &R, path: &str) -> io::Result<()> {
+    let file = fs::open(rt, path)?;
+    file.sync_all()
+}
+
+/// There is nothing of that name.
+fn is_missing<T>(opened: &io::Result<T>) -> bool {
+    match opened {
+        Err(error) => error.kind() == io::ErrorKind::NotFound,
+        Ok(_) => false,
+    }
+}
+
+impl<R: Files + Drop> FileDisk<R> {
+    /// The disk of a folder, by its path. Touches nothing.
+    pub fn new(alloc: Global, rt: R, folder: String) -> FileDisk<R>
+        ensures { result ≡ 0 }
+    {
+        FileDisk {
+            rt,
+            folder,
+            file: None,
+            is_named: false,
+            faults: 0,
+            alloc,
+        }
+    }
+
+    fn path(&self) -> io::Result<String> {
+        let folder = self.folder.as_str();
+        Ok(format!(in self.alloc; "{folder}/store.img")?)
+    }
+
+    fn read_file(&self) -> Result<Option<Bytes>, DiskFault>
+        ensures { IfOk result (λ read. file_length read ≤ most_file) }
+    {
+        let Ok(path) = self.path() else {
+            return Err(DiskFault::NoMemory);
+        };
+        let opened = fs::open(&self.rt, path.as_str());
+        if is_missing(&opened) {
+            return Ok(None);
+        }
+        let Ok(mut file) = opened else {
+            return Err(DiskFault::Failed);
+        };
+        let all = read_whole(self.alloc, &mut file)?;
+        match Bytes::new(self.alloc, all) {
+            Ok(bytes) => Ok(Some(bytes)),
+            Err(_) => Err(DiskFault::NoMemory),
+        }
+    }
+
+    /// Writes `store.tmp`, syncs it, renames it to `store.img` and syncs the folder.
+    fn put(&mut self, head: &[u8], body: &[u8], tail: &[u8]) -> io::Result<()>
+        ensures { self.new ≡ self.old }
+    {
+        let folder = self.folder.as_str();
+        let fresh = format!(in self.alloc; "{folder}/store.tmp")?;
+        let path = self.path()?;
+        let file = write_whole(&self.rt, fresh.as_str(), head, body, tail)?;
+        self.is_named = false;
+        fs::rename(&self.rt, fresh.as_str(), path.as_str())?;
+        self.file = Some(file);
+        self.sync_folder()
+    }
+
+    /// Syncs the folder, where there is one, unless that was done since the file has its name.
+    fn sync_folder(&mut self) -> io::Result<()>
+        ensures { self.new ≡ self.old }
+    {
+        if self.is_named {
+            return Ok(());
+        }
+        let synced = sync_path(&self.rt, self.folder.as_str());
+        if is_missing(&synced) {
+            return Ok(());
+        }
+        synced?;
+        self.is_named = true;
+        Ok(())
+    }
+
+    fn write_over(&mut self, place: u64, bytes: &[u8]) -> io::Result<()>
+        ensures { self.new ≡ self.old }
+    {
+        let mut file = match self.file.take() {
+            Some(file) => file,
+            None => open_to_write(&self.rt, self.path()?.as_str())?,
+        };
+        let done = write_from(&mut file, place, bytes);
+        self.file = Some(file);
+        done
+    }
+
+    /// Syncs the file, where there is one.
+    fn sync_file(&self) -> io::Result<()> {
+        if let Some(file) = &self.file {
+            return file.sync_all();
+        }
+        let path = self.path()?;
+        let synced = sync_path(&self.rt, path.as_str());
+        if is_missing(&synced) {
+            return Ok(());
+        }
+        synced
+    }
+
+    fn sync_both(&mut self) -> io::Result<()>
+        ensures { self.new ≡ self.old }
+    {
+        self.sync_file()?;
+        self.sync_folder()
+    }
+
+    /// What a call answers, of which a fault is counted.
+    fn counted(&mut self, done: io::Result<()>) -> Result<(), Failed>
+        ensures calm { OnOk result (self.new ≡ self.old) }
+        ensures failed { OnErr result (Rose self.old self.new) }
+    {
+        match done {
+            Ok(()) => Ok(()),
+            Err(_) => {
+                self.faults = self.faults.saturating_add(1);
+                Err(Failed)
+            }
+        }
+    }
+}
+
+impl<R: Files + Drop> LogDisk for FileDisk<R> {
+    ghost seen = { λ d. None };
+
+    ghost may_leave = { λ d c. ⊥ };
+
+    ghost moment = { λ d. 0 };
+
+    ghost left_since = { λ d t c. ⊥ };
+
+    ghost faults = { λ d. d };
+
+    ghost answers = { λ d e. Unit {0} };
+
+    ghost fails = { λ d e. Unit {0} };
+
+    ghost counts_now = { λ d t c le left. left };
+
+    ghost only_now = { λ d c left. left };
+
+    ghost shows = { λ d c is. untold c is };
+
+    /// A file that is not there is none.
+    fn read(&mut self) -> Result<Option<Bytes>, DiskFault> {
+        match self.read_file() {
+            Err(DiskFault::Failed) => {
+                self.faults = self.faults.saturating_add(1);
+                Err(DiskFault::Failed)
+            }
+            other => other,
+        }
+    }
+
+    fn swap(&mut self, head: &[u8], body: &[u8], tail: &[u8]) -> Result<(), Failed> {
+        let done = self.put(head, body, tail);
+        self.counted(done)
+    }
+
+    fn write_at(&mut self, place: u64, bytes: &[u8]) -> Result<(), Failed> {
+        let done = self.write_over(place, bytes);
+        self.counted(done)
+    }
+
+    fn sync(&mut self) -> Result<(), Failed> {
+        let done = self.sync_both();
+        self.counted(done)
+    }
+}

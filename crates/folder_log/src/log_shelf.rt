@@ -1,0 +1,175 @@
+ghost use Rattle.std.specs.Prelude.{◌≡◌, ℕ, ◌≤◌, ◌<◌, ◌^◌, ◌+◌, ◌⊎◌, [], ◌∷◌, ◌++◌, List, Option, Some, None, is_some, length, IfOk, IfSome, OnOk, OnErr, IsErrOf, true};
+ghost use Rattle.log_format.specs.Change.{is_changing};
+ghost use Rattle.shelf.specs.Devices.{Rose};
+ghost use Rattle.shelf.specs.Causes.{IfBadLog};
+ghost use Rattle.shelf.specs.Logged.{LeavesOnly, most_file, IsLoaded, IsTooLarge, IsBad};
+ghost use Rattle.folder_log.specs.Disk.{File, IsWithin, Writes, IsTorn, Only, Settles};
+ghost use Rattle.folder_log.specs.Kept.{IsClosed, IsLeftOf, IsPrepared, stored_of, stored, Leaves, IsSettled};
+ghost use Rattle.folder_log.specs.Parts.{disk_of};
+
+use crate::disk::{DiskFault, LogDisk};
+use log_format::{LogFault, base_length, can_write, head_of, read_log, record_of};
+use s3_types::{Bytes, Request};
+use shelf::Failed;
+use shelf::kept::{AppendFault, Held, LoadFault, MOST_BASE, Shelf};
+use std::alloc::Global;
+
+/// Writes bytes at a place and syncs them. A crash leaves the file with any bytes in the range.
+fn write_synced<D: LogDisk>(disk: &mut D, place: u64, bytes: &[u8]) -> Result<(), Failed>
+    requires within { IsWithin place (D.seen disk.old) }
+    ensures written { OnOk result (Writes place bytes.now (D.seen disk.old) (D.seen disk.new)) }
+    ensures durable { OnOk result (Settles (D.seen disk.new) (D.may_leave disk.new)) }
+    ensures told { is_some (D.seen disk.new) ≡ is_some (D.seen disk.old) }
+    ensures later { D.moment disk.old ≤ D.moment disk.new }
+    ensures torn { (file : File) → Only file (D.may_leave disk.old) → LeavesOnly D.moment D.left_since disk.old disk.new (λ c. (c ≡ file) ⊎ IsTorn place (length bytes.now) file c) }
+    ensures failed { OnErr result (Rose (D.faults disk.old) (D.faults disk.new)) }
+    ensures calm { OnOk result (D.faults disk.new ≡ D.faults disk.old) }
+{
+    disk.write_at(place, bytes)?;
+    disk.sync()
+}
+
+/// Writes a record behind the closed gate at this place and syncs it, and then opens the gate and syncs
+/// that. A crash leaves what stands before the gate, with a closed gate behind it, or with the record whole
+/// behind any gate.
+fn open_record<D: LogDisk>(disk: &mut D, gate: u64, written: &[u8]) -> Result<(), Failed>
+    requires within { IsWithin (gate + 1) (D.seen disk.old) }
+    requires fits { gate + 1 < 2 ^ 64 }
+    ensures opened { (front : List ℕ) → IsClosed front gate (D.seen disk.old) (D.may_leave disk.old) → OnOk result (D.seen disk.new ≡ Some (Some (front ++ 1 ∷ written.now))) }
+    ensures durable { OnOk result (Settles (D.seen disk.new) (D.may_leave disk.new)) }
+    ensures told { is_some (D.seen disk.new) ≡ is_some (D.seen disk.old) }
+    ensures later { D.moment disk.old ≤ D.moment disk.new }
+    ensures crash { (front : List ℕ) → IsClosed front gate (D.seen disk.old) (D.may_leave disk.old) → LeavesOnly D.moment D.left_since disk.old disk.new (IsLeftOf front written.now) }
+    ensures failed { OnErr result (Rose (D.faults disk.old) (D.faults disk.new)) }
+    ensures calm { OnOk result (D.faults disk.new ≡ D.faults disk.old) }
+{
+    write_synced(disk, gate + 1, written)?;
+    write_synced(disk, gate, &[1])
+}
+
+/// The record of a change with a closed gate behind it, and the place of that gate, unless it is past
+/// 2^63 or memory is wanting.
+fn prepared(alloc: Global, gate: u64, change: &Request) -> Option<(Vec<u8>, u64)>
+    requires { is_changing change.now ≡ true }
+    ensures { IfSome result (λ x. IsPrepared gate change.now x.0.items x.1) }
+{
+    if !can_write(change) {
+        return None;
+    }
+    let Ok(written) = record_of(alloc, change) else {
+        return None;
+    };
+    let length = written.len() as u64;
+    if gate > MOST_PLACE || length > MOST_PLACE - gate {
+        return None;
+    }
+    Some((written, gate + length))
+}
+
+/// No file on a machine is longer: 2^63 bytes.
+const MOST_PLACE: u64 = 1 << 63;
+
+/// What a file that was read holds.
+fn loaded(alloc: Global, file: &Bytes) -> Result<Option<Held>, LoadFault>
+    requires { length file.now ≤ most_file }
+    ensures loaded { IfOk result (λ loaded. IsLoaded (Some (stored_of (Some file.now))) loaded) }
+    ensures large { IsErrOf result LoadFault.TooLarge → IsTooLarge (Some (stored_of (Some file.now))) }
+    ensures bad { IfBadLog result (λ place. IsBad (Some (stored_of (Some file.now))) place) }
+    ensures sure { IsErrOf result LoadFault.Failed → ⊥ }
+{
+    if base_length(file.as_slice()) > MOST_BASE {
+        return Err(LoadFault::TooLarge);
+    }
+    match read_log(alloc, file) {
+        Ok(held) => Ok(Some(held)),
+        Err(LogFault::Bad(place)) => Err(LoadFault::BadLog(place)),
+        Err(LogFault::NoMemory) => Err(LoadFault::NoMemory),
+    }
+}
+
+/// A shelf over a disk of one file, which is a log.
+#[derive(Drop)]
+pub struct LogShelf<D: LogDisk> {
+    disk: D,
+    gate: u64,
+    alloc: Global,
+}
+
+impl<D: LogDisk + Drop> LogShelf<D> {
+    /// Touches nothing. It takes no appends before a `replace`.
+    pub fn new(alloc: Global, disk: D) -> LogShelf<D>
+        ensures { disk_of result ≡ disk }
+    {
+        LogShelf {
+            disk,
+            gate: 0,
+            alloc,
+        }
+    }
+
+    /// The disk. Takes no memory.
+    pub fn disk(&self) -> &D
+        ensures { result.now ≡ disk_of self.now }
+    {
+        &self.disk
+    }
+}
+
+impl<D: LogDisk + Drop> Shelf for LogShelf<D> {
+    ghost held = { λ s. stored (D.seen s.disk) };
+
+    ghost faults = { λ s. D.faults s.disk };
+
+    ghost answers = { λ s t. Unit {0} };
+
+    ghost fails = { λ s t. Unit {0} };
+
+    ghost takes_appends = { λ s. IsSettled (D.seen s.disk) (D.may_leave s.disk) s.gate };
+
+    ghost may_leave = { λ s h. Leaves (D.may_leave s.disk) h };
+
+    ghost moment = { λ s. D.moment s.disk };
+
+    ghost left_since = { λ s t h. Leaves (D.left_since s.disk t) h };
+
+    ghost counts_now = { λ s t h le left. (left.0, D.counts_now s.disk t left.0 le left.1, left.2) };
+
+    ghost only_now = { λ s h left. (left.0, D.only_now s.disk left.0 left.1, left.2) };
+
+    /// Syncs, and then reads the file once: O(bytes), in memory for the file, its base and its changes.
+    fn load(&mut self) -> Result<Option<Held>, LoadFault> {
+        match self.disk.sync() {
+            Ok(()) => {}
+            Err(_) => return Err(LoadFault::Failed),
+        }
+        match self.disk.read() {
+            Ok(Some(file)) => loaded(self.alloc, &file),
+            Ok(None) => Ok(None),
+            Err(DiskFault::Failed) => Err(LoadFault::Failed),
+            Err(DiskFault::TooLarge) => Err(LoadFault::TooLarge),
+            Err(DiskFault::NoMemory) => Err(LoadFault::NoMemory),
+        }
+    }
+
+    /// Swaps the file for a log of this base with a closed gate behind it.
+    fn replace(&mut self, bytes: &[u8]) -> Result<(), Failed> {
+        let head = head_of(bytes.len() as u64);
+        self.disk.swap(&head, bytes, &[0])?;
+        self.gate = 16 + bytes.len() as u64;
+        Ok(())
+    }
+
+    /// Writes the record and two gates, whatever the file's length.
+    fn append(&mut self, change: &Request) -> Result<(), AppendFault> {
+        let Some((written, end)) = prepared(self.alloc, self.gate, change) else {
+            return Err(AppendFault::NoMemory);
+        };
+        match open_record(&mut self.disk, self.gate, written.as_slice()) {
+            Ok(()) => {
+                self.gate = end;
+                Ok(())
+            }
+            Err(_) => Err(AppendFault::Failed),
+        }
+    }
+}

@@ -1,0 +1,92 @@
+use crate::found::{Found, find};
+use anyhow::Result;
+use s3_types::Bytes;
+use std::alloc::{AllocError, Global};
+
+/// What is done with a file's bytes, once for each number.
+#[derive(Clone, Copy)]
+pub enum Edit {
+    /// So many of the first bytes are left.
+    Prefix,
+    /// The byte at that place is set to a value.
+    Set(u8),
+    /// The byte at that place is turned by a mask.
+    Turn(u8),
+    /// The byte at a place is set to that value.
+    Value(usize),
+}
+
+impl Edit {
+    /// How many numbers there are for a file of so many bytes.
+    fn count(self, length: usize) -> usize {
+        match self {
+            Edit::Prefix => length.saturating_add(1),
+            Edit::Set(_) | Edit::Turn(_) => length,
+            Edit::Value(_) => 256,
+        }
+    }
+}
+
+fn set(bytes: &mut [u8], place: usize, value: u8) {
+    if place < bytes.len() {
+        bytes[place] = value;
+    }
+}
+
+fn turn(bytes: &mut [u8], place: usize, mask: u8) {
+    if place < bytes.len() {
+        bytes[place] = bytes[place] ^ mask;
+    }
+}
+
+/// The bytes after the edit by a number.
+fn edited(alloc: Global, bytes: &[u8], edit: Edit, number: usize) -> Result<Bytes, AllocError> {
+    let mut copy = Vec::from_slice(alloc, bytes)?;
+    match edit {
+        Edit::Prefix => copy.truncate(number),
+        Edit::Set(value) => set(copy.as_mut_slice(), number, value),
+        Edit::Turn(mask) => turn(copy.as_mut_slice(), number, mask),
+        Edit::Value(place) => set(copy.as_mut_slice(), place, (number % 256) as u8),
+    }
+    Bytes::new(alloc, copy)
+}
+
+/// Numbers in a row by which the file holds the same.
+#[derive(Clone, Copy)]
+struct Run {
+    first: usize,
+    last: usize,
+    found: Found,
+}
+
+fn show_run(rt: &impl Print, run: Option<Run>) -> Result<()> {
+    if let Some(run) = run {
+        if run.first < run.last {
+            println!(rt; "{} to {}: {}", run.first, run.last, run.found)?;
+        } else {
+            println!(rt; "{}: {}", run.first, run.found)?;
+        }
+    }
+    Ok(())
+}
+
+/// What the file holds after the edit, for each number.
+pub fn show_edits(rt: &impl Print, alloc: Global, bytes: &[u8], edit: Edit) -> Result<()> {
+    let mut run: Option<Run> = None;
+    for number in 0..edit.count(bytes.len()) {
+        let found = find(alloc, edited(alloc, bytes, edit, number)?);
+        let first = match run {
+            Some(run) if run.found == found => run.first,
+            _ => {
+                show_run(rt, run)?;
+                number
+            }
+        };
+        run = Some(Run {
+            first,
+            last: number,
+            found,
+        });
+    }
+    show_run(rt, run)
+}
