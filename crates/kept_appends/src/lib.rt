@@ -1,0 +1,10 @@
+//! Appends the changes of a journal to a shelf, one by one.
+#![tactic(auto)]
+
+mod appends;
+mod changing;
+
+pub use appends::append_all;
+
+#[cfg(test)]
+mod tests;

@@ -1,0 +1,3 @@
+pub mod Journals
+pub mod Standing
+pub mod Leaving

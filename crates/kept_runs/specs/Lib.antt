@@ -1,0 +1,4 @@
+pub mod Changes
+pub mod Kept
+pub mod Crashes
+pub mod Laws

@@ -1,0 +1,23 @@
+//! What a shelf keeps of a run: the changes of its journal, what a base with changes after it stands for, and
+//! that a crash leaves a moment of the run, in `specs/`.
+#![tactic(auto)]
+
+ghost use Rattle.kept_runs.specs.Laws.{ChangesFollow, KeptStands, CrashesLeaveMoments, RunsSurvive};
+
+use shelf::kept::Shelf;
+
+/// The changes of a journal.
+pub fn changes()
+    ensures follow { ChangesFollow }
+{}
+
+/// What a shelf holds that takes the changes of a journal.
+pub fn moments()
+    ensures stand { KeptStands }
+{}
+
+/// What a crash leaves of a shelf that takes the changes of a journal one by one.
+pub fn crashes<F: Shelf>()
+    ensures leave { CrashesLeaveMoments F.held F.may_leave F.moment F.left_since }
+    ensures survive { RunsSurvive F.may_leave F.moment F.left_since }
+{}
