@@ -208,7 +208,7 @@ module _ {W : Type 0} (is_of : Setting → Actor → W → Type 0) (running : Kn
     finish_over actor h told capacity stands places hands =
         let now = stands h.play.live h.stands in
         record {
-          same = record { script = refl; opening = refl; ends = refl; event = refl; places = places; more = ([], sym (append-nil b.journal.entries)) };
+          same = record { script = refl; opening = refl; ends = refl; event = refl; places = places; more = ([], sym (append-nil b.journal.entries), tt) };
           journal = refl;
           store = refl;
           finished = told;

@@ -1,8 +1,9 @@
 -- What an event of a world leaves as it was, step by step.
-use Rattle.std.proofs.Common.{◌≡◌, ℕ, ◌+◌, ◌<◌, [], ◌∷◌, ◌++◌, append_assoc, append-nil, length, Some, vec_len, vec_capacity, refl, sym, ap, subst, ◌∙◌}
+use Rattle.std.proofs.Common.{◌≡◌, ℕ, ◌+◌, ◌<◌, [], ◌∷◌, ◌++◌, append_assoc, append-nil, length, Some, Vec, Global, vec_len, vec_capacity, refl, sym, ap, subst, ◌∙◌}
 use Rattle.job_model.specs.declared.events.Event.{Event}
 use Rattle.job_promise.specs.Turns.{of_event}
-use Rattle.job_world.specs.Holds.{Same}
+use Rattle.job_model.specs.declared.ends.EventEnd.{EventEnd}
+use Rattle.job_world.specs.Holds.{Same, AreOf, both_of}
 use Rattle.job_world.specs.Events.{IsOpened, Emptied, Entered, Grown, HasRoom, event_entries}
 use Rattle.job_world.specs.declared.body.Body.{Body}
 
@@ -52,9 +53,12 @@ module _ {W : Type 0} where
       more = (
         same.more.0 ++ grown.more.0,
         grown.more.1 ∙ ap (λ es. es ++ grown.more.0) (same.more.1 ∙ ap (λ v. v.entries ++ same.more.0) entered.journal) ∙ append_assoc b.journal.entries same.more.0 grown.more.0,
+        both_of (length b.ends.items + 1) same.more.0 grown.more.0
+            (subst (λ (v : Vec EventEnd Global). AreOf (length v.items + 1) same.more.0) entered.ends same.more.2)
+            (subst (λ (v : Vec EventEnd Global). AreOf (length v.items + 1) grown.more.0) (same.ends ∙ entered.ends) grown.more.2),
       );
     }
 
   -- nothing was sent since the event was opened
   pub same_itself : (b : Body W) → Same b b
-  same_itself b = record { script = refl; opening = refl; ends = refl; event = refl; places = refl; more = ([], sym (append-nil b.journal.entries)) }
+  same_itself b = record { script = refl; opening = refl; ends = refl; event = refl; places = refl; more = ([], sym (append-nil b.journal.entries), tt) }

@@ -10,6 +10,7 @@ use Rattle.job_model.specs.Known.{Known}
 use Rattle.job_model.specs.declared.ends.Pick.{Pick}
 use Rattle.job_operations.specs.Operations.{Setting, Running}
 use Rattle.job_promise.specs.States.{Past, actors, past}
+use Rattle.job_promise.specs.Entries.{AreOwn}
 use Rattle.job_promise.specs.Promise.{Promised, Sent, Finished, ArePicked, all_picks, lacked_memory}
 use Rattle.job_states.specs.Stands.{Stands}
 use Rattle.job_happenings.specs.Happenings.{Play, knows_now}
@@ -18,6 +19,7 @@ use Rattle.job_happenings.specs.Running.{Ahead}
 use Rattle.job_happenings.proofs.Played.{happenings_play}
 use Rattle.job_kept.proofs.Ending.{ahead_none}
 use Rattle.job_kept.proofs.Kept.{runs_are_kept}
+use Rattle.job_kept.proofs.Owned.{runs_are_own}
 use Rattle.job_works.specs.Picks.{HasPicked, is_committing, is_job_commit}
 use Rattle.job_world.specs.Holds.{HandIs, PutBy, Quiet, setting_of}
 use Rattle.job_world.specs.Events.{Grown, IsAsBefore}
@@ -115,8 +117,11 @@ module _ {W : Type 0} (wants : W → Option Request) (is_of : Setting → Actor 
     sent : Sent b.script b.opening b.journal.entries
     sent = subst (Sent b.script b.opening) (sym q.holds.journal) played.sent
 
+    own : AreOwn b.journal.entries
+    own = subst AreOwn (sym q.holds.journal) (runs_are_own (setting_of b) b.opening play q.holds.legal q.holds.opens q.holds.happened idle)
+
     pub keeps : (stuck : Bool) → Keeps (run_of picks_of b stuck)
-    keeps stuck = record { promised = promised; sent = sent }
+    keeps stuck = record { promised = promised; own = own; sent = sent }
 
     whole : lacked_memory (past b.script b.ends.items).commit ≡ false → picks_in picks_of b.picks (slice_get b.hands.items 0) ≡ all_picks b.script b.opening b.journal.entries b.ends.items
     whole l =

@@ -21,6 +21,5 @@ pub mod EventTurns
 pub mod Busy
 pub mod Moving
 pub mod Rooms
-pub mod Copies
 pub mod NewWorlds
 pub mod KeptWorlds

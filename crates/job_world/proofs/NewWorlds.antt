@@ -4,6 +4,7 @@ use Rattle.std.specs.Prelude.{option_map}
 use Rattle.std.specs.FinMap as fin
 use Rattle.std.proofs.lemmas.Bool.{cases_lt}
 use Rattle.std.proofs.lemmas.List.{map-append, take_all}
+use Rattle.job_works.proofs.Picking.{none_below}
 use Rattle.request_frame.proofs.Members.{some_is, none_some, false_true}
 use Rattle.s3_types.specs.Store.{Content, BucketContent, Upload, opening}
 use Rattle.s3_types.specs.Fates.{fate_at}
@@ -99,10 +100,6 @@ idle_at : (actors : List Actor) (place : ℕ) → is_busy_at (map (standing noth
 idle_at [] place = refl
 idle_at (a ∷ more) zero = refl
 idle_at (a ∷ more) (suc place) = idle_at more place
-
-none_below : (picks : Picks) → ((t : ℕ) → picks t ≡ None) → (n : ℕ) → picks_below picks n ≡ []
-none_below picks h zero = refl
-none_below picks h (suc n) = ap (λ ps. ps ++ picked n (picks n)) (none_below picks h n) ∙ ap (picked n) (h n)
 
 -- nothing is picked
 pub none_picked : (g : Setting) (opening : Content) → ArePicksOf g opening nothing_played []

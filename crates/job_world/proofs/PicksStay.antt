@@ -13,6 +13,7 @@ use Rattle.job_operations.specs.Operations.{Setting, who}
 use Rattle.job_promise.specs.Seen.{Seen, see, see_all, seen, nothing_seen}
 use Rattle.job_promise.specs.States.{Decided, is_commit, decide, commit_event}
 use Rattle.job_promise.specs.Promise.{ArePicked, all_picks, picks_below, lacked_memory}
+use Rattle.job_facts.proofs.Entries.{see_more}
 use Rattle.job_happenings.specs.Happenings.{Play, Sends, Finishes, hear, happen, MaySend}
 use Rattle.job_happenings.proofs.Actors.{same_or_not, put_here, put_other}
 use Rattle.job_happenings.proofs.Parts.{take_whole}
@@ -24,10 +25,6 @@ use Rattle.job_world.proofs.Along.{commit_stays}
 -- whatever was seen, this entry leaves the picks as they are
 abbrev pub LeavesPicks : Script → Entry → Type 0
 LeavesPicks w e = (k : Option ℕ) (s : Seen) → (see w k s e).picks ≡ s.picks
-
-see_more : (w : Script) (k : Option ℕ) (s : Seen) (es : List Entry) (e : Entry) → see_all w k s (es ++ e ∷ []) ≡ see w k (see_all w k s es) e
-see_more w k s [] e = refl
-see_more w k s (x ∷ es) e = see_more w k (see w k s x) es e
 
 all_of : (w : Script) (k : Option ℕ) (opening : Content) (es : List Entry) → seen w k opening es (length es) ≡ see_all w k (nothing_seen opening) es
 all_of w k opening es = ap (see_all w k (nothing_seen opening)) (take_whole es)

@@ -1,15 +1,16 @@
 -- Room is taken in a world before its next event, which changes nothing else; and why that event is refused, if it is.
-use Rattle.std.proofs.Common.{◌≡◌, List, [], ◌∷◌, ◌++◌, length, slice_get, Option, sym, ap, subst, ◌∙◌}
+use Rattle.std.proofs.Common.{◌≡◌, ◌+◌, List, [], ◌∷◌, ◌++◌, length, slice_get, Option, sym, ap, subst, ◌∙◌}
 use Rattle.s3_types.specs.declared.request.Request.{Request}
 use Rattle.s3_types.specs.declared.request.Actor.{Actor}
 use Rattle.job_model.specs.Known.{Known}
 use Rattle.job_model.specs.declared.events.Event.{Event}
+use Rattle.job_model.specs.declared.ends.EventEnd.{EventEnd}
 use Rattle.job_model.specs.declared.ends.EventFault.{EventFault}
 use Rattle.job_model.specs.declared.ends.Pick.{Pick}
 use Rattle.job_operations.specs.Operations.{Setting, Running}
 use Rattle.job_promise.specs.States.{Past, past, refusal}
 use Rattle.job_states.specs.Stands.{Stands}
-use Rattle.job_world.specs.Holds.{Quiet, all_sound}
+use Rattle.job_world.specs.Holds.{Quiet, AreOf, all_sound}
 use Rattle.job_world.specs.Events.{Next, Grown, IsAsBefore}
 use Rattle.job_world.specs.declared.body.Body.{Body}
 use Rattle.job_world.proofs.Moments.{past_of, live_of}
@@ -56,7 +57,7 @@ module _ {W : Type 0} (b c : Body W) (same : IsAsBefore b c) where
     opening = grown.opening ∙ same.opening;
     end = grown.end;
     ends = grown.ends ∙ ap (λ xs. xs ++ grown.end ∷ []) same.ends;
-    more = (grown.more.0, grown.more.1 ∙ ap (λ v. v.entries ++ grown.more.0) same.journal);
+    more = (grown.more.0, grown.more.1 ∙ ap (λ v. v.entries ++ grown.more.0) same.journal, subst (λ (xs : List EventEnd). AreOf (length xs + 1) grown.more.0) same.ends grown.more.2);
   }
 
   pub as_before : (d : Body W) → d ≡ c → IsAsBefore b d

@@ -26,7 +26,7 @@ use Rattle.job_states.specs.declared.standing.Standing.{Standing}
 use Rattle.job_turns.specs.Turning.{Table, Beside, Sending, Ending, Turned}
 use Rattle.job_turns.specs.declared.actors.Turn.TheVariants.{GoesOn, Ended, Died}
 use Rattle.job_world.specs.Sending.{Asks, hand_end}
-use Rattle.job_world.specs.Holds.{Holds, Going, Same, IsOver, all_sound, is_busy_at, busy_in, actor_or, table_of, weights, hand_left}
+use Rattle.job_world.specs.Holds.{Holds, Going, Same, AreOf, IsOver, all_sound, is_busy_at, busy_in, actor_or, table_of, weights, hand_left}
 use Rattle.job_world.specs.Posts.{Around, Wrote, RaisedBy, FellAt, IsWorking, raised}
 use Rattle.job_world.specs.declared.hands.Hand.{Hand}
 use Rattle.job_world.specs.declared.body.Body.{Body}
@@ -58,14 +58,14 @@ event_kept n es e own number =
 -- ---- what has more to send
 
 -- what no turn changes is as it was after a sending
-pub same_then : {W : Type 0} (place : ℕ) (b m : Body W) → Around place b m → (part : List Entry) × (m.journal.entries ≡ b.journal.entries ++ part) → Same b m
+pub same_then : {W : Type 0} (place : ℕ) (b m : Body W) → Around place b m → (part : List Entry) × (m.journal.entries ≡ b.journal.entries ++ part) × AreOf (length b.ends.items + 1) part → Same b m
 same_then place b m a more = record { script = a.script; opening = a.opening; ends = a.ends; event = a.event; places = a.places; more = more }
 
 pub same_wrote : {W : Type 0} (place : ℕ) (actor : Actor) (b m : Body W) → Around place b m → Wrote actor b m → Same b m
-same_wrote place actor b m a w = same_then place b m a (w.entry ∷ [], w.appended)
+same_wrote place actor b m a w = same_then place b m a (w.entry ∷ [], w.appended, (w.number, tt))
 
 pub same_unsent : {W : Type 0} (place : ℕ) (b m : Body W) → Around place b m → m.journal.entries ≡ b.journal.entries → Same b m
-same_unsent place b m a journal = same_then place b m a ([], journal ∙ sym (append-nil b.journal.entries))
+same_unsent place b m a journal = same_then place b m a ([], journal ∙ sym (append-nil b.journal.entries), tt)
 
 module _ {W : Type 0} (wants : W → Option Request) (tells : W → Outcome → W) (fits : W → Outcome → Type 0) (end_of : W → Option OpEnd) (left : W → Scene → ℕ) (is_of : Setting → Actor → W → Type 0) (running : Known → W → Running) (rise : Script → ℕ) (picks_of : W → Option (List Pick)) (rises : W → Request → ℕ) (acts : ActLaws wants tells fits end_of left rises) where
   abbrev Goes : Body W → Type 0

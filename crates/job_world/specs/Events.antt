@@ -21,7 +21,7 @@ use Rattle.job_happenings.specs.Happenings.{begun}
 use Rattle.job_states.specs.Stands.{Stands, IsPlace}
 use Rattle.acting.specs.Plans.{IsPlanOf}
 use Rattle.job_world.specs.Sending.{Asks}
-use Rattle.job_world.specs.Holds.{Holds, HandIs, all_sound, all_but, setting_of, is_busy_at}
+use Rattle.job_world.specs.Holds.{Holds, HandIs, AreOf, all_sound, all_but, setting_of, is_busy_at}
 use Rattle.job_world.specs.declared.hands.Hand.{Hand}
 use Rattle.job_world.specs.declared.hands.Hand.TheVariants.{Plan, At, Empty}
 use Rattle.job_world.specs.declared.body.Body.{Body}
@@ -73,8 +73,8 @@ pub record Grown {W : Type 0} (b c : Body W) : Type 0 where
   pub opening : c.opening ≡ b.opening
   pub end : EventEnd
   pub ends : c.ends.items ≡ b.ends.items ++ end ∷ []
-  -- entries are only added
-  pub more : (part : List Entry) × (c.journal.entries ≡ b.journal.entries ++ part)
+  -- entries are only added, of this event
+  pub more : (part : List Entry) × (c.journal.entries ≡ b.journal.entries ++ part) × AreOf (length b.ends.items + 1) part
 
 -- nothing but room was taken
 pub record IsAsBefore {W : Type 0} (b c : Body W) : Type 0 where

@@ -1,6 +1,7 @@
 -- What a world keeps.
 use Rattle.std.specs.Prelude.{◌≡◌, ℕ, zero, suc, ◌+◌, ◌*◌, ◌-◌, ◌≤◌, ◌^◌, ◌⊎◌, not, nat_eq, Bool, true, false, cond, List, [], ◌∷◌, ◌++◌, length, slice_get, Option, Some, None, IsSome, vec_len, vec_capacity, refl}
-use Rattle.std.proofs.Common.{◌∙◌, sym, ap, append-nil, append_assoc}
+use Rattle.std.specs.List.{AllByRecursion}
+use Rattle.std.proofs.Common.{Vec, Global, ◌∙◌, sym, ap, subst, append-nil, append_assoc}
 use Rattle.s3_types.specs.Store.{Content, Scene}
 use Rattle.s3_types.specs.Fates.{fate_at}
 use Rattle.s3_types.specs.declared.request.Request.{Request}
@@ -111,6 +112,14 @@ pub record Quiet {W : Type 0} (wants : W → Option Request) (is_of : Setting �
   pub idle : b.event ≡ None
   pub none : b.finished.items ≡ []
 
+-- they are entries of this event
+abbrev pub AreOf : ℕ → List Entry → Type 0
+AreOf n es = AllByRecursion (λ e. e.event ≡ n) es
+
+pub both_of : (n : ℕ) (es fs : List Entry) → AreOf n es → AreOf n fs → AreOf n (es ++ fs)
+both_of n [] fs h g = g
+both_of n (e ∷ es) fs h g = (h.0, both_of n es fs h.1 g)
+
 -- what no turn changes
 pub record Same {W : Type 0} (b c : Body W) : Type 0 where
   pub script : c.script ≡ b.script
@@ -118,19 +127,23 @@ pub record Same {W : Type 0} (b c : Body W) : Type 0 where
   pub ends : c.ends ≡ b.ends
   pub event : c.event ≡ b.event
   pub places : length c.hands.items ≡ length b.hands.items
-  -- entries are only added
-  pub more : (part : List Entry) × (c.journal.entries ≡ b.journal.entries ++ part)
+  -- entries are only added, of the event that goes on
+  pub more : (part : List Entry) × (c.journal.entries ≡ b.journal.entries ++ part) × AreOf (length b.ends.items + 1) part
 
 abbrev pub same_laws : {W : Type 0} → KeepsLaws (Same {W = W})
 same_laws = record {
-  self = λ b. record { script = refl; opening = refl; ends = refl; event = refl; places = refl; more = ([], sym (append-nil b.journal.entries)) };
+  self = λ b. record { script = refl; opening = refl; ends = refl; event = refl; places = refl; more = ([], sym (append-nil b.journal.entries), tt) };
   chain = λ a b c f g. record {
     script = g.script ∙ f.script;
     opening = g.opening ∙ f.opening;
     ends = g.ends ∙ f.ends;
     event = g.event ∙ f.event;
     places = g.places ∙ f.places;
-    more = (f.more.0 ++ g.more.0, g.more.1 ∙ ap (λ es. es ++ g.more.0) f.more.1 ∙ append_assoc a.journal.entries f.more.0 g.more.0);
+    more = (
+      f.more.0 ++ g.more.0,
+      g.more.1 ∙ ap (λ es. es ++ g.more.0) f.more.1 ∙ append_assoc a.journal.entries f.more.0 g.more.0,
+      both_of (length a.ends.items + 1) f.more.0 g.more.0 f.more.2 (subst (λ (v : Vec EventEnd Global). AreOf (length v.items + 1) g.more.0) f.ends g.more.2),
+    );
   };
 }
 

@@ -1,5 +1,6 @@
 -- A world as its callers see it.
-use Rattle.std.specs.Prelude.{◌≡◌, ℕ, ◌≤◌, ◌^◌, [], ◌∷◌, ◌++◌, List, map, slice_get, Bool, true, false, Option, Some, None, unwrap_or}
+use Rattle.std.specs.Prelude.{◌≡◌, ℕ, ◌+◌, ◌≤◌, ◌^◌, [], ◌∷◌, ◌++◌, List, length, map, slice_get, Bool, true, false, Option, Some, None, unwrap_or}
+use Rattle.std.specs.List.{AllByRecursion}
 use Rattle.s3_types.specs.Store.{Content}
 use Rattle.s3_types.specs.declared.request.Request.{Request}
 use Rattle.s3_types.specs.declared.request.Actor.{Actor}
@@ -11,6 +12,7 @@ use Rattle.job_model.specs.declared.ends.EventEnd.{EventEnd}
 use Rattle.job_model.specs.declared.ends.Pick.{Pick}
 use Rattle.job_operations.specs.Operations.{Setting, Running}
 use Rattle.job_operations.specs.AtWork.{task_of}
+use Rattle.job_promise.specs.Entries.{AreOwn}
 use Rattle.job_promise.specs.Promise.{Promised, Sent}
 use Rattle.acting.specs.declared.plan.Plan.TheVariants.{Task}
 use Rattle.job_world.specs.Holds.{Quiet}
@@ -57,18 +59,19 @@ pub record IsBegun {W : Type 0} (wants : W → Option Request) (is_of : Setting 
   pub quiet : Quiet wants is_of running picks_of b
   pub is : run_of picks_of b false ≡ begun w opening
 
--- the run keeps what is promised of its job, and each sending has the outcome that was due and foretold
+-- the run keeps what is promised of its job, its entries are of the job's actors, and each sending has the outcome that was due and foretold
 pub record Keeps (r : Run) : Type 0 where
   pub promised : Promised r.script r.opening r.journal r.picks r.ends
+  pub own : AreOwn r.journal
   pub sent : Sent r.script r.opening r.journal
 
--- the script's next event has its end
+-- the script's next event has its end, and what was sent in it has its number
 pub record WentOn (r s : Run) : Type 0 where
   pub script : s.script ≡ r.script
   pub opening : s.opening ≡ r.opening
   pub end : EventEnd
   pub ends : s.ends ≡ r.ends ++ end ∷ []
-  pub more : (part : List Entry) × (s.journal ≡ r.journal ++ part)
+  pub more : (part : List Entry) × (s.journal ≡ r.journal ++ part) × AllByRecursion (λ e. e.event ≡ length r.ends + 1) part
   pub stuck : s.stuck ≡ r.stuck
 
 -- no event happened, for want of memory, and none will

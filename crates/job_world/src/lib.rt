@@ -4,7 +4,6 @@
 
 mod body;
 mod events;
-mod fates;
 mod hands;
 mod played;
 mod sending;

@@ -6,7 +6,6 @@ ghost use Rattle.job_world.specs.declared.hands.Hand.TheVariants.{Empty};
 ghost use Rattle.job_world.specs.Worlds.{MayBegin, IsBegun, planned};
 
 use crate::body::Body;
-use crate::fates::copied;
 use crate::hands::Hand;
 use acting::Plan;
 use job_model::{PickList, Script};
@@ -43,7 +42,7 @@ fn first_store(alloc: Global, script: &Script, service: &Service) -> Result<Loss
     requires few { service.now.next ≤ 2 ^ 62 }
     ensures { IfOk result (λ store. store ≡ record { scene = opening service.now; fates = script.now.fates; requests = 0; losses = 0 }) }
 {
-    let fates = copied(alloc, &script.fates)?;
+    let fates = script.fates.copied()?;
     let copy = service.copy()?;
     Ok(Lossy::new(MemStore::new(alloc, copy), fates))
 }

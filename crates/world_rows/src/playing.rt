@@ -39,6 +39,34 @@ fn play_events(world: &mut World<Act>) -> Result<(), AllocError> {
     Ok(())
 }
 
+/// Plays a script of a magic job over a store that holds this; its status and what it left.
+fn play_world(alloc: Global, script: Script, service: Service) -> Result<(u8, Played), AllocError>
+    requires magic { script.committer ≡ Magic }
+    requires store { MayBegin service }
+{
+    let mut world = World::<Act>::new(alloc, script, service)?;
+    match play_events(&mut world) {
+        Ok(()) => {
+            let status = world.verdict();
+            Ok((status, world.finish()))
+        }
+        Err(error) => {
+            let_go(world);
+            Err(error)
+        }
+    }
+}
+
+/// Plays a script over a store that holds this, where its run may begin over that; its status and what it left.
+pub fn play(alloc: Global, script: Script, service: Service) -> Result<(u8, Played)> {
+    if !may_begin(&script, &service) {
+        let_go(script);
+        let_go(service);
+        bail!("no job that can be played");
+    }
+    Ok(play_world(alloc, script, service)?)
+}
+
 /// The report of what a run left, which ended with this status, and the store.
 fn report_of(alloc: Global, status: u8, played: Played) -> Result<(Bytes, Service), AllocError> {
     let Played {
@@ -67,24 +95,6 @@ fn report_of(alloc: Global, status: u8, played: Played) -> Result<(Bytes, Servic
     }
 }
 
-/// Plays a script of a magic job over a store that holds this.
-fn play_world(alloc: Global, script: Script, service: Service) -> Result<(Bytes, Service)>
-    requires magic { script.committer ≡ Magic }
-    requires store { MayBegin service }
-{
-    let mut world = World::<Act>::new(alloc, script, service)?;
-    match play_events(&mut world) {
-        Ok(()) => {
-            let status = world.verdict();
-            Ok(report_of(alloc, status, world.finish())?)
-        }
-        Err(error) => {
-            let_go(world);
-            Err(error.into())
-        }
-    }
-}
-
 /// Plays the script of a line over a store that holds this, shows its report and the image of the store that it
 /// left, and gives that store.
 pub fn play_line(rt: &impl Print, alloc: Global, service: Service, line: &str) -> Result<Service> {
@@ -96,12 +106,8 @@ pub fn play_line(rt: &impl Print, alloc: Global, service: Service, line: &str) -
             bail!("no script: {fault}")
         }
     };
-    if !may_begin(&script, &service) {
-        let_go(script);
-        let_go(service);
-        bail!("no job that can be played");
-    }
-    let (report, service) = play_world(alloc, script, service)?;
+    let (status, played) = play(alloc, script, service)?;
+    let (report, service) = report_of(alloc, status, played)?;
     match show(rt, alloc, &report, &service) {
         Ok(()) => Ok(service),
         Err(error) => {

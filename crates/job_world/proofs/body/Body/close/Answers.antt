@@ -16,4 +16,4 @@ returns-clause-quiet g c =
     quiet_closed _ _ _ _ g.W.Acts.end_of g.met.W.Acts.laws.goes_on c.laws.ensures.ends k (record k { ends = c.push_reserved.new.self; states = c.count.new.self; finished = c.taken_end-end.new.finished }) c.args.event c.requires.going c.requires.now c.requires.turns pushed c.taken_end-end.ensures.none (λ p. c.count.ensures.stands _ p)
 
 pub returns-clause-grown : goal.returns-clause-grown
-returns-clause-grown g c = record { script = refl; opening = refl; end = _; ends = c.push_reserved.ensures.items; more = ([], sym (append-nil _)) }
+returns-clause-grown g c = record { script = refl; opening = refl; end = _; ends = c.push_reserved.ensures.items; more = ([], sym (append-nil _), tt) }

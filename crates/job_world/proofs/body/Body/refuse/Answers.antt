@@ -12,4 +12,4 @@ returns-clause-quiet g c =
     quiet_refused _ _ _ _ k (record k { ends = c.push_reserved.new.self; states = c.count.new.self }) c.args.event c.args.fault c.requires.quiet c.requires.next c.requires.refused c.push_reserved.ensures.items (λ p. c.count.ensures.stands _ p)
 
 pub returns-clause-grown : goal.returns-clause-grown
-returns-clause-grown g c = record { script = refl; opening = refl; end = _; ends = c.push_reserved.ensures.items; more = ([], sym (append-nil _)) }
+returns-clause-grown g c = record { script = refl; opening = refl; end = _; ends = c.push_reserved.ensures.items; more = ([], sym (append-nil _), tt) }
