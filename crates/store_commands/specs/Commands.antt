@@ -8,7 +8,6 @@ use Rattle.s3_types.specs.declared.limits.TheConstants.{MOST_MINIMUM}
 use Rattle.store_image.specs.Content.{is_minimum}
 use Rattle.store_commands.specs.declared.command.Command.{Command}
 use Rattle.store_commands.specs.declared.command.Command.TheVariants.{Job, Store}
-use Rattle.store_commands.specs.declared.command.StoreCommand.{StoreCommand}
 use Rattle.store_commands.specs.declared.command.StoreCommand.TheVariants.{Init, MakeBucket}
 
 -- a number is 1 to 18 decimal digits, of which the first is no 0 unless it is the only one

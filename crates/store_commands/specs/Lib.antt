@@ -1,3 +1,5 @@
 pub mod Commands
+pub mod Works
+pub mod Doing
 pub mod Stores
 pub mod Outcomes

@@ -1,14 +1,19 @@
-ghost use Rattle.std.specs.Prelude.{◌≡◌, ◌≢◌, ◌<◌, ◌-◌, ◌^◌};
-ghost use Rattle.shelf.specs.Devices.{HoldsNow};
-ghost use Rattle.store_commands.specs.Stores.{image_of, work_of};
-ghost use Rattle.store_commands.specs.Outcomes.{IsBelowLast, silent, IsAnswer, IsSaved, Tells};
+ghost use Rattle.std.specs.Prelude.{◌≡◌, ◌⊎◌, ◌<◌, ◌-◌, ◌^◌};
+ghost use Rattle.std.specs.List.{AllByRecursion};
+ghost use Rattle.shelf.specs.Logged.{LeavesOnly};
+ghost use Rattle.kept_runs.specs.Changes.{changes};
+ghost use Rattle.kept_appends.specs.Appends.{AreCalled, AreCut};
+ghost use Rattle.store_commands.specs.Stores.{work_of};
+ghost use Rattle.store_commands.specs.Works as works;
+ghost use Rattle.store_commands.specs.Outcomes.{IsSound, status_of, IsAnswer, IsHeld, MightLeave, IsDurableNow, Tells};
 
 use crate::command::StoreCommand;
-use crate::held::{Held, ShelfStop, save};
+use crate::held::{Held, ShelfStop};
+use crate::saving::save;
 use crate::work::{Work, work_of};
 use s3_service::Service;
-use s3_types::Bytes;
-use shelf::Shelf;
+use s3_types::{Bytes, Journal, let_go};
+use shelf::kept::Shelf;
 use std::alloc::Global;
 
 const DONE: u8 = 0;
@@ -17,51 +22,72 @@ const SHELF_FAULT: u8 = 5;
 
 const NO_MEMORY: u8 = 9;
 
-/// The status that is due and what is to be written, which is left empty for 0, 5 and 9.
+/// The status that is due, what is to be written, which is left empty for 0, 5 and 9, and what was sent.
 #[derive(Drop)]
 pub struct Answer {
     pub due: u8,
     pub text: Bytes,
+    pub sent: Journal,
 }
 
-fn silent(due: u8) -> Answer
-    ensures { result ≡ silent due }
+/// The status of a save.
+fn status_of(saved: Result<(), ShelfStop>) -> u8
+    ensures { result ≡ status_of saved }
 {
-    Answer {
-        due,
-        text: Bytes::empty(),
+    match saved {
+        Ok(()) => DONE,
+        Err(ShelfStop::Failed) => SHELF_FAULT,
+        Err(ShelfStop::NoMemory) => NO_MEMORY,
     }
 }
 
-/// Keeps a store, and says nothing.
-fn keep<F: Shelf>(alloc: Global, shelf: &mut F, service: &Service) -> Answer
-    requires { F.faults shelf.old < 2 ^ 64 - 1 }
-    ensures answer { IsAnswer (Work.Saves service.now) result }
-    ensures saved { result.due ≡ 0 → HoldsNow (F.held shelf.old) (F.held shelf.new) (image_of service.now) }
-    ensures kept { result.due ≢ 0 → F.held shelf.new ≡ F.held shelf.old }
+/// Keeps a store with what was sent to it, and says nothing.
+fn keep<F: Shelf>(alloc: Global, shelf: &mut F, opening: &Service, sent: Journal) -> Answer
+    requires count { F.faults shelf.old < 2 ^ 64 - 1 }
+    requires one_event { AllByRecursion (λ e. e.event ≡ 0) sent.entries }
+    ensures answer { IsAnswer (works.Saves opening.now sent.entries) result.due result.text result.sent.entries }
+    ensures held { IsHeld (works.Saves opening.now sent.entries) result.due (F.held shelf.old) (F.held shelf.new) }
+    ensures any_moment { LeavesOnly F.moment F.left_since shelf.old shelf.new (MightLeave (works.Saves opening.now sent.entries) (F.held shelf.new) (F.may_leave shelf.old)) }
+    ensures durable { IsDurableNow (works.Saves opening.now sent.entries) result.due (F.held shelf.new) (F.may_leave shelf.new) }
+    ensures called { result.due ≡ 0 → AreCalled F.answers (changes result.sent.entries) shelf.old shelf.new }
+    ensures cut { (result.due ≡ 5) ⊎ (result.due ≡ 9) → AreCut F.answers F.fails (changes result.sent.entries) shelf.old shelf.new }
     ensures counted { Tells 5 result.due (F.faults shelf.old) (F.faults shelf.new) }
 {
-    match save(alloc, shelf, service) {
-        Ok(()) => silent(DONE),
-        Err(ShelfStop::Failed) => silent(SHELF_FAULT),
-        Err(ShelfStop::NoMemory) => silent(NO_MEMORY),
+    let due = status_of(save(alloc, shelf, opening, &sent));
+    Answer {
+        due,
+        text: Bytes::empty(),
+        sent,
     }
 }
 
 /// Does what a command says on the store that the shelf was found to hold. The status is 0 where a store
-/// was kept; 1 where the command was refused; 5 where the shelf failed; 7 where the shelf's bytes are no
-/// image; and 9 where memory was wanting. In each but 0 the shelf holds what it held.
+/// was kept; 1 where the command was refused; 5 where the shelf failed; 7 where the shelf holds no
+/// store; and 9 where memory was wanting. In 1 and 7 the shelf is not called, and in 5 and 9 it holds what it held, or the
+/// store with the first of its changes.
 pub fn obey<F: Shelf>(alloc: Global, shelf: &mut F, command: &StoreCommand, held: Held) -> Answer
     requires count { F.faults shelf.old < 2 ^ 64 - 1 }
-    requires below { IsBelowLast held }
-    ensures answer { IsAnswer (work_of command.now held) result }
-    ensures saved { result.due ≡ 0 → IsSaved (work_of command.now held) (F.held shelf.old) (F.held shelf.new) }
-    ensures kept { result.due ≢ 0 → F.held shelf.new ≡ F.held shelf.old }
+    requires sound { IsSound held }
+    ensures answer { IsAnswer (work_of command.now held) result.due result.text result.sent.entries }
+    ensures held { IsHeld (work_of command.now held) result.due (F.held shelf.old) (F.held shelf.new) }
+    ensures untouched { (result.due ≡ 1) ⊎ (result.due ≡ 7) → shelf.new ≡ shelf.old }
+    ensures any_moment { LeavesOnly F.moment F.left_since shelf.old shelf.new (MightLeave (work_of command.now held) (F.held shelf.new) (F.may_leave shelf.old)) }
+    ensures durable { IsDurableNow (work_of command.now held) result.due (F.held shelf.new) (F.may_leave shelf.new) }
+    ensures called { result.due ≡ 0 → AreCalled F.answers (changes result.sent.entries) shelf.old shelf.new }
+    ensures cut { (result.due ≡ 5) ⊎ (result.due ≡ 9) → AreCut F.answers F.fails (changes result.sent.entries) shelf.old shelf.new }
     ensures counted { Tells 5 result.due (F.faults shelf.old) (F.faults shelf.new) }
 {
     match work_of(alloc, command, held) {
-        Ok(Work::Says { due, text }) => Answer { due, text },
-        Ok(Work::Saves(service)) => keep(alloc, shelf, &service),
-        Err(_) => silent(NO_MEMORY),
+        Ok(Work::Says { due, text, sent }) => Answer { due, text, sent },
+        Ok(Work::Saves { opening, sent }) => {
+            let answer = keep(alloc, shelf, &opening, sent);
+            let_go(opening);
+            answer
+        }
+        Err(_) => Answer {
+            due: NO_MEMORY,
+            text: Bytes::empty(),
+            sent: Journal::new(alloc),
+        },
     }
 }
