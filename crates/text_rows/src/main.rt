@@ -25,7 +25,6 @@ mod scripts;
 mod scripts_changed;
 mod scripts_spelled;
 mod scripts_told;
-mod standings;
 
 use anyhow::Result;
 use commands::show_command;
@@ -33,7 +32,6 @@ use layout::show_layout;
 use paths::show_path;
 use records::show_record;
 use scripts::show_script;
-use standings::show_standings;
 use std::alloc::Global;
 
 /// What a line is.
@@ -83,6 +81,5 @@ fn main(rt: HostRuntime) -> Result<()> {
     for line in rt.lines(alloc) {
         part = part_after(&rt, alloc, part, line?.as_str())?;
     }
-    show_layout(&rt, alloc)?;
-    show_standings(&rt, alloc)
+    show_layout(&rt, alloc)
 }

@@ -1,4 +1,0 @@
-pub mod Sendings
-pub mod Straight
-pub mod Run
-pub mod Laws

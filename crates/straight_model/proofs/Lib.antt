@@ -1,2 +1,0 @@
-pub mod KeptStates
-pub mod ReportLines

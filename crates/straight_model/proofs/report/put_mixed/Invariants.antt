@@ -1,9 +1,0 @@
-use Rattle.std.proofs.Common.{◌≡◌, ◌++◌, ◌∷◌, drop, codes, string_bytes}
-use Rattle.std.specs.List.{flat_map, join_by}
-use Rattle.straight_model.specs.ReportText.{actor_end_text}
-use Rattle.straight_model.proofs.report.put_mixed.Given as goal
-
-abbrev pub invariant-loop-actor_end : goal.invariant-loop-actor_end
-invariant-loop-actor_end l =
-    string_bytes l.out ++ flat_map (λ x. codes ", " ++ actor_end_text x) (drop l.actor_end-index l.others)
-    ≡ string_bytes l.fn.out ++ join_by actor_end_text (codes ", ") (l.first ∷ l.others)

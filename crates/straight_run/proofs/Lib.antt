@@ -1,6 +1,0 @@
-pub mod Asked
-pub mod Keys
-pub mod Next
-pub mod Sent
-pub mod Stood
-pub mod Tagged

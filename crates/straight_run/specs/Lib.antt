@@ -1,4 +1,0 @@
-pub mod Places
-pub mod Standing
-pub mod Requests
-pub mod SoFar

@@ -1,4 +1,0 @@
-pub mod Entries
-pub mod OneFile
-pub mod Attempts
-pub mod Views
