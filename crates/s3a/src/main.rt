@@ -1,9 +1,10 @@
 //! `s3a FOLDER COMMAND WORDS`: the program over a folder, standard input and standard output.
 #![tactic(auto)]
 
+use folder_log::{FileDisk, LogShelf};
 use s3_types::Text;
 use s3a_top::run;
-use shelf::{FolderShelf, StdSink, StdSource};
+use shelf::{StdSink, StdSource};
 use std::alloc::{AllocError, Global};
 use std::process::ExitCode;
 use std::rt::Env;
@@ -41,7 +42,7 @@ fn main(rt: HostRuntime) -> ExitCode {
     let Ok(folder) = folder(alloc, words.as_slice()) else {
         return ExitCode::from(NO_MEMORY);
     };
-    let mut shelf = FolderShelf::new(alloc, &rt, folder);
+    let mut shelf = LogShelf::new(alloc, FileDisk::new(alloc, &rt, folder));
     let mut input = StdSource::new(rt.reader());
     let mut out = StdSink::new(io::writer(&rt));
     let report = run(alloc, words.as_slice(), &mut input, &mut shelf, &mut out);

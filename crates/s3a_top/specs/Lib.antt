@@ -1,3 +1,8 @@
 pub mod Bytes
 pub mod Statuses
-pub mod Owed
+pub mod Openings
+pub mod Jobs
+pub mod Commands
+pub mod Reads
+pub mod Plays
+pub mod Workings

@@ -1,22 +1,84 @@
--- The statuses that a run may end with.
-use Rattle.std.specs.Prelude.{◌≡◌, ℕ, ◌⊎◌}
+-- The statuses that the program ends with, and what is said with them.
+use Rattle.std.specs.Prelude.{◌≡◌, ◌≢◌, ℕ, ◌⊎◌, ◌++◌, List, [], ◌∷◌, codes, Option, Some, None}
+use Rattle.std.specs.Fmt.{decimal}
+use Rattle.std.specs.Prelude.{unwrap_or}
+use Rattle.shelf.specs.Devices.{Appends}
+use Rattle.job_script.specs.Fault.{number_of, line_of}
+use Rattle.job_script.specs.declared.fault.ScriptFault.{ScriptFault}
+use Rattle.job_model.specs.declared.ends.Pick.{Pick}
+use Rattle.job_model.specs.declared.ends.EventEnd.{EventEnd}
+use Rattle.s3_types.specs.declared.journal.Entry.{Entry}
+use Rattle.s3a_top.specs.Bytes.{WritesSome}
+use Rattle.s3a_top.specs.declared.statuses.Status.{Status}
+use Rattle.s3a_top.specs.declared.statuses.Status.TheVariants.{Done, Refused, Usage, ReadFault, WriteFault, ShelfFault, BadScript, BadImage, StoreFault, NoMemory, NotBuilt}
 
--- a device failed, or memory was wanting
-abbrev pub IsBroken : ℕ → Type 0
-IsBroken due = (due ≡ 3) ⊎ ((due ≡ 5) ⊎ (due ≡ 9))
+abbrev pub code : Status → ℕ
+code Done = 0
+code Refused = 1
+code Usage = 2
+code ReadFault = 3
+code WriteFault = 4
+code ShelfFault = 5
+code BadScript = 6
+code BadImage = 7
+code StoreFault = 8
+code NoMemory = 9
+code NotBuilt = 10
 
--- the statuses of a job of the first form
-abbrev pub IsPlayed : ℕ → Type 0
-IsPlayed due = (due ≡ 0) ⊎ ((due ≡ 5) ⊎ (due ≡ 9))
-
--- those of a job: also a failed input, bytes that are no script, bytes that are no image, and what is not built
-abbrev pub IsOfJob : ℕ → Type 0
-IsOfJob due = IsPlayed due ⊎ ((due ≡ 3) ⊎ ((due ≡ 6) ⊎ ((due ≡ 7) ⊎ (due ≡ 10))))
-
--- those of all commands: also what is refused
-abbrev pub IsOfCommand : ℕ → Type 0
-IsOfCommand due = IsOfJob due ⊎ (due ≡ 1)
-
--- all that may be due: also words that are no command
+-- what may be due: any of them but that of a failed output
 abbrev pub IsDue : ℕ → Type 0
-IsDue due = IsOfCommand due ⊎ (due ≡ 2)
+IsDue due = (s : Status) × ((s ≢ WriteFault) × (due ≡ code s))
+
+-- what comes with work that was done: no words that are none, no failed device but the shelf, no bad script and none that is not built
+abbrev pub IsWorked : Status → Type 0
+IsWorked Usage = ⊥
+IsWorked ReadFault = ⊥
+IsWorked WriteFault = ⊥
+IsWorked BadScript = ⊥
+IsWorked NotBuilt = ⊥
+IsWorked _ = Unit {0}
+
+-- ---- texts
+
+abbrev pub usage_text : List ℕ
+usage_text = codes "usage: s3a FOLDER COMMAND WORDS" ++ 10 ∷ []
+
+abbrev pub read_text : List ℕ
+read_text = codes "read fault" ++ 10 ∷ []
+
+abbrev pub shelf_text : List ℕ
+shelf_text = codes "shelf fault" ++ 10 ∷ []
+
+abbrev pub memory_text : List ℕ
+memory_text = codes "no memory" ++ 10 ∷ []
+
+abbrev pub not_built_text : List ℕ
+not_built_text = codes "not built" ++ 10 ∷ []
+
+-- the text of a status that always has the same
+abbrev pub own_text : Status → Option (List ℕ)
+own_text Usage = Some usage_text
+own_text ReadFault = Some read_text
+own_text ShelfFault = Some shelf_text
+own_text NoMemory = Some memory_text
+own_text NotBuilt = Some not_built_text
+own_text _ = None
+
+-- what is written with a status: this text, or else its own
+abbrev pub written_text : Status → Option (List ℕ) → List ℕ
+written_text status text = unwrap_or text (unwrap_or (own_text status) [])
+
+-- the line of bytes that are no script: the fault's number and its line, 0 where it has none
+unfoldable pub script_fault_text : ScriptFault → List ℕ
+script_fault_text e = codes "script fault " ++ (decimal (number_of e) ++ (codes " at line " ++ (decimal (line_of e) ++ 10 ∷ [])))
+
+-- the text went out whole, or, where the sink failed, its first bytes
+pub record Writes (status : ℕ) (before after : Option (List ℕ)) (text : List ℕ) : Type 0 where
+  pub whole : status ≢ 4 → Appends before after text
+  pub partly : status ≡ 4 → WritesSome before after text
+
+-- nothing was sent
+pub record IsIdle (es : List Entry) (ps : List Pick) (xs : List EventEnd) : Type 0 where
+  pub entries : es ≡ []
+  pub picks : ps ≡ []
+  pub ends : xs ≡ []

@@ -9,6 +9,7 @@ pub fn write_output<K: Sink>(out: &mut K, bytes: &[u8]) -> Result<(), Failed>
     ensures calm { OnOk result (K.faults out.new ≡ K.faults out.old) }
     ensures failed { OnErr result (K.faults out.old < 2 ^ 64 - 1 → K.faults out.old < K.faults out.new) }
     ensures written { OnOk result (Appends (K.written out.old) (K.written out.new) bytes.now) }
+    ensures out { OnOk result (K.is_out out.new) }
     ensures partly { OnErr result (WritesSome (K.written out.old) (K.written out.new) bytes.now) }
 {
     let mut rest = bytes;

@@ -1,7 +1,13 @@
-use Rattle.store_commands.specs.Stores.{found}
-use Rattle.s3a_top.proofs.Owing.{job_out}
+use Rattle.s3a_top.specs.Statuses.{code, Writes, written_text}
+use Rattle.s3a_top.specs.Workings.{IsWritten}
+use Rattle.s3a_top.proofs.Outs.{written_so, job_out}
 use Rattle.s3a_top.proofs.top.run.Goals as goal
 
 pub returns-clause-job : goal.returns-clause-job
-returns-clause-job g c h e t =
-    job_out c.do_work-work.result.due c.say-status.result c.do_work-work.result.text (g.K.Sink.written c.args.out.now) (g.K.Sink.written c.say-status.new.out) c.say-status.ensures.text (found h) (g.Q.Source.left c.args.input.now) _ _ _ _ _ (c.do_work-work.ensures.job h e t)
+returns-clause-job g c is =
+    let s = g.F.Shelf in
+    let work = c.worked-work.result in
+    let before = g.K.Sink.written c.args.out.now in
+    let after = g.K.Sink.written c.say-status.new.out in
+    job_out (IsWritten work) (Writes c.say-status.result before after) (written_so c.say-status.result before after (written_text work.due work.text) c.say-status.ensures.text) s.held s.may_leave s.moment s.left_since s.answers s.fails (code work.due)
+    work.journal.entries work.picks work.ends (g.Q.Source.left c.args.input.now) (g.Q.Source.left c.worked-work.new.input) c.args.shelf.now c.worked-work.new.shelf c.code.result c.code.ensures (c.worked-work.ensures.job is)

@@ -1,0 +1,139 @@
+-- Which counts of faults rise, and which causes stops have.
+use Rattle.std.proofs.Common.{◌≡◌, ◌≢◌, ◌⊎◌, inl, inr, ⊎_elim, ℕ, ◌<◌, List, [], Option, Some, None, Result, Ok, Err, IfOk, IfErr, IsErrOf, refl, sym, ap, subst, ◌∙◌, arith}
+use Rattle.s3_types.specs.declared.journal.Entry.{Entry}
+use Rattle.job_model.specs.declared.ends.Pick.{Pick}
+use Rattle.job_model.specs.declared.ends.EventEnd.{EventEnd}
+use Rattle.shelf.specs.Logged.{Holding, Stored, LeavesOnly}
+use Rattle.shelf.specs.declared.kept.AppendFault.{AppendFault}
+use Rattle.shelf.specs.declared.kept.AppendFault.TheVariants as appends
+use Rattle.store_commands.specs.Stores.{found, work_of}
+use Rattle.store_commands.specs.Outcomes.{Counts as CountsLoad, Tells}
+use Rattle.store_commands.specs.declared.command.StoreCommand.{StoreCommand}
+use Rattle.store_commands.specs.declared.held.Held.{Held}
+use Rattle.store_commands.specs.declared.held.ShelfStop.{ShelfStop}
+use Rattle.store_commands.specs.declared.held.ShelfStop.TheVariants as shelves
+use Rattle.kept_jobs.specs.Played.{Counts}
+use Rattle.s3a_top.specs.Openings.{is_sound, IsSoundly}
+use Rattle.s3a_top.specs.Statuses.{code, IsDue, IsWorked, IsIdle, written_text, usage_text, shelf_text, memory_text}
+use Rattle.s3a_top.specs.Jobs.{status_of, of_shelf, stop_text, HasCause, AreFew, MayHaveLeft, JobPlayed, JobStopped}
+use Rattle.s3a_top.specs.Commands.{NoCommand, StoreStopped, StoreDone}
+use Rattle.s3a_top.specs.Reads.{IsReadStop, CountsReads}
+use Rattle.s3a_top.specs.Plays.{IsFound, IsVerdict, IsOfStop, HasCauseIn, HasFailed}
+use Rattle.s3a_top.specs.Workings.{CountsAs, IsMade, IsToldOf, IsOfWords, IsOfShelf, IsNothing, JobHalted, StoreHalted, IsWritten, JobGoes, StoreGoes}
+use Rattle.s3a_top.specs.declared.statuses.Status.{Status}
+use Rattle.s3a_top.specs.declared.statuses.Status.TheVariants as statuses
+use Rattle.s3a_top.specs.declared.stop.Stop.{Stop}
+use Rattle.s3a_top.specs.declared.stop.Stop.TheVariants.{Usage, ReadFault, ShelfFault, Script as BadScript, Image, NoMemory, NotBuilt}
+use Rattle.s3a_top.specs.declared.work.Work.{Work}
+
+-- ---- counts of faults
+
+-- another status is due
+pub tells_none : (status due before after : ℕ) → due ≢ status → after ≡ before → Tells status due before after
+tells_none status due before after other same = record { rose = λ e. absurd (other e); stands = λ n. same }
+
+-- this one is
+pub tells_one : (status before after : ℕ) → before < after → Tells status status before after
+tells_one status before after rose = record { rose = λ e. rose; stands = λ n. absurd (n refl) }
+
+-- what is done has not the status of a failed input
+pub worked_read : (s : Status) → IsWorked s → code s ≢ 3
+worked_read statuses.Done h = λ e. cc
+worked_read statuses.Refused h = λ e. cc
+worked_read statuses.ShelfFault h = λ e. cc
+worked_read statuses.BadImage h = λ e. cc
+worked_read statuses.StoreFault h = λ e. cc
+worked_read statuses.NoMemory h = λ e. cc
+worked_read _ h = absurd h
+
+-- nor that of words that are none
+pub worked_usage : (s : Status) → IsWorked s → code s ≢ 2
+worked_usage statuses.Done h = λ e. cc
+worked_usage statuses.Refused h = λ e. cc
+worked_usage statuses.ShelfFault h = λ e. cc
+worked_usage statuses.BadImage h = λ e. cc
+worked_usage statuses.StoreFault h = λ e. cc
+worked_usage statuses.NoMemory h = λ e. cc
+worked_usage _ h = absurd h
+
+-- nor that of a failed output
+pub worked_due : (s : Status) → IsWorked s → IsDue (code s)
+worked_due statuses.WriteFault h = absurd h
+worked_due s h = (s, (λ e. cc, refl))
+
+pub due_written : (due : ℕ) → IsDue due → due ≢ 4
+due_written due h e = by h.0 h.1.0 (sym h.1.1 ∙ e)
+  where
+    by : (s : Status) → s ≢ statuses.WriteFault → code s ≡ 4 → ⊥
+    by statuses.WriteFault n k = n refl
+    by _ n k = cc
+
+verdict_counts : (s : Status) (before after : ℕ) → IsVerdict s → after ≡ before → Tells 5 (code s) before after
+verdict_counts statuses.Done before after h same = tells_none 5 0 before after (λ e. cc) same
+verdict_counts statuses.Refused before after h same = tells_none 5 1 before after (λ e. cc) same
+verdict_counts statuses.StoreFault before after h same = tells_none 5 8 before after (λ e. cc) same
+verdict_counts statuses.NoMemory before after h same = tells_none 5 9 before after (λ e. cc) same
+verdict_counts _ before after h same = absurd h
+
+-- of a job that was played
+pub played_counts : (stop : Option AppendFault) (due : Status) (before after : ℕ) → IsOfStop stop due → Counts stop before after → Tells 5 (code due) before after
+played_counts None due before after h counts = verdict_counts due before after h counts
+played_counts (Some appends.Failed) due before after h counts = subst (λ (s : Status). Tells 5 (code s) before after) (sym h) (tells_one 5 before after counts)
+played_counts (Some appends.NoMemory) due before after h counts = subst (λ (s : Status). Tells 5 (code s) before after) (sym h) (tells_none 5 9 before after (λ e. cc) counts)
+
+pub verdict_worked : (s : Status) → IsVerdict s → IsWorked s
+verdict_worked statuses.Done h = tt
+verdict_worked statuses.Refused h = tt
+verdict_worked statuses.StoreFault h = tt
+verdict_worked statuses.NoMemory h = tt
+verdict_worked _ h = absurd h
+
+pub stop_worked : (stop : Option AppendFault) (due : Status) → IsOfStop stop due → IsWorked due
+stop_worked None due h = verdict_worked due h
+stop_worked (Some appends.Failed) due h = subst IsWorked (sym h) tt
+stop_worked (Some appends.NoMemory) due h = subst IsWorked (sym h) tt
+
+-- ---- a script that was not read
+
+pub read_counts : (stop : Stop) (before after : ℕ) → CountsReads {A = ℕ} (Err stop) before after → Tells 3 (code (status_of stop)) before after
+read_counts ReadFault before after counts = tells_one 3 before after counts
+read_counts Usage before after counts = tells_none 3 2 before after (λ e. cc) counts
+read_counts ShelfFault before after counts = tells_none 3 5 before after (λ e. cc) counts
+read_counts (BadScript e) before after counts = tells_none 3 6 before after (λ e. cc) counts
+read_counts (Image number place) before after counts = tells_none 3 7 before after (λ e. cc) counts
+read_counts NoMemory before after counts = tells_none 3 9 before after (λ e. cc) counts
+read_counts NotBuilt before after counts = tells_none 3 10 before after (λ e. cc) counts
+
+-- the shelf was not called
+pub read_calm : (stop : Stop) (left rest : Option (List ℕ)) (count : ℕ) → IsReadStop stop left rest → Tells 5 (code (status_of stop)) count count
+read_calm ReadFault left rest count h = tells_none 5 3 count count (λ e. cc) refl
+read_calm (BadScript e) left rest count h = tells_none 5 6 count count (λ e. cc) refl
+read_calm NoMemory left rest count h = tells_none 5 9 count count (λ e. cc) refl
+read_calm NotBuilt left rest count h = tells_none 5 10 count count (λ e. cc) refl
+read_calm _ left rest count h = absurd h
+
+pub read_cause : (stop : Stop) (before : Held) (left rest : Option (List ℕ)) → is_sound before → IsReadStop stop left rest → HasCauseIn stop before left rest
+read_cause ReadFault before left rest sound h = sound
+read_cause (BadScript e) before left rest sound h = (sound, h)
+read_cause NoMemory before left rest sound h = tt
+read_cause NotBuilt before left rest sound h = (sound, h)
+read_cause _ before left rest sound h = absurd h
+
+-- ---- a stop of the shelf
+
+pub shelf_cause : (stop : Stop) (before : Held) (left rest : Option (List ℕ)) → IsOfShelf stop → HasCauseIn stop before left rest
+shelf_cause stop before left rest (inl e) = subst (λ (s : Stop). HasCauseIn s before left rest) (sym e) tt
+shelf_cause stop before left rest (inr e) = subst (λ (s : Stop). HasCauseIn s before left rest) (sym e) tt
+
+-- the input did not fail
+pub shelf_read : (stop : Stop) (before after : ℕ) → IsOfShelf stop → after ≡ before → Tells 3 (code (status_of stop)) before after
+shelf_read stop before after (inl e) same = subst (λ (s : Stop). Tells 3 (code (status_of s)) before after) (sym e) (tells_none 3 5 before after (λ e. cc) same)
+shelf_read stop before after (inr e) same = subst (λ (s : Stop). Tells 3 (code (status_of s)) before after) (sym e) (tells_none 3 9 before after (λ e. cc) same)
+
+pub load_counts : (fault : ShelfStop) (before after : ℕ) → CountsLoad {A = ℕ} (Err fault) before after → Tells 5 (code (status_of (of_shelf fault))) before after
+load_counts shelves.Failed before after counts = tells_one 5 before after counts
+load_counts shelves.NoMemory before after counts = tells_none 5 9 before after (λ e. cc) counts
+
+pub load_which : (fault : ShelfStop) → IsOfShelf (of_shelf fault)
+load_which shelves.Failed = inl refl
+load_which shelves.NoMemory = inr refl

@@ -1,0 +1,47 @@
+-- Which statuses are due of a job and of a command.
+use Rattle.std.proofs.Common.{◌≡◌, ◌≢◌, ◌⊎◌, inl, inr, ℕ, List, [], ◌∷◌, Option, Some, None, refl, sym, ap, subst, ◌∙◌, arith}
+use Rattle.s3_types.specs.Store.{Content}
+use Rattle.s3_types.specs.declared.journal.Entry.{Entry}
+use Rattle.job_model.specs.JobScript.{Script}
+use Rattle.job_model.specs.declared.ends.SetupEnd.{SetupEnd}
+use Rattle.job_model.specs.declared.ends.SetupEnd.TheVariants as setups
+use Rattle.job_model.specs.declared.ends.CommitEnd.{CommitEnd}
+use Rattle.job_model.specs.declared.ends.CommitEnd.TheVariants as commits
+use Rattle.job_model.specs.declared.ends.OpEnd.{OpEnd}
+use Rattle.job_model.specs.declared.ends.OpEnd.TheVariants as ends
+use Rattle.job_model.specs.declared.ends.EventEnd.{EventEnd}
+use Rattle.job_promise.specs.States.{Decided, NotBegun, Unended, EndedSo, past, end_verdict, verdict_or, verdict}
+use Rattle.s3a_top.specs.Plays.{IsFinal}
+
+-- ---- verdicts
+
+setup_final : (e : SetupEnd) → IsFinal (end_verdict (ends.Setup e))
+setup_final setups.Done = inr (inl refl)
+setup_final (setups.Conflict p) = inr (inl refl)
+setup_final setups.DestIsFile = inr (inl refl)
+setup_final setups.NoSuchBucket = inr (inl refl)
+setup_final setups.StoreFault = inr (inr (inl refl))
+setup_final setups.NoMemory = inr (inr (inr refl))
+
+commit_final : (e : CommitEnd) → IsFinal (end_verdict (ends.Commit e))
+commit_final commits.Committed = inl refl
+commit_final (commits.Missing t) = inr (inl refl)
+commit_final (commits.SamePath p t u) = inr (inl refl)
+commit_final (commits.StoreFault s) = inr (inr (inl refl))
+commit_final commits.NoMemory = inr (inr (inr refl))
+
+end_final : (e : OpEnd) → IsFinal (end_verdict e)
+end_final (ends.Setup e) = setup_final e
+end_final (ends.Task e) = inr (inl refl)
+end_final (ends.Commit e) = commit_final e
+end_final (ends.Clean e) = inr (inl refl)
+end_final ends.NoMemory = inr (inr (inr refl))
+
+decided_final : (other : ℕ) (d : Decided) → IsFinal other → IsFinal (verdict_or other d)
+decided_final other NotBegun h = h
+decided_final other Unended h = inr (inl refl)
+decided_final other (EndedSo e) h = end_final e
+
+-- a verdict is 0, 1, 8 or 9
+pub verdict_final : (w : Script) (xs : List EventEnd) → IsFinal (verdict w xs)
+verdict_final w xs = decided_final (verdict_or 1 (past w xs).setup) (past w xs).commit (decided_final 1 (past w xs).setup (inr (inl refl)))

@@ -1,0 +1,140 @@
+-- What comes of a job: it was played, or it stopped before its first event.
+use Rattle.std.specs.Prelude.{◌≡◌, ◌≢◌, ◌⊎◌, ℕ, List, length, Option, Some, None, Err}
+use Rattle.s3_types.specs.Store.{Content}
+use Rattle.s3_types.specs.declared.journal.Entry.{Entry}
+use Rattle.s3_types.specs.declared.request.Committer.TheVariants.{Magic}
+use Rattle.job_model.specs.JobScript.{Script}
+use Rattle.job_model.specs.declared.ends.Pick.{Pick}
+use Rattle.job_model.specs.declared.ends.EventEnd.{EventEnd}
+use Rattle.job_promise.specs.Entries.{AreOwn}
+use Rattle.job_promise.specs.Promise.{Promised, Sent, Finished}
+use Rattle.job_promise.specs.States.{verdict}
+use Rattle.job_promise.specs.ReportText.{report_text}
+use Rattle.job_script.specs.Script.{script_of}
+use Rattle.job_script.specs.declared.fault.ScriptFault.{ScriptFault}
+use Rattle.job_script.specs.declared.fault.ScriptFault.TheVariants as faults
+use Rattle.shelf.specs.Logged.{Holding, Stored, fresh, IsDurable, LeavesOnly}
+use Rattle.store_image.specs.Image.{image}
+use Rattle.store_commands.specs.Stores.{found, fault_text}
+use Rattle.store_commands.specs.declared.held.Held.TheVariants.{Faulty}
+use Rattle.store_commands.specs.declared.held.ShelfStop.{ShelfStop}
+use Rattle.store_commands.specs.declared.held.ShelfStop.TheVariants as shelves
+use Rattle.kept_runs.specs.Changes.{changes}
+use Rattle.kept_runs.specs.Kept.{Holds, HoldsPart, IsKept}
+use Rattle.kept_runs.specs.Crashes.{SurvivesCrashes}
+use Rattle.kept_appends.specs.Appends.{AreCalled}
+use Rattle.kept_jobs.specs.Pace.{Stops}
+use Rattle.s3a_top.specs.Openings.{IsScript, IsSoundly, Opens}
+use Rattle.s3a_top.specs.Statuses.{IsIdle, code, usage_text, read_text, shelf_text, memory_text, not_built_text, script_fault_text}
+use Rattle.s3a_top.specs.declared.statuses.Status.{Status}
+use Rattle.s3a_top.specs.declared.statuses.Status.TheVariants as statuses
+use Rattle.s3a_top.specs.declared.stop.Stop.{Stop}
+use Rattle.s3a_top.specs.declared.stop.Stop.TheVariants.{Usage, ReadFault, ShelfFault, Script as BadScript, Image, NoMemory, NotBuilt}
+
+-- ---- it stopped before its first event
+
+abbrev pub status_of : Stop → Status
+status_of Usage = statuses.Usage
+status_of ReadFault = statuses.ReadFault
+status_of ShelfFault = statuses.ShelfFault
+status_of (BadScript e) = statuses.BadScript
+status_of (Image number place) = statuses.BadImage
+status_of NoMemory = statuses.NoMemory
+status_of NotBuilt = statuses.NotBuilt
+
+abbrev pub of_shelf : ShelfStop → Stop
+of_shelf shelves.Failed = ShelfFault
+of_shelf shelves.NoMemory = NoMemory
+
+abbrev pub stop_text : Stop → List ℕ
+stop_text Usage = usage_text
+stop_text ReadFault = read_text
+stop_text ShelfFault = shelf_text
+stop_text (BadScript e) = script_fault_text e
+stop_text (Image number place) = fault_text number place
+stop_text NoMemory = memory_text
+stop_text NotBuilt = not_built_text
+
+-- the shelf holds what is no store, with this fault, where it tells it
+abbrev pub IsFaulty : Option Stored → ℕ → ℕ → Type 0
+IsFaulty None number place = Unit {0}
+IsFaulty (Some s) number place = found s ≡ Faulty number place
+
+-- the input is no script, with this fault, where the source tells it
+abbrev pub IsNoScript : Option (List ℕ) → ScriptFault → Type 0
+IsNoScript None e = Unit {0}
+IsNoScript (Some bytes) e = script_of bytes ≡ Err e
+
+-- a job's stop has its cause: the shelf comes before the input, and that before the script
+abbrev pub HasCause : Stop → Option Stored → (left rest : Option (List ℕ)) → Type 0
+HasCause Usage told left rest = ⊥
+HasCause ReadFault told left rest = IsSoundly told
+HasCause ShelfFault told left rest = Unit {0}
+HasCause (BadScript e) told left rest = IsSoundly told × (IsNoScript left e × (e ≢ faults.NoMemory))
+HasCause (Image number place) told left rest = IsFaulty told number place × (rest ≡ left)
+HasCause NoMemory told left rest = Unit {0}
+HasCause NotBuilt told left rest = IsSoundly told × ((w : Script) × (IsScript left rest w × (w.committer ≢ Magic)))
+
+-- the shelf was called to load at most, and once more to take an image, which failed
+abbrev pub AreFew : {S : Type 0} → (answers fails : S → S → Type 0) → S → S → Type 0
+AreFew {S} answers fails old new = (old ≡ new) ⊎ (fails old new ⊎ ((mid : S) × (answers old mid × ((mid ≡ new) ⊎ fails mid new))))
+
+-- what a crash before a job's first event might have left: what one at the beginning may leave, or the image of the job's opening store
+abbrev pub MayHaveLeft : (at_first : Holding → Type 0) → Option Stored → (left rest : Option (List ℕ)) → Holding → Type 0
+MayHaveLeft at_first told left rest h = at_first h ⊎ ((w : Script) × ((c : Content) × (IsScript left rest w × (Opens told w c × (h ≡ fresh (image c))))))
+
+pub record JobStopped {S : Type 0} (held : S → Option Stored) (may_leave : S → Holding → Type 0) (answers fails : S → S → Type 0) (moment_of : S → ℕ) (left_since : S → ℕ → Holding → Type 0) (left rest : Option (List ℕ)) (old new : S)
+    (due : ℕ) (es : List Entry) (ps : List Pick) (xs : List EventEnd) (Says : List ℕ → Type 0) : Type 0 where
+  pub stop : Stop
+  pub status : due ≡ code (status_of stop)
+  pub cause : HasCause stop (held old) left rest
+  pub text : Says (stop_text stop)
+  -- nothing was sent, and the shelf holds what it held
+  pub idle : IsIdle es ps xs
+  pub same : held new ≡ held old
+  pub calls : AreFew answers fails old new
+  pub leaves : LeavesOnly moment_of left_since old new (MayHaveLeft (may_leave old) (held old) left rest)
+
+-- ---- it was played
+
+-- all events ended, all that was sent is kept, and the status is the verdict of the job's commit
+pub record JobEnded {S : Type 0} (held : S → Option Stored) (may_leave : S → Holding → Type 0) (answers : S → S → Type 0) (w : Script) (c : Content) (loaded new : S) (due : ℕ) (es : List Entry) (ps : List Pick) (xs : List EventEnd) (Says : List ℕ → Type 0) : Type 0 where
+  pub finished : Finished w c es ps xs
+  pub holds : Holds (held new) c (changes es)
+  pub durable : IsDurable (held new) (may_leave new)
+  -- the shelf was called to take the image, and once for each change
+  pub calls : AreCalled answers (changes es) loaded new
+  -- the report was written, unless its text found no memory
+  pub said : ((due ≡ verdict w xs) × Says (report_text due (length es) ps xs w)) ⊎ ((due ≡ 9) × Says memory_text)
+
+-- an append failed, or memory was wanting between two events
+pub record JobCut {S : Type 0} (held : S → Option Stored) (answers fails : S → S → Type 0) (c : Content) (loaded new : S) (due : ℕ) (es : List Entry) (Says : List ℕ → Type 0) : Type 0 where
+  pub holds : HoldsPart (held new) c es
+  pub calls : (mid : S) × (answers loaded mid × Stops answers fails (changes es) mid new)
+  pub said : ((due ≡ 5) × Says shelf_text) ⊎ ((due ≡ 9) × Says memory_text)
+
+-- Of a script over a store with this content, since the shelf was loaded: what was sent keeps all that is promised of the job.
+pub record JobRan {S : Type 0} (held : S → Option Stored) (may_leave : S → Holding → Type 0) (answers fails : S → S → Type 0) (w : Script) (c : Content) (loaded new : S)
+    (due : ℕ) (es : List Entry) (ps : List Pick) (xs : List EventEnd) (Says : List ℕ → Type 0) : Type 0 where
+  -- readers are shown what they may rely on at every moment, and each event, turn and operation is as the script says
+  pub promised : Promised w c es ps xs
+  -- each answer is the one that was due, and each sending has the fate that the script names
+  pub sent : Sent w c es
+  -- no stranger sent anything
+  pub own : AreOwn es
+  pub ended : JobEnded held may_leave answers w c loaded new due es ps xs Says ⊎ JobCut held answers fails c loaded new due es Says
+
+-- The headline. Of a job that was played: its script is the input's, the store that it opened with is the shelf's, and the promise holds of all that was sent.
+pub record JobPlayed {S : Type 0} (held : S → Option Stored) (may_leave : S → Holding → Type 0) (answers fails : S → S → Type 0) (moment_of : S → ℕ) (left_since : S → ℕ → Holding → Type 0) (left rest : Option (List ℕ)) (old new : S)
+    (due : ℕ) (es : List Entry) (ps : List Pick) (xs : List EventEnd) (Says : List ℕ → Type 0) : Type 0 where
+  pub script : Script
+  pub opening : Content
+  pub reads : IsScript left rest script
+  pub magic : script.committer ≡ Magic
+  pub opens : Opens (held old) script opening
+  pub loaded : S
+  pub load : answers old loaded
+  pub ran : JobRan held may_leave answers fails script opening loaded new due es ps xs Says
+  -- what the shelf keeps of it, and what crashes leave
+  pub kept : IsKept due (held new) opening es
+  pub survives : SurvivesCrashes due (held new) (may_leave old) (left_since new (moment_of old)) (may_leave new) opening es

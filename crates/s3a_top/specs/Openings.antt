@@ -1,0 +1,38 @@
+-- What a run begins with, by what the shelf held and what the input had left.
+use Rattle.std.specs.Prelude.{◌≡◌, ℕ, List, [], Option, Some, None, Ok}
+use Rattle.s3_types.specs.Store.{Content, new_content}
+use Rattle.s3_types.specs.Answer.{apply_store}
+use Rattle.s3_types.specs.declared.limits.TheConstants.{MOST_MINIMUM}
+use Rattle.s3_types.specs.declared.request.Request.TheVariants.{MakeBucket}
+use Rattle.job_model.specs.JobScript.{Script}
+use Rattle.job_script.specs.Script.{script_of}
+use Rattle.shelf.specs.Logged.{Stored}
+use Rattle.store_commands.specs.Stores.{found}
+use Rattle.store_commands.specs.declared.held.Held.{Held}
+use Rattle.store_commands.specs.declared.held.Held.TheVariants.{Nothing, Store, Faulty}
+
+-- the input was this script, and nothing of it is left, where the source tells it
+abbrev pub IsScript : (left rest : Option (List ℕ)) → Script → Type 0
+IsScript None rest w = rest ≡ None
+IsScript (Some bytes) rest w = (script_of bytes ≡ Ok w) × (rest ≡ Some [])
+
+-- the store that a job opens with: the one that is held, or a new one in which its destination's bucket was made
+abbrev pub opening_in : Held → Script → Option Content
+opening_in Nothing w = Some (apply_store (new_content MOST_MINIMUM) (MakeBucket w.dest.bucket))
+opening_in (Store c) w = Some c
+opening_in (Faulty number place) w = None
+
+-- the same by what the shelf holds, where it tells it
+abbrev pub Opens : Option Stored → Script → Content → Type 0
+Opens None w c = Unit {0}
+Opens (Some s) w c = opening_in (found s) w ≡ Some c
+
+-- the shelf holds a store, or nothing, where it tells it
+abbrev pub is_sound : Held → Type 0
+is_sound Nothing = Unit {0}
+is_sound (Store c) = Unit {0}
+is_sound (Faulty number place) = ⊥
+
+abbrev pub IsSoundly : Option Stored → Type 0
+IsSoundly None = Unit {0}
+IsSoundly (Some s) = is_sound (found s)

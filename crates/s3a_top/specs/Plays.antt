@@ -1,0 +1,102 @@
+-- What comes of a job since its shelf was loaded, by what was found.
+use Rattle.std.specs.Prelude.{◌≡◌, ◌≢◌, ◌⊎◌, ℕ, List, length, Option, Some, None, Result, Ok, Err}
+use Rattle.s3_types.specs.Store.{Content}
+use Rattle.s3_types.specs.declared.journal.Entry.{Entry}
+use Rattle.s3_types.specs.declared.request.Committer.TheVariants.{Magic}
+use Rattle.job_model.specs.JobScript.{Script}
+use Rattle.job_model.specs.declared.ends.Pick.{Pick}
+use Rattle.job_model.specs.declared.ends.EventEnd.{EventEnd}
+use Rattle.job_promise.specs.States.{verdict}
+use Rattle.job_promise.specs.ReportText.{report_text}
+use Rattle.job_script.specs.declared.fault.ScriptFault.TheVariants as faults
+use Rattle.job_world.specs.declared.played.Played.{Played}
+use Rattle.shelf.specs.Logged.{Holding, Stored, fresh, LeavesOnly}
+use Rattle.shelf.specs.declared.kept.AppendFault.{AppendFault}
+use Rattle.shelf.specs.declared.kept.AppendFault.TheVariants as appends
+use Rattle.store_image.specs.Image.{image}
+use Rattle.store_commands.specs.Stores.{found}
+use Rattle.store_commands.specs.declared.held.Held.{Held}
+use Rattle.store_commands.specs.declared.held.Held.TheVariants.{Faulty}
+use Rattle.kept_runs.specs.Kept.{IsMoment}
+use Rattle.kept_runs.specs.Crashes.{WhereTold}
+use Rattle.s3a_top.specs.Openings.{IsScript, opening_in, is_sound}
+use Rattle.s3a_top.specs.Statuses.{shelf_text, memory_text}
+use Rattle.s3a_top.specs.Jobs.{IsNoScript, JobRan}
+use Rattle.s3a_top.specs.declared.statuses.Status.{Status}
+use Rattle.s3a_top.specs.declared.statuses.Status.TheVariants as statuses
+use Rattle.s3a_top.specs.declared.stop.Stop.{Stop}
+use Rattle.s3a_top.specs.declared.stop.Stop.TheVariants.{Usage, ReadFault, ShelfFault, Script as BadScript, Image, NoMemory, NotBuilt}
+
+-- what was found is what is held, where it is told
+abbrev pub IsFound : Option Stored → Held → Type 0
+IsFound None before = Unit {0}
+IsFound (Some s) before = before ≡ found s
+
+-- ---- what is said of it
+
+-- the numbers of verdicts
+abbrev pub IsFinal : ℕ → Type 0
+IsFinal due = (due ≡ 0) ⊎ ((due ≡ 1) ⊎ ((due ≡ 8) ⊎ (due ≡ 9)))
+
+-- their statuses
+abbrev pub IsVerdict : Status → Type 0
+IsVerdict statuses.Done = Unit {0}
+IsVerdict statuses.Refused = Unit {0}
+IsVerdict statuses.StoreFault = Unit {0}
+IsVerdict statuses.NoMemory = Unit {0}
+IsVerdict _ = ⊥
+
+-- the status that is due comes of why it stopped
+abbrev pub IsOfStop : Option AppendFault → Status → Type 0
+IsOfStop None due = IsVerdict due
+IsOfStop (Some appends.Failed) due = due ≡ statuses.ShelfFault
+IsOfStop (Some appends.NoMemory) due = due ≡ statuses.NoMemory
+
+-- the report is said with the verdict, unless its text found no memory
+abbrev pub IsReported : Played → (due : ℕ) → List ℕ → Type 0
+IsReported p due text = ((due ≡ verdict p.script p.ends) × (text ≡ report_text due (length p.journal.entries) p.picks p.ends p.script)) ⊎ ((due ≡ 9) × (text ≡ memory_text))
+
+-- what is said, by why it stopped
+abbrev pub IsTold : Option AppendFault → Played → (due : ℕ) → List ℕ → Type 0
+IsTold None p due text = IsReported p due text
+IsTold (Some appends.Failed) p due text = (due ≡ 5) × (text ≡ shelf_text)
+IsTold (Some appends.NoMemory) p due text = (due ≡ 9) × (text ≡ memory_text)
+
+-- ---- it was played
+
+-- what a crash left: first what one before it might leave or the image of the opening content, and since some state a moment of the run
+abbrev pub Survived : {S : Type 0} → (held : S → Option Stored) (may_leave : S → Holding → Type 0) (moment_of : S → ℕ) (left_since : S → ℕ → Holding → Type 0) → Content → List Entry → S → S → Type 0
+Survived {S} held may_leave moment_of left_since c es old new = (mid : S)
+    × (LeavesOnly moment_of left_since old mid (λ h. may_leave old h ⊎ (h ≡ fresh (image c)))
+    × LeavesOnly moment_of left_since mid new (λ h. WhereTold (held new) (IsMoment c es h)))
+
+-- the input's script was played over what was found
+pub record JobOver {S : Type 0} (held : S → Option Stored) (may_leave : S → Holding → Type 0) (answers fails : S → S → Type 0) (moment_of : S → ℕ) (left_since : S → ℕ → Holding → Type 0) (before : Held) (left rest : Option (List ℕ)) (old new : S)
+    (due : ℕ) (es : List Entry) (ps : List Pick) (xs : List EventEnd) (Says : List ℕ → Type 0) : Type 0 where
+  pub script : Script
+  pub opening : Content
+  pub reads : IsScript left rest script
+  pub magic : script.committer ≡ Magic
+  pub opens : opening_in before script ≡ Some opening
+  pub ran : JobRan held may_leave answers fails script opening old new due es ps xs Says
+  pub survived : Survived held may_leave moment_of left_since opening es old new
+
+-- ---- it stopped before its first event
+
+-- a stop has its cause
+abbrev pub HasCauseIn : Stop → Held → (left rest : Option (List ℕ)) → Type 0
+HasCauseIn Usage before left rest = ⊥
+HasCauseIn ReadFault before left rest = is_sound before
+HasCauseIn ShelfFault before left rest = Unit {0}
+HasCauseIn (BadScript e) before left rest = is_sound before × (IsNoScript left e × (e ≢ faults.NoMemory))
+HasCauseIn (Image number place) before left rest = (before ≡ Faulty number place) × (rest ≡ left)
+HasCauseIn NoMemory before left rest = Unit {0}
+HasCauseIn NotBuilt before left rest = is_sound before × ((w : Script) × (IsScript left rest w × (w.committer ≢ Magic)))
+
+-- what a crash might have left: what one before it may leave, or the image of the job's opening store
+abbrev pub MayHaveLeftOver : (at_first : Holding → Type 0) → Held → (left rest : Option (List ℕ)) → Holding → Type 0
+MayHaveLeftOver at_first before left rest h = at_first h ⊎ ((w : Script) × ((c : Content) × (IsScript left rest w × ((opening_in before w ≡ Some c) × (h ≡ fresh (image c))))))
+
+-- the shelf was called once at most, and that failed
+abbrev pub HasFailed : {S : Type 0} → (fails : S → S → Type 0) → S → S → Type 0
+HasFailed fails old new = (old ≡ new) ⊎ fails old new

@@ -1,0 +1,267 @@
+ghost use Rattle.std.specs.Prelude.{◌≡◌, ◌⊎◌, ◌<◌, ◌^◌, ◌-◌, Some, IfOk, IfErr, OnOk, OnErr};
+ghost use Rattle.s3_types.specs.Answer.{apply_store};
+ghost use Rattle.s3_types.specs.declared.request.Committer.TheVariants.{Magic};
+ghost use Rattle.shelf.specs.Logged.{fresh, LeavesOnly};
+ghost use Rattle.store_image.specs.Image.{image};
+ghost use Rattle.job_promise.specs.States as states;
+ghost use Rattle.job_world.specs.Worlds.{MayBegin};
+ghost use Rattle.store_commands.specs.Outcomes.{IsSound};
+ghost use Rattle.s3a_top.specs.Openings.{opening_in};
+ghost use Rattle.s3a_top.specs.Statuses.{code, written_text, IsWorked};
+ghost use Rattle.s3a_top.specs.Jobs.{JobRan};
+ghost use Rattle.s3a_top.specs.Plays.{IsFinal, IsVerdict, IsOfStop, IsReported, IsTold, Survived, JobOver, HasCauseIn, MayHaveLeftOver, HasFailed};
+ghost use Rattle.s3a_top.specs.Workings.{CountsAs, IsOfShelf, IsWritten};
+
+use crate::script::read_job;
+use crate::statuses::Status;
+use crate::stop::Stop;
+use crate::work::Work;
+use job_actors::Act;
+use job_model::Script;
+use job_report::{Report, report_text};
+use job_world::Played;
+use kept_jobs::{Kept, play};
+use s3_service::Service;
+use s3_types::{Bytes, MOST_MINIMUM, Request, let_go};
+use shelf::Source;
+use shelf::kept::{AppendFault, Shelf};
+use std::alloc::{AllocError, Global};
+use store_commands::Held;
+
+/// Makes the destination's bucket in a store, whatever is answered.
+fn make_bucket(service: &mut Service, script: &Script) -> Result<(), AllocError>
+    requires { service.old.next < 2 ^ 63 }
+    ensures { OnOk result (service.new ≡ apply_store service.old (Request.MakeBucket script.now.dest.bucket)) }
+{
+    let request = Request::make_bucket(script.dest.bucket().as_text())?;
+    let answered = service.apply(&request);
+    let_go(request);
+    match answered {
+        Ok(reply) => {
+            let_go(reply);
+            Ok(())
+        }
+        Err(error) => Err(error),
+    }
+}
+
+/// A new store in which the destination's bucket was made.
+fn new_store(alloc: Global, script: &Script) -> Result<Service, AllocError>
+    ensures opening { IfOk result (λ service. opening_in Held.Nothing script.now ≡ Some service) }
+    ensures begins { IfOk result MayBegin }
+{
+    let mut service = Service::new(alloc, MOST_MINIMUM);
+    match make_bucket(&mut service, script) {
+        Ok(()) => Ok(service),
+        Err(error) => {
+            let_go(service);
+            Err(error)
+        }
+    }
+}
+
+/// The status that a verdict is: 0, 1, 8 or 9.
+fn status_of(verdict: u8) -> Status
+    requires { IsFinal verdict }
+    ensures which { IsVerdict result }
+    ensures code { code result ≡ verdict }
+{
+    match verdict {
+        0 => Status::Done,
+        8 => Status::StoreFault,
+        9 => Status::NoMemory,
+        _ => Status::Refused,
+    }
+}
+
+/// The report of a job that was played to its end, or want of memory.
+fn reported(alloc: Global, verdict: u8, played: Played) -> Work
+    requires { verdict ≡ states.verdict played.script played.ends }
+    ensures journal { result.journal ≡ played.journal }
+    ensures picks { result.picks ≡ played.picks }
+    ensures ends { result.ends ≡ played.ends }
+    ensures which { IsVerdict result.due }
+    ensures said { IsReported played (code result.due) (written_text result.due result.text) }
+{
+    let Played {
+        script,
+        service,
+        journal,
+        picks,
+        ends,
+    } = played;
+    let_go(service);
+    let report = Report {
+        status: verdict,
+        due: verdict,
+        journal,
+        picks,
+        ends,
+    };
+    let text = report_text(alloc, &report, &script);
+    let_go(script);
+    let (due, text) = match text {
+        Ok(text) => (status_of(verdict), Some(text)),
+        Err(_) => (Status::NoMemory, None),
+    };
+    Work {
+        due,
+        text,
+        journal: report.journal,
+        picks: report.picks,
+        ends: report.ends,
+    }
+}
+
+/// What was sent of a job that stopped between its events.
+fn cut(due: Status, played: Played) -> Work
+    ensures due { result.due ≡ due }
+    ensures text { result.text ≡ None }
+    ensures journal { result.journal ≡ played.journal }
+    ensures picks { result.picks ≡ played.picks }
+    ensures ends { result.ends ≡ played.ends }
+{
+    let Played {
+        script,
+        service,
+        journal,
+        picks,
+        ends,
+    } = played;
+    let_go(script);
+    let_go(service);
+    Work {
+        due,
+        text: None,
+        journal,
+        picks,
+        ends,
+    }
+}
+
+/// What is to be said of a job that was played.
+fn told(alloc: Global, kept: Kept) -> Work
+    requires { kept.verdict ≡ states.verdict kept.played.script kept.played.ends }
+    ensures journal { result.journal ≡ kept.played.journal }
+    ensures picks { result.picks ≡ kept.played.picks }
+    ensures ends { result.ends ≡ kept.played.ends }
+    ensures which { IsOfStop kept.stop result.due }
+    ensures said { IsTold kept.stop kept.played (code result.due) (written_text result.due result.text) }
+{
+    let Kept {
+        stop,
+        verdict,
+        played,
+    } = kept;
+    match stop {
+        None => reported(alloc, verdict, played),
+        Some(AppendFault::Failed) => cut(Status::ShelfFault, played),
+        Some(AppendFault::NoMemory) => cut(Status::NoMemory, played),
+    }
+}
+
+/// Plays a script over a store.
+fn play_script<F: Shelf>(
+    alloc: Global,
+    shelf: &mut F,
+    script: Script,
+    service: Service,
+) -> Result<Work, Stop>
+    requires magic { script.committer ≡ Magic }
+    requires store { MayBegin service }
+    requires count { F.faults shelf.old < 2 ^ 64 - 1 }
+    ensures ran { IfOk result (λ work. JobRan F.held F.may_leave F.answers F.fails script service shelf.old shelf.new (code work.due) work.journal.entries work.picks work.ends (IsWritten work)) }
+    ensures survived { IfOk result (λ work. Survived F.held F.may_leave F.moment F.left_since service work.journal.entries shelf.old shelf.new) }
+    ensures due { IfOk result (λ work. IsWorked work.due) }
+    ensures stop { IfErr result IsOfShelf }
+    ensures same { OnErr result (F.held shelf.new ≡ F.held shelf.old) }
+    ensures calls { OnErr result (HasFailed F.fails shelf.old shelf.new) }
+    ensures leaves { OnErr result (LeavesOnly F.moment F.left_since shelf.old shelf.new (λ h. F.may_leave shelf.old h ⊎ (h ≡ fresh (image service)))) }
+    ensures counted { CountsAs 5 result (F.faults shelf.old) (F.faults shelf.new) }
+{
+    match play::<Act, F>(alloc, shelf, script, service) {
+        Ok(kept) => Ok(told(alloc, kept)),
+        Err(AppendFault::Failed) => Err(Stop::ShelfFault),
+        Err(AppendFault::NoMemory) => Err(Stop::NoMemory),
+    }
+}
+
+/// Reads the script of a job and plays it over a new store.
+fn play_new<Q: Source, F: Shelf>(alloc: Global, input: &mut Q, shelf: &mut F) -> Result<Work, Stop>
+    requires source_count { Q.faults input.old < 2 ^ 64 - 1 }
+    requires shelf_count { F.faults shelf.old < 2 ^ 64 - 1 }
+    ensures played { IfOk result (λ work. JobOver F.held F.may_leave F.answers F.fails F.moment F.left_since Held.Nothing (Q.left input.old) (Q.left input.new) shelf.old shelf.new (code work.due) work.journal.entries work.picks work.ends (IsWritten work)) }
+    ensures due { IfOk result (λ work. IsWorked work.due) }
+    ensures stop { IfErr result (λ stop. HasCauseIn stop Held.Nothing (Q.left input.old) (Q.left input.new)) }
+    ensures same { OnErr result (F.held shelf.new ≡ F.held shelf.old) }
+    ensures calls { OnErr result (HasFailed F.fails shelf.old shelf.new) }
+    ensures leaves { OnErr result (LeavesOnly F.moment F.left_since shelf.old shelf.new (MayHaveLeftOver (F.may_leave shelf.old) Held.Nothing (Q.left input.old) (Q.left input.new))) }
+    ensures reads { CountsAs 3 result (Q.faults input.old) (Q.faults input.new) }
+    ensures counted { CountsAs 5 result (F.faults shelf.old) (F.faults shelf.new) }
+{
+    let script = match read_job(alloc, input) {
+        Ok(script) => script,
+        Err(stop) => return Err(stop),
+    };
+    match new_store(alloc, &script) {
+        Ok(service) => play_script(alloc, shelf, script, service),
+        Err(_) => {
+            let_go(script);
+            Err(Stop::NoMemory)
+        }
+    }
+}
+
+/// Reads the script of a job and plays it over the store that is held.
+fn play_over<Q: Source, F: Shelf>(
+    alloc: Global,
+    input: &mut Q,
+    shelf: &mut F,
+    service: Service,
+) -> Result<Work, Stop>
+    requires source_count { Q.faults input.old < 2 ^ 64 - 1 }
+    requires shelf_count { F.faults shelf.old < 2 ^ 64 - 1 }
+    requires store { MayBegin service }
+    ensures played { IfOk result (λ work. JobOver F.held F.may_leave F.answers F.fails F.moment F.left_since (Held.Store service) (Q.left input.old) (Q.left input.new) shelf.old shelf.new (code work.due) work.journal.entries work.picks work.ends (IsWritten work)) }
+    ensures due { IfOk result (λ work. IsWorked work.due) }
+    ensures stop { IfErr result (λ stop. HasCauseIn stop (Held.Store service) (Q.left input.old) (Q.left input.new)) }
+    ensures same { OnErr result (F.held shelf.new ≡ F.held shelf.old) }
+    ensures calls { OnErr result (HasFailed F.fails shelf.old shelf.new) }
+    ensures leaves { OnErr result (LeavesOnly F.moment F.left_since shelf.old shelf.new (MayHaveLeftOver (F.may_leave shelf.old) (Held.Store service) (Q.left input.old) (Q.left input.new))) }
+    ensures reads { CountsAs 3 result (Q.faults input.old) (Q.faults input.new) }
+    ensures counted { CountsAs 5 result (F.faults shelf.old) (F.faults shelf.new) }
+{
+    match read_job(alloc, input) {
+        Ok(script) => play_script(alloc, shelf, script, service),
+        Err(stop) => {
+            let_go(service);
+            Err(stop)
+        }
+    }
+}
+
+/// Reads the script of a job and plays it over what the shelf was found to hold.
+pub fn job<Q: Source, F: Shelf>(
+    alloc: Global,
+    input: &mut Q,
+    shelf: &mut F,
+    held: Held,
+) -> Result<Work, Stop>
+    requires source_count { Q.faults input.old < 2 ^ 64 - 1 }
+    requires shelf_count { F.faults shelf.old < 2 ^ 64 - 1 }
+    requires sound { IsSound held }
+    ensures played { IfOk result (λ work. JobOver F.held F.may_leave F.answers F.fails F.moment F.left_since held (Q.left input.old) (Q.left input.new) shelf.old shelf.new (code work.due) work.journal.entries work.picks work.ends (IsWritten work)) }
+    ensures due { IfOk result (λ work. IsWorked work.due) }
+    ensures stop { IfErr result (λ stop. HasCauseIn stop held (Q.left input.old) (Q.left input.new)) }
+    ensures same { OnErr result (F.held shelf.new ≡ F.held shelf.old) }
+    ensures calls { OnErr result (HasFailed F.fails shelf.old shelf.new) }
+    ensures leaves { OnErr result (LeavesOnly F.moment F.left_since shelf.old shelf.new (MayHaveLeftOver (F.may_leave shelf.old) held (Q.left input.old) (Q.left input.new))) }
+    ensures reads { CountsAs 3 result (Q.faults input.old) (Q.faults input.new) }
+    ensures counted { CountsAs 5 result (F.faults shelf.old) (F.faults shelf.new) }
+{
+    match held {
+        Held::Nothing => play_new(alloc, input, shelf),
+        Held::Store(service) => play_over(alloc, input, shelf, service),
+        Held::Faulty { number, place } => Err(Stop::Image { number, place }),
+    }
+}

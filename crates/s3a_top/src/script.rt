@@ -1,0 +1,56 @@
+ghost use Rattle.std.specs.Prelude.{◌≡◌, ◌≢◌, ◌<◌, ◌^◌, ◌-◌, Ok, IfOk, IfErr};
+ghost use Rattle.s3_types.specs.declared.request.Committer.TheVariants.{Magic};
+ghost use Rattle.s3a_top.specs.Openings.{IsScript};
+ghost use Rattle.job_script.specs.Script.{script_of};
+ghost use Rattle.s3a_top.specs.Reads.{IsReadStop, IsNone, CountsReads};
+
+use crate::input::{InputFault, read_input};
+use crate::stop::Stop;
+use job_model::Script;
+use job_script::{ScriptFault, read_script};
+use s3_types::{Committer, let_go};
+use shelf::Source;
+use std::alloc::Global;
+
+/// A script, where its committer is built.
+fn built(script: Script) -> Result<Script, Stop>
+    ensures same { IfOk result (λ built. built ≡ script) }
+    ensures magic { IfOk result (λ built. built.committer ≡ Magic) }
+    ensures stop { IfErr result (λ stop. (stop ≡ Stop.NotBuilt) × (script.committer ≢ Magic)) }
+{
+    match script.committer {
+        Committer::Magic => Ok(script),
+        _ => {
+            let_go(script);
+            Err(Stop::NotBuilt)
+        }
+    }
+}
+
+/// The script that these bytes are, where its committer is built.
+fn built_script(alloc: Global, bytes: &[u8]) -> Result<Script, Stop>
+    ensures script { IfOk result (λ script. script_of bytes.now ≡ Ok script) }
+    ensures magic { IfOk result (λ script. script.committer ≡ Magic) }
+    ensures stop { IfErr result (λ stop. IsNone stop bytes.now) }
+{
+    match read_script(alloc, bytes) {
+        Ok(script) => built(script),
+        Err(ScriptFault::NoMemory) => Err(Stop::NoMemory),
+        Err(fault) => Err(Stop::Script(fault)),
+    }
+}
+
+/// Reads the script of a magic job from the input, which is taken to its end, or to one byte over the limit.
+pub fn read_job<Q: Source>(alloc: Global, input: &mut Q) -> Result<Script, Stop>
+    requires { Q.faults input.old < 2 ^ 64 - 1 }
+    ensures script { IfOk result (λ script. IsScript (Q.left input.old) (Q.left input.new) script) }
+    ensures magic { IfOk result (λ script. script.committer ≡ Magic) }
+    ensures stop { IfErr result (λ stop. IsReadStop stop (Q.left input.old) (Q.left input.new)) }
+    ensures counted { CountsReads result (Q.faults input.old) (Q.faults input.new) }
+{
+    match read_input(alloc, input) {
+        Ok(bytes) => built_script(alloc, bytes.as_slice()),
+        Err(InputFault::Failed) => Err(Stop::ReadFault),
+        Err(InputFault::NoMemory) => Err(Stop::NoMemory),
+    }
+}
