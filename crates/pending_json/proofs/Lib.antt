@@ -6,6 +6,7 @@ pub mod Ordered
 pub mod Parsed
 pub mod Printed
 pub mod Relations
+pub mod Sent
 pub mod PartLengths
 pub mod RoundTrip
 pub mod Values

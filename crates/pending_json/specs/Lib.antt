@@ -5,3 +5,4 @@ pub mod Pending
 pub mod Reading
 pub mod Records
 pub mod Trees
+pub mod Sending

@@ -25,13 +25,13 @@ mod pending;
 mod pending_reading;
 mod printing;
 mod records;
+mod sending;
 mod set_reading;
 mod sizes;
 mod success_reading;
 mod table;
 mod tags;
 mod texts;
-mod trees;
 
 pub use fault::RecordFault;
 pub use pending::PendingUpload;

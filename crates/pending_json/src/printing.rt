@@ -1,20 +1,23 @@
-ghost use Rattle.std.specs.Prelude.{◌≡◌, IfOk, false};
-ghost use Rattle.serde_json.specs.View.{view};
-ghost use Rattle.serde_json.specs.Written.{compact_text, has_float};
+ghost use Rattle.std.specs.Prelude.{◌≡◌, Some, [], IfOk};
+ghost use Rattle.serde.specs.Event.{Log};
+ghost use Rattle.serde_json.specs.Sent.{IsTextOf};
+ghost use Rattle.serde_json.specs.Written.{compact_text};
 ghost use Rattle.pending_json.specs.Trees.{pending_tree, set_tree, success_tree};
 
 use crate::pending::PendingUpload;
 use crate::records::{PendingSet, SuccessMark};
-use crate::trees::{pending_value, set_value, success_value};
 use s3_types::Bytes;
-use serde_json::Value;
+use serde::Serialize;
 use std::alloc::{AllocError, Global};
 
-fn written(alloc: Global, value: &Value) -> Result<Bytes, AllocError>
-    requires { has_float (view value.now) ≡ false }
-    ensures { IfOk result (λ b. b ≡ compact_text (view value.now)) }
+/// The text of what a record sends.
+fn written<T: Serialize>(alloc: Global, value: &T) -> Result<Bytes, AllocError>
+    ensures { IfOk result (λ b. (log : Log) × T.writes value.now (Some []) log × IsTextOf log b) }
 {
-    Bytes::new(alloc, value.to_vec(alloc)?)
+    match serde_json::to_vec(alloc, value) {
+        Ok(text) => Bytes::new(alloc, text),
+        Err(_) => Err(AllocError),
+    }
 }
 
 impl PendingUpload {
@@ -22,8 +25,7 @@ impl PendingUpload {
     pub fn print(&self, alloc: Global) -> Result<Bytes, AllocError>
         ensures { IfOk result (λ b. b ≡ compact_text (pending_tree self.now)) }
     {
-        let value = pending_value(alloc, self)?;
-        written(alloc, &value)
+        written(alloc, self)
     }
 }
 
@@ -32,8 +34,7 @@ impl PendingSet {
     pub fn print(&self, alloc: Global) -> Result<Bytes, AllocError>
         ensures { IfOk result (λ b. b ≡ compact_text (set_tree self.now)) }
     {
-        let value = set_value(alloc, self)?;
-        written(alloc, &value)
+        written(alloc, self)
     }
 }
 
@@ -42,7 +43,6 @@ impl SuccessMark {
     pub fn print(&self, alloc: Global) -> Result<Bytes, AllocError>
         ensures { IfOk result (λ b. b ≡ compact_text (success_tree self.now)) }
     {
-        let value = success_value(alloc, self)?;
-        written(alloc, &value)
+        written(alloc, self)
     }
 }

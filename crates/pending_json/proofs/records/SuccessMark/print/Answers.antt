@@ -1,7 +1,6 @@
-use Rattle.std.proofs.Common.{ap, ◌∙◌}
-use Rattle.serde_json.specs.Written.{has_float}
-use Rattle.pending_json.proofs.Floats.{success_has_none}
+use Rattle.std.proofs.lemmas.Result.{IfOk-weaker}
+use Rattle.pending_json.proofs.Sent.{mark_written}
 use Rattle.pending_json.proofs.records.SuccessMark.print.Goals as goal
 
-pub written-requires : goal.written-requires
-written-requires c = ap has_float c.in_ok-value.ensures ∙ success_has_none c.args.self.now
+pub returns : goal.returns
+returns c = IfOk-weaker c.written.result _ _ (λ b sent. mark_written c.args.self.now sent.0 b sent.1 sent.2) c.written.ensures
