@@ -1,5 +1,6 @@
 ghost use Rattle.std.specs.Prelude.{◌≡◌, ℕ, List, ◌++◌, ◌∷◌, [], ◌<◌, ◌≤◌, ◌^◌, map, length, Some, IfOk, OnOk};
 ghost use Rattle.std.specs.BTreeMap.{get as found, Updates};
+ghost use Rattle.std.specs.Option.{unwrap_or};
 ghost use Rattle.proof_base.specs.Order.{text_cmp};
 ghost use Rattle.job_operations.specs.LaneTable.{In};
 ghost use Rattle.commit_parts.specs.Clashes.{Item, items_from, IsBest, is_better, clash_of, Finds};
@@ -35,26 +36,25 @@ fn is_better(key: &Key, best: &Option<Clash>) -> bool
     }
 }
 
-/// One more upload of a new key.
-fn add_owner(search: &mut Search, key: &Key, task: u32) -> Result<(), AllocError>
-    ensures owners { OnOk result (Updates text_cmp search.old.owners search.new.owners key.now (Some task)) }
-    ensures best { search.new.best ≡ search.old.best }
+/// The task that is the first to write a key, which is this one where none was before. In one look-up.
+fn owner_of(owners: &mut BTreeMap<Key, u32>, key: &Key, task: u32) -> Result<u32, AllocError>
+    ensures first { IfOk result (λ first. first ≡ unwrap_or (found text_cmp owners.old key.now) task) }
+    ensures owners { OnOk result (Updates text_cmp owners.old owners.new key.now (Some (unwrap_or (found text_cmp owners.old key.now) task))) }
 {
-    search.owners.insert(key.clone()?, task)?;
-    Ok(())
+    let first = *owners.entry(key.clone()?)?.or_insert(task);
+    Ok(first)
 }
 
 /// One more upload of a key that this task is the first to write.
-fn add_clash(search: &mut Search, key: &Key, first: u32, task: u32) -> Result<(), AllocError>
-    ensures owners { search.new.owners ≡ search.old.owners }
-    ensures best { OnOk result (search.new.best ≡ clash_of key.now first task search.old.best) }
+fn add_clash(best: &mut Option<Clash>, key: &Key, first: u32, task: u32) -> Result<(), AllocError>
+    ensures { OnOk result (best.new ≡ clash_of key.now first task best.old) }
 {
-    if first == task || !is_better(key, &search.best) {
+    if first == task || !is_better(key, best) {
         return Ok(());
     }
     let key = key.clone()?;
     put(
-        &mut search.best,
+        best,
         Some(Clash {
             key,
             first,
@@ -64,23 +64,12 @@ fn add_clash(search: &mut Search, key: &Key, first: u32, task: u32) -> Result<()
     Ok(())
 }
 
-fn owner_of(search: &Search, key: &Key) -> Option<u32>
-    ensures { result ≡ found text_cmp search.now.owners key.now }
-{
-    match search.owners.get(key) {
-        Some(owner) => Some(*owner),
-        None => None,
-    }
-}
-
 /// One more upload, of a task that is none before those of the uploads so far.
 fn add(search: &mut Search, key: &Key, task: u32) -> Result<(), AllocError>
     ensures { OnOk result ((items : List Item) → ((k : List ℕ) (v : ℕ) → In (k, v) items → v ≤ task) → Finds items (found text_cmp search.old.owners) search.old.best → Finds (items ++ (key.now, task) ∷ []) (found text_cmp search.new.owners) search.new.best) }
 {
-    match owner_of(search, key) {
-        None => add_owner(search, key, task),
-        Some(first) => add_clash(search, key, first, task),
-    }
+    let first = owner_of(&mut search.owners, key, task)?;
+    add_clash(&mut search.best, key, first, task)
 }
 
 /// The uploads of one more task.
