@@ -31,8 +31,8 @@ use Rattle.job_operations.specs.TaskCommits.{TaskCommit, attempt_prefix}
 use Rattle.job_operations.specs.TaskAborts as aborts
 use Rattle.job_operations.specs.TaskAborts.{TaskAbort}
 use Rattle.job_operations.specs.AtWork.{task_script, who_of}
-use Rattle.task_magic.specs.Committing.{commit_left_at, commit_left}
-use Rattle.task_magic.specs.Undoing.{after_left, abort_left_at, abort_left}
+use Rattle.task_laws.specs.Commits.{commit_left_at, commit_left}
+use Rattle.task_laws.specs.Aborts.{after_left, abort_left_at, abort_left}
 use Rattle.job_actors.specs.Falls.{as_times}
 use Rattle.job_actors.specs.Beside.{PutsNone, AttemptsStay}
 
@@ -103,9 +103,9 @@ sweep_stays b p (Deleting k ks) s r h = omega arith
 
 -- ---- an attempt's operations
 
-commit_stays : (w : Script) (a : Who) (c : TaskCommit) (s : Scene) (r : Request) → PutsNone (attempt_prefix w a) r → commit_left_at w a c (apply s r) ≤ commit_left_at w a c s
-commit_stays w a (commits.Looking keys) s r h = let i = walk_stays w.dest.bucket (attempt_prefix w a) keys s r h in omega (arith, i)
-commit_stays w a _ s r h = omega arith
+commit_stays : (w : Script) (minimum : ℕ) (a : Who) (c : TaskCommit) (s : Scene) (r : Request) → PutsNone (attempt_prefix w a) r → commit_left_at w minimum a c (apply s r) ≤ commit_left_at w minimum a c s
+commit_stays w minimum a (commits.Looking keys) s r h = let i = walk_stays w.dest.bucket (attempt_prefix w a) keys s r h in omega (arith, i)
+commit_stays w minimum a _ s r h = omega arith
 
 after_stays : (c : Committer) (w : Script) (a : Who) (s : Scene) (r : Request) → PutsNone (attempt_prefix w a) r → after_left c w a (apply s r) ≤ after_left c w a s
 after_stays Magic w a s r h = sweep_stays w.dest.bucket (attempt_prefix w a) sweep_start s r h
@@ -121,6 +121,6 @@ abort_stays w a (aborts.TaskAbortOver end) s r h = omega arith
 pub attempts_stay : AttemptsStay
 attempts_stay = record {
   writes = λ t s r. omega arith;
-  commits = λ t s r h. let i = as_times (commit_left t.machine (apply s r)) (commit_left t.machine s) t.retries (commit_stays (task_script t.machine.plan) (who_of t.machine.plan) t.machine.operation s r h) in omega (arith, i);
+  commits = λ t s r h. let i = as_times (commit_left t.machine (apply s r)) (commit_left t.machine s) t.retries (commit_stays (task_script t.machine.plan) t.machine.plan.minimum (who_of t.machine.plan) t.machine.operation s r h) in omega (arith, i);
   aborts = λ t s r h. let i = as_times (abort_left t.machine (apply s r)) (abort_left t.machine s) t.retries (abort_stays (task_script t.machine.plan) (who_of t.machine.plan) t.machine.operation s r h) in omega (arith, i);
 }

@@ -25,8 +25,8 @@ use Rattle.job_operations.specs.AtWork.{Attempting, Driving, Committing, job_of,
 use Rattle.job_promise.specs.Seen.{is_magic}
 use Rattle.request_frame.proofs.Members.{none_some}
 use Rattle.task_requests.specs.Writing.{write_fits}
-use Rattle.task_magic.specs.Committing.{commit_fits as task_commit_fits}
-use Rattle.task_magic.specs.Undoing.{abort_fits as task_abort_fits}
+use Rattle.task_laws.specs.Commits.{commit_fits as task_commit_fits}
+use Rattle.task_laws.specs.Aborts.{abort_fits as task_abort_fits}
 use Rattle.job_setup.specs.Fits.{FitsDriving as setup_fits}
 use Rattle.cleanup.specs.Fits.{FitsDriving as clean_fits}
 use Rattle.commit_laws.specs.Fitting.{FitsCommit}

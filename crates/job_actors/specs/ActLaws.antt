@@ -17,9 +17,9 @@ use Rattle.job_operations.specs.JobCommits as jobs
 use Rattle.job_operations.specs.Cleanups as cleans
 use Rattle.job_operations.specs.AtWork.{Attempting, Driving, Committing, setup_wants, write_wants, task_commit_wants, task_abort_wants, commit_wants, clean_wants}
 use Rattle.job_setup.proofs.Falling.{set_ups_end}
-use Rattle.task_magic.proofs.Falls.{write_falls}
-use Rattle.task_magic.proofs.CommitFalls.{commit_falls as task_commit_falls}
-use Rattle.task_magic.proofs.AbortFalls.{abort_falls as task_abort_falls}
+use Rattle.task_laws.proofs.WriteFalls.{write_falls}
+use Rattle.task_laws.proofs.CommitFalls.{commit_falls as task_commit_falls}
+use Rattle.task_laws.proofs.AbortFalls.{abort_falls as task_abort_falls}
 use Rattle.commit_laws.proofs.Falling.{commit_falls}
 use Rattle.cleanup.proofs.Falling.{cleans_end}
 use Rattle.acting.specs.Acts.{ActLaws}

@@ -17,8 +17,8 @@ use Rattle.job_operations.specs.JobCommits.{commit_over}
 use Rattle.job_operations.specs.Cleanups.{clean_over}
 use Rattle.job_operations.specs.AtWork.{setup_wants, setup_told, write_wants, write_told, task_commit_wants, task_commit_told, task_abort_wants, task_abort_told, commit_wants, commit_told, clean_wants, clean_told}
 use Rattle.task_requests.specs.Writing.{write_fits, write_left}
-use Rattle.task_magic.specs.Committing.{commit_fits as task_commit_fits, commit_left as task_commit_left}
-use Rattle.task_magic.specs.Undoing.{abort_fits as task_abort_fits, abort_left as task_abort_left}
+use Rattle.task_laws.specs.Commits.{commit_fits as task_commit_fits, commit_left as task_commit_left}
+use Rattle.task_laws.specs.Aborts.{abort_fits as task_abort_fits, abort_left as task_abort_left}
 use Rattle.job_setup.specs.Fits.{FitsDriving as setup_fits}
 use Rattle.job_setup.specs.Left.{setup_left}
 use Rattle.cleanup.specs.Fits.{FitsDriving as clean_fits}

@@ -33,9 +33,9 @@ use Rattle.job_operations.specs.AtWork.{write_wants, task_commit_wants, task_abo
 use Rattle.job_promise.specs.Seen.{is_magic}
 use Rattle.task_requests.specs.Writing.{is_new, FitsCreate, FitsPart, write_fits}
 use Rattle.task_requests.specs.Publishing.{IsPending, FitsRecord}
-use Rattle.task_magic.specs.Committing.{FitsListing, commit_fits}
-use Rattle.task_magic.specs.Undoing as undoing
-use Rattle.task_magic.specs.Undoing.{abort_fits}
+use Rattle.task_laws.specs.Commits.{FitsListing, commit_fits}
+use Rattle.task_laws.specs.Aborts as undoing
+use Rattle.task_laws.specs.Aborts.{abort_fits}
 use Rattle.job_facts.specs.Told.{Told, known}
 use Rattle.job_facts.specs.Facts.{AreCommits, Facts}
 use Rattle.job_facts.specs.Fits.{Begun, FitsWrite, FitsCommit}

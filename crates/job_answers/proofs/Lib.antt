@@ -4,7 +4,6 @@ pub mod Attempts
 pub mod Drivers
 pub mod Kept
 pub mod Committed
-pub mod Rising
 pub mod Telling
 pub mod Picking
 pub mod Planned

@@ -44,7 +44,7 @@ use Rattle.job_facts.specs.Driver.{IsHeldSet, Reads, FitsJobCommit}
 use Rattle.job_facts.proofs.Whose.{attempt}
 use Rattle.job_facts.proofs.JobCommitting.{one_more_set}
 use Rattle.job_facts.proofs.Replies.{set_answered}
-use Rattle.job_answers.proofs.Rising.{ordered_same}
+use Rattle.conflict.proofs.Rising.{ordered_same}
 use Rattle.job_answers.proofs.HeldSets.{path_back, uploads_of, are_read, same_read}
 
 -- ---- files of the same paths

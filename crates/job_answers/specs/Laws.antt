@@ -22,8 +22,9 @@ use Rattle.job_operations.specs.Operations.{Setting, Operation, TheSetup, TheWri
 use Rattle.job_operations.specs.AtWork.{job_of, task_of, task_script, who_of, learned, read_script, sets_in, sets_after, picked_after, write_wants, write_told, task_commit_wants, task_commit_told, task_abort_wants, task_abort_told, setup_wants, setup_told, clean_wants, clean_told, commit_wants, commit_told}
 use Rattle.job_promise.specs.Seen.{Seen, see, is_begun, is_magic}
 use Rattle.task_requests.specs.Writing.{write_fits}
-use Rattle.task_magic.specs.Committing.{commit_fits, known_if}
-use Rattle.task_magic.specs.Undoing.{abort_fits}
+use Rattle.task_laws.specs.Commits.{commit_fits}
+use Rattle.task_laws.specs.Aborts.{abort_fits}
+use Rattle.task_magic.specs.Committing.{known_if}
 use Rattle.job_setup.specs.Fits as setups
 use Rattle.cleanup.specs.Fits as cleans
 use Rattle.commit_laws.specs.Fitting as jobs

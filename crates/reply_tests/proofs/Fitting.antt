@@ -19,7 +19,7 @@ use Rattle.job_operations.specs.AtWork.{Driving, Attempting, setup_wants, clean_
 use Rattle.job_setup.specs.Fits as setups
 use Rattle.cleanup.specs.Fits as cleanups
 use Rattle.task_requests.specs.Writing.{is_new, write_fits}
-use Rattle.task_magic.specs.Undoing as undoing
+use Rattle.task_laws.specs.Aborts as undoing
 use Rattle.reply_tests.specs.Asked.{is_page, MayWrite}
 
 -- ---- a set-up and a clean

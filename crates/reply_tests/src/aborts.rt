@@ -1,5 +1,5 @@
 ghost use Rattle.std.specs.Prelude.{◌≡◌, Bool, true};
-ghost use Rattle.task_magic.specs.Undoing.{abort_fits};
+ghost use Rattle.task_laws.specs.Aborts.{abort_fits};
 
 use crate::pages::may_be_page;
 use crate::tested::Tests;

@@ -1,5 +1,5 @@
 ghost use Rattle.std.specs.Prelude.{◌≡◌, Bool, true, IfOk};
-ghost use Rattle.task_magic.specs.Committing.{commit_fits};
+ghost use Rattle.task_laws.specs.Commits.{commit_fits};
 
 use crate::tested::Tests;
 use s3_types::Reply;

@@ -28,7 +28,8 @@ use Rattle.job_operations.specs.Uploading.{Creating, Sending}
 use Rattle.job_operations.specs.TaskCommits.{TaskCommit, Looking, Reading, Publishing, Checking, Storing, Renaming, TaskCommitOver, task_commit_start_by, task_commit_asks, task_commit_hears, in_order, reading, looked, looked_at, least_missing, read_record}
 use Rattle.task_magic.specs.declared.committing.Committing.{Committing}
 use Rattle.task_requests.specs.Publishing.{picked, IsPending, AreReady, are_places, drawn_of, FitsRecord}
-use Rattle.task_magic.specs.Committing.{commit_by, commit_of, HoldsCommit, FitsCommit, record_of, is_no_key, publishes, known_if, with_sent, seen_in, least_unseen}
+use Rattle.task_magic.specs.Committing.{commit_by, commit_of, HoldsCommit, record_of, is_no_key, publishes, known_if, with_sent, seen_in, least_unseen}
+use Rattle.task_laws.specs.Commits.{FitsCommit}
 use Rattle.task_magic.proofs.Listed.{missing_is}
 
 -- ---- the file at a place

@@ -1,10 +1,6 @@
-pub mod Falls
 pub mod Whole
-pub mod AbortFalls
 pub mod Undone
-pub mod Broken
 pub mod Listed
 pub mod Committed
-pub mod CommitFalls
 pub mod Rising
 pub mod Taken

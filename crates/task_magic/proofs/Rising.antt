@@ -12,7 +12,7 @@ use Rattle.s3_types.specs.declared.reply.Reply.TheVariants.{Page}
 use Rattle.s3_types.specs.declared.reply.PageEntry.{PageEntry}
 use Rattle.job_operations.specs.Walks.{walked, walked_by, keys_on}
 use Rattle.sweep.specs.Fitting.{FitsPage}
-use Rattle.task_magic.specs.Committing.{FitsListing}
+use Rattle.task_laws.specs.Commits.{FitsListing}
 
 -- ---- one more key
 

@@ -7,7 +7,8 @@ use Rattle.job_model.specs.declared.ends.TaskEnd.{TaskEnd}
 use Rattle.job_operations.specs.AtWork.{task_script, who_of}
 use Rattle.job_operations.specs.TaskCommits.{reading}
 use Rattle.task_requests.specs.Publishing.{picked, FitsRecord}
-use Rattle.task_magic.specs.Committing.{commit_by, FitsListing, FitsCommit}
+use Rattle.task_laws.specs.Commits.{FitsListing, FitsCommit}
+use Rattle.task_magic.specs.Committing.{commit_by}
 use Rattle.task_magic.proofs.Committed.{at_file, past_files}
 
 -- a reply to a commit that stands so

@@ -1,28 +1,19 @@
 -- A commit of a magic attempt, by the keys listed, the places of the files that it commits, and how many records were read.
-use Rattle.std.specs.Prelude.{◌≡◌, ℕ, ◌+◌, nat_eq, Bool, true, false, List, [], ◌∷◌, ◌++◌, map, take, drop, length, slice_get, slice_set, codes, Option, Some, None}
+use Rattle.std.specs.Prelude.{◌≡◌, ℕ, nat_eq, Bool, true, false, List, [], ◌∷◌, ◌++◌, map, take, drop, length, slice_get, slice_set, codes, Option, Some, None}
 use Rattle.std.specs.List.{list_any}
 use Rattle.proof_base.specs.Order.{text_eq}
-use Rattle.s3_types.specs.Store.{Scene}
 use Rattle.s3_types.specs.declared.reply.Reply.{Reply}
-use Rattle.s3_types.specs.declared.reply.Reply.TheVariants.{Page, Refused}
+use Rattle.s3_types.specs.declared.reply.Reply.TheVariants.{Refused}
 use Rattle.s3_types.specs.declared.reply.Refusal.TheVariants.{NoSuchKey}
-use Rattle.request_frame.specs.Members.{RisesFrom}
 use Rattle.job_model.specs.Files.{File}
-use Rattle.job_model.specs.Attempts.{Who}
 use Rattle.job_model.specs.Known.{Known}
 use Rattle.job_model.specs.Jobs.{Task}
-use Rattle.job_model.specs.JobScript.{Script}
 use Rattle.job_model.specs.declared.ends.TaskEnd.{TaskEnd}
-use Rattle.job_operations.specs.AtWork.{Attempting, task_script, who_of, with_known}
-use Rattle.job_operations.specs.Outputs.{files}
+use Rattle.job_operations.specs.AtWork.{task_script, who_of, with_known}
 use Rattle.job_operations.specs.Records.{record_key}
-use Rattle.job_operations.specs.Walks.{keys_on}
-use Rattle.job_operations.specs.TaskCommits as commits
-use Rattle.job_operations.specs.TaskCommits.{TaskCommit, Looking, Reading, Publishing, Checking, Storing, Renaming, TaskCommitOver, attempt_prefix, least_of, reading}
-use Rattle.sweep.specs.Fitting.{FitsPage}
-use Rattle.sweep.specs.Left.{walk_left}
+use Rattle.job_operations.specs.TaskCommits.{TaskCommit, Looking, Publishing, TaskCommitOver, least_of, reading}
 use Rattle.task_magic.specs.declared.committing.Committing.{Committing}
-pub use Rattle.task_requests.specs.Publishing.{picked, drawn_of, IsPending, AreReady, are_places, FitsRecord, IsLastAt}
+use Rattle.task_requests.specs.Publishing.{picked, AreReady, are_places}
 
 -- ---- where it stands
 
@@ -44,38 +35,6 @@ pub record HoldsCommit (t : Task) (places : List ℕ) (at : ℕ) : Type 0 where
 
 abbrev pub Keeps : Task → Committing → Type 0
 Keeps t c = HoldsCommit t c.places c.at
-
--- ---- what fits, and what is left
-
--- a page of keys alone, which rise behind those so far; and the bucket is there
-abbrev pub FitsListing : List (List ℕ) → Reply → Type 0
-FitsListing keys (Page entries more) = FitsPage (Page entries more) × RisesFrom [] (keys ++ keys_on entries)
-FitsListing keys r = FitsPage r
-
--- of a magic attempt
-abbrev pub FitsCommit : Script → Who → Known → TaskCommit → Reply → Type 0
-FitsCommit w a k (Looking keys) r = FitsListing keys r
-FitsCommit w a k (Reading cs f fs) r = FitsRecord w a k f r
-FitsCommit w a k (Publishing cs) r = Unit {0}
-FitsCommit w a k (TaskCommitOver end) r = Unit {0}
-FitsCommit w a k _ r = ⊥
-
-abbrev pub commit_fits : Attempting TaskCommit → Reply → Bool → Type 0
-commit_fits m r repeated = FitsCommit (task_script m.plan) (who_of m.plan) m.plan.known m.operation r
-
--- the pages, a record of each file, and the set
-abbrev pub commit_left_at : Script → Who → TaskCommit → Scene → ℕ
-commit_left_at w a (Looking keys) s = walk_left w.dest.bucket (attempt_prefix w a) keys s + (1 + length (files w a))
-commit_left_at w a (Reading cs f fs) s = 2 + length fs
-commit_left_at w a (Publishing cs) s = 1
-commit_left_at w a (Checking d ds) s = 1
-commit_left_at w a (commits.Uploads f fs u) s = 1
-commit_left_at w a Storing s = 1
-commit_left_at w a Renaming s = 1
-commit_left_at w a (TaskCommitOver end) s = 0
-
-abbrev pub commit_left : Attempting TaskCommit → Scene → ℕ
-commit_left m s = commit_left_at (task_script m.plan) (who_of m.plan) m.operation s
 
 -- ---- replies and sendings
 

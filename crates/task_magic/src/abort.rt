@@ -2,8 +2,8 @@ ghost use Rattle.std.specs.Prelude.{◌≡◌, OnOk, OnErr};
 ghost use Rattle.s3_types.specs.declared.request.Committer.TheVariants.{Magic};
 ghost use Rattle.job_operations.specs.AtWork.{task_script, task_abort_wants, task_abort_told};
 ghost use Rattle.job_operations.specs.TaskAborts.{TaskAbortOver, task_abort_start, task_abort_over};
-ghost use Rattle.task_magic.specs.Undoing.{abort_fits, abort_left};
-ghost use Rattle.task_magic.specs.AbortLaws.{abort_standing, abort_laws};
+ghost use Rattle.task_laws.specs.Aborts.{abort_fits, abort_left};
+ghost use Rattle.task_laws.specs.AbortStands.{abort_standing, abort_laws};
 
 use crate::undoing::Undoing;
 use asking::{Asking, Asks, NextRequest};

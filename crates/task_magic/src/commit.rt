@@ -2,8 +2,8 @@ ghost use Rattle.std.specs.Prelude.{◌≡◌, Bool, Decides, IfOk, OnOk, OnErr}
 ghost use Rattle.s3_types.specs.declared.request.Committer.TheVariants.{Magic};
 ghost use Rattle.job_operations.specs.AtWork.{task_script, who_of, task_commit_wants, task_commit_told};
 ghost use Rattle.job_operations.specs.TaskCommits.{TaskCommitOver, task_commit_start, task_commit_over};
-ghost use Rattle.task_magic.specs.Committing.{commit_fits, commit_left};
-ghost use Rattle.task_magic.specs.CommitLaws.{commit_standing, commit_laws};
+ghost use Rattle.task_laws.specs.Commits.{commit_fits, commit_left};
+ghost use Rattle.task_laws.specs.CommitStands.{commit_standing, commit_laws};
 
 use crate::committing::Committing;
 use asking::{Asking, Asks, NextRequest};

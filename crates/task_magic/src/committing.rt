@@ -7,7 +7,8 @@ ghost use Rattle.job_operations.specs.AtWork.{task_script, who_of, task_commit_t
 ghost use Rattle.job_operations.specs.Walks.{page_after};
 ghost use Rattle.job_operations.specs.TaskCommits.{attempt_prefix, Looking, reading, task_commit_start, task_commit_asks, task_commit_hears};
 ghost use Rattle.task_requests.specs.Publishing.{picked};
-ghost use Rattle.task_magic.specs.Committing.{HoldsCommit, commit_of, Keeps, FitsCommit, record_of, is_no_key, publishes, with_sent};
+ghost use Rattle.task_laws.specs.Commits.{FitsCommit};
+ghost use Rattle.task_magic.specs.Committing.{HoldsCommit, commit_of, Keeps, record_of, is_no_key, publishes, with_sent};
 
 use crate::listing::{Listed, files_of_keys, missing, record_at};
 use crate::paging::fits_listing;

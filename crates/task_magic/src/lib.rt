@@ -5,7 +5,6 @@
 mod abort;
 mod commit;
 mod committing;
-mod laws;
 mod listing;
 mod paging;
 mod stepping;
@@ -14,6 +13,5 @@ mod write;
 
 pub use abort::AbortTask;
 pub use commit::{CommitTask, commit_takes};
-pub use laws::{aborts_end, commits_end, writes_end};
 pub use task_requests::WriteStage;
 pub use write::WriteFiles;

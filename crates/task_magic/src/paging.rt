@@ -2,7 +2,7 @@ ghost use Rattle.std.specs.Prelude.{◌≡◌, ◌++◌, [], Decides, MatchOptio
 ghost use Rattle.std.specs.Ordering.{is_lt};
 ghost use Rattle.proof_base.specs.Order.{text_cmp};
 ghost use Rattle.request_frame.specs.Members.{RisesFrom, last_from};
-ghost use Rattle.task_magic.specs.Committing.{FitsListing};
+ghost use Rattle.task_laws.specs.Commits.{FitsListing};
 
 use s3_types::{Key, Reply, Text};
 use std::alloc::{AllocError, Global};

@@ -4,13 +4,16 @@ ghost use Rattle.s3_types.specs.declared.reply.Refusal.TheVariants.{NoSuchUpload
 ghost use Rattle.s3_types.specs.Tags.{is_plain_tag};
 ghost use Rattle.sendings.specs.Retries.{Got};
 ghost use Rattle.job_operations.specs.AtWork.{write_wants, write_told};
-ghost use Rattle.task_requests.specs.Writing.{dir_of, is_new, Holds, IsWrite, seen_write, write_fits, upload_in, tag_in, ended_by};
+ghost use Rattle.task_requests.specs.Writing.{dir_of, is_new, Holds, IsWrite, seen_write, write_fits, ended_by};
 
 use job_model::{TaskEnd, TaskPlan};
 use path_keys::S3Path;
-use s3_types::{Reply, Request, Tag, let_go};
+use s3_types::{Reply, Request, Tag};
 use std::alloc::{AllocError, Global};
-use task_requests::{WriteStage, ask, ask_behind, ask_part, behind, file_at, target};
+use task_requests::{
+    WriteStage, ask, ask_behind, begin_upload, behind, file_at, note_part, tag_in, target,
+    upload_in,
+};
 
 /// Where a write stands after a step, with what it asks next.
 #[derive(Drop)]
@@ -19,24 +22,6 @@ pub struct Turned {
     pub stage: WriteStage,
     pub end: Option<TaskEnd>,
     pub asked: Option<Request>,
-}
-
-fn upload_in(reply: &Reply) -> Option<u64>
-    ensures { result ≡ upload_in reply.now }
-{
-    match reply {
-        Reply::Upload(upload) => Some(*upload),
-        _ => None,
-    }
-}
-
-fn tag_in(reply: &Reply) -> Option<Tag>
-    ensures { result ≡ tag_in reply.now }
-{
-    match reply {
-        Reply::Part(tag) => Some(*tag),
-        _ => None,
-    }
 }
 
 /// The end of a write that asks this. Takes no memory.
@@ -87,22 +72,14 @@ fn begin(
     ensures kept { IfOk result (λ x. IsWrite plan.new dir.now x.place x.stage x.end x.asked) }
     ensures err { OnErr result (plan.new ≡ plan.old) }
 {
-    let Some((path, bytes)) = file_at(plan, place) else {
-        unreachable!();
-    };
-    let key = target(alloc, plan, path)?;
-    let asked = ask_part(alloc, plan, path, bytes, upload, 0)?;
-    match plan.known.draw(alloc, key, upload) {
-        Ok(()) => Ok(Turned {
+    match begin_upload(alloc, plan, place, upload) {
+        Ok(asked) => Ok(Turned {
             place,
             stage: WriteStage::Sending(0),
             end: None,
             asked: Some(asked),
         }),
-        Err(error) => {
-            let_go(asked);
-            Err(error)
-        }
+        Err(error) => Err(error),
     }
 }
 
@@ -128,17 +105,14 @@ fn add_part(
     };
     let (stage, size) = behind(plan, bytes, sent);
     let asked = ask_behind(alloc, plan, dir, path, bytes, stage)?;
-    match plan.known.draw_part(tag, size) {
-        Ok(()) => Ok(Turned {
+    match note_part(plan, asked, tag, size) {
+        Ok(asked) => Ok(Turned {
             place,
             stage,
             end: None,
             asked: Some(asked),
         }),
-        Err(error) => {
-            let_go(asked);
-            Err(error)
-        }
+        Err(error) => Err(error),
     }
 }
 

@@ -1,17 +1,17 @@
 ghost use Rattle.std.specs.Prelude.{◌≡◌, IfOk, OnOk, Some};
-ghost use Rattle.s3_types.specs.declared.request.Request.TheVariants.{AbortUpload};
 ghost use Rattle.s3_types.specs.declared.request.Committer.TheVariants.{Magic};
 ghost use Rattle.job_operations.specs.AtWork.{task_script, who_of};
 ghost use Rattle.job_operations.specs.Walks.{sweep_asks};
 ghost use Rattle.job_operations.specs.TaskCommits.{attempt_prefix};
 ghost use Rattle.job_operations.specs.TaskAborts.{task_abort_start, task_abort_asks, task_abort_hears};
-ghost use Rattle.task_magic.specs.Undoing.{abort_of, kept_if, FitsAbort};
+ghost use Rattle.task_laws.specs.Aborts.{FitsAbort};
+ghost use Rattle.task_magic.specs.Undoing.{abort_of, kept_if};
 
-use job_model::{DrawnUpload, TaskEnd, TaskPlan};
-use s3_types::{Bucket, Reply, Request, put};
+use job_model::{TaskEnd, TaskPlan};
+use s3_types::{Reply, Request, put};
 use std::alloc::{AllocError, Global};
 use sweep::{AllKeys, Sweep};
-use task_requests::{bucket_of, made, prefix};
+use task_requests::{abort_request, bucket_of, made, prefix};
 
 /// An abort as it goes on: how many of the uploads are aborted, the sweep of the attempt's directory, and
 /// how it ended.
@@ -27,15 +27,6 @@ fn kept_if(sent: bool) -> Option<TaskEnd>
     ensures { result ≡ kept_if sent }
 {
     if sent { Some(TaskEnd::Kept) } else { None }
-}
-
-fn abort_request(bucket: &Bucket, drawn: &DrawnUpload) -> Result<Option<Request>, AllocError>
-    ensures { IfOk result (λ request. request ≡ Some (AbortUpload bucket.now drawn.now.key drawn.now.upload)) }
-{
-    match Request::abort_upload(bucket, &drawn.key, drawn.upload) {
-        Ok(request) => Ok(Some(request)),
-        Err(error) => Err(error),
-    }
 }
 
 /// The next request of the sweep of the attempt's directory.

@@ -4,7 +4,8 @@ ghost use Rattle.s3_types.specs.declared.request.Committer.TheVariants.{Magic};
 ghost use Rattle.job_operations.specs.AtWork.{task_script, who_of, write_wants, write_told};
 ghost use Rattle.job_operations.specs.Writes.{WriteOver, write_start, write_over};
 ghost use Rattle.task_requests.specs.Writing.{write_fits, write_left};
-ghost use Rattle.task_magic.specs.WriteLaws.{never_ready, write_standing, write_laws};
+ghost use Rattle.asking.specs.MachineLaws.{never};
+ghost use Rattle.task_laws.specs.Writes.{write_standing, write_laws};
 
 use crate::stepping::{Turned, advance, turn};
 use job_model::{TaskEnd, TaskPlan};
@@ -98,7 +99,7 @@ impl Machine for WriteFiles {
 
     ghost fits = { write_fits };
 
-    ghost ready = { never_ready };
+    ghost ready = { never };
 
     ghost left = { write_left };
 

@@ -1,5 +1,5 @@
 -- Where the upload of a key that was drawn last stands.
-use Rattle.std.proofs.Common.{◌≡◌, ℕ, zero, suc, ◌+◌, ◌<◌, ◌≤◌, Bool, true, false, cond, List, [], ◌∷◌, ◌++◌, map, length, length-take-le, take, reverse, get_or, slice_get, Option, Some, None, refl, sym, ap, subst, ◌∙◌, arith}
+use Rattle.std.proofs.Common.{◌≡◌, ℕ, zero, suc, ◌+◌, ◌<◌, ◌≤◌, Bool, true, false, cond, List, [], ◌∷◌, ◌++◌, length, length-take-le, take, reverse, get_or, slice_get, Option, Some, None, refl, sym, ap, subst, ◌∙◌, arith}
 use Rattle.std.proofs.lemmas.Bool.{true≢false}
 use Rattle.std.proofs.lemmas.List.{reverse-reverse, reverse-append, take_more, map-append}
 use Rattle.proof_base.specs.Order.{text_eq}
@@ -17,7 +17,7 @@ use Rattle.job_model.specs.JobScript.{Script}
 use Rattle.job_operations.specs.Knowledge.{as_made, drawn_in, nothing_drawn}
 use Rattle.job_operations.specs.Records.{file_key, file_record, set_text}
 use Rattle.job_operations.specs.TaskCommits.{Publishing, task_commit_asks}
-use Rattle.task_requests.specs.Publishing.{IsLastAt, IsPending, AreReady, picked, drawn_of}
+use Rattle.task_requests.specs.Publishing.{IsLastAt, IsPending, AreReady, picked, drawn_of, records_of}
 use Rattle.task_requests.proofs.InOrder.{made_reverse}
 
 get_end : (xs : List Drawn) (d : Drawn) → slice_get (xs ++ d ∷ []) (length xs) ≡ Some d
@@ -106,10 +106,6 @@ pub ready_at : (t : Task) (places : List ℕ) (i : ℕ) → i < length places �
 ready_at t [] i w h = absurd (omega arith)
 ready_at t (q ∷ places) zero w h = h.0
 ready_at t (q ∷ places) (suc i) w h = ready_at t places i (omega arith) h.1
-
--- the records of these files
-abbrev pub records_of : Task → List File → List Pending
-records_of t fs = map (λ f. file_record (task_script t) (who_of t) f (drawn_of (task_script t) t.known f)) fs
 
 pub records_with : (t : Task) (places : List ℕ) (i : ℕ) (list : List Pending) (p : Pending) → i < length places → list ≡ records_of t (picked t.files (take i places)) → (let g = get_or t.files (get_or places i 0) ([], []) in p ≡ file_record (task_script t) (who_of t) g (drawn_of (task_script t) t.known g))
     → list ++ p ∷ [] ≡ records_of t (picked t.files (take (i + 1) places))

@@ -1,7 +1,7 @@
 -- The steps of a write, by the parts that its machine keeps.
-use Rattle.std.proofs.Common.{◌≡◌, ℕ, zero, suc, ◌+◌, ◌<◌, ◌≤◌, nat_lt, nat_le, ◌==◌, Result, Ok, Err, Bool, true, false, cond, List, [], ◌∷◌, map, length, take, drop, slice_get, Option, Some, None, refl, sym, ap, subst, ◌∙◌, arith, length-take-le, length-drop}
+use Rattle.std.proofs.Common.{◌≡◌, ℕ, zero, suc, ◌+◌, ◌<◌, ◌≤◌, nat_lt, nat_le, ◌==◌, Result, Ok, Err, Bool, true, false, cond, List, [], ◌∷◌, map, length, take, drop, get_or, slice_get, Option, Some, None, refl, sym, ap, subst, ◌∙◌, arith, length-take-le, length-drop}
 use Rattle.std.proofs.lemmas.List.{take_all}
-use Rattle.std.proofs.lemmas.Option.{slice_get_within}
+use Rattle.std.proofs.lemmas.Option.{get_or_from_slice_get, slice_get_within}
 use Rattle.proof_base.proofs.Numbers.{below_is, below_not, below_so, at_most_so}
 use Rattle.std.specs.Prelude.{option_map, IfOk}
 use Rattle.std.specs.List.{list_all, sum}
@@ -27,9 +27,9 @@ use Rattle.job_operations.specs.Writes as writes
 use Rattle.job_operations.specs.Writes.{Write}
 use Rattle.task_requests.specs.declared.stage.WriteStage.{WriteStage}
 use Rattle.task_requests.specs.declared.stage.WriteStage.TheVariants as stage
-use Rattle.task_requests.specs.Writing.{at_parts, at_stage, seen_write, is_new, HasSent, HoldsAt, Holds, IsWrite, dir_of, IsBehind, next_stage, with_drawn, FitsCreate, FitsPart, write_fits, upload_in, tag_in, ended_by, part_behind, size_of, parts_in, asks_behind}
+use Rattle.task_requests.specs.Writing.{at_parts, at_stage, seen_write, is_new, HasSent, HoldsAt, Holds, IsWrite, dir_of, IsBehind, next_stage, with_drawn, with_tag, FitsCreate, FitsPart, write_fits, upload_in, tag_in, ended_by, part_behind, size_of, parts_in, asks_behind}
 use Rattle.s3_types.proofs.Blocks.{drop-parts, some_size, some_parts, few_parts, sum_parts}
-use Rattle.task_requests.proofs.Told.{seen_at, front_is, none_left, created, part_gone, part_sent, with_tag, has_more, take_next, marked, recorded}
+use Rattle.task_requests.proofs.Told.{seen_at, front_is, none_left, created, part_gone, part_sent, has_more, take_next, marked, recorded}
 
 -- ---- where nothing is to be shown
 
@@ -67,10 +67,10 @@ turned t dir place s None d h e = record { dir = d; asked = refl; holds = h; wit
 
 -- ---- what is asked behind a part
 
-take_length : {X : Type 0} (n : ℕ) (xs : List X) → n ≤ length xs → length (take n xs) ≡ n
+pub take_length : {X : Type 0} (n : ℕ) (xs : List X) → n ≤ length xs → length (take n xs) ≡ n
 take_length n xs h = length-take-le n xs h
 
-first_tags : (ds : List Drawn) (parts : List (List ℕ)) → HasSent ds parts → length (first_drawn ds).tags ≡ length parts
+pub first_tags : (ds : List Drawn) (parts : List (List ℕ)) → HasSent ds parts → length (first_drawn ds).tags ≡ length parts
 first_tags [] parts h = absurd h
 first_tags (d ∷ ds) parts h = h.1
 
@@ -210,6 +210,22 @@ pub begun_told_by : (t t' : Task) (place : ℕ) (f : File) (key : List ℕ) (id 
     → seen_write t' place (stage.Sending 0) None ≡ write_told (seen_write t place stage.Creating None) (Got (Upload id) b)
 begun_told_by t t' place f key id b e k s = ap (λ (x : Task). seen_write x place (stage.Sending 0) None) (e ∙ ap (λ l. with_known t (with_drawn t.known l id)) k) ∙ begun_told t place f id b (sym s)
 
+pub at_place : (fs : List File) (place : ℕ) → place < length fs → Some (get_or fs place ([], [])) ≡ slice_get fs place
+at_place [] place h = absurd (omega arith)
+at_place (f ∷ fs) zero h = refl
+at_place (f ∷ fs) (suc i) h = at_place fs i (omega arith)
+
+-- the file at a place
+pub file_is : (t : Task) (place : ℕ) (f : File) → Some f ≡ slice_get t.files place → f ≡ get_or t.files place ([], [])
+file_is t place f e = sym (get_or_from_slice_get t.files place f ([], []) (sym e))
+
+pub begun_asked : (t : Task) (place : ℕ) (f : File) (id : ℕ) (r : Request) → Some f ≡ slice_get t.files place → r ≡ UploadPart t.job.dest.bucket (file_key (task_script t) f) id 1 (part_behind t f.1 0)
+    → (let g = get_or t.files place ([], []) in r ≡ UploadPart t.job.dest.bucket (file_key (task_script t) g) id 1 (part_behind t g.1 0))
+begun_asked t place f id r e q = q ∙ ap (λ (g : File). UploadPart t.job.dest.bucket (file_key (task_script t) g) id 1 (part_behind t g.1 0)) (file_is t place f e)
+
+pub begun_drawn : (t t' : Task) (place : ℕ) (f : File) (key : List ℕ) (id : ℕ) → Some f ≡ slice_get t.files place → t' ≡ with_known t (with_drawn t.known key id) → key ≡ file_key (task_script t) f → t' ≡ with_known t (with_drawn t.known (file_key (task_script t) (get_or t.files place ([], []))) id)
+begun_drawn t t' place f key id e u k = u ∙ ap (λ l. with_known t (with_drawn t.known l id)) (k ∙ ap (file_key (task_script t)) (file_is t place f e))
+
 pub begun_kept_by : (t t' : Task) (dir : Path) (place : ℕ) (f : File) (key : List ℕ) (id : ℕ) (r : Request) → t' ≡ with_known t (with_drawn t.known key id) → key ≡ file_key (task_script t) f → Some f ≡ slice_get t.files place → dir ≡ dir_of t → is_new id t.known.drawn ≡ true
     → r ≡ UploadPart t.job.dest.bucket (file_key (task_script t) f) id 1 (part_behind t f.1 0) → IsWrite t' dir place (stage.Sending 0) None (Some r)
 begun_kept_by t t' dir place f key id r e k s d n q =
@@ -231,7 +247,7 @@ sent_kept_by t t' dir place n f tag size s r e z g q d h plain a =
     (subst (λ y. IsWrite (with_known t (with_tag t.known tag (length (part_behind t f.1 n)))) dir place y None (Some (asks_behind t f y))) (sym g)
     (sent_kept t dir place n f tag (sym q) d h plain)))
 
-some_drawn : (ds : List Drawn) (parts : List (List ℕ)) → HasSent ds parts → 0 < length ds
+pub some_drawn : (ds : List Drawn) (parts : List (List ℕ)) → HasSent ds parts → 0 < length ds
 some_drawn [] parts h = absurd h
 some_drawn (d ∷ ds) parts h = omega arith
 
@@ -281,7 +297,7 @@ nothing_asked t place s g (Some x) e n = absurd (n x refl)
 
 -- ---- the record of the upload that was drawn last
 
-first_is : (ds : List Drawn) (d : Drawn) → Some d ≡ slice_get ds 0 → (parts : List (List ℕ)) → HasSent ds parts → (first_drawn ds ≡ d) × ((length d.tags ≡ length parts) × (d.sizes ≡ map length parts) × (list_all is_plain_tag d.tags ≡ true))
+pub first_is : (ds : List Drawn) (d : Drawn) → Some d ≡ slice_get ds 0 → (parts : List (List ℕ)) → HasSent ds parts → (first_drawn ds ≡ d) × ((length d.tags ≡ length parts) × (d.sizes ≡ map length parts) × (list_all is_plain_tag d.tags ≡ true))
 first_is [] d e parts h = absurd h
 first_is (x ∷ ds) d e parts h = let same : x ≡ d = cc in (same, subst (λ (y : Drawn). (length y.tags ≡ length parts) × (y.sizes ≡ map length parts) × (list_all is_plain_tag y.tags ≡ true)) same (h.1, h.2, h.3))
 
@@ -331,11 +347,11 @@ fits_sending t place n f r b e h g =
 left_some : (fs : List File) (place : ℕ) → place < length fs → 0 < length (drop place fs)
 left_some fs place h = omega (arith, length-drop place fs)
 
-created_new : (ds : List Drawn) (r : Reply) (id : ℕ) → FitsCreate ds r → Some id ≡ upload_in r → is_new id ds ≡ true
+pub created_new : (ds : List Drawn) (r : Reply) (id : ℕ) → FitsCreate ds r → Some id ≡ upload_in r → is_new id ds ≡ true
 created_new ds (Upload n) id f e = let same : id ≡ n = cc in subst (λ m. is_new m ds ≡ true) (sym same) f
 created_new ds _ id f e = absurd f
 
-created_some : (ds : List Drawn) (r : Reply) → FitsCreate ds r → None ≡ upload_in r → ⊥
+pub created_some : (ds : List Drawn) (r : Reply) → FitsCreate ds r → None ≡ upload_in r → ⊥
 created_some ds (Upload n) f e = absurd (cc)
 created_some ds _ f e = f
 
@@ -345,12 +361,12 @@ upload_new t place s r b id i h f e = created_new t.known.drawn r id (fits_creat
 pub upload_some : (t : Task) (place : ℕ) (s : WriteStage) (r : Reply) (b : Bool) → s ≡ stage.Creating → place < length t.files → write_fits (seen_write t place s None) r b → None ≡ upload_in r → ⊥
 upload_some t place s r b i h f e = created_some t.known.drawn r (fits_creating t (drop place t.files) r b (left_some t.files place h) (subst (λ z. write_fits (seen_write t place z None) r b) i f)) e
 
-tag_plain : (r : Reply) (tag : Spelled) → FitsPart r → Some tag ≡ tag_in r → is_plain_tag tag ≡ true
+pub tag_plain : (r : Reply) (tag : Spelled) → FitsPart r → Some tag ≡ tag_in r → is_plain_tag tag ≡ true
 tag_plain (Part x) tag f e = let same : tag ≡ x = cc in subst (λ y. is_plain_tag y ≡ true) (sym same) f
 tag_plain (Refused NoSuchUpload) tag f e = absurd (cc)
 tag_plain _ tag f e = absurd f
 
-tag_none : (r : Reply) → FitsPart r → None ≡ tag_in r → r ≡ Refused NoSuchUpload
+pub tag_none : (r : Reply) → FitsPart r → None ≡ tag_in r → r ≡ Refused NoSuchUpload
 tag_none (Part x) f e = absurd (cc)
 tag_none (Refused NoSuchUpload) f e = refl
 tag_none _ f e = absurd f

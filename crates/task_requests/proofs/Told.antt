@@ -35,7 +35,7 @@ use Rattle.job_operations.specs.Writes as writes
 use Rattle.job_operations.specs.Writes.{Write, uploaded, writing}
 use Rattle.task_requests.specs.declared.stage.WriteStage.{WriteStage}
 use Rattle.task_requests.specs.declared.stage.WriteStage.TheVariants as stage
-use Rattle.task_requests.specs.Writing.{at_parts, at_stage, is_new, HasSent, next_stage, with_drawn}
+use Rattle.task_requests.specs.Writing.{at_parts, at_stage, is_new, HasSent, next_stage, with_drawn, with_tag}
 
 -- a write whose files from here on are to be written
 abbrev pub seen_at : Task → List File → WriteStage → Attempting Write
@@ -131,7 +131,7 @@ learn_first : (tag : Spelled) (size : ℕ) (d : Drawn) (ds : List Drawn) → is_
 learn_first tag size d ds h = ap (λ (b : Bool). cond b (record { key = d.key; upload = d.upload; tags = d.tags ++ tag ∷ []; sizes = d.sizes ++ size ∷ [] }) d ∷ map (with_part d.upload tag size) ds) (self_eq d.upload)
     ∙ ap (λ (l : List Drawn). record { key = d.key; upload = d.upload; tags = d.tags ++ tag ∷ []; sizes = d.sizes ++ size ∷ [] } ∷ l) (learn_others d.upload tag size ds h)
 
-learn_last : (tag : Spelled) (size : ℕ) (ds : List Drawn) (parts : List (List ℕ)) → HasSent ds parts → map (with_part (first_drawn ds).upload tag size) ds ≡ with_last tag size ds
+pub learn_last : (tag : Spelled) (size : ℕ) (ds : List Drawn) (parts : List (List ℕ)) → HasSent ds parts → map (with_part (first_drawn ds).upload tag size) ds ≡ with_last tag size ds
 learn_last tag size [] parts h = absurd h
 learn_last tag size (d ∷ ds) parts h = learn_first tag size d ds h.0
 
@@ -141,10 +141,6 @@ next_by w minimum f fs n false e = sym (ap (at_parts f fs) (drop_all (n + 1) (fi
 
 pub at_next : (w : Script) (minimum : ℕ) (f : File) (fs : List File) (n : ℕ) → at_stage w minimum (next_stage n (length (file_parts w minimum f))) (f ∷ fs) ≡ at_parts f fs (drop (n + 1) (file_parts w minimum f))
 at_next w minimum f fs n = next_by w minimum f fs n (nat_lt (n + 1) (length (file_parts w minimum f))) refl
-
--- one more part came back
-abbrev pub with_tag : Known → Spelled → ℕ → Known
-with_tag k tag size = record { drawn = with_last tag size k.drawn; put_sent = k.put_sent; publish_sent = k.publish_sent }
 
 pub part_sent : (t : Task) (f : File) (fs : List File) (n : ℕ) (p : List ℕ) (tag : Spelled) (b : Bool) (parts : List (List ℕ)) → drop n (file_parts (task_script t) t.minimum f) ≡ p ∷ drop (n + 1) (file_parts (task_script t) t.minimum f) → HasSent t.known.drawn parts
     → write_told (seen_at t (f ∷ fs) (stage.Sending n)) (Got (Part tag) b) ≡ seen_at (with_known t (with_tag t.known tag (length p))) (f ∷ fs) (next_stage n (length (file_parts (task_script t) t.minimum f)))

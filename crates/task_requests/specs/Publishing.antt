@@ -4,15 +4,15 @@ use Rattle.std.specs.List.{list_all, AllByRecursion}
 use Rattle.s3_types.specs.declared.reply.Reply.{Reply}
 use Rattle.s3_types.specs.declared.reply.Reply.TheVariants.{Object, Refused}
 use Rattle.s3_types.specs.declared.reply.Refusal.TheVariants.{NoSuchKey}
-use Rattle.pending_json.specs.Pending.{are_tags, are_sizes}
+use Rattle.pending_json.specs.Pending.{Pending, are_tags, are_sizes}
 use Rattle.job_model.specs.Files.{File}
 use Rattle.job_model.specs.Attempts.{Who}
 use Rattle.job_model.specs.Known.{Drawn, Known}
 use Rattle.job_model.specs.Jobs.{Task}
 use Rattle.job_model.specs.JobScript.{Script}
-use Rattle.job_operations.specs.AtWork.{task_script}
+use Rattle.job_operations.specs.AtWork.{task_script, who_of}
 use Rattle.job_operations.specs.Knowledge.{nothing_drawn, drawn_in, drawn_for}
-use Rattle.job_operations.specs.Records.{file_key, record_text}
+use Rattle.job_operations.specs.Records.{file_key, file_record, record_text}
 
 -- the files at these places
 abbrev pub picked : List File → List ℕ → List File
@@ -29,6 +29,10 @@ IsPending d length = (are_tags d.tags ≡ true) × (are_sizes (Some d.sizes) d.t
 -- what is known of the upload of each of these files is a record
 abbrev pub AreReady : Task → List File → Type 0
 AreReady t fs = AllByRecursion (λ f. IsPending (drawn_of (task_script t) t.known f) (length f.1)) fs
+
+-- the records of these files
+abbrev pub records_of : Task → List File → List Pending
+records_of t fs = map (λ f. file_record (task_script t) (who_of t) f (drawn_of (task_script t) t.known f)) fs
 
 -- these are places among so many
 abbrev pub are_places : ℕ → List ℕ → Bool

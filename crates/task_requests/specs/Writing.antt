@@ -1,5 +1,5 @@
 -- A write of a magic attempt's files, by how many files are whole and how far the next has come.
-use Rattle.std.specs.Prelude.{◌≡◌, ℕ, ◌+◌, ◌*◌, ◌<◌, ◌≤◌, not, nat_eq, nat_lt, cond, Bool, true, List, [], ◌∷◌, length, map, take, drop, Option, Some, None}
+use Rattle.std.specs.Prelude.{◌≡◌, ℕ, ◌+◌, ◌*◌, ◌<◌, ◌≤◌, not, nat_eq, nat_lt, cond, Bool, true, List, [], ◌∷◌, ◌++◌, length, map, take, drop, Option, Some, None}
 use Rattle.std.specs.List.{list_all}
 use Rattle.s3_types.specs.Store.{Scene}
 use Rattle.s3_types.specs.Tags.{Spelled, is_plain_tag}
@@ -14,7 +14,7 @@ use Rattle.job_model.specs.Plans.{IsJob, IsTask, IsPlaced}
 use Rattle.magic_paths.specs.Layout as layout
 use Rattle.job_model.specs.Files.{File}
 use Rattle.job_model.specs.Jobs.{Task}
-use Rattle.job_model.specs.Known.{Drawn, Known}
+use Rattle.job_model.specs.Known.{Drawn, Known, with_last}
 use Rattle.job_model.specs.JobScript.{Script}
 use Rattle.job_model.specs.declared.ends.TaskEnd.{TaskEnd}
 use Rattle.job_model.specs.declared.ends.TaskEnd.TheVariants as ends
@@ -69,6 +69,14 @@ with_drawn k key id = record { drawn = record { key = key; upload = id; tags = [
 abbrev pub HasSent : List Drawn → List (List ℕ) → Type 0
 HasSent [] parts = ⊥
 HasSent (d ∷ ds) parts = (is_new d.upload ds ≡ true) × (length d.tags ≡ length parts) × (d.sizes ≡ map length parts) × (list_all is_plain_tag d.tags ≡ true)
+
+-- an upload with one more part
+abbrev pub one_more : Spelled → ℕ → Drawn → Drawn
+one_more tag size d = record { key = d.key; upload = d.upload; tags = d.tags ++ tag ∷ []; sizes = d.sizes ++ size ∷ [] }
+
+-- one more part of it came back
+abbrev pub with_tag : Known → Spelled → ℕ → Known
+with_tag k tag size = record { drawn = with_last tag size k.drawn; put_sent = k.put_sent; publish_sent = k.publish_sent }
 
 abbrev pub HoldsAt : Script → ℕ → Known → WriteStage → List File → Type 0
 HoldsAt w minimum k s [] = Unit {0}

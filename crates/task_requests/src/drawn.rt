@@ -1,8 +1,8 @@
-ghost use Rattle.std.specs.Prelude.{◌≡◌, IfOk, slice_get};
+ghost use Rattle.std.specs.Prelude.{◌≡◌, ◌++◌, ◌∷◌, [], IfOk, slice_get};
 ghost use Rattle.std.specs.Option.{option_copied};
 ghost use Rattle.job_operations.specs.Knowledge.{as_made};
 
-use job_model::{DrawnUpload, Knowledge};
+use job_model::{DrawnPart, DrawnUpload, Knowledge};
 use s3_types::{Sequence, SizeList, TagList};
 use std::alloc::{AllocError, Global};
 
@@ -48,5 +48,31 @@ pub fn sizes_of(alloc: Global, drawn: &DrawnUpload) -> Result<SizeList, AllocErr
     for part in parts {
         sizes.push(part.size)?;
     }
+    Ok(sizes)
+}
+
+/// The same, with one more part behind them.
+pub fn tags_with(
+    alloc: Global,
+    drawn: &DrawnUpload,
+    part: &DrawnPart,
+) -> Result<TagList, AllocError>
+    ensures { IfOk result (λ tags. tags ≡ drawn.now.tags ++ part.now.tag ∷ []) }
+{
+    let mut tags = tags_of(alloc, drawn)?;
+    tags.push(part.tag)?;
+    Ok(tags)
+}
+
+/// The same, with one more part behind them.
+pub fn sizes_with(
+    alloc: Global,
+    drawn: &DrawnUpload,
+    part: &DrawnPart,
+) -> Result<SizeList, AllocError>
+    ensures { IfOk result (λ sizes. sizes ≡ drawn.now.sizes ++ part.now.size ∷ []) }
+{
+    let mut sizes = sizes_of(alloc, drawn)?;
+    sizes.push(part.size)?;
     Ok(sizes)
 }

@@ -1,5 +1,6 @@
-//! What a magic committer's attempt sends to write its files and to publish them, made from its plan: the
-//! uploads' parts, the markers, the records and the task's set. (Hadoop, S3A committer architecture.)
+//! What an attempt sends to upload its files and to publish them, made from its plan: the uploads and their
+//! parts, the records and the task's set, and of the magic committer the markers. (Hadoop, S3A committer
+//! architecture.)
 #![tactic(auto)]
 
 mod cutting;
@@ -9,10 +10,12 @@ mod publishing;
 mod records;
 mod requests;
 mod stage;
+mod uploads;
 
-pub use drawn::made;
-pub use names::{bucket_of, directory, file_at, prefix, record, target};
+pub use drawn::{last_drawn, made};
+pub use names::{bucket_of, directory, file_at, job_of, prefix, record, target};
 pub use publishing::publish_request;
 pub use records::{fits_record, is_plain};
-pub use requests::{ask, ask_behind, ask_part, behind};
+pub use requests::{abort_request, ask, ask_behind, ask_next, ask_upload, behind, pending_with};
 pub use stage::WriteStage;
+pub use uploads::{begin_upload, note_part, tag_in, upload_in};

@@ -1,4 +1,4 @@
-ghost use Rattle.std.specs.Prelude.{◌≡◌, ℕ, ◌+◌, ◌<◌, ◌≤◌, [], length, true, IfOk, Some, None};
+ghost use Rattle.std.specs.Prelude.{◌≡◌, ℕ, ◌+◌, ◌<◌, ◌≤◌, ◌++◌, ◌∷◌, [], length, true, IfOk, Some, None};
 ghost use Rattle.s3_types.specs.declared.limits.TheConstants.{MOST_SCRIPT_BYTES};
 ghost use Rattle.path_keys.specs.Paths.{below};
 ghost use Rattle.pending_json.specs.Pending.{are_tags, are_sizes};
@@ -6,16 +6,16 @@ ghost use Rattle.job_model.specs.Plans.{IsTask};
 ghost use Rattle.job_operations.specs.AtWork.{task_script, who_of, write_wants};
 ghost use Rattle.job_operations.specs.Knowledge.{drawn_last};
 ghost use Rattle.job_operations.specs.Records.{file_record, marker_key, record_key, record_text};
-ghost use Rattle.task_requests.specs.Writing.{dir_of, IsNamed, IsFile, HasSent, Holds, IsBehind, asks_behind, part_behind, parts_in, size_of, count_of, next_stage, seen_write};
+ghost use Rattle.task_requests.specs.Writing.{dir_of, IsNamed, IsFile, HasSent, Holds, IsBehind, asks_behind, one_more, part_behind, parts_in, size_of, count_of, next_stage, seen_write};
 
 use crate::cutting::{part, part_count, part_length, part_size};
-use crate::drawn::{last_drawn, sizes_of, tags_of};
+use crate::drawn::{last_drawn, sizes_of, sizes_with, tags_of, tags_with};
 use crate::names::{bucket_of, file_at, marker, record, target};
 use crate::stage::WriteStage;
-use job_model::{DrawnUpload, TaskPlan};
+use job_model::{DrawnPart, DrawnUpload, TaskPlan};
 use path_keys::S3Path;
 use pending_json::PendingUpload;
-use s3_types::{Bytes, LengthHeader, Request, Text};
+use s3_types::{Bucket, Bytes, LengthHeader, Request, SizeList, TagList, Text};
 use std::alloc::{AllocError, Global};
 
 /// The size in bytes of the parts of a file. Takes no memory.
@@ -36,6 +36,36 @@ fn count_of(plan: &TaskPlan, bytes: &Bytes) -> u64
     part_count(bytes.as_slice().len() as u64, size)
 }
 
+/// The record of a file's upload with these tags and sizes of its parts.
+fn made_record(
+    alloc: Global,
+    plan: &TaskPlan,
+    path: &Text,
+    bytes: &Bytes,
+    upload: u64,
+    tags: TagList,
+    sizes: SizeList,
+) -> Result<PendingUpload, AllocError>
+    requires file { IsFile plan.now (path.now, bytes.now) }
+    requires tags { are_tags tags ≡ true }
+    requires sizes { are_sizes (Some sizes) tags (length bytes.now) ≡ true }
+    ensures { IfOk result (λ p. p ≡ file_record (task_script plan.now) (who_of plan.now) (path.now, bytes.now) (record { key = []; upload = upload; tags = tags; sizes = sizes })) }
+{
+    let destination = target(alloc, plan, path)?;
+    let bucket = bucket_of(plan).clone()?;
+    let length = bytes.as_slice().len() as u64;
+    Ok(PendingUpload::new(
+        plan.task,
+        plan.attempt,
+        bucket,
+        destination,
+        upload,
+        length,
+        tags,
+        Some(sizes),
+    ))
+}
+
 /// The record of a file whose parts have all come back.
 pub fn pending(
     alloc: Global,
@@ -51,22 +81,40 @@ pub fn pending(
 {
     let tags = tags_of(alloc, drawn)?;
     let sizes = sizes_of(alloc, drawn)?;
-    let destination = target(alloc, plan, path)?;
-    let bucket = bucket_of(plan).clone()?;
-    let length = bytes.as_slice().len() as u64;
-    Ok(PendingUpload::new(
-        plan.task,
-        plan.attempt,
-        bucket,
-        destination,
-        drawn.upload,
-        length,
-        tags,
-        Some(sizes),
-    ))
+    made_record(alloc, plan, path, bytes, drawn.upload, tags, sizes)
 }
 
-fn ask_upload(alloc: Global, plan: &TaskPlan, path: &Text) -> Result<Request, AllocError>
+/// The record of a file of whose upload one more part has come back, the last one.
+pub fn pending_with(
+    alloc: Global,
+    plan: &TaskPlan,
+    path: &Text,
+    bytes: &Bytes,
+    drawn: &DrawnUpload,
+    part: &DrawnPart,
+) -> Result<PendingUpload, AllocError>
+    requires file { IsFile plan.now (path.now, bytes.now) }
+    requires tags { are_tags (drawn.now.tags ++ part.now.tag ∷ []) ≡ true }
+    requires sizes { are_sizes (Some (drawn.now.sizes ++ part.now.size ∷ [])) (drawn.now.tags ++ part.now.tag ∷ []) (length bytes.now) ≡ true }
+    ensures { IfOk result (λ p. p ≡ file_record (task_script plan.now) (who_of plan.now) (path.now, bytes.now) (one_more part.now.tag part.now.size drawn.now)) }
+{
+    let tags = tags_with(alloc, drawn, part)?;
+    let sizes = sizes_with(alloc, drawn, part)?;
+    made_record(alloc, plan, path, bytes, drawn.upload, tags, sizes)
+}
+
+/// The request that aborts an upload.
+pub fn abort_request(bucket: &Bucket, drawn: &DrawnUpload) -> Result<Option<Request>, AllocError>
+    ensures { IfOk result (λ request. request ≡ Some (Request.AbortUpload bucket.now drawn.now.key drawn.now.upload)) }
+{
+    match Request::abort_upload(bucket, &drawn.key, drawn.upload) {
+        Ok(request) => Ok(Some(request)),
+        Err(error) => Err(error),
+    }
+}
+
+/// The beginning of the upload of a file.
+pub fn ask_upload(alloc: Global, plan: &TaskPlan, path: &Text) -> Result<Request, AllocError>
     requires { IsNamed plan.now path.now }
     ensures { IfOk result (λ r. r ≡ Request.CreateUpload plan.now.job.dest.bucket (below plan.now.job.dest.key path.now)) }
 {
@@ -163,6 +211,24 @@ pub fn behind(plan: &TaskPlan, bytes: &Bytes, sent: u64) -> (WriteStage, u64)
     }
 }
 
+/// The part behind so many others, of the upload that was drawn last.
+pub fn ask_next(
+    alloc: Global,
+    plan: &TaskPlan,
+    path: &Text,
+    bytes: &Bytes,
+    sent: u64,
+) -> Result<Request, AllocError>
+    requires file { IsFile plan.now (path.now, bytes.now) }
+    requires within { IsBehind (parts_in plan.now (path.now, bytes.now)) plan.now.known.drawn (WriteStage.Sending sent) }
+    ensures { IfOk result (λ r. r ≡ asks_behind plan.now (path.now, bytes.now) (WriteStage.Sending sent)) }
+{
+    let Some(drawn) = last_drawn(&plan.known) else {
+        unreachable!();
+    };
+    ask_part(alloc, plan, path, bytes, drawn.upload, sent)
+}
+
 /// What is asked behind a part of a file: the next part of the upload that was drawn last, or its marker.
 pub fn ask_behind(
     alloc: Global,
@@ -181,10 +247,7 @@ pub fn ask_behind(
         let length = LengthHeader::new(bytes.as_slice().len() as u64);
         return ask_marker(alloc, plan, dir, path, length);
     };
-    let Some(drawn) = last_drawn(&plan.known) else {
-        unreachable!();
-    };
-    ask_part(alloc, plan, path, bytes, drawn.upload, sent)
+    ask_next(alloc, plan, path, bytes, sent)
 }
 
 /// What is asked at a stage of a file; nothing where no file is left.

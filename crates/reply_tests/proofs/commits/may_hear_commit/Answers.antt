@@ -1,4 +1,4 @@
-use Rattle.task_magic.specs.Committing.{commit_fits}
+use Rattle.task_laws.specs.Commits.{commit_fits}
 use Rattle.reply_tests.proofs.Fitting.{told_true}
 use Rattle.reply_tests.proofs.commits.may_hear_commit.Goals as goal
 

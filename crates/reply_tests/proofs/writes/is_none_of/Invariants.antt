@@ -1,5 +1,5 @@
 use Rattle.std.proofs.Common.{◌≡◌, true, take}
-use Rattle.task_magic.specs.Writing.{is_new}
+use Rattle.task_requests.specs.Writing.{is_new}
 use Rattle.reply_tests.proofs.writes.is_none_of.Given as goal
 
 abbrev pub invariant-loop-drawn : goal.invariant-loop-drawn

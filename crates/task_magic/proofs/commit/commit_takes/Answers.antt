@@ -1,7 +1,7 @@
 use Rattle.std.proofs.Common.{Bool, IfOk, Decides, subst}
 use Rattle.job_operations.specs.AtWork.{Attempting}
 use Rattle.job_operations.specs.TaskCommits.{TaskCommit}
-use Rattle.task_magic.specs.Committing.{commit_fits}
+use Rattle.task_laws.specs.Commits.{commit_fits}
 use Rattle.task_magic.proofs.commit.commit_takes.Goals as goal
 
 pub returns : goal.returns

@@ -2,7 +2,7 @@ use Rattle.std.proofs.Common.{ap}
 use Rattle.job_operations.specs.AtWork.{Attempting}
 use Rattle.job_operations.specs.TaskAborts.{TaskAbort}
 use Rattle.task_magic.specs.contracts.abort.Abort.{the_view}
-use Rattle.task_magic.proofs.Broken.{broken_as, at_err}
+use Rattle.task_laws.proofs.Broken.{broken_as, at_err}
 use Rattle.task_magic.proofs.abort.AbortAsks.hear.Goals as goal
 
 pub returns-clause-err : goal.returns-clause-err

@@ -2,7 +2,7 @@ use Rattle.std.proofs.Common.{◌≡◌, ◌∙◌, ap}
 use Rattle.job_operations.specs.AtWork.{Attempting}
 use Rattle.job_operations.specs.TaskCommits.{TaskCommit}
 use Rattle.task_magic.specs.contracts.commit.Commit.{the_view}
-use Rattle.task_magic.proofs.Broken.{broken_as, on_err}
+use Rattle.task_laws.proofs.Broken.{broken_as, on_err}
 use Rattle.task_magic.proofs.commit.CommitAsks.hear.Goals as goal
 
 pub returns-clause-err : goal.returns-clause-err

@@ -1,7 +1,7 @@
 ghost use Rattle.job_operations.specs.AtWork.{task_abort_wants, task_abort_told, task_commit_wants, task_commit_told, write_wants, write_told};
 ghost use Rattle.job_operations.specs.Measures.{FallsAmong};
-ghost use Rattle.task_magic.specs.Committing.{commit_fits, commit_left};
-ghost use Rattle.task_magic.specs.Undoing.{abort_fits, abort_left};
+ghost use Rattle.task_laws.specs.Commits.{commit_fits, commit_left};
+ghost use Rattle.task_laws.specs.Aborts.{abort_fits, abort_left};
 ghost use Rattle.task_requests.specs.Writing.{write_fits, write_left};
 
 /// What is left of a write of files falls with each answer that fits and with a worn request, and no request of

@@ -18,7 +18,7 @@ use Rattle.job_operations.specs.TaskAborts.{TaskAbort, Dropping, Sweeping, Remov
 use Rattle.sweep.specs.Fitting.{FitsSweep}
 use Rattle.sweep.specs.Left.{left_of, adds_key, one_if}
 use Rattle.sweep.proofs.Falling.{sweep_laws}
-use Rattle.task_magic.specs.Undoing.{FitsAbort, abort_fits, own_left, after_left, abort_left_at, abort_left}
+use Rattle.task_laws.specs.Aborts.{FitsAbort, abort_fits, own_left, after_left, abort_left_at, abort_left}
 
 pub one_most : (b : Bool) → one_if b ≤ 1
 one_most true = omega arith

@@ -1,4 +1,4 @@
--- An abort as a machine: how it stands.
+-- How an abort of a task stands.
 use Rattle.std.specs.Prelude.{◌≡◌, Bool, true, false, List, [], ◌∷◌, Option, Some, None}
 use Rattle.std.proofs.Common.{refl}
 use Rattle.s3_types.specs.declared.request.Committer.{Committer}
@@ -11,8 +11,8 @@ use Rattle.job_operations.specs.AtWork.{Attempting, task_script, task_abort_want
 use Rattle.job_operations.specs.Walks.{Sweep, sweep_hears, all_go}
 use Rattle.job_operations.specs.TaskAborts.{TaskAbort, Dropping, Sweeping, Removing, TaskAbortOver, task_abort_over, task_abort_hears, removing, dropped, dropping, sweeping}
 use Rattle.asking.specs.Asks.{AskLaws}
-use Rattle.task_magic.specs.Standing.{standing_by}
-use Rattle.task_magic.specs.Undoing.{abort_fits}
+use Rattle.task_laws.specs.Standing.{standing_by}
+use Rattle.task_laws.specs.Aborts.{abort_fits}
 
 abbrev pub abort_standing : Attempting TaskAbort → Standing
 abort_standing m = standing_by (task_abort_over m.operation)

@@ -1,13 +1,14 @@
--- The laws of a write as a machine: what is left of it falls, and how it stands.
+-- How a write stands, and its laws as a machine.
 use Rattle.std.specs.Prelude.{◌≡◌, ℕ, Bool, List, [], ◌∷◌, Some}
 use Rattle.std.proofs.Common.{refl}
-use Rattle.s3_types.specs.Store.{Scene}
 use Rattle.s3_types.specs.declared.request.Request.{Request}
 use Rattle.s3_types.specs.declared.reply.Reply.{Reply}
 use Rattle.s3_types.specs.declared.reply.Reply.TheVariants.{Upload, Part, Refused}
 use Rattle.s3_types.specs.declared.reply.Refusal.TheVariants.{NoSuchUpload}
 use Rattle.machine.specs.Standing.{Standing, Fine}
 use Rattle.machine.specs.Laws.{Laws}
+use Rattle.asking.specs.Asks.{AskLaws}
+use Rattle.asking.specs.MachineLaws.{never, machine_laws}
 use Rattle.job_model.specs.Files.{File}
 use Rattle.job_model.specs.Known.{Drawn}
 use Rattle.job_model.specs.Jobs.{Task}
@@ -16,7 +17,7 @@ use Rattle.job_operations.specs.AtWork.{Attempting, task_script, write_wants, wr
 use Rattle.job_operations.specs.Uploading.{Creating, Sending, sending, file_parts, created, sent_part}
 use Rattle.job_operations.specs.Writes as writes
 use Rattle.job_operations.specs.Writes.{Write, uploaded, writing, write_hears}
-use Rattle.task_magic.specs.Standing.{standing_of}
+use Rattle.task_laws.specs.Standing.{standing_of}
 use Rattle.task_requests.specs.Writing.{write_fits, FitsWrite, FitsCreate, FitsPart, write_left}
 
 -- ---- how it stands
@@ -27,10 +28,6 @@ standing_at _ = Fine
 
 abbrev pub write_standing : Attempting Write → Standing
 write_standing m = standing_at m.operation
-
--- a committer's machine is not driven alone
-abbrev pub never_ready : Attempting Write → Scene → Bool → Type 0
-never_ready m s repeated = ⊥
 
 sent_fine : (w : Script) (f : File) (fs : List File) (ps : List (List ℕ)) → standing_at (uploaded w f fs (sending ps)) ≡ Fine
 sent_fine w f fs [] = refl
@@ -56,18 +53,15 @@ fine_at t (writes.Marking f fs) r a w h = refl
 fine_at t (writes.Recording f fs) r a w h = written_fine fs
 fine_at t (writes.WriteOver end) r a w h = refl
 
-pub write_laws : Laws write_wants write_told write_fits never_ready write_left write_standing
-write_laws = record {
-  fit = λ m s r b w h. absurd h;
-  lost = λ m s b h. h;
-  hidden = λ m s r b w h. h;
-  took = λ m s r b w h. absurd h;
-  gave_up = λ m s r b w h. absurd h;
-  falls = λ m s r b w h. absurd h;
-  falls_worn = λ m s r b w h. absurd h;
-  no_rise = λ m s r b w h. absurd h;
+-- of an operation that an actor holds
+pub write_asks : AskLaws write_wants write_told write_fits write_standing
+write_asks = record {
   stops = λ m. refl;
   breaks = λ m. refl;
   faults = λ m r w. refl;
   goes_on = λ m r a b w h. fine_at m.plan m.operation r a w h;
 }
+
+-- of a machine, which is not driven alone
+pub write_laws : Laws write_wants write_told write_fits never write_left write_standing
+write_laws = machine_laws write_left write_asks

@@ -1,0 +1,4 @@
+pub mod WriteFalls
+pub mod AbortFalls
+pub mod CommitFalls
+pub mod Broken

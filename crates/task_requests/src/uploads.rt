@@ -1,0 +1,79 @@
+ghost use Rattle.std.specs.Prelude.{◌≡◌, ◌<◌, length, get_or, [], IfOk, OnOk, OnErr};
+ghost use Rattle.s3_types.specs.declared.request.Request.TheVariants.{UploadPart};
+ghost use Rattle.job_operations.specs.AtWork.{task_script, with_known};
+ghost use Rattle.job_operations.specs.Records.{file_key};
+ghost use Rattle.task_requests.specs.Writing.{part_behind, tag_in, upload_in, with_drawn, with_tag};
+
+use crate::names::{file_at, target};
+use crate::requests::ask_part;
+use job_model::TaskPlan;
+use s3_types::{Reply, Request, Tag, let_go};
+use std::alloc::{AllocError, Global};
+
+/// The id of an upload that is begun. Takes no memory.
+pub fn upload_in(reply: &Reply) -> Option<u64>
+    ensures { result ≡ upload_in reply.now }
+{
+    match reply {
+        Reply::Upload(upload) => Some(*upload),
+        _ => None,
+    }
+}
+
+/// The tag of a part. Takes no memory.
+pub fn tag_in(reply: &Reply) -> Option<Tag>
+    ensures { result ≡ tag_in reply.now }
+{
+    match reply {
+        Reply::Part(tag) => Some(*tag),
+        _ => None,
+    }
+}
+
+/// The upload of the file at a place is begun under this id: its first part is asked. After want of memory the plan
+/// is as before.
+pub fn begin_upload(
+    alloc: Global,
+    plan: &mut TaskPlan,
+    place: usize,
+    upload: u64,
+) -> Result<Request, AllocError>
+    requires { place < length plan.old.files }
+    ensures asked { let f = get_or plan.old.files place ([], []) in IfOk result (λ r. r ≡ UploadPart plan.old.job.dest.bucket (file_key (task_script plan.old) f) upload 1 (part_behind plan.old f.1 0)) }
+    ensures drawn { OnOk result (plan.new ≡ with_known plan.old (with_drawn plan.old.known (file_key (task_script plan.old) (get_or plan.old.files place ([], []))) upload)) }
+    ensures err { OnErr result (plan.new ≡ plan.old) }
+{
+    let Some((path, bytes)) = file_at(plan, place) else {
+        unreachable!();
+    };
+    let key = target(alloc, plan, path)?;
+    let asked = ask_part(alloc, plan, path, bytes, upload, 0)?;
+    match plan.known.draw(alloc, key, upload) {
+        Ok(()) => Ok(asked),
+        Err(error) => {
+            let_go(asked);
+            Err(error)
+        }
+    }
+}
+
+/// A part of the upload that was drawn last came back, and this is asked next. After want of memory the plan is as
+/// before.
+pub fn note_part(
+    plan: &mut TaskPlan,
+    asked: Request,
+    tag: Tag,
+    size: u64,
+) -> Result<Request, AllocError>
+    ensures asked { IfOk result (λ r. r ≡ asked) }
+    ensures drawn { OnOk result (plan.new ≡ with_known plan.old (with_tag plan.old.known tag size)) }
+    ensures err { OnErr result (plan.new ≡ plan.old) }
+{
+    match plan.known.draw_part(tag, size) {
+        Ok(()) => Ok(asked),
+        Err(error) => {
+            let_go(asked);
+            Err(error)
+        }
+    }
+}
