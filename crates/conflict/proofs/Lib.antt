@@ -1,0 +1,5 @@
+pub mod CutPaths
+pub mod Tells
+pub mod Deleting
+pub mod Rising
+pub mod SamePartitions

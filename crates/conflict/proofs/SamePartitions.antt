@@ -1,0 +1,40 @@
+-- The partitions of paths are told by which paths they are.
+use Rattle.std.proofs.Common.{◌≡◌, ℕ, inl, inr, List, [], ◌∷◌, Option, Some, None, refl, sym, ap, subst, ◌∙◌}
+use Rattle.request_frame.specs.Members.{IsIn}
+use Rattle.job_operations.specs.Outputs.{ordered}
+use Rattle.job_operations.specs.Conflicts.{dir_of, with_dir, dirs_of, partitions}
+use Rattle.conflict.proofs.Rising.{in_ordered, from_ordered, ordered_same}
+
+dir_in : (d p : List ℕ) (ps : List (List ℕ)) → IsIn p ps → dir_of p ≡ Some d → IsIn d (dirs_of ps)
+dir_in d p [] i e = absurd i
+dir_in d p (q ∷ ps) (inl is) e = subst (λ o. IsIn d (with_dir o (dirs_of ps))) (sym e ∙ ap dir_of is) (inl refl)
+dir_in d p (q ∷ ps) (inr i) e = by (dir_of q) (dir_in d p ps i e)
+  where
+    by : (o : Option (List ℕ)) → IsIn d (dirs_of ps) → IsIn d (with_dir o (dirs_of ps))
+    by (Some x) h = inr h
+    by None h = h
+
+-- a directory is that of some of the paths
+record Holder (d : List ℕ) (ps : List (List ℕ)) : Type 0 where
+  pub path : List ℕ
+  pub there : IsIn path ps
+  pub dir : dir_of path ≡ Some d
+
+holder : (d : List ℕ) (ps : List (List ℕ)) → IsIn d (dirs_of ps) → Holder d ps
+holder d [] i = absurd i
+holder d (q ∷ ps) i = by (dir_of q) refl i (holder d ps)
+  where
+    later : Holder d ps → Holder d (q ∷ ps)
+    later h = record { path = h.path; there = inr h.there; dir = h.dir }
+
+    by : (o : Option (List ℕ)) → dir_of q ≡ o → IsIn d (with_dir o (dirs_of ps)) → (IsIn d (dirs_of ps) → Holder d ps) → Holder d (q ∷ ps)
+    by (Some x) e (inl is) rest = record { path = q; there = inl refl; dir = e ∙ ap Some (sym is) }
+    by (Some x) e (inr i) rest = later (rest i)
+    by None e i rest = later (rest i)
+
+dirs_within : (xs ys : List (List ℕ)) → ((p : List ℕ) → IsIn p xs → IsIn p ys) → (d : List ℕ) → IsIn d (dirs_of xs) → IsIn d (dirs_of ys)
+dirs_within xs ys h d i = let x = holder d xs i in dir_in d x.path ys (h x.path x.there) x.dir
+
+pub partitions_of_ordered : (ps : List (List ℕ)) → partitions (ordered ps) ≡ partitions ps
+partitions_of_ordered ps =
+    ordered_same (dirs_of (ordered ps)) (dirs_of ps) (dirs_within (ordered ps) ps (λ p i. from_ordered p ps i)) (dirs_within ps (ordered ps) (λ p i. in_ordered p ps i))

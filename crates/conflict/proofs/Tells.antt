@@ -1,0 +1,56 @@
+-- Checks and deletions lead where the operations that hold them go.
+use Rattle.std.proofs.Common.{◌≡◌, ℕ, Bool, List, [], ◌∷◌, Option, Some, None, refl, ap, ◌∙◌}
+use Rattle.s3_types.specs.declared.request.Committer.{Committer}
+use Rattle.s3_types.specs.declared.request.Committer.TheVariants.{Magic, Directory, Partitioned}
+use Rattle.s3_types.specs.declared.request.Mode.{Mode}
+use Rattle.s3_types.specs.declared.request.Mode.TheVariants.{Replace}
+use Rattle.s3_types.specs.declared.reply.Reply.{Reply}
+use Rattle.s3_types.specs.declared.reply.Reply.TheVariants.{Page}
+use Rattle.job_model.specs.Attempts.{Who}
+use Rattle.job_model.specs.JobScript.{Script}
+use Rattle.job_operations.specs.Outputs.{Picks, wanted_paths}
+use Rattle.job_operations.specs.Conflicts.{partitions}
+use Rattle.job_operations.specs.Walks.{Sweep, sweep_start, sweep_hears}
+use Rattle.job_operations.specs.TaskCommits.{Checking, task_commit_hears}
+use Rattle.job_operations.specs.JobCommits.{Sets, is_no_magic, replaced, replacing, swept}
+use Rattle.conflict.specs.Checks.{found_below, left_after}
+use Rattle.conflict.specs.Deletions.{deleted, swept_on}
+use Rattle.conflict.specs.Laws.{commit_after_check, ChecksTell, commit_deleting, deletion_of, DeletionsTell}
+
+-- ---- a check
+
+check_goes : (w : Script) (minimum : ℕ) (a : Who) (d : List ℕ) (ds : List (List ℕ)) (r : Reply) (repeated : Bool)
+    → task_commit_hears w minimum a (Checking d ds) r repeated ≡ commit_after_check w a (found_below (d ∷ ds) r) (left_after (d ∷ ds) r)
+check_goes w minimum a d ds (Page [] more) repeated = refl
+check_goes w minimum a d ds (Page (x ∷ xs) more) repeated = refl
+check_goes w minimum a d ds _ repeated = refl
+
+pub checks_tell : ChecksTell
+checks_tell = record { asks = λ w a k d ds. refl; goes = check_goes }
+
+-- ---- a deletion
+
+same_prefixes : (w : Script) (picks : Picks) (c : Committer) (m : Mode) → m ≡ Replace → replaced c m w picks ≡ deleted c w.dest (partitions (wanted_paths w picks))
+same_prefixes w picks c m e = ap (λ m. replaced c m w picks) e ∙ by c
+  where
+    by : (c : Committer) → replaced c Replace w picks ≡ deleted c w.dest (partitions (wanted_paths w picks))
+    by Magic = refl
+    by Directory = refl
+    by Partitioned = refl
+
+starts : (w : Script) (sets : Sets) (prefixes : List (List ℕ)) → replacing w sets prefixes ≡ commit_deleting w sets (deletion_of w prefixes sweep_start)
+starts w sets [] = refl
+starts w sets (p ∷ ps) = refl
+
+goes_by : (w : Script) (sets : Sets) (p : List ℕ) (ps : List (List ℕ)) (o : Option Sweep) → swept w sets p ps o ≡ commit_deleting w sets (swept_on (deletion_of w [] sweep_start).spared p ps o)
+goes_by w sets p ps (Some s) = refl
+goes_by w sets p [] None = refl
+goes_by w sets p (q ∷ qs) None = refl
+
+pub deletions_tell : DeletionsTell
+deletions_tell = record {
+  prefixes = λ w picks e. same_prefixes w picks w.committer w.mode e;
+  starts = starts;
+  asks = λ w sets p ps sweep missed. refl;
+  goes = λ w sets p ps sweep missed r. goes_by w sets p ps (sweep_hears (is_no_magic w) sweep r);
+}

@@ -1,0 +1,6 @@
+use Rattle.std.proofs.Common.{◌≡◌, map, take}
+use Rattle.conflict.specs.Deletions.{prefix_below}
+use Rattle.conflict.proofs.kept.partition_prefixes.Given as goal
+
+abbrev pub invariant-loop-partition : goal.invariant-loop-partition
+invariant-loop-partition l = l.prefixes ≡ map (prefix_below l.dest) (take l.partition-index l.partitions)

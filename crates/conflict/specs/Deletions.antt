@@ -1,0 +1,59 @@
+-- The deletion of what a replace mode does not keep, by the prefixes below which it still deletes.
+use Rattle.std.specs.Prelude.{ℕ, not, List, [], ◌∷◌, ◌++◌, codes, map, Option, Some, None}
+use Rattle.s3_types.specs.Pages.{begins}
+use Rattle.s3_types.specs.declared.request.Request.{Request}
+use Rattle.s3_types.specs.declared.request.Committer.{Committer}
+use Rattle.s3_types.specs.declared.request.Committer.TheVariants.{Magic, Directory, Partitioned}
+use Rattle.s3_types.specs.declared.reply.Reply.{Reply}
+use Rattle.path_keys.specs.Paths.{Path, below}
+use Rattle.job_operations.specs.Walks.{Sweep, sweep_start, sweep_asks, sweep_hears}
+use Rattle.sweep.specs.Fitting.{FitsSweep}
+
+-- the prefixes, the sweep below the first of them, and the prefix of the keys that stay
+pub record Deletion : Type 0 where
+  pub prefixes : List (List ℕ)
+  pub sweep : Sweep
+  pub spared : List ℕ
+
+-- what the keys below a partition begin with
+abbrev pub prefix_below : Path → List ℕ → List ℕ
+prefix_below dest d = below dest.key (d ++ codes "/")
+
+-- below which prefixes a committer's replace mode deletes, where these partitions are written
+abbrev pub deleted : Committer → Path → List (List ℕ) → List (List ℕ)
+deleted Magic dest partitions = []
+deleted Directory dest partitions = (dest.key ++ codes "/") ∷ []
+deleted Partitioned dest partitions = map (prefix_below dest) partitions
+
+-- what the keys below a destination's magic directories begin with
+abbrev pub spared : Path → List ℕ
+spared dest = (dest.key ++ codes "/") ++ codes "__magic/"
+
+abbrev pub asks_below : List ℕ → Sweep → List (List ℕ) → Option Request
+asks_below bucket sweep [] = None
+asks_below bucket sweep (p ∷ ps) = Some (sweep_asks bucket p sweep)
+
+-- the next request of the sweep below the first prefix
+abbrev pub deletion_asks : List ℕ → Deletion → Option Request
+deletion_asks bucket d = asks_below bucket d.sweep d.prefixes
+
+-- a deletion whose sweep goes on below the first of these prefixes, or is over there
+abbrev pub swept_on : List ℕ → List ℕ → List (List ℕ) → Option Sweep → Deletion
+swept_on spared p ps (Some sweep) = record { prefixes = p ∷ ps; sweep = sweep; spared = spared }
+swept_on spared p ps None = record { prefixes = ps; sweep = sweep_start; spared = spared }
+
+abbrev pub hears_below : Deletion → List (List ℕ) → Reply → Deletion
+hears_below d [] r = d
+hears_below d (p ∷ ps) r = swept_on d.spared p ps (sweep_hears (λ key. not (begins d.spared key)) d.sweep r)
+
+-- where a reply leads
+abbrev pub deletion_hears : Deletion → Reply → Deletion
+deletion_hears d r = hears_below d d.prefixes r
+
+abbrev pub FitsBelow : Sweep → List (List ℕ) → Reply → Type 0
+FitsBelow sweep [] r = Unit {0}
+FitsBelow sweep (p ∷ ps) r = FitsSweep sweep r
+
+-- its present request may be answered so: a page that is not folded has keys alone, and the bucket is there
+abbrev pub FitsDeletion : Deletion → Reply → Type 0
+FitsDeletion d r = FitsBelow d.sweep d.prefixes r

@@ -1,0 +1,54 @@
+-- Checks and deletions beside the operations that hold them.
+use Rattle.std.specs.Prelude.{◌≡◌, ℕ, Bool, List, [], ◌∷◌, Option, Some, None}
+use Rattle.s3_types.specs.declared.request.Mode.TheVariants.{Replace}
+use Rattle.s3_types.specs.declared.reply.Reply.{Reply}
+use Rattle.job_model.specs.Attempts.{Who}
+use Rattle.job_model.specs.Known.{Known}
+use Rattle.job_model.specs.JobScript.{Script}
+use Rattle.job_model.specs.declared.ends.TaskEnd.TheVariants as ends
+use Rattle.job_operations.specs.Outputs.{Picks, ordered, wanted_paths}
+use Rattle.job_operations.specs.Conflicts.{partitions}
+use Rattle.job_operations.specs.Walks.{Sweep, sweep_start}
+use Rattle.job_operations.specs.TaskCommits.{TaskCommit, Checking, TaskCommitOver, checking, task_commit_asks, task_commit_hears}
+use Rattle.job_operations.specs.JobCommits.{Sets, Commit, Replacing, replaced, replacing, commit_asks, commit_hears}
+use Rattle.conflict.specs.Checks.{check_asks, found_below, left_after}
+use Rattle.conflict.specs.Deletions.{Deletion, deleted, spared, deletion_asks, deletion_hears}
+
+-- ---- partitions
+
+-- the partitions of paths in order are those of the paths
+pub record PartitionsTell : Type 0 where
+  pub ordered : (paths : List (List ℕ)) → partitions (ordered paths) ≡ partitions paths
+
+-- ---- a task's commit that looks below partitions
+
+-- a commit that found a key below a partition, or has these left to look at
+abbrev pub commit_after_check : Script → Who → Option (List ℕ) → List (List ℕ) → TaskCommit
+commit_after_check w a (Some d) ds = TaskCommitOver (ends.Conflict d)
+commit_after_check w a None ds = checking w a ds
+
+pub record ChecksTell : Type 0 where
+  pub asks : (w : Script) (a : Who) (k : Known) (d : List ℕ) (ds : List (List ℕ)) → task_commit_asks w a k (Checking d ds) ≡ check_asks w.dest (d ∷ ds)
+  pub goes : (w : Script) (minimum : ℕ) (a : Who) (d : List ℕ) (ds : List (List ℕ)) (r : Reply) (repeated : Bool)
+      → task_commit_hears w minimum a (Checking d ds) r repeated ≡ commit_after_check w a (found_below (d ∷ ds) r) (left_after (d ∷ ds) r)
+
+-- ---- a job's commit that deletes for a replace mode
+
+-- a commit that holds these sets, of which so much is to be deleted
+abbrev pub deleting_below : Script → Sets → Sweep → List (List ℕ) → Commit
+deleting_below w sets sweep [] = replacing w sets []
+deleting_below w sets sweep (p ∷ ps) = Replacing sets p ps sweep 0
+
+abbrev pub commit_deleting : Script → Sets → Deletion → Commit
+commit_deleting w sets d = deleting_below w sets d.sweep d.prefixes
+
+-- the deletion of a script's destination that has come so far
+abbrev pub deletion_of : Script → List (List ℕ) → Sweep → Deletion
+deletion_of w prefixes sweep = record { prefixes = prefixes; sweep = sweep; spared = spared w.dest }
+
+pub record DeletionsTell : Type 0 where
+  -- it deletes below the prefixes that the mode does not keep
+  pub prefixes : (w : Script) (picks : Picks) → w.mode ≡ Replace → replaced w.committer w.mode w picks ≡ deleted w.committer w.dest (partitions (wanted_paths w picks))
+  pub starts : (w : Script) (sets : Sets) (prefixes : List (List ℕ)) → replacing w sets prefixes ≡ commit_deleting w sets (deletion_of w prefixes sweep_start)
+  pub asks : (w : Script) (sets : Sets) (p : List ℕ) (ps : List (List ℕ)) (sweep : Sweep) (missed : ℕ) → commit_asks w (Replacing sets p ps sweep missed) ≡ deletion_asks w.dest.bucket (deletion_of w (p ∷ ps) sweep)
+  pub goes : (w : Script) (sets : Sets) (p : List ℕ) (ps : List (List ℕ)) (sweep : Sweep) (missed : ℕ) (r : Reply) → commit_hears w (Replacing sets p ps sweep missed) r ≡ commit_deleting w sets (deletion_hears (deletion_of w (p ∷ ps) sweep) r)
