@@ -48,7 +48,7 @@ above_more key front back e =
 
 -- ---- the key of a marker
 
-trimmed_marker : (key : List ℕ) → trimmed (marker_of key) ≡ key
+pub trimmed_marker : (key : List ℕ) → trimmed (marker_of key) ≡ key
 trimmed_marker key =
     let long : length (marker_of key) ≡ length key + 1 = length-append key (47 ∷ []) in
     let last : length (marker_of key) - 1 ≡ length key = omega (arith, long) in

@@ -133,7 +133,7 @@ above_marker q p h = begins_trans (marker_of q) p (marker_of p) (above_begins q 
 
 -- ---- a path's key
 
-marker_ends : (p : List ℕ) → is_marker p ≡ true → (front : List ℕ) × (p ≡ front ++ 47 ∷ [])
+pub marker_ends : (p : List ℕ) → is_marker p ≡ true → (front : List ℕ) × (p ≡ front ++ 47 ∷ [])
 marker_ends [] h = absurd (false≢true h)
 marker_ends (x ∷ []) h = ([], ap (λ v. v ∷ []) (eqb-true x 47 h))
 marker_ends (x ∷ y ∷ p) h = let w = marker_ends (y ∷ p) h in (x ∷ w.0, ap (λ l. x ∷ l) w.1)

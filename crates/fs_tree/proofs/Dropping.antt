@@ -14,12 +14,12 @@ use Rattle.fs_tree.proofs.Making.{put_stands, put_was, dir_of, has_marker}
 
 -- ---- a marker that is put where nothing is left
 
-if_marker : (u k : List ℕ) → marker_if u ≡ Some k → marker_of u ≡ k
+pub if_marker : (u k : List ℕ) → marker_if u ≡ Some k → marker_of u ≡ k
 if_marker [] k h = absurd (cc)
 if_marker (x ∷ u) k h = some_is h
 
 -- what stands then stood before, or is the marker
-marked_was : (u : Option (List ℕ)) (n m : Objects) → IsMarked u n m → (k : List ℕ) → Stands m k → Stands n k ⊎ (u ≡ Some k)
+pub marked_was : (u : Option (List ℕ)) (n m : Objects) → IsMarked u n m → (k : List ℕ) → Stands m k → Stands n k ⊎ (u ≡ Some k)
 marked_was None n m g k h = inl (subst (λ m. Stands m k) g h)
 marked_was (Some u) n m (inl g) k h = inl (subst (λ m. Stands m k) g.1 h)
 marked_was (Some u) n m (inr g) k h = by (put_was n u k marker (subst (λ m. Stands m k) g.1 h))
@@ -28,7 +28,7 @@ marked_was (Some u) n m (inr g) k h = by (put_was n u k marker (subst (λ m. Sta
     by (inl e) = inr (ap Some (sym e))
     by (inr s) = inl s
 
-marked_stands : (u : Option (List ℕ)) (n m : Objects) → IsMarked u n m → (k : List ℕ) → Stands n k → Stands m k
+pub marked_stands : (u : Option (List ℕ)) (n m : Objects) → IsMarked u n m → (k : List ℕ) → Stands n k → Stands m k
 marked_stands None n m g k h = subst (λ m. Stands m k) (sym g) h
 marked_stands (Some u) n m (inl g) k h = subst (λ m. Stands m k) (sym g.1) h
 marked_stands (Some u) n m (inr g) k h = subst (λ m. Stands m k) (sym g.1) (put_stands n u k marker h)
@@ -39,17 +39,17 @@ marked_other None n m g k f = ap (λ m. fin.get m k) g
 marked_other (Some u) n m (inl g) k f = ap (λ m. fin.get m k) g.1
 marked_other (Some u) n m (inr g) k f = ap (λ m. fin.get m k) g.1 ∙ text_other n u k marker (λ e. f (ap Some (sym e)))
 
-marker_key : (u k : List ℕ) → marker_if u ≡ Some k → is_marker k ≡ true
+pub marker_key : (u k : List ℕ) → marker_if u ≡ Some k → is_marker k ≡ true
 marker_key u k e = ap is_marker (sym (if_marker u k e)) ∙ marker_is u
 
-marked_files : (u : List ℕ) (n m : Objects) → IsMarked (marker_if u) n m → (k : List ℕ) → is_marker k ≡ false → fin.get m k ≡ fin.get n k
+pub marked_files : (u : List ℕ) (n m : Objects) → IsMarked (marker_if u) n m → (k : List ℕ) → is_marker k ≡ false → fin.get m k ≡ fin.get n k
 marked_files u n m g k f = marked_other (marker_if u) n m g k (λ e. false≢true (sym f ∙ marker_key u k e))
 
 -- ---- the path above
 
 module _ (p : List ℕ) where
   -- the directory above is one still, and so are those above it
-  above_kept : (u : List ℕ) → parent p ≡ u → (n m : Objects) → IsMarked (marker_if u) n m → (q : List ℕ) → begins (marker_of q) p ≡ true → HasDir m q
+  pub above_kept : (u : List ℕ) → parent p ≡ u → (n m : Objects) → IsMarked (marker_if u) n m → (q : List ℕ) → begins (marker_of q) p ≡ true → HasDir m q
   above_kept u e n m g [] b = tt
   above_kept [] e n m g (y ∷ q) b = absurd (too_long (above_parent (y ∷ q) p b))
     where
@@ -67,7 +67,7 @@ module _ (p : List ℕ) where
       by (inr h) = subst (λ m. HasDir m (y ∷ q)) (sym h.1) (dir_of (fin.insert n (marker_of (x ∷ u)) marker) (y ∷ q) (marker_of (x ∷ u)) up (has_marker n (x ∷ u)))
 
   -- a marker that begins the one above begins the path
-  through : (u : List ℕ) → parent p ≡ u → (k q : List ℕ) → marker_if u ≡ Some k → begins (marker_of q) k ≡ true → begins (marker_of q) p ≡ true
+  pub through : (u : List ℕ) → parent p ≡ u → (k q : List ℕ) → marker_if u ≡ Some k → begins (marker_of q) k ≡ true → begins (marker_of q) p ≡ true
   through [] e k q f b = absurd (cc)
   through (x ∷ u) e k q f b =
       begins_trans (marker_of q) (marker_of (x ∷ u)) p (ap (begins (marker_of q)) (some_is f) ∙ b) (parent_begins p x u e)

@@ -1,3 +1,5 @@
 pub mod Tree
 pub mod Changes
 pub mod Answers
+pub mod Moves
+pub mod Renames

@@ -4,5 +4,7 @@
 #![tactic(auto)]
 
 mod answers;
+mod rename;
 
 pub use answers::{DirEntry, DirList, FsRefusal};
+pub use rename::RenameRefusal;

@@ -93,6 +93,13 @@ impl KeyWalk {
         &self.keys
     }
 
+    /// Gives up the keys so far. Takes no memory.
+    pub fn into_keys(self) -> KeyList
+        ensures { result ≡ self }
+    {
+        self.keys
+    }
+
     /// The request for the next page, of at most 1,000 keys.
     pub fn request(&self, bucket: &Bucket, prefix: &Text) -> Result<Request, AllocError>
         ensures { IfOk result (λ request. request ≡ page_after bucket.now prefix.now self.now) }

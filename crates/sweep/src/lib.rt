@@ -15,5 +15,5 @@ pub use fitting::{fits_page, fits_uploads};
 pub use key_test::{AllBut, AllKeys, KeyTest};
 pub use key_walk::KeyWalk;
 pub use laws::{growth, sweeps_end, upload_walks_end, walks_end};
-pub use sweeping::Sweep;
+pub use sweeping::{Sweep, keys_behind};
 pub use upload_walk::UploadWalk;

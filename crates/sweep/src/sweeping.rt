@@ -25,8 +25,8 @@ fn first_keys(keys: &[Key], most: usize) -> &[Key]
     }
 }
 
-/// The keys behind so many.
-fn keys_behind(keys: &[Key], from: usize) -> &[Key]
+/// The keys behind so many. Takes no memory.
+pub fn keys_behind(keys: &[Key], from: usize) -> &[Key]
     ensures { result.now ≡ drop from keys.now }
 {
     if from < keys.len() {
@@ -112,6 +112,20 @@ impl Sweep {
             keys: KeyList::new(alloc),
             from: 0,
         }
+    }
+
+    /// A sweep that only deletes these keys, where there are any. Takes no memory.
+    pub fn of(keys: KeyList) -> Option<Sweep>
+        ensures { result ≡ deleting keys }
+    {
+        if keys.len() == 0 {
+            return None;
+        }
+        Some(Sweep {
+            listing: false,
+            keys,
+            from: 0,
+        })
     }
 
     /// The next request: a page of at most 1,000 keys below the prefix, or the deletion of at most 1,000.

@@ -1,0 +1,256 @@
+-- Moving a file or a directory, in the tree.
+use Rattle.std.proofs.Common.{◌≡◌, ◌⊎◌, inl, inr, ℕ, ◌&&◌, ◌<◌, nat_eq, Bool, true, false, List, [], ◌∷◌, ◌++◌, length, Option, Some, None, refl, sym, ap, subst, ◌∙◌, arith, length-append, append_assoc}
+use Rattle.std.specs.List.{list_all}
+use Rattle.std.proofs.lemmas.Bool.{false≢true}
+use Rattle.std.specs.FinMap as fin
+use Rattle.words.specs.Parts.{parts_of}
+use Rattle.words.proofs.Pieces.{one_part}
+use Rattle.s3_types.specs.Store.{Objects}
+use Rattle.s3_types.specs.Names.{are_elements, is_element}
+use Rattle.s3_types.specs.Pages.{begins}
+use Rattle.path_keys.specs.Paths.{below}
+use Rattle.path_keys.proofs.Last.{parts_round, before_slash, before_none}
+use Rattle.dir_markers.specs.Markers.{marker_of}
+use Rattle.request_frame.proofs.Members.{eq_nat, none_some, some_is, true_or_false, same_or_other}
+use Rattle.fs_tree.specs.Tree.{Stands, SomeBelow, NoneBelow, is_marker, HasDir, HasFile, IsDirectory, IsAbsent}
+use Rattle.fs_tree.specs.Changes.{parent, marker_if, IsMarked, IsMarkedAbove, last_of, own_name}
+use Rattle.fs_tree.specs.Moves.{IsAtOrBelow, MayMove, inside, IsPlace, IsFileMoved, IsDirMoved, MovesFile, MovesDir}
+use Rattle.fs_tree.proofs.Begins.{both, begins_all, begins_more, begins_trans, begins_marker, begins_length, one_begins, marker_at}
+use Rattle.fs_tree.proofs.Above.{NoSlash, Cut, cut, above_parent, parent_begins}
+use Rattle.fs_tree.proofs.Making.{put_was, dir_of}
+use Rattle.fs_tree.proofs.Dropping.{if_marker, marked_was, marked_stands, marked_other, marker_key, marked_files, above_kept, through}
+
+-- ---- texts
+
+-- a text that begins with another is that and its rest
+pub rest_after : (p k : List ℕ) → begins p k ≡ true → (rest : List ℕ) × (k ≡ p ++ rest)
+rest_after [] k h = (k, refl)
+rest_after (x ∷ p) [] h = absurd (false≢true h)
+rest_after (x ∷ p) (y ∷ k) h =
+    let w = both (nat_eq x y) (begins p k) h in
+    let r = rest_after p k w.1 in
+    (r.0, same x y p k r.0 w.0 r.1)
+  where
+    same : (x y : ℕ) (p k r : List ℕ) → nat_eq x y ≡ true → k ≡ p ++ r → y ∷ k ≡ x ∷ p ++ r
+    same x y p k r e f i = sym (eq_nat x y e) i ∷ f i
+
+-- the last element of a path has no `/`
+last_end : (ps : List (List ℕ)) (p : List ℕ) → last_of (ps ++ p ∷ []) ≡ p
+last_end [] p = refl
+last_end (q ∷ []) p = refl
+last_end (q ∷ r ∷ ps) p = last_end (r ∷ ps) p
+
+own_no_slash : (p : List ℕ) → NoSlash (own_name p)
+own_no_slash p = by (cut p)
+  where
+    by : Cut p → NoSlash (own_name p)
+    by (inl n) = subst NoSlash (sym (ap last_of (one_part 47 p n))) n
+    by (inr c) = subst NoSlash (sym (ap last_of (parts_round p c.0 c.1 c.2 c.3) ∙ last_end (parts_of 47 c.0) c.1)) c.3
+
+-- the directory that a path is inside is the one above it
+pub inside_above : (p t : List ℕ) → parent (inside p t) ≡ t
+inside_above p [] = sym (before_none (own_name p) (own_no_slash p))
+inside_above p (y ∷ t) = sym (before_slash (inside p (y ∷ t)) (y ∷ t) (own_name p) refl (own_no_slash p))
+
+-- ---- the directory above the new place
+
+-- stands
+pub place_above : (z : Objects) (p t q : List ℕ) → IsPlace z p t q → HasDir z (parent q)
+place_above z p t q (inl h) = subst (HasDir z) (sym (ap parent h.1 ∙ inside_above p t)) h.0.1
+place_above z p t q (inr h) = subst (λ q. HasDir z (parent q)) (sym h.2) h.1.1
+
+dirs_above : (z : Objects) (q u : List ℕ) → parent q ≡ u → HasDir z u → (d : List ℕ) → begins (marker_of d) q ≡ true → HasDir z d
+dirs_above z q u e h [] b = tt
+dirs_above z q [] e h (y ∷ d) b = absurd (too_long (subst (λ v. begins (marker_of (y ∷ d)) (marker_of v) ≡ true) e (above_parent (y ∷ d) q b)))
+  where
+    too_long : begins (marker_of (y ∷ d)) (marker_of []) ≡ true → ⊥
+    too_long h =
+        let l = begins_length (marker_of (y ∷ d)) (marker_of []) h in
+        omega (arith, l, length-append d (47 ∷ []))
+dirs_above z q (x ∷ u) e h (y ∷ d) b = dir_of z (y ∷ d) (marker_of (x ∷ u)) (subst (λ v. begins (marker_of (y ∷ d)) (marker_of v) ≡ true) e (above_parent (y ∷ d) q b)) h
+
+-- the new place is neither the source nor below it
+pub place_apart : (z : Objects) (x : ℕ) (p t q : List ℕ) → MayMove z (x ∷ p) t → IsPlace z (x ∷ p) t q → IsAbsent z q → begins (marker_of (x ∷ p)) (marker_of q) ≡ true → ⊥
+place_apart z x p t q m i n b = by (marker_at (x ∷ p) q b)
+  where
+    stands : HasFile z (x ∷ p) ⊎ IsDirectory z (x ∷ p) → IsAbsent z (x ∷ p) → ⊥
+    stands (inl f) a = none_some a.0 f.1
+    stands (inr d) a = none_some (a.1 d.1.0 d.1.1) d.1.3
+
+    under : (x ∷ p ≡ t) ⊎ (begins (marker_of (x ∷ p)) t ≡ true) → ⊥
+    under (inl e) = m.apart (inl (sym e))
+    under (inr b) = m.apart (inr b)
+
+    below : begins (marker_of (x ∷ p)) q ≡ true → IsPlace z (x ∷ p) t q → ⊥
+    below b (inl h) =
+        under (marker_at (x ∷ p) t (ap (λ v. begins (marker_of (x ∷ p)) (marker_of v)) (sym (ap parent h.1 ∙ inside_above (x ∷ p) t)) ∙ above_parent (x ∷ p) q b))
+    below b (inr h) = m.apart (inr (ap (begins (marker_of (x ∷ p))) (sym h.2) ∙ b))
+
+    by : (x ∷ p ≡ q) ⊎ (begins (marker_of (x ∷ p)) q ≡ true) → ⊥
+    by (inl e) = stands m.stands (subst (IsAbsent z) (sym e) n)
+    by (inr b) = below b i
+
+-- the marker above a path is no key below it
+pub marker_not_below : (x : ℕ) (p u k : List ℕ) → parent (x ∷ p) ≡ u → marker_if u ≡ Some k → begins (marker_of (x ∷ p)) k ≡ true → ⊥
+marker_not_below x p [] k e f b = absurd (cc)
+marker_not_below x p (v ∷ u) k e f b =
+    let l = begins_length (marker_of (x ∷ p)) (marker_of (v ∷ u)) (ap (begins (marker_of (x ∷ p))) (some_is f) ∙ b) in
+    let s = begins_length (marker_of (v ∷ u)) (x ∷ p) (parent_begins (x ∷ p) v u e) in
+    omega (arith, l, s, length-append p (47 ∷ []))
+
+-- ---- a file
+
+module _ (p q : List ℕ) (z n m : Objects) (w : IsFileMoved p q z n) (g : IsMarkedAbove p n m) (free : fin.get z q ≡ None) (above : HasDir z (parent q)) where
+  file_kept : (d : List ℕ) → HasDir z d → HasDir m d
+  file_kept [] h = tt
+  file_kept (x ∷ d) h = by (same_or_other h.0 p) (same_or_other h.0 q)
+    where
+      by : (h.0 ≡ p) ⊎ (h.0 ≡ p → ⊥) → (h.0 ≡ q) ⊎ (h.0 ≡ q → ⊥) → HasDir m (x ∷ d)
+      by (inl e) v = above_kept p (parent p) refl n m g (x ∷ d) (ap (begins (marker_of (x ∷ d))) (sym e) ∙ h.1)
+      by (inr f) (inl e) = absurd (none_some free (ap (fin.get z) (sym e) ∙ h.3))
+      by (inr f) (inr e) = let s = marked_stands (marker_if (parent p)) n m g h.0 (h.2, w.others h.0 f e ∙ h.3) in (h.0, h.1, s.0, s.1)
+
+  file_only : Stands z p → (d : List ℕ) → HasDir m d → HasDir z d
+  file_only s [] h = tt
+  file_only s (x ∷ d) h = by (marked_was (marker_if (parent p)) n m g h.0 (h.2, h.3))
+    where
+      stood : Stands n h.0 → (h.0 ≡ p) ⊎ (h.0 ≡ p → ⊥) → (h.0 ≡ q) ⊎ (h.0 ≡ q → ⊥) → HasDir z (x ∷ d)
+      stood v (inl e) u = absurd (none_some (ap (fin.get n) e ∙ w.gone) v.1)
+      stood v (inr f) (inl e) = dirs_above z q (parent q) refl above (x ∷ d) (ap (begins (marker_of (x ∷ d))) (sym e) ∙ h.1)
+      stood v (inr f) (inr e) = (h.0, h.1, v.0, sym (w.others h.0 f e) ∙ v.1)
+
+      by : Stands n h.0 ⊎ (marker_if (parent p) ≡ Some h.0) → HasDir z (x ∷ d)
+      by (inl v) = stood v (same_or_other h.0 p) (same_or_other h.0 q)
+      by (inr e) = (p, through p (parent p) refl h.0 (x ∷ d) e h.1, s.0, s.1)
+
+  -- a file that is moved is so in the tree, and nothing else is
+  pub moves_file : is_marker p ≡ false → is_marker q ≡ false → Stands z p → MovesFile p q z m
+  moves_file f i s = record {
+    moved = marked_files (parent p) n m g q i ∙ w.moved;
+    gone = marked_files (parent p) n m g p f ∙ w.gone;
+    files = λ k j a b. marked_files (parent p) n m g k j ∙ w.others k a b;
+    kept = λ d h. file_kept d h;
+    only = λ d h. file_only s d h;
+  }
+
+-- ---- a directory
+
+module _ (x : ℕ) (p : List ℕ) (y : ℕ) (q : List ℕ) (z n m : Objects) (w : IsDirMoved (x ∷ p) (y ∷ q) z n) (g : IsMarkedAbove (x ∷ p) n m) (free : NoneBelow z (marker_of (y ∷ q))) (above : HasDir z (parent (y ∷ q))) (there : SomeBelow z (marker_of (x ∷ p))) where
+  abbrev P : List ℕ
+  P = marker_of (x ∷ p)
+
+  abbrev Q : List ℕ
+  Q = marker_of (y ∷ q)
+
+  -- the marker above is no key below the new place
+  not_above : begins Q P ≡ true → ⊥
+  not_above b = none_some (free there.0 (begins_trans Q P there.0 b there.1)) there.3
+
+  not_new : (k : List ℕ) → marker_if (parent (x ∷ p)) ≡ Some k → begins Q k ≡ true → ⊥
+  not_new k e b = not_above (begins_trans Q (x ∷ p) P (through (x ∷ p) (parent (x ∷ p)) refl k (y ∷ q) e b) (begins_marker (x ∷ p)))
+
+  moved_all : (rest : List ℕ) → fin.get m (Q ++ rest) ≡ fin.get z (P ++ rest)
+  moved_all rest = marked_other (marker_if (parent (x ∷ p))) n m g (Q ++ rest) (λ e. not_new (Q ++ rest) e (begins_more Q rest)) ∙ w.moved rest
+
+  gone_all : (k : List ℕ) → begins P k ≡ true → fin.get m k ≡ None
+  gone_all k b = marked_other (marker_if (parent (x ∷ p))) n m g k (λ e. marker_not_below x p (parent (x ∷ p)) k refl e b) ∙ w.gone k b
+
+  no_dir : (d : List ℕ) → IsAtOrBelow (x ∷ p) d → HasDir m d → ⊥
+  no_dir [] (inl e) h = absurd (cc)
+  no_dir [] (inr b) h = absurd (false≢true b)
+  no_dir (v ∷ d) (inl e) h = none_some (gone_all h.0 (ap (λ u. begins (marker_of u) h.0) (sym e) ∙ h.1)) h.3
+  no_dir (v ∷ d) (inr b) h = none_some (gone_all h.0 (begins_trans P (marker_of (v ∷ d)) h.0 (begins_trans P (v ∷ d) (marker_of (v ∷ d)) b (begins_marker (v ∷ d))) h.1)) h.3
+
+  below_new : (rest : List ℕ) → SomeBelow z (P ++ rest) → SomeBelow m (Q ++ rest)
+  below_new rest h =
+      let r = rest_after (P ++ rest) h.0 h.1 in (
+        (Q ++ rest) ++ r.0,
+        begins_more (Q ++ rest) r.0,
+        h.2,
+        ap (fin.get m) (append_assoc Q rest r.0) ∙ moved_all (rest ++ r.0) ∙ ap (fin.get z) (sym (append_assoc P rest r.0) ∙ sym r.1) ∙ h.3,
+      )
+
+  below_old : (rest : List ℕ) → SomeBelow m (Q ++ rest) → SomeBelow z (P ++ rest)
+  below_old rest h =
+      let r = rest_after (Q ++ rest) h.0 h.1 in (
+        (P ++ rest) ++ r.0,
+        begins_more (P ++ rest) r.0,
+        h.2,
+        ap (fin.get z) (append_assoc P rest r.0) ∙ sym (moved_all (rest ++ r.0)) ∙ ap (fin.get m) (sym (append_assoc Q rest r.0) ∙ sym r.1) ∙ h.3,
+      )
+
+  marker_end : (a rest : List ℕ) → a ++ marker_of rest ≡ marker_of (a ++ rest)
+  marker_end a rest = sym (append_assoc a rest (47 ∷ []))
+
+  dir_new : (rest : List ℕ) → HasDir z (P ++ rest) → HasDir m (Q ++ rest)
+  dir_new rest h = subst (SomeBelow m) (marker_end Q rest) (below_new (marker_of rest) (subst (SomeBelow z) (sym (marker_end P rest)) h))
+
+  dir_old : (rest : List ℕ) → HasDir m (Q ++ rest) → HasDir z (P ++ rest)
+  dir_old rest h = subst (SomeBelow z) (marker_end P rest) (below_old (marker_of rest) (subst (SomeBelow m) (sym (marker_end Q rest)) h))
+
+  same_list : (a : List ℕ) → a ++ [] ≡ a
+  same_list [] = refl
+  same_list (b ∷ a) = ap (λ l. b ∷ l) (same_list a)
+
+  stood : (k : List ℕ) → begins P k ≡ false → begins Q k ≡ false → Stands z k → Stands m k
+  stood k a b h = marked_stands (marker_if (parent (x ∷ p))) n m g k (h.0, w.others k a b ∙ h.1)
+
+  dirs_kept : (d : List ℕ) → (IsAtOrBelow (x ∷ p) d → ⊥) → HasDir z d → HasDir m d
+  dirs_kept [] f h = tt
+  dirs_kept (v ∷ d) f h = by (true_or_false (begins P h.0)) (true_or_false (begins Q h.0))
+    where
+      up : (v ∷ d ≡ x ∷ p) ⊎ (begins (marker_of (v ∷ d)) (x ∷ p) ≡ true) → HasDir m (v ∷ d)
+      up (inl e) = absurd (f (inl e))
+      up (inr b) = above_kept (x ∷ p) (parent (x ∷ p)) refl n m g (v ∷ d) b
+
+      down : (x ∷ p ≡ v ∷ d) ⊎ (begins P (v ∷ d) ≡ true) → HasDir m (v ∷ d)
+      down (inl e) = absurd (f (inl (sym e)))
+      down (inr b) = absurd (f (inr b))
+
+      one : (begins (marker_of (v ∷ d)) P ≡ true) ⊎ (begins P (marker_of (v ∷ d)) ≡ true) → HasDir m (v ∷ d)
+      one (inl b) = up (marker_at (v ∷ d) (x ∷ p) b)
+      one (inr b) = down (marker_at (x ∷ p) (v ∷ d) b)
+
+      by : (begins P h.0 ≡ true) ⊎ (begins P h.0 ≡ false) → (begins Q h.0 ≡ true) ⊎ (begins Q h.0 ≡ false) → HasDir m (v ∷ d)
+      by (inl a) b = one (one_begins (marker_of (v ∷ d)) P h.0 h.1 a)
+      by (inr a) (inl b) = absurd (none_some (free h.0 b) h.3)
+      by (inr a) (inr b) = let s = stood h.0 a b (h.2, h.3) in (h.0, h.1, s.0, s.1)
+
+  dirs_only : (d : List ℕ) → (IsAtOrBelow (y ∷ q) d → ⊥) → HasDir m d → HasDir z d
+  dirs_only [] f h = tt
+  dirs_only (v ∷ d) f h = by (marked_was (marker_if (parent (x ∷ p))) n m g h.0 (h.2, h.3))
+    where
+      up : (v ∷ d ≡ y ∷ q) ⊎ (begins (marker_of (v ∷ d)) (y ∷ q) ≡ true) → HasDir z (v ∷ d)
+      up (inl e) = absurd (f (inl e))
+      up (inr b) = dirs_above z (y ∷ q) (parent (y ∷ q)) refl above (v ∷ d) b
+
+      down : (y ∷ q ≡ v ∷ d) ⊎ (begins Q (v ∷ d) ≡ true) → HasDir z (v ∷ d)
+      down (inl e) = absurd (f (inl (sym e)))
+      down (inr b) = absurd (f (inr b))
+
+      one : (begins (marker_of (v ∷ d)) Q ≡ true) ⊎ (begins Q (marker_of (v ∷ d)) ≡ true) → HasDir z (v ∷ d)
+      one (inl b) = up (marker_at (v ∷ d) (y ∷ q) b)
+      one (inr b) = down (marker_at (y ∷ q) (v ∷ d) b)
+
+      was : Stands n h.0 → (begins P h.0 ≡ true) ⊎ (begins P h.0 ≡ false) → (begins Q h.0 ≡ true) ⊎ (begins Q h.0 ≡ false) → HasDir z (v ∷ d)
+      was s (inl a) b = absurd (none_some (w.gone h.0 a) s.1)
+      was s (inr a) (inl b) = one (one_begins (marker_of (v ∷ d)) Q h.0 h.1 b)
+      was s (inr a) (inr b) = (h.0, h.1, s.0, sym (w.others h.0 a b) ∙ s.1)
+
+      by : Stands n h.0 ⊎ (marker_if (parent (x ∷ p)) ≡ Some h.0) → HasDir z (v ∷ d)
+      by (inl s) = was s (true_or_false (begins P h.0)) (true_or_false (begins Q h.0))
+      by (inr e) = dir_of z (v ∷ d) P (begins_trans (marker_of (v ∷ d)) (x ∷ p) P (through (x ∷ p) (parent (x ∷ p)) refl h.0 (v ∷ d) e h.1) (begins_marker (x ∷ p))) there
+
+  -- a directory that is moved with what is below it is so in the tree, and nothing else is
+  pub moves_dir : MovesDir (x ∷ p) (y ∷ q) z m
+  moves_dir = record {
+    moved = moved_all;
+    directory = subst (SomeBelow m) (same_list Q) (below_new [] (subst (SomeBelow z) (sym (same_list P)) there));
+    moved_dirs = λ rest h. dir_new rest h;
+    only_moved = λ rest h. dir_old rest h;
+    gone = gone_all;
+    gone_dirs = λ d i h. no_dir d i h;
+    files = λ k i a b. marked_files (parent (x ∷ p)) n m g k i ∙ w.others k a b;
+    kept = λ d f h. dirs_kept d f h;
+    only = λ d f h. dirs_only d f h;
+  }

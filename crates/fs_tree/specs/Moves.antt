@@ -1,0 +1,112 @@
+-- Moving a file or a directory to another place of its bucket (Hadoop FileSystem specification: rename).
+use Rattle.std.specs.Prelude.{◌≡◌, ◌⊎◌, ℕ, Bool, true, false, nat_lt, cond, List, [], ◌∷◌, ◌++◌, Some, None, length}
+use Rattle.std.specs.FinMap as fin
+use Rattle.std.specs.Ordering.{is_lt}
+use Rattle.proof_base.specs.Order.{text_cmp}
+use Rattle.s3_types.specs.Store.{Objects}
+use Rattle.s3_types.specs.Pages.{begins}
+use Rattle.path_keys.specs.Paths.{below}
+use Rattle.dir_markers.specs.Markers.{marker_of}
+use Rattle.fs_tree.specs.Tree.{Stands, is_marker, marker, HasDir, HasFile, IsDirectory, IsAbsent}
+use Rattle.fs_tree.specs.Changes.{parent, marker_if, own_name}
+
+-- ---- the source, the target and the new place
+
+-- a path is another or below it
+abbrev pub IsAtOrBelow : List ℕ → List ℕ → Type 0
+IsAtOrBelow p t = (t ≡ p) ⊎ (begins (marker_of p) t ≡ true)
+
+-- something stands at the source p, and the target t is neither it nor below it
+pub record MayMove (z : Objects) (p t : List ℕ) : Type 0 where
+  pub stands : HasFile z p ⊎ IsDirectory z p
+  pub apart : IsAtOrBelow p t → ⊥
+
+-- the path inside a directory t that bears the last element of the source
+abbrev pub inside : List ℕ → List ℕ → List ℕ
+inside p t = below t (own_name p)
+
+-- the new place q: inside the directory that stands at the target, or the target itself where nothing stands there and a directory stands above it
+abbrev pub IsPlace : Objects → List ℕ → List ℕ → List ℕ → Type 0
+IsPlace z p t q = (IsDirectory z t × (q ≡ inside p t)) ⊎ (IsAbsent z t × IsDirectory z (parent t) × (q ≡ t))
+
+-- the new place of a source that may be moved: nothing stands there
+pub record IsFreePlace (z : Objects) (p t q : List ℕ) : Type 0 where
+  pub source : MayMove z p t
+  pub place : IsPlace z p t q
+  pub free : IsAbsent z q
+
+-- ---- keys and their new keys
+
+-- k is a key of what stands at p, and l is the same behind q
+abbrev pub IsMove : Objects → List ℕ → List ℕ → List ℕ → List ℕ → Type 0
+IsMove z p q k l =
+    (HasFile z p × (k ≡ p) × (l ≡ q))
+    ⊎ (IsDirectory z p × Stands z k × ((rest : List ℕ) × (k ≡ marker_of p ++ rest) × (l ≡ marker_of q ++ rest)))
+
+-- a key is over its limit: 1,024 bytes for a marker, and 1,023 for a file
+abbrev pub is_too_long : List ℕ → Bool
+is_too_long k = nat_lt (cond (is_marker k) 1024 1023) (length k)
+
+-- no new key is over its limit
+abbrev pub AllFit : Objects → List ℕ → List ℕ → Type 0
+AllFit z p q = (k l : List ℕ) → IsMove z p q k l → is_too_long l ≡ false
+
+-- k is the first key whose new key is over its limit
+pub record IsFirstTooLong (z : Objects) (p q k : List ℕ) : Type 0 where
+  pub new : List ℕ
+  pub moves : IsMove z p q k new
+  pub long : is_too_long new ≡ true
+  pub first : (j l : List ℕ) → IsMove z p q j l → is_lt (text_cmp j k) ≡ true → is_too_long l ≡ false
+
+-- ---- what a renaming does
+
+-- n is z with the object of p at q, header included
+pub record IsFileMoved (p q : List ℕ) (z n : Objects) : Type 0 where
+  pub moved : fin.get n q ≡ fin.get z p
+  pub gone : fin.get n p ≡ None
+  pub others : (k : List ℕ) → (k ≡ p → ⊥) → (k ≡ q → ⊥) → fin.get n k ≡ fin.get z k
+
+-- n is z with all keys below p below q, headers and markers included
+pub record IsDirMoved (p q : List ℕ) (z n : Objects) : Type 0 where
+  pub moved : (rest : List ℕ) → fin.get n (marker_of q ++ rest) ≡ fin.get z (marker_of p ++ rest)
+  pub gone : (k : List ℕ) → begins (marker_of p) k ≡ true → fin.get n k ≡ None
+  pub others : (k : List ℕ) → begins (marker_of p) k ≡ false → begins (marker_of q) k ≡ false → fin.get n k ≡ fin.get z k
+
+-- in the tree: q is the file that p was, and p is none; every other file and every directory is as it was
+pub record MovesFile (p q : List ℕ) (z m : Objects) : Type 0 where
+  pub moved : fin.get m q ≡ fin.get z p
+  pub gone : fin.get m p ≡ None
+  pub files : (k : List ℕ) → is_marker k ≡ false → (k ≡ p → ⊥) → (k ≡ q → ⊥) → fin.get m k ≡ fin.get z k
+  pub kept : (d : List ℕ) → HasDir z d → HasDir m d
+  pub only : (d : List ℕ) → HasDir m d → HasDir z d
+
+-- in the tree: each file and directory at p or below it stands at q with the same rest, and no longer at p; every other one is as it was
+pub record MovesDir (p q : List ℕ) (z m : Objects) : Type 0 where
+  pub moved : (rest : List ℕ) → fin.get m (marker_of q ++ rest) ≡ fin.get z (marker_of p ++ rest)
+  pub directory : HasDir m q
+  pub moved_dirs : (rest : List ℕ) → HasDir z (marker_of p ++ rest) → HasDir m (marker_of q ++ rest)
+  pub only_moved : (rest : List ℕ) → HasDir m (marker_of q ++ rest) → HasDir z (marker_of p ++ rest)
+  pub gone : (k : List ℕ) → begins (marker_of p) k ≡ true → fin.get m k ≡ None
+  pub gone_dirs : (d : List ℕ) → IsAtOrBelow p d → HasDir m d → ⊥
+  pub files : (k : List ℕ) → is_marker k ≡ false → begins (marker_of p) k ≡ false → begins (marker_of q) k ≡ false → fin.get m k ≡ fin.get z k
+  pub kept : (d : List ℕ) → (IsAtOrBelow p d → ⊥) → HasDir z d → HasDir m d
+  pub only : (d : List ℕ) → (IsAtOrBelow q d → ⊥) → HasDir m d → HasDir z d
+
+-- ---- a renaming that is under way
+
+-- a key that is at neither an old place nor a new one
+abbrev pub IsElsewhere : Objects → List ℕ → List ℕ → List ℕ → Type 0
+IsElsewhere z p q k = ((l : List ℕ) → IsMove z p q k l → ⊥) × ((j : List ℕ) → IsMove z p q j k → ⊥)
+
+-- each object of the source stands whole at its old or at its new place, and nothing else is at the new places; they come there in the order of their keys, and only when all are there does one leave its old place; every file that is at neither is as it was, header included, and so is every marker but that of the directory above the source
+pub record IsWhole (p q : List ℕ) (z m : Objects) : Type 0 where
+  pub moved : (k l : List ℕ) → IsMove z p q k l → (fin.get m k ≡ fin.get z k) ⊎ ((fin.get m k ≡ None) × (fin.get m l ≡ fin.get z k))
+  pub new : (k l : List ℕ) → IsMove z p q k l → (fin.get m l ≡ None) ⊎ (fin.get m l ≡ fin.get z k)
+  pub in_order : (k l j i : List ℕ) → IsMove z p q k l → IsMove z p q j i → is_lt (text_cmp j k) ≡ true → fin.get m l ≡ fin.get z k → fin.get m i ≡ fin.get z j
+  pub all_first : (k l j i : List ℕ) → IsMove z p q k l → IsMove z p q j i → fin.get m k ≡ None → fin.get m i ≡ fin.get z j
+  pub files : (k : List ℕ) → is_marker k ≡ false → IsElsewhere z p q k → fin.get m k ≡ fin.get z k
+  pub markers : (k : List ℕ) → IsElsewhere z p q k → (fin.get m k ≡ fin.get z k) ⊎ ((marker_if (parent p) ≡ Some k) × (fin.get m k ≡ Some marker))
+
+-- at any moment: nothing has changed, or the source is on its way to its new place
+abbrev pub MayStand : List ℕ → List ℕ → Objects → Objects → Type 0
+MayStand p t z m = (m ≡ z) ⊎ ((q : List ℕ) × IsFreePlace z p t q × IsWhole p q z m)

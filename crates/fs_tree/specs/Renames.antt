@@ -1,0 +1,41 @@
+-- What a renaming answers among the objects z of its bucket, and leaves: refusals in their order, each of which changes nothing (Hadoop FileSystem specification: rename).
+use Rattle.std.specs.Prelude.{◌≡◌, ◌⊎◌, ℕ, false, List, [], ◌∷◌, Result, Ok, Err}
+use Rattle.s3_types.specs.Store.{Objects}
+use Rattle.fs_tree.specs.declared.rename.RenameRefusal.{RenameRefusal}
+use Rattle.fs_tree.specs.declared.rename.RenameRefusal.TheVariants.{SourceMissing, SourceRoot, UnderSource, TargetFile, TargetExists, ParentMissing, ParentIsFile, TooLong}
+use Rattle.fs_tree.specs.Tree.{HasFile, IsDirectory, IsAbsent}
+use Rattle.fs_tree.specs.Changes.{parent, IsMarkedAbove}
+use Rattle.fs_tree.specs.Moves.{IsAtOrBelow, MayMove, inside, IsFreePlace, AllFit, IsFirstTooLong, IsFileMoved, IsDirMoved, MovesFile, MovesDir}
+
+-- a file comes to stand at q, and the marker above its old place is put where that directory is left empty
+pub record RenamesFile (p q : List ℕ) (z m : Objects) : Type 0 where
+  pub file : HasFile z p
+  pub tree : MovesFile p q z m
+  pub moved : Objects
+  pub placed : IsFileMoved p q z moved
+  pub marked : IsMarkedAbove p moved m
+
+-- a directory comes to stand at q with all that is below it; and so for the marker above it
+pub record RenamesDir (p q : List ℕ) (z m : Objects) : Type 0 where
+  pub directory : IsDirectory z p
+  pub tree : MovesDir p q z m
+  pub moved : Objects
+  pub placed : IsDirMoved p q z moved
+  pub marked : IsMarkedAbove p moved m
+
+-- a path is renamed that is not the root
+abbrev pub RenamesPath : List ℕ → List ℕ → Objects → Result (Unit {0}) RenameRefusal → Objects → Type 0
+RenamesPath p t z (Ok x) m = (q : List ℕ) × IsFreePlace z p t q × AllFit z p q × (RenamesFile p q z m ⊎ RenamesDir p q z m)
+RenamesPath p t z (Err SourceMissing) m = IsAbsent z p × (m ≡ z)
+RenamesPath p t z (Err UnderSource) m = (HasFile z p ⊎ IsDirectory z p) × IsAtOrBelow p t × (m ≡ z)
+RenamesPath p t z (Err TargetFile) m = MayMove z p t × (HasFile z t ⊎ (IsDirectory z t × HasFile z (inside p t))) × (m ≡ z)
+RenamesPath p t z (Err TargetExists) m = MayMove z p t × IsDirectory z t × IsDirectory z (inside p t) × (m ≡ z)
+RenamesPath p t z (Err ParentIsFile) m = MayMove z p t × IsAbsent z t × HasFile z (parent t) × (m ≡ z)
+RenamesPath p t z (Err ParentMissing) m = MayMove z p t × IsAbsent z t × IsAbsent z (parent t) × (m ≡ z)
+RenamesPath p t z (Err (TooLong k)) m = ((q : List ℕ) × IsFreePlace z p t q × IsFirstTooLong z p q k) × (m ≡ z)
+RenamesPath p t z (Err r) m = ⊥
+
+-- the source p is renamed to the target t
+abbrev pub Renames : List ℕ → List ℕ → Objects → Result (Unit {0}) RenameRefusal → Objects → Type 0
+Renames [] t z a m = (a ≡ Err SourceRoot) × (m ≡ z)
+Renames (x ∷ p) t z a m = RenamesPath (x ∷ p) t z a m
