@@ -1,18 +1,24 @@
--- The keys of paths and of the directories above them.
-use Rattle.std.proofs.Common.{◌≡◌, ℕ, ◌<◌, ◌==◌, Bool, true, false, List, [], ◌∷◌, ◌++◌, length, Some, refl, sym, ap, ◌∙◌, arith, append_assoc}
-use Rattle.std.specs.List.{list_all}
+-- The keys of paths and of the directories above them, and what texts have behind a prefix.
+use Rattle.std.proofs.Common.{◌≡◌, ℕ, ◌<◌, ◌==◌, nat_eq, Bool, true, false, List, [], ◌∷◌, ◌++◌, drop, length, Option, Some, None, option_map, Bor, Result, IfOk, if◌then◌else◌, refl, sym, ap, subst, ◌∙◌, arith, append_assoc}
+use Rattle.std.specs.List.{list_all, starts_with}
+use Rattle.std.specs.Option.{MatchOption}
+use Rattle.std.specs.Str.Pattern.{FindsTextPrefix, StripsPrefix}
+use Rattle.std.proofs.lemmas.Bool.Decides.{Decides-eqb}
+use Rattle.std.proofs.lemmas.Slice.Eq.{starts_is}
 use Rattle.std.proofs.lemmas.List.{append-nil}
-use Rattle.words.specs.Parts.{is_other}
+use Rattle.words.specs.Parts.{parts_of, is_other}
+use Rattle.words.proofs.Pieces.{one_part}
 use Rattle.s3_types.specs.Names.{is_key_path}
 use Rattle.path_keys.specs.Paths.{is_key}
 use Rattle.path_keys.proofs.Keys.{some_key}
-use Rattle.path_keys.proofs.Last.{front_is_key}
+use Rattle.path_keys.proofs.Last.{front_is_key, parts_round}
 use Rattle.path_keys.proofs.Beneath.{key_path_from}
 use Rattle.dir_markers.specs.Markers.{marker_of, keys_above}
 use Rattle.dir_markers.proofs.Above.{front_some}
-use Rattle.fs_tree.specs.Changes.{marker_if}
+use Rattle.fs_tree.specs.Changes.{marker_if, last_of, own_name}
 use Rattle.fs_tree.proofs.Above.{none_above, more_above}
 use Rattle.fs_ops.specs.Places.{key_if, prefix_of}
+use Rattle.fs_ops.specs.List.{rest_of}
 
 -- a path that is not the root
 pub record IsPlace (key : List ℕ) : Type 0 where
@@ -51,3 +57,31 @@ pub kept_as : (path text key marker prefix : List ℕ) → IsPlace path → is_k
     → (Some key ≡ key_if text) × (Some marker ≡ marker_if text) × (prefix ≡ prefix_of text) × (is_key text ≡ true)
 kept_as path text key marker prefix h k e f g i =
     (ap Some (f ∙ e) ∙ sym (ap key_if e ∙ h.own), ap Some g ∙ sym (ap marker_if e ∙ h.marked), i ∙ g ∙ sym (ap prefix_of e ∙ h.prefix), ap is_key e ∙ k)
+
+-- ---- the last element
+
+last_end : (ps : List (List ℕ)) (p : List ℕ) → last_of (ps ++ p ∷ []) ≡ p
+last_end [] p = refl
+last_end (q ∷ []) p = refl
+last_end (q ∷ r ∷ ps) p = last_end (r ∷ ps) p
+
+at_end : {E : Type 0} (r : Result (List ℕ) E) (a b : List ℕ) → IfOk r (λ n. n ≡ a) → a ≡ b → IfOk r (λ n. n ≡ b)
+at_end r a b h e = subst (λ a. IfOk r (λ n. n ≡ a)) e h
+
+pub last_of_cut : {E : Type 0} (r : Result (List ℕ) E) (key front back : List ℕ) → key ≡ front ++ 47 ∷ back → list_all (is_other 47) back ≡ true → IfOk r (λ n. n ≡ back) → IfOk r (λ n. n ≡ own_name key)
+last_of_cut r key front back e h k = at_end r back (own_name key) k (sym (ap last_of (parts_round key front back e h) ∙ last_end (parts_of 47 front) back))
+
+pub last_of_none : {E : Type 0} (r : Result (List ℕ) E) (key : List ℕ) → list_all (is_other 47) key ≡ true → IfOk r (λ n. n ≡ key) → IfOk r (λ n. n ≡ own_name key)
+last_of_none r key h k = at_end r key (own_name key) k (sym (ap last_of (one_part 47 key h)))
+
+-- ---- what a text has behind a prefix
+
+pub rest_found : (q t : List ℕ) (r : Option (Bor (List ℕ))) → MatchOption r (FindsTextPrefix q t None) (λ x. StripsPrefix (FindsTextPrefix q) t x.now) → option_map (λ r. r.now) r ≡ rest_of q t
+rest_found q t None h = by (starts_with nat_eq t q) refl
+  where
+    by : (b : Bool) → starts_with nat_eq t q ≡ b → None ≡ (if starts_with nat_eq t q then Some (drop (length q) t) else None)
+    by true e = absurd (h (drop (length q) t) ((starts_is Decides-eqb t q (starts_with nat_eq t q) refl).0 e))
+    by false e = sym (ap (λ b. if b then Some (drop (length q) t) else None) e)
+rest_found q t (Some x) h =
+    let begins = (starts_is Decides-eqb t q (starts_with nat_eq t q) refl).1 (drop h.0 t) h.1.1 in
+    sym (ap (λ b. if b then Some (drop (length q) t) else None) begins ∙ ap (λ n. Some (drop n t)) (sym h.1.0) ∙ ap Some (sym h.2))

@@ -10,4 +10,8 @@ pub mod Make
 pub mod MakeLaws
 pub mod Sweeping
 pub mod Delete
+pub mod List
+pub mod Children
+pub mod Showing
+pub mod ListLaws
 pub mod DeleteLaws

@@ -18,7 +18,7 @@ fn add_above(alloc: Global, key: &str, keys: &mut KeyList) -> Result<(), AllocEr
 }
 
 /// The keys of all directories above a key, from the root on, without the root.
-pub(crate) fn keys_above(alloc: Global, key: &str) -> Result<KeyList, AllocError>
+pub fn keys_above(alloc: Global, key: &str) -> Result<KeyList, AllocError>
     requires { is_key key.now ≡ true }
     ensures { IfOk result (λ keys. keys ≡ keys_above key.now) }
 {

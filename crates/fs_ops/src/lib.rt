@@ -1,16 +1,20 @@
-//! File operations on a bucket: the status of a path, the bytes of a file, the making of directories and
-//! the deletion of paths, each told by its stages and performed alone, whatever the store loses. (Hadoop FileSystem specification;
-//! Hadoop, S3A: directory markers.)
+//! File operations on a bucket: the status of a path, the bytes of a file, what a directory holds, the
+//! making of directories and the deletion of paths, each told by its stages and performed alone, whatever
+//! the store loses. (Hadoop FileSystem specification; Hadoop, S3A: directory markers.)
 #![tactic(auto)]
 
 mod above;
 mod delete;
+mod list;
 mod make_dirs;
 mod place;
 mod read;
 mod stat;
 
+pub use above::keys_above;
 pub use delete::DeletePath;
+pub use list::ListDir;
 pub use make_dirs::MakeDirs;
+pub use place::Place;
 pub use read::ReadFile;
 pub use stat::Stat;

@@ -1,6 +1,7 @@
 ghost use Rattle.std.specs.Prelude.{◌≡◌, ◌==◌, length, IfOk};
+ghost use Rattle.std.specs.Option.{option_copied};
 ghost use Rattle.bucket_ops.specs.Asks.{request_of};
-ghost use Rattle.fs_ops.specs.Places.{look_asks, get_asks, below_asks, drop_asks, drop_marker_asks, put_marker_asks, prefix_of};
+ghost use Rattle.fs_ops.specs.Places.{key_if, look_asks, get_asks, below_asks, drop_asks, drop_marker_asks, put_marker_asks, prefix_of};
 
 use dir_markers::marker_key;
 use path_keys::S3Path;
@@ -10,7 +11,7 @@ use std::marker::Model;
 
 /// A path's key, the key of its marker, and what the keys below it begin with. The root has neither key.
 #[derive(Drop)]
-pub(crate) struct Place {
+pub struct Place {
     path: Text,
     key: Option<Key>,
     marker: Option<Key>,
@@ -31,7 +32,8 @@ impl Model for Place {
 }
 
 impl Place {
-    pub(crate) fn of(alloc: Global, path: &S3Path) -> Result<Place, AllocError>
+    /// The place of a path.
+    pub fn of(alloc: Global, path: &S3Path) -> Result<Place, AllocError>
         ensures { IfOk result (λ place. place ≡ path.now.key) }
     {
         let text = path.key().clone()?;
@@ -54,26 +56,35 @@ impl Place {
     }
 
     /// Whether it is the root. Takes no memory.
-    pub(crate) fn is_root(&self) -> bool
+    pub fn is_root(&self) -> bool
         ensures { result ≡ (length self.now == 0) }
     {
         self.path.as_bytes().is_empty()
     }
 
+    /// Its key; the root has none. Takes no memory.
+    pub fn key(&self) -> Option<&Key>
+        ensures { option_copied result ≡ key_if self.now }
+    {
+        self.key.as_ref()
+    }
+
     /// What the keys below it begin with. Takes no memory.
-    pub(crate) fn prefix(&self) -> &Text
+    pub fn prefix(&self) -> &Text
         ensures { result.now ≡ prefix_of self.now }
     {
         &self.prefix
     }
 
-    pub(crate) fn below(&self, bucket: &Bucket, limit: PageLimit) -> Result<Request, AllocError>
+    /// The request for the first so many keys below it, its marker among them.
+    pub fn below(&self, bucket: &Bucket, limit: PageLimit) -> Result<Request, AllocError>
         ensures { IfOk result (λ request. request ≡ request_of bucket.now (below_asks self.now limit)) }
     {
         Request::list_page(bucket, &self.prefix, false, &Text::empty(), limit)
     }
 
-    pub(crate) fn look(&self, bucket: &Bucket) -> Result<Request, AllocError>
+    /// The request whether a file stands there; at the root, whether there is the bucket.
+    pub fn look(&self, bucket: &Bucket) -> Result<Request, AllocError>
         ensures { IfOk result (λ request. request ≡ request_of bucket.now (look_asks self.now)) }
     {
         match &self.key {
@@ -82,7 +93,8 @@ impl Place {
         }
     }
 
-    pub(crate) fn get(&self, bucket: &Bucket) -> Result<Request, AllocError>
+    /// The request for the bytes of its file.
+    pub fn get(&self, bucket: &Bucket) -> Result<Request, AllocError>
         ensures { IfOk result (λ request. request ≡ request_of bucket.now (get_asks self.now)) }
     {
         match &self.key {
@@ -91,7 +103,8 @@ impl Place {
         }
     }
 
-    pub(crate) fn drop_file(&self, bucket: &Bucket) -> Result<Request, AllocError>
+    /// The deletion of its file.
+    pub fn drop_file(&self, bucket: &Bucket) -> Result<Request, AllocError>
         ensures { IfOk result (λ request. request ≡ request_of bucket.now (drop_asks self.now)) }
     {
         match &self.key {
@@ -100,7 +113,8 @@ impl Place {
         }
     }
 
-    pub(crate) fn drop_marker(&self, bucket: &Bucket) -> Result<Request, AllocError>
+    /// The deletion of its marker.
+    pub fn drop_marker(&self, bucket: &Bucket) -> Result<Request, AllocError>
         ensures { IfOk result (λ request. request ≡ request_of bucket.now (drop_marker_asks self.now)) }
     {
         match &self.marker {
@@ -109,7 +123,8 @@ impl Place {
         }
     }
 
-    pub(crate) fn put_marker(&self, bucket: &Bucket) -> Result<Request, AllocError>
+    /// The request that puts its marker.
+    pub fn put_marker(&self, bucket: &Bucket) -> Result<Request, AllocError>
         ensures { IfOk result (λ request. request ≡ request_of bucket.now (put_marker_asks self.now)) }
     {
         match &self.marker {

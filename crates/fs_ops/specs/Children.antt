@@ -1,0 +1,349 @@
+-- What a delimited listing has of a directory's children. Contracts cite none of these laws.
+use Rattle.std.specs.Prelude.{◌≡◌, ◌⊎◌, ℕ, ◌==◌, ◌&&◌, not, nat_eq, Bool, true, false, cond, List, [], ◌∷◌, ◌++◌, map, length, Option, Some, None}
+use Rattle.std.proofs.Common.{refl, sym, ap, subst, ◌∙◌, inl, inr, append_assoc}
+use Rattle.std.proofs.lemmas.Bool.{false≢true, eqb-true}
+use Rattle.std.proofs.lemmas.List.{append_cancel_left, append_cancel_right}
+use Rattle.std.specs.Option.{option_map}
+use Rattle.std.specs.List.{filter, list_all}
+use Rattle.std.specs.List.Sorted.{IsStrictlySortedBy}
+use Rattle.std.specs.Map.{keys_of}
+use Rattle.std.specs.FinMap as fin
+use Rattle.std.specs.FinMap.Entries.{find}
+use Rattle.std.specs.Ordering.{is_lt, eq_by_cmp}
+use Rattle.std.proofs.lemmas.Map.Keys.{sorted_head, sorted_tail}
+use Rattle.proof_base.specs.Order.{text_cmp, text_total, text_ties}
+use Rattle.proof_base.proofs.Bools.{not_so}
+use Rattle.proof_base.proofs.Less.{lt, irrefl}
+use Rattle.proof_base.proofs.Tree.{tied, map_sorted}
+use Rattle.words.specs.Parts.{is_other}
+use Rattle.s3_types.specs.Store.{Objects}
+use Rattle.s3_types.specs.Pages.{begins, before_slash, stem, entry_by, entry_of, listed, text_in, folded_from, is_again}
+use Rattle.s3_types.specs.declared.object.Object.{Object}
+use Rattle.s3_types.specs.declared.reply.PageEntry.{PageEntry}
+use Rattle.s3_types.specs.declared.reply.PageEntry.TheVariants.{Object as Single, Prefix}
+use Rattle.request_frame.specs.Members.{IsIn, RisesFrom}
+use Rattle.request_frame.proofs.Members.{some_is, none_some, false_true, nat_true, eq_nat, text_exact, text_true, text_false, in_map, map_in, in_filter, filter_in}
+use Rattle.object_store.specs.Walk.{walked, text_of as walked_text}
+use Rattle.object_store.proofs.Listed.{walked_listed}
+use Rattle.dir_markers.specs.declared.status.Status.{Status}
+use Rattle.dir_markers.specs.declared.status.Status.TheVariants.{Directory, File}
+use Rattle.fs_tree.proofs.Begins.{both, begins_more}
+use Rattle.fs_tree.specs.declared.answers.DirEntry.{DirEntry}
+use Rattle.fs_tree.specs.Tree.{SomeBelow, NoneBelow}
+use Rattle.fs_tree.specs.Changes.{text_by}
+
+abbrev pub NoSlash : List ℕ → Type 0
+NoSlash n = list_all (is_other 47) n ≡ true
+
+abbrev child_at : List ℕ → Status → DirEntry
+child_at n s = record { name = n; status = s }
+
+-- ---- a text up to its first `/`
+
+before_at : (n : List ℕ) → NoSlash n → before_slash n ≡ None
+before_at [] h = refl
+before_at (x ∷ n) h =
+    let w = both (not (x == 47)) (list_all (is_other 47) n) h in
+    ap (λ b. cond b (Some []) (option_map (λ s. x ∷ s) (before_slash n))) (not_so (x == 47) w.0) ∙ ap (option_map (λ s. x ∷ s)) (before_at n w.1)
+
+before_one : (n w : List ℕ) → NoSlash n → before_slash (n ++ 47 ∷ w) ≡ Some n
+before_one [] w h = refl
+before_one (x ∷ n) w h =
+    let g = both (not (x == 47)) (list_all (is_other 47) n) h in
+    ap (λ b. cond b (Some []) (option_map (λ s. x ∷ s) (before_slash (n ++ 47 ∷ w)))) (not_so (x == 47) g.0) ∙ ap (option_map (λ s. x ∷ s)) (before_one n w g.1)
+
+stem_more : (q k : List ℕ) (x : ℕ) → stem (x ∷ q) (x ∷ k) ≡ option_map (λ s. x ∷ s) (stem q k)
+stem_more q k x = ap (λ b. cond b (option_map (λ s. x ∷ s) (stem q k)) None) (nat_true x x refl)
+
+-- behind a prefix
+pub stem_at : (q n : List ℕ) → NoSlash n → stem q (q ++ n) ≡ None
+stem_at [] n h = before_at n h
+stem_at (x ∷ q) n h = stem_more q (q ++ n) x ∙ ap (option_map (λ s. x ∷ s)) (stem_at q n h)
+
+pub stem_one : (q n w : List ℕ) → NoSlash n → stem q (q ++ (n ++ 47 ∷ w)) ≡ Some (q ++ n)
+stem_one [] n w h = before_one n w h
+stem_one (x ∷ q) n w h = stem_more q (q ++ (n ++ 47 ∷ w)) x ∙ ap (option_map (λ s. x ∷ s)) (stem_one q n w h)
+
+-- a text has no `/`, or it is cut at its first one
+abbrev Cut : List ℕ → Type 0
+Cut r = NoSlash r ⊎ ((n : List ℕ) × (w : List ℕ) × (r ≡ n ++ 47 ∷ w) × NoSlash n)
+
+cut : (r : List ℕ) → Cut r
+cut [] = inl refl
+cut (x ∷ r) = by (x == 47) refl (cut r)
+  where
+    by : (b : Bool) → (x == 47) ≡ b → Cut r → Cut (x ∷ r)
+    by true e c = inr ([], r, ap (λ v. v ∷ r) (eqb-true x 47 e), refl)
+    by false e (inl n) = inl (ap (λ b. not b && list_all (is_other 47) r) e ∙ n)
+    by false e (inr c) = inr (x ∷ c.0, c.1, ap (λ l. x ∷ l) c.2, ap (λ b. not b && list_all (is_other 47) c.0) e ∙ c.3)
+
+pub behind : (q k : List ℕ) → begins q k ≡ true → (r : List ℕ) × (k ≡ q ++ r)
+behind [] k h = (k, refl)
+behind (x ∷ q) [] h = absurd (false≢true h)
+behind (x ∷ q) (y ∷ k) h =
+    let w = both (nat_eq x y) (begins q k) h in
+    let i = behind q k w.1 in
+    (i.0, (λ j. sym (eq_nat x y w.0) j ∷ i.1 j))
+
+-- a name with a `/` behind it has one
+slashed : (n m : List ℕ) → NoSlash m → m ≡ n ++ 47 ∷ [] → ⊥
+slashed n m h e = false≢true (sym (all n) ∙ ap (list_all (is_other 47)) (sym e) ∙ h)
+  where
+    all : (n : List ℕ) → list_all (is_other 47) (n ++ 47 ∷ []) ≡ false
+    all [] = refl
+    all (x ∷ n) = ap (λ b. is_other 47 x && b) (all n) ∙ and_false (is_other 47 x)
+      where
+        and_false : (b : Bool) → (b && false) ≡ false
+        and_false true = refl
+        and_false false = refl
+
+-- ---- children as entries
+
+abbrev pub entry_at : List ℕ → List ℕ → Status → PageEntry
+entry_at q n Directory = Prefix ((q ++ n) ++ 47 ∷ [])
+entry_at q n (File l) = Single (q ++ n) l
+
+-- the entry of a child below a prefix
+abbrev pub entry_from : List ℕ → DirEntry → PageEntry
+entry_from q d = entry_at q d.name d.status
+
+pub text_at : (q n : List ℕ) (s : Status) → text_in (entry_at q n s) ≡ q ++ text_by n s
+text_at q n Directory = append_assoc q n (47 ∷ [])
+text_at q n (File l) = refl
+
+-- a key stands behind it: its own, or one below it
+abbrev pub Standing : List ℕ → Objects → List ℕ → Status → Type 0
+Standing q z n Directory = (w : List ℕ) × (o : Object) × (fin.get z (q ++ (n ++ 47 ∷ w)) ≡ Some o)
+Standing q z n (File l) = (o : Object) × (fin.get z (q ++ n) ≡ Some o) × (length o.bytes ≡ l)
+
+pub record IsChild (q : List ℕ) (z : Objects) (d : DirEntry) : Type 0 where
+  pub plain : NoSlash d.name
+  pub stands : Standing q z d.name d.status
+
+-- a text that ends so is behind the empty one
+some_behind : (n w : List ℕ) → lt text_cmp [] (n ++ 47 ∷ w) ≡ true
+some_behind [] w = refl
+some_behind (x ∷ n) w = refl
+
+-- ---- what is listed
+
+abbrev Entry : Type 0
+Entry = List ℕ × Object
+
+folded_sub : (last : Option (List ℕ)) (xs : List PageEntry) (x : PageEntry) → IsIn x (folded_from last xs) → IsIn x xs
+folded_sub last [] x i = absurd i
+folded_sub last (y ∷ ys) x i = by (is_again last y) refl (folded_sub last ys x) (folded_sub (Some (text_in y)) ys x)
+  where
+    by : (b : Bool) → is_again last y ≡ b → (IsIn x (folded_from last ys) → IsIn x ys) → (IsIn x (folded_from (Some (text_in y)) ys) → IsIn x ys) → IsIn x (y ∷ ys)
+    by true e old new = inr (old (subst (λ b. IsIn x (cond b (folded_from last ys) (y ∷ folded_from (Some (text_in y)) ys))) e i))
+    by false e old new = first (subst (λ b. IsIn x (cond b (folded_from last ys) (y ∷ folded_from (Some (text_in y)) ys))) e i)
+      where
+        first : (x ≡ y) ⊎ IsIn x (folded_from (Some (text_in y)) ys) → IsIn x (y ∷ ys)
+        first (inl e) = inl e
+        first (inr j) = inr (new j)
+
+-- an entry is listed, or another of its text is
+abbrev HasText : List ℕ → List PageEntry → Type 0
+HasText t xs = (y : PageEntry) × IsIn y xs × (text_in y ≡ t)
+
+again_text : (last : Option (List ℕ)) (y : PageEntry) → is_again last y ≡ true → last ≡ Some (text_in y)
+again_text None y h = absurd (false≢true h)
+again_text (Some t) y h = ap Some (text_exact t (text_in y) (tied (text_cmp t (text_in y)) h))
+
+folded_all : (last : Option (List ℕ)) (xs : List PageEntry) (x : PageEntry) → IsIn x xs → HasText (text_in x) (folded_from last xs) ⊎ (last ≡ Some (text_in x))
+folded_all last [] x i = absurd i
+folded_all last (y ∷ ys) x i = by (is_again last y) refl i (folded_all last ys x) (folded_all (Some (text_in y)) ys x)
+  where
+    G : Bool → Type 0
+    G b = HasText (text_in x) (cond b (folded_from last ys) (y ∷ folded_from (Some (text_in y)) ys)) ⊎ (last ≡ Some (text_in x))
+
+    later : HasText (text_in x) (folded_from (Some (text_in y)) ys) ⊎ (Some (text_in y) ≡ Some (text_in x)) → HasText (text_in x) (y ∷ folded_from (Some (text_in y)) ys) ⊎ (last ≡ Some (text_in x))
+    later (inl h) = inl (h.0, inr h.1, h.2)
+    later (inr e) = inl (y, inl refl, some_is e)
+
+    by : (b : Bool) → is_again last y ≡ b → (x ≡ y) ⊎ IsIn x ys → (IsIn x ys → HasText (text_in x) (folded_from last ys) ⊎ (last ≡ Some (text_in x))) → (IsIn x ys → HasText (text_in x) (folded_from (Some (text_in y)) ys) ⊎ (Some (text_in y) ≡ Some (text_in x)))
+        → HasText (text_in x) (cond (is_again last y) (folded_from last ys) (y ∷ folded_from (Some (text_in y)) ys)) ⊎ (last ≡ Some (text_in x))
+    by true e (inl h) old new = inr (again_text last y e ∙ ap (λ v. Some (text_in v)) (sym h))
+    by true e (inr j) old new = subst (λ b. HasText (text_in x) (cond b (folded_from last ys) (y ∷ folded_from (Some (text_in y)) ys)) ⊎ (last ≡ Some (text_in x))) (sym e) (old j)
+    by false e (inl h) old new = subst (λ b. HasText (text_in x) (cond b (folded_from last ys) (y ∷ folded_from (Some (text_in y)) ys)) ⊎ (last ≡ Some (text_in x))) (sym e) (inl (y, inl refl, ap text_in (sym h)))
+    by false e (inr j) old new = subst (λ b. HasText (text_in x) (cond b (folded_from last ys) (y ∷ folded_from (Some (text_in y)) ys)) ⊎ (last ≡ Some (text_in x))) (sym e) (later (new j))
+
+-- entries of a map, and what stands
+
+found_in : (es : List Entry) (k : List ℕ) (x : Object) → find text_cmp k es ≡ Some x → IsIn (k, x) es
+found_in [] k x e = absurd (none_some refl e)
+found_in (p ∷ es) k x e = by (eq_by_cmp text_cmp k p.0) refl (found_in es k x)
+  where
+    by : (b : Bool) → eq_by_cmp text_cmp k p.0 ≡ b → (find text_cmp k es ≡ Some x → IsIn (k, x) es) → IsIn (k, x) (p ∷ es)
+    by true h old =
+        let same : k ≡ p.0 = text_exact k p.0 (tied _ h) in
+        let value : p.1 ≡ x = some_is (sym (ap (λ b. cond b (Some p.1) (find text_cmp k es)) h) ∙ e) in
+        inl (ap (λ q. (q, x)) same ∙ ap (λ v. (p.0, v)) (sym value))
+    by false h old = inr (old (sym (ap (λ b. cond b (Some p.1) (find text_cmp k es)) h) ∙ e))
+
+above_all : (k : List ℕ) (es : List Entry) (e : Entry) → Rattle.std.specs.List.AllByRecursion (λ q. text_cmp k q ≡ Rattle.std.specs.declared.cmp.Ordering.TheVariants.Less) (keys_of es) → IsIn e es → lt text_cmp k e.0 ≡ true
+above_all k [] e a i = absurd i
+above_all k (p ∷ es) e a (inl is) = ap (λ (x : Entry). lt text_cmp k x.0) is ∙ ap is_lt a.0
+above_all k (p ∷ es) e a (inr i) = above_all k es e a.1 i
+
+found_at : (es : List Entry) (e : Entry) → IsStrictlySortedBy text_cmp (keys_of es) → IsIn e es → find text_cmp e.0 es ≡ Some e.1
+found_at [] e s i = absurd i
+found_at (p ∷ es) e s (inl is) =
+    let tie : eq_by_cmp text_cmp e.0 p.0 ≡ true = sym (text_ties e.0 p.0) ∙ text_true e.0 p.0 (ap (λ (x : Entry). x.0) is) in
+    ap (λ b. cond b (Some p.1) (find text_cmp e.0 es)) tie ∙ ap (λ (x : Entry). Some x.1) (sym is)
+found_at (p ∷ es) e s (inr i) =
+    let above : lt text_cmp p.0 e.0 ≡ true = above_all p.0 es e (sorted_head text_cmp p.0 (keys_of es) s) i in
+    let other : e.0 ≡ p.0 → ⊥ = λ h. false_true (irrefl text_total p.0) (ap (lt text_cmp p.0) (sym h) ∙ above) in
+    let tie : eq_by_cmp text_cmp e.0 p.0 ≡ false = sym (text_ties e.0 p.0) ∙ text_false e.0 p.0 other in
+    ap (λ b. cond b (Some p.1) (find text_cmp e.0 es)) tie ∙ found_at es e (sorted_tail text_cmp p.0 (keys_of es) s) i
+
+module _ (q : List ℕ) (z : Objects) where
+  abbrev all : List PageEntry
+  all = listed q true [] z
+
+  -- keys below the prefix, as entries
+  abbrev flat : List PageEntry
+  flat = map (entry_of q true) (filter (λ (e : Entry). begins q e.0) (fin.entries z))
+
+  abbrev after : List ℕ → PageEntry → Bool
+  after mark x = is_lt (text_cmp mark (text_in x))
+
+  -- what is listed is a child's entry
+  pub record Shown (x : PageEntry) : Type 0 where
+    pub child : DirEntry
+    pub entry : x ≡ entry_from q child
+    pub is_child : IsChild q z child
+
+  shown_key : (k : List ℕ) (o : Object) → begins q k ≡ true → fin.get z k ≡ Some o → Shown (entry_of q true (k, o))
+  shown_key k o b g = by (behind q k b).0 (behind q k b).1 (cut (behind q k b).0)
+    where
+      by : (r : List ℕ) → k ≡ q ++ r → Cut r → Shown (entry_of q true (k, o))
+      by r e (inl n) = record {
+        child = child_at r (File (length o.bytes));
+        entry = ap (λ s. entry_by s k (length o.bytes)) (ap (stem q) e ∙ stem_at q r n) ∙ ap (λ k. Single k (length o.bytes)) e;
+        is_child = record { plain = n; stands = (o, ap (fin.get z) (sym e) ∙ g, refl) };
+      }
+      by r e (inr c) = record {
+        child = child_at c.0 Directory;
+        entry = ap (λ s. entry_by s k (length o.bytes)) (ap (stem q) (e ∙ ap (λ r. q ++ r) c.2) ∙ stem_one q c.0 c.1 c.3);
+        is_child = record { plain = c.3; stands = (c.1, o, ap (fin.get z) (sym (e ∙ ap (λ r. q ++ r) c.2)) ∙ g) };
+      }
+
+  pub shown_in : (mark : List ℕ) (x : PageEntry) → IsIn x (listed q true mark z) → Shown x
+  shown_in mark x i =
+      let a = folded_sub None (filter (after mark) flat) x i in
+      let b = (in_filter (after mark) x flat a).0 in
+      let c = in_map (entry_of q true) x (filter (λ (e : Entry). begins q e.0) (fin.entries z)) b in
+      let d = in_filter (λ (e : Entry). begins q e.0) c.0 (fin.entries z) c.1 in
+      let g : fin.get z c.0.0 ≡ Some c.0.1 = fin.get-entries z c.0.0 ∙ found_at (fin.entries z) c.0 (map_sorted text_cmp z) d.0 in
+      subst Shown (sym c.2) (shown_key c.0.0 c.0.1 d.1 g)
+
+  -- something stands below it
+  child_stands : (n : List ℕ) (s : Status) → Standing q z n s → SomeBelow z q
+  child_stands n Directory h = (q ++ (n ++ 47 ∷ h.0), begins_more q (n ++ 47 ∷ h.0), h.1, h.2)
+  child_stands n (File l) h = (q ++ n, begins_more q n, h.0, h.1)
+
+  pub some_listed : (mark : List ℕ) (x : PageEntry) (xs : List PageEntry) → listed q true mark z ≡ x ∷ xs → SomeBelow z q
+  some_listed mark x xs e = let s = shown_in mark x (subst (IsIn x) (sym e) (inl refl)) in child_stands s.child.name s.child.status s.is_child.stands
+
+  -- each key that stands has an entry of its text
+  pub has_text : (k : List ℕ) (o : Object) → fin.get z k ≡ Some o → begins q k ≡ true → lt text_cmp [] (text_in (entry_of q true (k, o))) ≡ true → HasText (text_in (entry_of q true (k, o))) all
+  has_text k o g b l =
+      let a = filter_in (λ (e : Entry). begins q e.0) (k, o) (fin.entries z) (found_in (fin.entries z) k o (sym (fin.get-entries z k) ∙ g)) b in
+      let c = map_in (entry_of q true) (k, o) (filter (λ (e : Entry). begins q e.0) (fin.entries z)) a in
+      let d = filter_in (after []) (entry_of q true (k, o)) flat c l in
+      by (folded_all None (filter (after []) flat) (entry_of q true (k, o)) d)
+    where
+      by : HasText (text_in (entry_of q true (k, o))) all ⊎ (None ≡ Some (text_in (entry_of q true (k, o)))) → HasText (text_in (entry_of q true (k, o))) all
+      by (inl h) = h
+      by (inr e) = absurd (none_some refl e)
+
+  -- ---- the children in order
+
+  rises_walked : (last : List ℕ) (es : List Entry) → RisesFrom last (map text_in (walked q true last es))
+  rises_walked last [] = tt
+  rises_walked last (e ∷ es) = by (begins q e.0) (lt text_cmp last (walked_text q true e.0)) refl (rises_walked last es) (rises_walked (walked_text q true e.0) es)
+    where
+      same : (s : Option (List ℕ)) (k : List ℕ) (n : ℕ) → Rattle.object_store.specs.Walk.text_by s k ≡ text_in (entry_by s k n)
+      same None k n = refl
+      same (Some s) k n = refl
+
+      by : (b c : Bool) → lt text_cmp last (walked_text q true e.0) ≡ c → RisesFrom last (map text_in (walked q true last es)) → RisesFrom (walked_text q true e.0) (map text_in (walked q true (walked_text q true e.0) es))
+          → RisesFrom last (map text_in (cond (b && c) (entry_of q true e ∷ walked q true (walked_text q true e.0) es) (walked q true last es)))
+      by true true l old new =
+          let s = same (stem q e.0) e.0 (length e.1.bytes) in
+          (ap (lt text_cmp last) (sym s) ∙ l, subst (λ t. RisesFrom t (map text_in (walked q true (walked_text q true e.0) es))) s new)
+      by true false l old new = old
+      by false c l old new = old
+
+  pub listed_rises : (mark : List ℕ) → RisesFrom mark (map text_in (listed q true mark z))
+  listed_rises mark = subst (λ xs. RisesFrom mark (map text_in xs)) (walked_listed q true mark z) (rises_walked mark (fin.entries z))
+
+  -- entries that show children are theirs
+  pub record AreShown (xs : List PageEntry) : Type 0 where
+    pub children : List DirEntry
+    pub entries : xs ≡ map (entry_from q) children
+    pub are : (d : DirEntry) → IsIn d children → IsChild q z d
+
+  pub are_shown : (xs : List PageEntry) → ((x : PageEntry) → IsIn x xs → Shown x) → AreShown xs
+  are_shown [] h = record { children = []; entries = refl; are = λ d i. absurd i }
+  are_shown (x ∷ xs) h =
+      let s = h x (inl refl) in
+      let r = are_shown xs (λ y i. h y (inr i)) in
+      record {
+        children = s.child ∷ r.children;
+        entries = (λ i. s.entry i ∷ r.entries i);
+        are = λ d i. elim i [ inl e ↦ subst (IsChild q z) (sym e) s.is_child | inr j ↦ r.are d j ];
+      }
+
+  -- ---- a child that stands is one of them
+
+  module _ (ds : List DirEntry) (entries : all ≡ map (entry_from q) ds) (are : (d : DirEntry) → IsIn d ds → IsChild q z d) where
+    entry_in : (t : List ℕ) → HasText t all → (d : DirEntry) × IsIn d ds × (q ++ text_by d.name d.status ≡ t)
+    entry_in t h =
+        let m = in_map (entry_from q) h.0 ds (subst (IsIn h.0) entries h.1) in
+        (m.0, m.1, sym (text_at q m.0.name m.0.status) ∙ ap text_in (sym m.2) ∙ h.2)
+
+    file_is : (n : List ℕ) (o : Object) (d : DirEntry) → fin.get z (q ++ n) ≡ Some o → NoSlash n → IsIn d ds → q ++ text_by d.name d.status ≡ q ++ n → IsIn (child_at n (File (length o.bytes))) ds
+    file_is n o d g s i e = by d.status refl (append_cancel_left q (text_by d.name d.status) n e) (are d i).stands
+      where
+        by : (k : Status) → d.status ≡ k → text_by d.name k ≡ n → Standing q z d.name k → IsIn (child_at n (File (length o.bytes))) ds
+        by Directory f m h = absurd (slashed d.name n s (sym m))
+        by (File l) f m h =
+            let same : h.0 ≡ o = some_is (sym h.1 ∙ ap (λ n. fin.get z (q ++ n)) m ∙ g) in
+            let size : l ≡ length o.bytes = sym h.2 ∙ ap (λ (o : Object). length o.bytes) same in
+            subst (λ d. IsIn d ds) ((λ j. child_at (d.name) (f j)) ∙ (λ j. child_at (m j) (File (size j)))) i
+
+    pub file_listed : (n : List ℕ) (o : Object) → fin.get z (q ++ n) ≡ Some o → NoSlash n → lt text_cmp [] (q ++ n) ≡ true → IsIn (child_at n (File (length o.bytes))) ds
+    file_listed n o g s l =
+        let t : text_in (entry_of q true (q ++ n, o)) ≡ q ++ n = ap (λ s. text_in (entry_by s (q ++ n) (length o.bytes))) (stem_at q n s) in
+        let h = has_text (q ++ n) o g (begins_more q n) (ap (lt text_cmp []) t ∙ l) in
+        let w = entry_in (text_in (entry_of q true (q ++ n, o))) h in
+        file_is n o w.0 g s w.1 (w.2 ∙ t)
+
+    dir_is : (n : List ℕ) (d : DirEntry) → NoSlash n → IsIn d ds → q ++ text_by d.name d.status ≡ (q ++ n) ++ 47 ∷ [] → IsIn (child_at n Directory) ds
+    dir_is n d s i e = by d.status refl (append_cancel_left q (text_by d.name d.status) (n ++ 47 ∷ []) (e ∙ append_assoc q n (47 ∷ [])))
+      where
+        by : (k : Status) → d.status ≡ k → text_by d.name k ≡ n ++ 47 ∷ [] → IsIn (child_at n Directory) ds
+        by Directory f m = subst (λ d. IsIn d ds) ((λ j. child_at d.name (f j)) ∙ (λ j. child_at (append_cancel_right d.name n (47 ∷ []) m j) Directory)) i
+        by (File l) f m = absurd (slashed n d.name (are d i).plain m)
+
+    pub dir_listed : (n w : List ℕ) (o : Object) → fin.get z (q ++ (n ++ 47 ∷ w)) ≡ Some o → NoSlash n → IsIn (child_at n Directory) ds
+    dir_listed n w o g s =
+        let t : text_in (entry_of q true (q ++ (n ++ 47 ∷ w), o)) ≡ (q ++ n) ++ 47 ∷ [] = ap (λ s. text_in (entry_by s (q ++ (n ++ 47 ∷ w)) (length o.bytes))) (stem_one q n w s) in
+        let h = has_text (q ++ (n ++ 47 ∷ w)) o g (begins_more q (n ++ 47 ∷ w)) (ap (lt text_cmp []) t ∙ some_behind (q ++ n) []) in
+        let v = entry_in (text_in (entry_of q true (q ++ (n ++ 47 ∷ w), o))) h in
+        dir_is n v.0 s v.1 (v.2 ∙ t)
+
+-- where nothing is listed below a prefix nothing stands there
+pub none_listed : (x : ℕ) (q : List ℕ) (z : Objects) → listed (x ∷ q) true [] z ≡ [] → NoneBelow z (x ∷ q)
+none_listed x q z e k b = by (fin.get z k) refl
+  where
+    text_some : (s : Option (List ℕ)) (k : List ℕ) (n : ℕ) → begins (x ∷ q) k ≡ true → lt text_cmp [] (text_in (entry_by s k n)) ≡ true
+    text_some None [] n b = absurd (false≢true b)
+    text_some None (y ∷ k) n b = refl
+    text_some (Some s) k n b = some_behind s []
+
+    by : (o : Option Object) → fin.get z k ≡ o → fin.get z k ≡ None
+    by None g = g
+    by (Some o) g = let h = has_text (x ∷ q) z k o g b (text_some (stem (x ∷ q) k) k (length o.bytes) b) in absurd (subst (IsIn h.0) e h.1)

@@ -1,0 +1,355 @@
+ghost use Rattle.std.specs.Prelude.{◌≡◌, ◌∷◌, ◌<◌, ◌≤◌, length, [], Some, IfOk, OnOk, IsErrOf, Err, option_map};
+ghost use Rattle.operations.specs.Performed.{Performed};
+ghost use Rattle.s3_types.specs.Pages.{text_in};
+ghost use Rattle.bucket_ops.specs.Phases.{GivesIn, AlwaysIn};
+ghost use Rattle.fs_tree.specs.Answers.{Lists};
+ghost use Rattle.fs_tree.specs.Changes.{own_name};
+ghost use Rattle.fs_tree.specs.declared.answers.FsRefusal.TheVariants.{NoSuchBucket};
+ghost use Rattle.fs_ops.specs.List.{first, asks, on, told, paged, rest_of, is_file, is_file_named, has_file, file_by, dir_named, shown, added, all_added, last_text, holds, left};
+ghost use Rattle.fs_ops.specs.Stat.{length_in};
+ghost use Rattle.fs_ops.specs.Steps.{goes_by, IsStill};
+ghost use Rattle.fs_ops.specs.ListLaws.{list_laws};
+
+use crate::place::Place;
+use bucket_ops::{Look, Phases, perform_in, seen_in};
+use dir_markers::Status;
+use fs_tree::{DirEntry, DirList, FsRefusal};
+use machine::DriveStop;
+use operations::Step;
+use path_keys::{S3Path, first_element};
+use s3_types::{Actor, Bucket, Journal, ObjectStore, PageEntry, PageLimit, Reply, Request, Text};
+use std::alloc::{AllocError, Global};
+use std::marker::Model;
+
+/// Where the listing of a directory stands.
+#[derive(Drop)]
+pub enum ListStage {
+    /// Whether a file stands at the path.
+    Here,
+    /// The children that were found, and the text behind which the next page begins.
+    Pages { found: DirList, mark: Text },
+}
+
+/// The path whose children are asked for, and its last element.
+#[derive(Drop)]
+pub(crate) struct ListNames {
+    alloc: Global,
+    place: Place,
+    name: Text,
+}
+
+impl Model for ListNames {
+    ghost use Rattle.std.specs.Prelude.{◌≡◌, ℕ, List};
+    ghost use Rattle.fs_tree.specs.Changes.{own_name};
+
+    ghost Value = { List ℕ };
+
+    ghost view = { λ o. o.place };
+
+    ghost invariant = { λ o. o.name ≡ own_name o.place };
+}
+
+type Answer = Result<DirList, FsRefusal>;
+
+fn is_file(status: Status) -> bool
+    ensures { result ≡ is_file status }
+{
+    match status {
+        Status::File(_) => true,
+        Status::Directory => false,
+    }
+}
+
+/// Whether a file of this name was found. Between the two in order there are only names that begin with it.
+fn has_file(found: &[DirEntry], name: &Text) -> bool
+    ensures { result ≡ has_file found.now name.now }
+{
+    found
+        .iter()
+        .rev()
+        .take_while(|entry| entry.name.starts_with(name))
+        .any(|entry| is_file(entry.status) && entry.name == *name)
+}
+
+/// What stands behind a prefix in a text that begins so.
+fn rest_of<'t>(prefix: &str, text: &'t str) -> Option<&'t str>
+    ensures { option_map (λ r. r.now) result ≡ rest_of prefix.now text.now }
+{
+    text.strip_prefix(prefix)
+}
+
+/// The child that an entry of a page shows, unless it was found before, or is the directory's own marker.
+fn shown(
+    alloc: Global,
+    prefix: &Text,
+    found: &[DirEntry],
+    entry: &PageEntry,
+) -> Result<Option<DirEntry>, AllocError>
+    ensures { IfOk result (λ child. child ≡ shown prefix.now found.now entry.now) }
+{
+    match entry {
+        PageEntry::Object { key, length } => {
+            match rest_of(prefix.as_str(), key.as_text().as_str()) {
+                Some(name) => file_entry(alloc, name, *length),
+                None => Ok(None),
+            }
+        }
+        PageEntry::Prefix(text) => match rest_of(prefix.as_str(), text.as_str()) {
+            Some(rest) => dir_entry(alloc, found, first_element(rest).0),
+            None => Ok(None),
+        },
+    }
+}
+
+/// A file's entry; the key that is the prefix itself is the directory's own marker and shows none.
+fn file_entry(alloc: Global, name: &str, length: u64) -> Result<Option<DirEntry>, AllocError>
+    ensures { IfOk result (λ child. child ≡ file_by (Some name.now) length) }
+{
+    if name.is_empty() {
+        return Ok(None);
+    }
+    Ok(Some(DirEntry {
+        name: Text::copied(alloc, name)?,
+        status: Status::File(length),
+    }))
+}
+
+/// A directory's entry, unless a file of its name was found.
+fn dir_entry(alloc: Global, found: &[DirEntry], name: &str) -> Result<Option<DirEntry>, AllocError>
+    ensures { IfOk result (λ child. child ≡ dir_named (has_file found.now name.now) name.now) }
+{
+    let name = Text::copied(alloc, name)?;
+    if has_file(found, &name) {
+        return Ok(None);
+    }
+    Ok(Some(DirEntry {
+        name,
+        status: Status::Directory,
+    }))
+}
+
+fn add(
+    alloc: Global,
+    prefix: &Text,
+    found: &mut DirList,
+    entry: &PageEntry,
+) -> Result<(), AllocError>
+    ensures { OnOk result (found.new ≡ added found.old (shown prefix.now found.old entry.now)) }
+{
+    match shown(alloc, prefix, found.as_slice(), entry)? {
+        Some(child) => found.push(child),
+        None => Ok(()),
+    }
+}
+
+/// The key, or the common prefix.
+fn text_of(entry: &PageEntry) -> Result<Text, AllocError>
+    ensures { IfOk result (λ text. text ≡ text_in entry.now) }
+{
+    match entry {
+        PageEntry::Object { key, .. } => key.as_text().clone(),
+        PageEntry::Prefix(text) => text.clone(),
+    }
+}
+
+/// Adds the children that the entries of a page show, and gives the text of the last of them, or the mark where there
+/// is none.
+fn add_all(
+    alloc: Global,
+    prefix: &Text,
+    found: &mut DirList,
+    mark: Text,
+    entries: &[PageEntry],
+) -> Result<Text, AllocError>
+    ensures found { OnOk result (found.new ≡ all_added prefix.now found.old entries.now) }
+    ensures mark { IfOk result (λ last. last ≡ last_text mark entries.now) }
+{
+    let mut last = mark;
+    for entry in entries {
+        add(alloc, prefix, found, entry)?;
+        last = text_of(entry)?;
+    }
+    Ok(last)
+}
+
+/// The last element of a key.
+fn last_element(alloc: Global, key: &str) -> Result<Text, AllocError>
+    ensures { IfOk result (λ name. name ≡ own_name key.now) }
+{
+    match key.rsplit_once('/') {
+        Some((_, back)) => Text::copied(alloc, back),
+        None => Text::copied(alloc, key),
+    }
+}
+
+impl ListNames {
+    fn all_pages(&self) -> ListStage
+        ensures { result ≡ ListStage.Pages [] [] }
+    {
+        ListStage::Pages {
+            found: DirList::new(self.alloc),
+            mark: Text::empty(),
+        }
+    }
+
+    fn own_entry(&self, length: u64) -> Result<DirList, AllocError>
+        ensures { IfOk result (λ list. list ≡ record { name = own_name self.now; status = Status.File length } ∷ []) }
+    {
+        let mut list = DirList::new(self.alloc);
+        list.push(DirEntry {
+            name: self.name.clone()?,
+            status: Status::File(length),
+        })?;
+        Ok(list)
+    }
+
+    fn on_here(&self, reply: &Reply) -> Result<Step<ListStage, Answer>, AllocError>
+        ensures { IfOk result (λ step. step ≡ told self.now (length_in reply.now)) }
+    {
+        match reply {
+            Reply::Head { length, .. } => Ok(Step::End(Ok(self.own_entry(*length)?))),
+            _ => Ok(Step::Next(self.all_pages())),
+        }
+    }
+
+    fn paged(&self, more: bool, found: DirList, mark: Text) -> Step<ListStage, Answer>
+        ensures { result ≡ paged self.now more found mark }
+    {
+        if more {
+            Step::Next(ListStage::Pages { found, mark })
+        } else if mark.as_bytes().is_empty() && !self.place.is_root() {
+            Step::End(Err(FsRefusal::NotFound))
+        } else {
+            Step::End(Ok(found))
+        }
+    }
+
+    fn on_page(
+        &self,
+        found: DirList,
+        mark: Text,
+        reply: &Reply,
+    ) -> Result<Step<ListStage, Answer>, AllocError>
+        ensures { IfOk result (λ step. step ≡ on self.now (ListStage.Pages found mark) reply.now) }
+    {
+        let mut found = found;
+        match reply {
+            Reply::Page { entries, more } => {
+                let prefix = self.place.prefix();
+                let mark = add_all(self.alloc, prefix, &mut found, mark, entries.as_slice())?;
+                Ok(self.paged(*more, found, mark))
+            }
+            _ => Ok(self.paged(false, found, mark)),
+        }
+    }
+}
+
+impl Phases for ListNames {
+    type Stage = ListStage;
+
+    type Answer = Result<DirList, FsRefusal>;
+
+    ghost first = { first };
+
+    ghost asks = { asks };
+
+    ghost goes = { goes_by on };
+
+    ghost holds = { holds };
+
+    ghost gives = { Lists };
+
+    ghost always = { IsStill };
+
+    ghost left = { left };
+
+    ghost absent = { Err NoSuchBucket };
+
+    ghost laws = { list_laws };
+
+    fn start(&self) -> ListStage {
+        if self.place.is_root() {
+            self.all_pages()
+        } else {
+            ListStage::Here
+        }
+    }
+
+    fn ask(&self, bucket: &Bucket, stage: &ListStage) -> Result<Request, AllocError> {
+        match stage {
+            ListStage::Here => self.place.look(bucket),
+            ListStage::Pages { mark, .. } => Request::list_page(
+                bucket,
+                self.place.prefix(),
+                true,
+                mark,
+                PageLimit::new(PageLimit::MOST),
+            ),
+        }
+    }
+
+    fn next(&self, stage: ListStage, reply: &Reply) -> Result<Step<ListStage, Answer>, AllocError> {
+        if let Look::NoBucket = seen_in(reply) {
+            return Ok(Step::End(Err(FsRefusal::NoSuchBucket)));
+        }
+        match stage {
+            ListStage::Here => self.on_here(reply),
+            ListStage::Pages { found, mark } => self.on_page(found, mark, reply),
+        }
+    }
+}
+
+/// The listing of a directory.
+#[derive(Drop)]
+pub struct ListDir {
+    bucket: Bucket,
+    names: ListNames,
+}
+
+impl Model for ListDir {
+    ghost use Rattle.path_keys.specs.Paths.{Path};
+
+    ghost Value = { Path };
+
+    ghost view = { λ s. record { bucket = s.bucket; key = s.names } };
+}
+
+impl ListDir {
+    pub fn new(alloc: Global, path: &S3Path) -> Result<ListDir, AllocError>
+        ensures { IfOk result (λ dir. dir ≡ path.now) }
+    {
+        let bucket = path.bucket().clone()?;
+        let place = Place::of(alloc, path)?;
+        let name = last_element(alloc, path.key().as_str())?;
+        Ok(ListDir {
+            bucket,
+            names: ListNames { alloc, place, name },
+        })
+    }
+
+    /// The children of a directory, each once, ordered by the bytes of their names with a `/` behind a
+    /// directory's: a child that is a file and has something below it is the file alone, and the
+    /// directory's own marker is none. Of a file its own entry. Refused NotFound where nothing stands at
+    /// the path, and before that NoSuchBucket; nothing changes. One request for the path, and then one page
+    /// for each 1,000 children. (Hadoop FileSystem specification, listStatus.)
+    pub fn perform<S: ObjectStore>(
+        self,
+        alloc: Global,
+        retries: u32,
+        store: &mut S,
+        actor: Actor,
+        event: u32,
+        journal: &mut Journal,
+    ) -> Result<Result<DirList, FsRefusal>, DriveStop>
+        requires counted { S.requests store.old ≤ length journal.old.entries }
+        ensures lists { IfOk result (λ answer. GivesIn self.bucket (Lists self.key) (Err NoSuchBucket) (S.scene store.old) answer (S.scene store.new)) }
+        ensures performed { Performed actor event retries (AlwaysIn self.bucket (IsStill self.key) (S.scene store.old)) (S.scene store.old) (S.scene store.new) journal.old.entries journal.new.entries (S.requests store.old) (S.requests store.new) (S.losses store.old) (S.losses store.new) (S.foretold store.old) (S.foretold store.new) result }
+        ensures fault { IsErrOf result DriveStop.StoreFault → S.losses store.old < S.losses store.new }
+    {
+        let ListDir { bucket, names } = self;
+        match perform_in(alloc, bucket, names, retries, store, actor, event, journal) {
+            Ok(answer) => Ok(answer),
+            Err(stop) => Err(stop),
+        }
+    }
+}
