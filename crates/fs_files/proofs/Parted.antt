@@ -1,0 +1,35 @@
+-- A file that is written after one part more.
+use Rattle.std.proofs.Common.{◌≡◌, ℕ, ◌+◌, ◌-◌, ◌≤◌, min, true, List, [], ◌∷◌, ◌++◌, length, drop, Option, Some, None, IsSome, sym, ap, subst, ◌∙◌, arith, length-drop}
+use Rattle.std.proofs.lemmas.Bool.{false≢true}
+use Rattle.std.proofs.lemmas.List.{drop-drop, drop_min}
+use Rattle.s3_types.specs.Tags.{Spelled}
+use Rattle.block_stream.specs.Holds.{HasRoom}
+use Rattle.fs_files.specs.Writing.{Writing, stream_of, is_due, seen, IsKept}
+use Rattle.fs_files.specs.WritingLaws.{parted_room}
+
+-- what is pending is what is behind it
+dropped : (block from : ℕ) (bytes : List ℕ) → drop block (drop from bytes) ≡ drop (from + min block (length bytes - from)) bytes
+dropped block from bytes =
+    sym (drop_min block (drop from bytes)) ∙ ap (λ n. drop (min block n) (drop from bytes)) (length-drop from bytes) ∙ drop-drop (min block (length bytes - from)) from bytes
+
+not_none : (u v : Option ℕ) → v ≡ u → IsSome u → v ≡ None → ⊥
+not_none None v e h f = false≢true h
+not_none (Some id) v e h f = absurd (cc)
+
+within : (block from n : ℕ) → from ≤ n → from + min block (n - from) ≤ n
+within block from n h = omega arith
+
+pub parted_kept : (key : List ℕ) (block : ℕ) (bytes : List ℕ) (from size : ℕ) (upload : Option ℕ) (tags more : List Spelled) (t : Spelled) (w : Writing) → IsKept key block bytes from upload tags → seen key block bytes from upload tags ≡ w → IsSome w.upload → is_due w ≡ true
+    → size ≡ min block (length bytes - from) → more ≡ tags ++ t ∷ [] → IsKept key block bytes (from + size) upload more
+parted_kept key block bytes from size upload tags more t w k e some due s m =
+    subst (λ n. IsKept key block bytes (from + n) upload more) (sym s) (subst (IsKept key block bytes (from + min block (length bytes - from)) upload) (sym m) kept)
+  where
+    at : is_due (seen key block bytes from upload tags) ≡ true
+    at = ap is_due e ∙ due
+
+    kept : IsKept key block bytes (from + min block (length bytes - from)) upload (tags ++ t ∷ [])
+    kept = record {
+      within = within block from (length bytes) k.within;
+      room = subst (λ p. HasRoom (stream_of [] (record { key = key; block = block; pending = p; upload = upload; tags = tags ++ t ∷ [] }))) (dropped block from bytes) (parted_room [] (seen key block bytes from upload tags) t k.room at);
+      whole = λ f. absurd (not_none w.upload upload (ap (λ (w : Writing). w.upload) e) some f);
+    }

@@ -1,0 +1,452 @@
+-- Making a file, stage by stage.
+use Rattle.std.specs.Prelude.{◌≡◌, ◌⊎◌, ℕ, ◌+◌, ◌*◌, ◌<◌, ◌≤◌, nat_lt, Bool, true, false, cond, List, [], ◌∷◌, Ok, Err, Option, Some, None, length}
+use Rattle.std.proofs.Common.{refl, sym, ap, subst, ◌∙◌, inl, inr, arith}
+use Rattle.std.proofs.lemmas.Bool.{true≢false}
+use Rattle.std.specs.FinMap as fin
+use Rattle.s3_types.specs.Store.{Objects, BucketContent, Scene}
+use Rattle.s3_types.specs.Answer.{answer, apply, answer_at, apply_in, head, without}
+use Rattle.s3_types.specs.Pages.{page, listed}
+use Rattle.s3_types.specs.Requests.{only_reads}
+use Rattle.s3_types.specs.declared.request.Request.{Request}
+use Rattle.s3_types.specs.declared.request.Request.TheVariants.{DeleteObjects}
+use Rattle.s3_types.specs.declared.reply.Reply.{Reply}
+use Rattle.s3_types.specs.declared.reply.Reply.TheVariants.{Deleted, Refused}
+use Rattle.s3_types.specs.declared.reply.Refusal.TheVariants.{TooManyKeys}
+use Rattle.request_frame.proofs.Reading.{reads_nothing}
+use Rattle.path_keys.specs.Paths.{is_key}
+use Rattle.operations.specs.declared.plan.Step.TheVariants.{Next, End}
+use Rattle.operations.specs.Plans.{Goes, Falls}
+use Rattle.operations.specs.Courses.{IsCourse}
+use Rattle.bucket_ops.specs.declared.look.Look.{Look}
+use Rattle.bucket_ops.specs.declared.look.Look.TheVariants.{There, Nothing, NoBucket, Other}
+use Rattle.bucket_ops.specs.Looks.{look_of}
+use Rattle.bucket_ops.specs.Asks.{Ask, Head, request_of, reply_in, reply_at, objects_of, objects_at}
+use Rattle.bucket_ops.specs.AskLaws.{get_put, answered, applied_none, all_gone, are_gone}
+use Rattle.dir_markers.specs.Markers.{marker_of, keys_above, created}
+use Rattle.fs_tree.specs.declared.answers.FsRefusal.{FsRefusal}
+use Rattle.fs_tree.specs.declared.answers.FsRefusal.TheVariants.{AlreadyExists, IsDirectory, NotDirectory, NoSuchBucket}
+use Rattle.fs_tree.specs.Tree.{Stands, SomeBelow, NoneBelow, HasFile, IsAbsent, NoFiles}
+use Rattle.fs_tree.specs.Tree as tree
+use Rattle.fs_tree.specs.Answers.{Creates}
+use Rattle.fs_tree.proofs.Above.{key_no_marker}
+use Rattle.fs_ops.specs.Places.{look_asks, below_asks, NoFileAt}
+use Rattle.fs_ops.specs.Looks.{IsSeen, head_tells, page_tells}
+use Rattle.fs_ops.specs.Steps.{unless}
+use Rattle.fs_ops.specs.StepLaws.{not_missing}
+use Rattle.fs_ops.specs.Make.{Passed}
+use Rattle.fs_files.specs.declared.create.CreateStage.{CreateStage}
+use Rattle.fs_files.specs.declared.create.CreateStage.TheVariants.{Here, Below, Up, Write, DropMarkers}
+use Rattle.fs_files.specs.declared.create.Creating.{Creating}
+use Rattle.fs_files.specs.Placed.{IsBeside, InFile, IsFileOrNot, object_of}
+use Rattle.fs_files.specs.Writing as writing
+use Rattle.fs_files.specs.declared.writing.Heard.{Heard}
+use Rattle.fs_files.specs.declared.writing.Heard.TheVariants.{Done, On, Refusing}
+use Rattle.fs_files.specs.Writing.{Writing, unsent, stream_of}
+use Rattle.fs_files.specs.Hearing as hearing
+use Rattle.fs_files.specs.Hearing.{heard}
+use Rattle.fs_files.specs.Creation.{Creation, IsCreation}
+use Rattle.fs_files.specs.WritingLaws as files
+use Rattle.fs_files.specs.WritingLaws.{placed_same, placed_by, Writes, Wrote, HeardSo, LessLeft, RoomLeft, room_stays}
+use Rattle.fs_files.specs.Creating.{created_above, makes_file, few_created}
+use Rattle.block_stream.specs.Holds.{HasRoom}
+use Rattle.fs_files.specs.Create.{Answer, CreateStep, asks, write_at, up_from, climb, replace, here as here_at, on_here, on_below, on_up, drop_from, written, on, goes, IsOpen, IsDue, file_in, IsMade, least, HoldsIn, bucket_at, HoldsAt, holds, IsUndone, GivesFile, always_in, AlwaysFile, starts, request, stepped, led, gives, always, write_left, left_at, left}
+
+-- where there is no bucket it ends, and else it goes on
+unless_so : {X : Type 0} (l : Look) (absent y : X) (P : X → Type 0) → (l ≡ NoBucket → P absent) → P y → P (unless l absent y)
+unless_so There absent y P f h = h
+unless_so Nothing absent y P f h = h
+unless_so NoBucket absent y P f h = f refl
+unless_so Other absent y P f h = h
+
+no_parts : (k n : ℕ) → n ≤ k * 10000 → k * 0 + n ≤ k * 10000
+no_parts k n h = let e : k * 0 ≡ 0 = Rattle.std.proofs.Math.Nat.mul-zero k in omega (arith, e, h)
+
+reads_look : (b k : List ℕ) → only_reads (request_of b (look_asks k)) ≡ true
+reads_look b [] = refl
+reads_look b (x ∷ k) = refl
+
+module _ (o : Creation) (z : Scene) (ok : IsCreation o) where
+  abbrev B : List ℕ
+  B = o.path.bucket
+
+  -- a step in a bucket that is there, or that is not
+  abbrev OnAt : Option BucketContent → CreateStep → Scene → Type 0
+  OnAt v (Next x) s = HoldsAt v o z x s false
+  OnAt v (End a) s = least o z → InFile v (λ m n. Creates o.path o.bytes o.overwrite o.policy m a n) (a ≡ Err NoSuchBucket) z B s × IsUndone a z s
+
+  -- ---- no bucket
+
+  none_goes : fin.get z.content.buckets B ≡ None → (s : Scene) → s ≡ z → OnAt None (goes o Here (answer s (asks o Here)) false) (apply s (asks o Here)) × ((repeated : Bool) → goes o Here (answer s (asks o Here)) repeated ≡ End (Err NoSuchBucket))
+  none_goes e s h =
+      let objects : objects_at z B ≡ None = ap objects_of e in
+      let a : answer s (asks o Here) ≡ Refused Rattle.s3_types.specs.declared.reply.Refusal.TheVariants.NoSuchBucket = ap (λ s. answer s (asks o Here)) h ∙ answered z B (look_asks o.path.key) ∙ ap (λ v. reply_at v (look_asks o.path.key)) objects in
+      let g : (repeated : Bool) → goes o Here (answer s (asks o Here)) repeated ≡ End (Err NoSuchBucket) = λ repeated. ap (λ r. goes o Here r repeated) a in
+      let t = ap (λ s. apply s (asks o Here)) h ∙ applied_none z B (look_asks o.path.key) objects in
+      (subst (λ y. OnAt None y (apply s (asks o Here))) (sym (g false)) (λ l. ((t, refl), t)), g)
+
+  -- ---- a bucket that held c
+
+  module _ (c : BucketContent) (there : fin.get z.content.buckets B ≡ Some c) where
+    abbrev At : CreateStep → Scene → Type 0
+    At y s = OnAt (Some c) y s
+
+    abbrev Z : Objects
+    Z = c.objects
+
+    here_is : objects_at z B ≡ Some Z
+    here_is = ap objects_of there
+
+    -- nothing changed
+    still : (holds : Objects → Type 0) → holds Z → IsBeside z B c holds z
+    still holds h = record { content = c; next = z.content.next; scene = sym (placed_same z B c there); later = record { drawn = omega arith; uploads = λ id l. refl }; objects = h }
+
+    map_beside : (P Q : Objects → Type 0) (s : Scene) → ((m : Objects) → P m → Q m) → IsBeside z B c P s → IsBeside z B c Q s
+    map_beside P Q s f h = record { content = h.content; next = h.next; scene = h.scene; later = h.later; objects = f h.content.objects h.objects }
+
+    refuses : (r : FsRefusal) → Creates o.path o.bytes o.overwrite o.policy Z (Err r) Z → At (End (Err r)) z
+    refuses r h = λ l. (still (λ n. Creates o.path o.bytes o.overwrite o.policy Z (Err r) n) h, refl)
+
+    -- ---- look-ups
+
+    room_of : (k : List ℕ) → HasRoom (stream_of B (unsent k o.block o.bytes))
+    room_of k = record { some = ok.block; few = no_parts o.block (length o.bytes) ok.room; counted = λ f e. absurd (true≢false f) }
+
+    write_goes : (k : List ℕ) → o.path.key ≡ k → IsDue o Z → At (write_at k o) z
+    write_goes [] e d = absurd (no_root (subst (λ k. (HasFile Z k × (o.overwrite ≡ true)) ⊎ IsAbsent Z k) e d.allowed))
+      where
+        no_root : (HasFile Z [] × (o.overwrite ≡ true)) ⊎ IsAbsent Z [] → ⊥
+        no_root (inl h) = h.0.1
+        no_root (inr h) = h
+    write_goes (x ∷ p) e d = (d, room_of (x ∷ p), sym e, refl, λ l. files.begins z B o.bytes (x ∷ p) o.block c there l (room_of (x ∷ p)))
+
+    up_goes : (ks : List (List ℕ)) → IsOpen o Z → Passed Z (keys_above o.path.key) ks → At (up_from o ks) z
+    up_goes [] h p = write_goes o.path.key refl (record { allowed = h; free = p.free tt })
+    up_goes (k ∷ ks) h p = (refl, h, p)
+
+    climb_goes : IsOpen o Z → At (climb o) z
+    climb_goes h = up_goes (keys_above o.path.key) h (record { file = λ a g. g; free = λ g. g })
+
+    replace_goes : (w : Bool) → o.overwrite ≡ w → HasFile Z o.path.key → At (replace w o) z
+    replace_goes true e h = climb_goes (inl (h, e))
+    replace_goes false e h = refuses AlreadyExists (h, e, refl)
+
+    here_goes : (x : ℕ) (p : List ℕ) → o.path.key ≡ x ∷ p → (l : Look) → IsSeen l (Stands Z (x ∷ p)) (fin.get Z (x ∷ p) ≡ None) → At (here_at o l) z
+    here_goes x p e There h = replace_goes o.overwrite refl (subst (HasFile Z) (sym e) h)
+    here_goes x p e Nothing h = (refl, subst (NoFileAt Z) (sym e) h)
+    here_goes x p e NoBucket h = absurd h
+    here_goes x p e Other h = absurd h
+
+    root_is : (k : List ℕ) → k ≡ [] → tree.IsDirectory Z k
+    root_is k e = subst (tree.IsDirectory Z) (sym e) (tt, tt)
+
+    look_goes : (k : List ℕ) → o.path.key ≡ k → At (on_here k o (look_of (reply_in Z (look_asks k)))) z
+    look_goes [] e = refuses IsDirectory (root_is o.path.key e, refl)
+    look_goes (x ∷ p) e = here_goes x p e (look_of (head (fin.get Z (x ∷ p)))) (head_tells Z (x ∷ p))
+
+    below_goes : (x : ℕ) (p : List ℕ) → o.path.key ≡ x ∷ p → (l : Look) → fin.get Z (x ∷ p) ≡ None → IsSeen l (SomeBelow Z (marker_of (x ∷ p))) (NoneBelow Z (marker_of (x ∷ p))) → At (on_below o l) z
+    below_goes x p e There f h = refuses IsDirectory (subst (tree.IsDirectory Z) (sym e) (f, h), refl)
+    below_goes x p e Nothing f h = climb_goes (inr (subst (IsAbsent Z) (sym e) (f, h)))
+    below_goes x p e NoBucket f h = absurd h
+    below_goes x p e Other f h = absurd h
+
+    page_goes : (k : List ℕ) → o.path.key ≡ k → NoFileAt Z k → At (on_below o (look_of (reply_in Z (below_asks k 1)))) z
+    page_goes [] e h = absurd h
+    page_goes (x ∷ p) e h = below_goes x p e (look_of (page 1 (listed (marker_of (x ∷ p)) false [] Z))) h (page_tells x (marker_of p) Z)
+
+    upward : (k : List ℕ) (ks : List (List ℕ)) (l : Look) → IsOpen o Z → Passed Z (keys_above o.path.key) (k ∷ ks) → IsSeen l (Stands Z k) (fin.get Z k ≡ None) → At (on_up o k ks l) z
+    upward k ks There n p h = refuses (NotDirectory k) (n, p.file k (inl (refl, h)), refl)
+    upward k ks Nothing n p h = up_goes ks n (record { file = λ a g. p.file a (inr (h, g)); free = λ g. p.free (h, g) })
+    upward k ks NoBucket n p h = absurd h
+    upward k ks Other n p h = absurd h
+
+    -- what is read of the bucket in the scene z
+    read_goes : (x : CreateStage) (a : Ask) → asks o x ≡ request_of B a → only_reads (request_of B a) ≡ true → (repeated : Bool) → At (on o x (reply_in Z a) repeated) z → (s : Scene) → s ≡ z → At (goes o x (answer s (asks o x)) repeated) (apply s (asks o x))
+    read_goes x a e reads repeated h s f =
+        let r : answer s (asks o x) ≡ reply_in Z a = ap (λ s. answer s (asks o x)) f ∙ ap (answer z) e ∙ answered z B a ∙ ap (λ v. reply_at v a) here_is in
+        let t : apply s (asks o x) ≡ z = ap (λ s. apply s (asks o x)) f ∙ ap (apply z) e ∙ reads_nothing z (request_of B a) reads in
+        let g : goes o x (answer s (asks o x)) repeated ≡ on o x (reply_in Z a) repeated = ap (λ r. goes o x r repeated) r ∙ not_missing (End (Err NoSuchBucket)) (on o x (reply_in Z a) repeated) Z a in
+        subst (λ s. At (goes o x (answer s_ (asks o x)) repeated) s) (sym t) (subst (λ y. At y z) (sym g) h)
+      where
+        s_ : Scene
+        s_ = s
+
+    -- ---- the markers
+
+    abbrev Ks : List (List ℕ)
+    Ks = created o.policy o.path
+
+    -- the path is no marker's
+    plain : (k : List ℕ) → o.path.key ≡ k → IsOpen o Z → tree.is_marker o.path.key ≡ false
+    plain [] e h = ap tree.is_marker e
+    plain (x ∷ p) e h = ap tree.is_marker e ∙ key_no_marker x p (ap is_key (sym e) ∙ ok.key)
+
+    makes : (m : Objects) → IsDue o Z → m ≡ without (file_in o Z) Ks → Creates o.path o.bytes o.overwrite o.policy Z (Ok tt) m
+    makes m d e =
+        let t = makes_file o.path.key o.bytes Ks Z (plain o.path.key refl d.allowed) (created_above o.policy o.path) in
+        (d.allowed, d.free, subst (Rattle.fs_tree.specs.Changes.MakesFile o.path.key o.bytes Z) (sym e) t, e)
+
+    wrote_goes : (ks : List (List ℕ)) → Ks ≡ ks → IsDue o Z → (s : Scene) → (least o z → Wrote z B o.path.key o.bytes c s) → At (drop_from ks) s
+    wrote_goes [] e d s f = λ l. (map_beside (λ m. m ≡ file_in o Z) (λ m. Creates o.path o.bytes o.overwrite o.policy Z (Ok tt) m) s (λ m g. makes m d (g ∙ ap (without (file_in o Z)) (sym e))) (f l), tt)
+    wrote_goes (k ∷ ks) e d s f = (d, λ l. map_beside (λ m. m ≡ file_in o Z) (IsMade o Z) s (λ m g. inl g) (f l))
+
+    -- ---- the bytes
+
+    module _ (w : Writing) (s : Scene) (repeated : Bool) (d : IsDue o Z) (room : HasRoom (stream_of B w)) (key : w.key ≡ o.path.key) (block : w.block ≡ o.block) (writes : least o z → Writes z B o.bytes c w s repeated) where
+      abbrev r : Request
+      r = writing.asks B w
+
+      heard_goes : (h : Heard) → RoomLeft B w h → (least o z → HeardSo z B w.key o.bytes c h (apply s r)) → At (written o h) (apply s r)
+      heard_goes Done k f = wrote_goes Ks refl d (apply s r) (λ l. subst (λ k. Wrote z B k o.bytes c (apply s r)) key (f l))
+      heard_goes (On v) k f = (d, k.0, k.1 ∙ key, k.2 ∙ block, f)
+      heard_goes Refusing k f = λ l. absurd (f l)
+
+      stream_goes : At (goes o (Write w) (answer s r) repeated) (apply s r)
+      stream_goes =
+          unless_so (look_of (answer s r)) (End (Err NoSuchBucket)) (written o (heard w (answer s r) repeated)) (λ y. At y (apply s r))
+          (λ e l. absurd (files.no_missing z B o.bytes c w s repeated (writes l) e))
+          (heard_goes (heard w (answer s r) repeated) (room_stays B w (answer s r) repeated room) (λ l. files.goes_on z B o.bytes c w s repeated (writes l)))
+
+    -- ---- the markers' deletion
+
+    abbrev drops : Request
+    drops = DeleteObjects B Ks
+
+    gone_twice : (m : Objects) → without (without m Ks) Ks ≡ without m Ks
+    gone_twice m = all_gone (without m Ks) Ks (are_gone m Ks)
+
+    made_gone : (m : Objects) → IsMade o Z m → without m Ks ≡ without (file_in o Z) Ks
+    made_gone m (inl e) = ap (λ m. without m Ks) e
+    made_gone m (inr e) = ap (λ m. without m Ks) e ∙ gone_twice (file_in o Z)
+
+    few : nat_lt 1000 (length Ks) ≡ false
+    few = few_created o.policy o.path ok.key
+
+    dropped : (s : Scene) → IsBeside z B c (IsMade o Z) s → IsBeside z B c (λ m. m ≡ without (file_in o Z) Ks) (apply s drops)
+    dropped s h = record {
+      content = apply_in h.content h.next z.content.minimum drops;
+      next = h.next;
+      scene = ap (λ s. apply s drops) h.scene ∙ placed_by z B h.content h.next drops refl;
+      later = record { drawn = h.later.drawn; uploads = h.later.uploads };
+      objects = ap (λ b. cond b h.content.objects (without h.content.objects Ks)) few ∙ made_gone h.content.objects h.objects;
+    }
+
+    drop_look : (s : Scene) → IsBeside z B c (IsMade o Z) s → look_of (answer s drops) ≡ NoBucket → ⊥
+    drop_look s h e = no_other (sym a ∙ e)
+      where
+        no_other : Other ≡ NoBucket → ⊥
+        no_other e = cc
+
+        a : look_of (answer s drops) ≡ Other
+        a = ap (λ s. look_of (answer s drops)) h.scene
+            ∙ ap (λ v. look_of (answer_at v h.next z.content.minimum drops)) (get_put z.content.buckets B h.content)
+            ∙ ap (λ b. look_of (cond b (Refused TooManyKeys) Deleted)) few
+
+    drop_goes : (s : Scene) (repeated : Bool) → IsDue o Z → (least o z → IsBeside z B c (IsMade o Z) s) → At (goes o DropMarkers (answer s drops) repeated) (apply s drops)
+    drop_goes s repeated d f =
+        unless_so (look_of (answer s drops)) (End (Err NoSuchBucket)) (End (Ok tt)) (λ y. At y (apply s drops))
+        (λ e l. absurd (drop_look s (f l) e))
+        (λ l. (map_beside (λ m. m ≡ without (file_in o Z) Ks) (λ m. Creates o.path o.bytes o.overwrite o.policy Z (Ok tt) m) (apply s drops) (λ m e. makes m d e) (dropped s (f l)), tt))
+
+    -- ---- each stage
+
+    steps : (x : CreateStage) (s : Scene) (repeated : Bool) → HoldsIn o z c x s repeated → At (goes o x (answer s (asks o x)) repeated) (apply s (asks o x))
+    steps Here s repeated h = read_goes Here (look_asks o.path.key) refl (reads_look B o.path.key) repeated (look_goes o.path.key refl) s h
+    steps Below s repeated h = read_goes Below (below_asks o.path.key 1) refl refl repeated (page_goes o.path.key refl h.1) s h.0
+    steps (Up k ks) s repeated h = read_goes (Up k ks) (Head k) refl refl repeated (upward k ks (look_of (head (fin.get Z k))) h.1 h.2 (head_tells Z k)) s h.0
+    steps (Write w) s repeated h = stream_goes w s repeated h.0 h.1 h.2 h.3 h.4
+    steps DropMarkers s repeated h = drop_goes s repeated h.0 h.1
+
+    -- a look leaves the scene
+    same_look : (a : Ask) → only_reads (request_of B a) ≡ true → (s : Scene) → s ≡ z → apply s (request_of B a) ≡ z
+    same_look a reads s e = reads_nothing s (request_of B a) reads ∙ e
+
+    hides : (x : CreateStage) (s : Scene) (repeated : Bool) → HoldsIn o z c x s repeated → HoldsIn o z c x (apply s (asks o x)) true
+    hides Here s repeated h = same_look (look_asks o.path.key) (reads_look B o.path.key) s h
+    hides Below s repeated h = (same_look (below_asks o.path.key 1) refl s h.0, h.1)
+    hides (Up k ks) s repeated h = (same_look (Head k) refl s h.0, h.1, h.2)
+    hides (Write w) s repeated h = (h.0, h.1, h.2, h.3, λ l. files.hidden z B o.bytes c w s repeated (h.4 l))
+    hides DropMarkers s repeated h = (h.0, λ l. map_beside (λ m. m ≡ without (file_in o Z) Ks) (IsMade o Z) (apply s drops) (λ m e. inr e) (dropped s (h.1 l)))
+
+    loses : (x : CreateStage) (s : Scene) (repeated : Bool) → HoldsIn o z c x s repeated → HoldsIn o z c x s true
+    loses Here s repeated h = h
+    loses Below s repeated h = h
+    loses (Up k ks) s repeated h = h
+    loses (Write w) s repeated h = (h.0, h.1, h.2, h.3, λ l. files.lost z B o.bytes c w s repeated (h.4 l))
+    loses DropMarkers s repeated h = h
+
+    still_at : (s : Scene) → s ≡ z → IsBeside z B c (always_in o Z) s
+    still_at s e = subst (IsBeside z B c (always_in o Z)) (sym e) (still (always_in o Z) (inl refl))
+
+    written_so : (w : Writing) (m : Objects) → IsDue o Z → w.key ≡ o.path.key → IsFileOrNot Z w.key o.bytes m → always_in o Z m
+    written_so w m d e (inl f) = inl f
+    written_so w m d e (inr f) = inr (d, inl (f ∙ ap (λ k. fin.insert Z k (object_of o.bytes)) e))
+
+    moments : (x : CreateStage) (s : Scene) (repeated : Bool) → HoldsIn o z c x s repeated → least o z → IsBeside z B c (always_in o Z) s
+    moments Here s repeated h l = still_at s h
+    moments Below s repeated h l = still_at s h.0
+    moments (Up k ks) s repeated h l = still_at s h.0
+    moments (Write w) s repeated h l = map_beside (IsFileOrNot Z w.key o.bytes) (always_in o Z) s (λ m e. written_so w m h.0 h.2 e) (h.4 l).beside
+    moments DropMarkers s repeated h l = map_beside (IsMade o Z) (always_in o Z) s (λ m e. inr (h.0, e)) (h.1 l)
+
+  -- ---- whether there is the bucket or not
+
+  abbrev Steps : Option BucketContent → CreateStage → Scene → Bool → Type 0
+  Steps v x s repeated = OnAt v (goes o x (answer s (asks o x)) repeated) (apply s (asks o x))
+
+  none_steps : fin.get z.content.buckets B ≡ None → (x : CreateStage) (s : Scene) (repeated : Bool) → s ≡ z → x ≡ Here → Steps None x s repeated
+  none_steps e x s repeated h f =
+      subst (λ x. Steps None x s repeated) (sym f)
+      (let k = none_goes e s h in subst (λ y. OnAt None y (apply s (asks o Here))) (k.1 false ∙ sym (k.1 repeated)) k.0)
+
+  all_steps : (v : Option BucketContent) → fin.get z.content.buckets B ≡ v → (x : CreateStage) (s : Scene) (repeated : Bool) → HoldsAt v o z x s repeated → Steps v x s repeated
+  all_steps None e x s repeated h = none_steps e x s repeated h.0 h.1
+  all_steps (Some c) e x s repeated h = steps c e x s repeated h
+
+  none_hides : fin.get z.content.buckets B ≡ None → (s : Scene) → s ≡ z → apply s (asks o Here) ≡ z
+  none_hides e s h = ap (λ s. apply s (asks o Here)) h ∙ applied_none z B (look_asks o.path.key) (ap objects_of e)
+
+  all_hide : (v : Option BucketContent) → fin.get z.content.buckets B ≡ v → (x : CreateStage) (s : Scene) (repeated : Bool) → HoldsAt v o z x s repeated → HoldsAt v o z x (apply s (asks o x)) true
+  all_hide None e x s repeated h = (ap (λ x. apply s (asks o x)) h.1 ∙ none_hides e s h.0, h.1)
+  all_hide (Some c) e x s repeated h = hides c e x s repeated h
+
+  all_lose : (v : Option BucketContent) → fin.get z.content.buckets B ≡ v → (x : CreateStage) (s : Scene) (repeated : Bool) → HoldsAt v o z x s repeated → HoldsAt v o z x s true
+  all_lose None e x s repeated h = h
+  all_lose (Some c) e x s repeated h = loses c e x s repeated h
+
+  all_moments : (v : Option BucketContent) → fin.get z.content.buckets B ≡ v → (x : CreateStage) (s : Scene) (repeated : Bool) → HoldsAt v o z x s repeated → least o z → InFile v (always_in o) (Unit {0}) z B s
+  all_moments None e x s repeated h l = (h.0, tt)
+  all_moments (Some c) e x s repeated h l = moments c e x s repeated h l
+
+  began : (v : Option BucketContent) → HoldsAt v o z Here z false
+  began None = (refl, refl)
+  began (Some c) = refl
+
+  goes_so : (y : CreateStep) (s : Scene) → OnAt (bucket_at z B) y s → (n : Creating) → n.names ≡ o → Goes (λ p s. holds n z p s false) (gives n z) (stepped o y) s
+  goes_so (Next x) s h n e = (sym e, subst IsCreation (sym e) ok, subst (λ o. HoldsAt (bucket_at z o.path.bucket) o z x s false) (sym e) h)
+  goes_so (End a) s h n e = subst (λ o. GivesFile o z a s) (sym e) h
+
+answered_in : (o : Creation) (z : Objects) (a : Answer) (m : Objects) → Creates o.path o.bytes o.overwrite o.policy z a m → always_in o z m
+answered_in o z (Ok x) m h = inr (record { allowed = h.0; free = h.1 }, inr h.3)
+answered_in o z (Err AlreadyExists) m h = inl h.2
+answered_in o z (Err IsDirectory) m h = inl h.1
+answered_in o z (Err (NotDirectory a)) m h = inl h.2
+answered_in o z (Err r) m h = absurd h
+
+-- what is given at the end was so before
+ends_always : (o : Creation) (z : Scene) (a : Answer) (s : Scene) → GivesFile o z a s → AlwaysFile o z s
+ends_always o z a s h l = by (bucket_at z o.path.bucket) refl (h l).0
+  where
+    by : (v : Option BucketContent) → bucket_at z o.path.bucket ≡ v → InFile v (λ m n. Creates o.path o.bytes o.overwrite o.policy m a n) (a ≡ Err NoSuchBucket) z o.path.bucket s → InFile v (always_in o) (Unit {0}) z o.path.bucket s
+    by None e g = (g.0, tt)
+    by (Some c) e g = record { content = g.content; next = g.next; scene = g.scene; later = g.later; objects = answered_in o c.objects a g.content.objects g.objects }
+
+-- ---- what is left falls
+
+abbrev FallsTo : Creation → CreateStep → ℕ → Type 0
+FallsTo o (Next x) n = left_at o x < n
+FallsTo o (End a) n = Unit {0}
+
+fall_write : (k : List ℕ) (o : Creation) (n : ℕ) → write_left o ≤ n → FallsTo o (write_at k o) n
+fall_write [] o n h = tt
+fall_write (x ∷ p) o n h = omega (arith, h)
+
+fall_up : (ks : List (List ℕ)) (o : Creation) (n : ℕ) → length ks + write_left o ≤ n → FallsTo o (up_from o ks) n
+fall_up [] o n h = fall_write o.path.key o n (omega (arith, h))
+fall_up (k ∷ ks) o n h = omega (arith, h)
+
+fall_replace : (w : Bool) (o : Creation) (n : ℕ) → length (keys_above o.path.key) + write_left o ≤ n → FallsTo o (replace w o) n
+fall_replace true o n h = fall_up (keys_above o.path.key) o n h
+fall_replace false o n h = tt
+
+fall_here : (o : Creation) (l : Look) → FallsTo o (here_at o l) (left_at o Here)
+fall_here o There = fall_replace o.overwrite o (left_at o Here) (omega arith)
+fall_here o Nothing = omega arith
+fall_here o NoBucket = omega arith
+fall_here o Other = omega arith
+
+fall_look : (k : List ℕ) (o : Creation) (l : Look) → FallsTo o (on_here k o l) (left_at o Here)
+fall_look [] o l = tt
+fall_look (x ∷ p) o l = fall_here o l
+
+fall_below : (o : Creation) (l : Look) → FallsTo o (on_below o l) (left_at o Below)
+fall_below o There = tt
+fall_below o Nothing = fall_up (keys_above o.path.key) o (left_at o Below) (omega arith)
+fall_below o NoBucket = fall_up (keys_above o.path.key) o (left_at o Below) (omega arith)
+fall_below o Other = fall_up (keys_above o.path.key) o (left_at o Below) (omega arith)
+
+fall_upward : (o : Creation) (k : List ℕ) (ks : List (List ℕ)) (l : Look) → FallsTo o (on_up o k ks l) (left_at o (Up k ks))
+fall_upward o k ks There = tt
+fall_upward o k ks Nothing = fall_up ks o (left_at o (Up k ks)) (omega arith)
+fall_upward o k ks NoBucket = fall_up ks o (left_at o (Up k ks)) (omega arith)
+fall_upward o k ks Other = fall_up ks o (left_at o (Up k ks)) (omega arith)
+
+fall_drop : (ks : List (List ℕ)) (o : Creation) (n : ℕ) → 0 < n → FallsTo o (drop_from ks) n
+fall_drop [] o n h = tt
+fall_drop (k ∷ ks) o n h = h
+
+fall_heard : (o : Creation) (w : Writing) (h : Heard) → LessLeft h (hearing.left w) → FallsTo o (written o h) (left_at o (Write w))
+fall_heard o w Done h = fall_drop (created o.policy o.path) o (left_at o (Write w)) (omega arith)
+fall_heard o w (On v) h = omega (arith, h)
+fall_heard o w Refusing h = tt
+
+-- a stage's writing is of no empty blocks
+abbrev HasBlock : CreateStage → Type 0
+HasBlock (Write w) = 1 ≤ w.block
+HasBlock _ = Unit {0}
+
+falls_on : (o : Creation) (x : CreateStage) (r : Reply) (repeated : Bool) → HasBlock x → FallsTo o (on o x r repeated) (left_at o x)
+falls_on o Here r repeated h = fall_look o.path.key o (look_of r)
+falls_on o Below r repeated h = fall_below o (look_of r)
+falls_on o (Up k ks) r repeated h = fall_upward o k ks (look_of r)
+falls_on o (Write w) r repeated h = fall_heard o w (heard w r repeated) (files.falls w r repeated h)
+falls_on o DropMarkers r repeated h = tt
+
+falls_to : (o : Creation) (x : CreateStage) (r : Reply) (repeated : Bool) → HasBlock x → FallsTo o (goes o x r repeated) (left_at o x)
+falls_to o x r repeated h = unless_so (look_of r) (End (Err NoSuchBucket)) (on o x r repeated) (λ y. FallsTo o y (left_at o x)) (λ e. tt) (falls_on o x r repeated h)
+
+stepped_falls : (o : Creation) (y : CreateStep) (s : Scene) (n : ℕ) → FallsTo o y n → Falls left (stepped o y) s n
+stepped_falls o (Next x) s n h = h
+stepped_falls o (End a) s n h = tt
+
+has_block : (v : Option BucketContent) (o : Creation) (z : Scene) (x : CreateStage) (s : Scene) (repeated : Bool) → HoldsAt v o z x s repeated → HasBlock x
+has_block None o z x s repeated h = subst HasBlock (sym h.1) tt
+has_block (Some c) o z Here s repeated h = tt
+has_block (Some c) o z Below s repeated h = tt
+has_block (Some c) o z (Up k ks) s repeated h = tt
+has_block (Some c) o z (Write w) s repeated h = h.1.some
+has_block (Some c) o z DropMarkers s repeated h = tt
+
+-- ---- the laws
+
+abbrev Next_so : Creating → Scene → Creating → Scene → Bool → Type 0
+Next_so o z p s repeated = Goes (λ p s. holds o z p s false) (gives o z) (led p (answer s (request p)) repeated) (apply s (request p))
+
+course_goes : (o : Creating) (z : Scene) (p : Creating) (s : Scene) (repeated : Bool) → holds o z p s repeated → Next_so o z p s repeated
+course_goes o z p s repeated h =
+    subst (λ n. Goes (λ p s. holds o z p s false) (gives o z) (stepped n (goes n p.stage (answer s (asks n p.stage)) repeated)) (apply s (asks n p.stage))) (sym h.0)
+    (goes_so o.names z h.1 (goes o.names p.stage (answer s (asks o.names p.stage)) repeated) (apply s (asks o.names p.stage))
+    (all_steps o.names z h.1 (bucket_at z o.names.path.bucket) refl p.stage s repeated h.2) o refl)
+
+course_hidden : (o : Creating) (z : Scene) (p : Creating) (s : Scene) (repeated : Bool) → holds o z p s repeated → holds o z p (apply s (request p)) true
+course_hidden o z p s repeated h =
+    (h.0, h.1, subst (λ n. HoldsAt (bucket_at z o.names.path.bucket) o.names z p.stage (apply s (asks n p.stage)) true) (sym h.0) (all_hide o.names z h.1 (bucket_at z o.names.path.bucket) refl p.stage s repeated h.2))
+
+course_falls : (o : Creating) (z : Scene) (p : Creating) (s : Scene) (repeated : Bool) → holds o z p s repeated → Falls left (led p (answer s (request p)) repeated) (apply s (request p)) (left p s)
+course_falls o z p s repeated h =
+    stepped_falls p.names (goes p.names p.stage (answer s (request p)) repeated) (apply s (request p)) (left p s)
+    (falls_to p.names p.stage (answer s (request p)) repeated (has_block (bucket_at z o.names.path.bucket) o.names z p.stage s repeated h.2))
+
+begins_so : (p : Creating) (s : Scene) → starts p → holds p s p s false
+begins_so p s h = (refl, h.0, subst (λ x. HoldsAt (bucket_at s p.names.path.bucket) p.names s x s false) (sym h.1) (began p.names s h.0 (bucket_at s p.names.path.bucket)))
+
+pub create_laws : IsCourse starts request led holds gives always left
+create_laws = record {
+  begin = λ p s h. begins_so p s h;
+  lost = λ o z p s repeated h. (h.0, h.1, all_lose o.names z h.1 (bucket_at z o.names.path.bucket) refl p.stage s repeated h.2);
+  hidden = λ o z p s repeated h. course_hidden o z p s repeated h;
+  goes_on = λ o z p s repeated h. course_goes o z p s repeated h;
+  falls = λ o z p s repeated h. course_falls o z p s repeated h;
+  no_rise = λ o z p s repeated h. omega arith;
+  during = λ o z p s repeated h l. all_moments o.names z h.1 (bucket_at z o.names.path.bucket) refl p.stage s repeated h.2 l;
+  at_end = λ o z a s h. ends_always o.names z a s h;
+}

@@ -1,0 +1,146 @@
+-- Making a file, in the tree. Contracts cite none of these laws.
+use Rattle.std.specs.Prelude.{◌≡◌, ◌⊎◌, ℕ, zero, suc, ◌+◌, ◌*◌, ◌<◌, ◌≤◌, ◌&&◌, nat_lt, true, false, List, [], ◌∷◌, ◌++◌, length, Some}
+use Rattle.std.proofs.Common.{refl, sym, ap, subst, ◌∙◌, inl, inr, arith, length-append}
+use Rattle.std.specs.List.{list_all}
+use Rattle.std.proofs.lemmas.List.{length-map}
+use Rattle.std.proofs.lemmas.List.Folds.{list_all-append}
+use Rattle.std.proofs.lemmas.Bool.{false≢true}
+use Rattle.std.proofs.lemmas.Bool.Decides.{nat_tests}
+use Rattle.std.specs.FinMap as fin
+use Rattle.words.specs.Parts.{parts_of}
+use Rattle.s3_types.specs.Names.{is_element}
+use Rattle.s3_types.specs.Store.{Objects}
+use Rattle.s3_types.specs.Answer.{without}
+use Rattle.s3_types.specs.Pages.{begins}
+use Rattle.request_frame.specs.Members.{IsIn}
+use Rattle.request_frame.proofs.Members.{none_some, same_or_other, text_here, text_other, in_map}
+use Rattle.path_keys.specs.Paths.{Path, is_key}
+use Rattle.path_keys.proofs.Keys.{some_key}
+use Rattle.path_keys.proofs.Last.{parts_round, front_is_key}
+use Rattle.dir_markers.specs.Markers.{marker_of, keys_above, created}
+use Rattle.dir_markers.specs.declared.marker.MarkerPolicy.{MarkerPolicy}
+use Rattle.dir_markers.specs.declared.marker.MarkerPolicy.TheVariants.{Keep, Delete}
+use Rattle.fs_tree.specs.Tree.{is_marker, HasDir}
+use Rattle.fs_tree.specs.Changes.{MakesFile}
+use Rattle.fs_tree.proofs.Begins.{both, begins_trans, begins_marker, marker_is, marker_at}
+use Rattle.fs_tree.proofs.Above.{NoSlash, Cut, cut, none_above, more_above, above_begins, begins_above}
+use Rattle.fs_ops.specs.Sweeping.{gone_in, kept_out}
+use Rattle.fs_files.specs.Placed.{object_of}
+
+-- these are markers of directories above a path
+abbrev pub AreAbove : List ℕ → List (List ℕ) → Type 0
+AreAbove k ks = (q : List ℕ) → IsIn q ks → (a : List ℕ) × (q ≡ marker_of a) × IsIn a (keys_above k)
+
+pub created_above : (policy : MarkerPolicy) (p : Path) → AreAbove p.key (created policy p)
+created_above Keep p q i = absurd i
+created_above Delete p q i = let m = in_map marker_of q (keys_above p.key) i in (m.0, m.2, m.1)
+
+in_or_out : (q : List ℕ) (ks : List (List ℕ)) → IsIn q ks ⊎ (IsIn q ks → ⊥)
+in_or_out q [] = inr (λ i. i)
+in_or_out q (k ∷ ks) = by (same_or_other q k) (in_or_out q ks)
+  where
+    by : (q ≡ k) ⊎ (q ≡ k → ⊥) → IsIn q ks ⊎ (IsIn q ks → ⊥) → IsIn q (k ∷ ks) ⊎ (IsIn q (k ∷ ks) → ⊥)
+    by (inl e) o = inl (inl e)
+    by (inr n) (inl i) = inl (inr i)
+    by (inr n) (inr m) = inr (λ i. elim i [ inl e ↦ n e | inr j ↦ m j ])
+
+module _ (k bytes : List ℕ) (ks : List (List ℕ)) (z : Objects) (plain : is_marker k ≡ false) (above : AreAbove k ks) where
+  abbrev n : Objects
+  n = fin.insert z k (object_of bytes)
+
+  abbrev m : Objects
+  m = without n ks
+
+  -- no file is among them
+  kept : (q : List ℕ) → is_marker q ≡ false → IsIn q ks → ⊥
+  kept q f i = let a = above q i in false≢true (sym f ∙ ap is_marker a.1 ∙ marker_is a.0)
+
+  file_stands : fin.get m k ≡ Some (object_of bytes)
+  file_stands = kept_out n ks k (kept k plain) ∙ text_here z k k (object_of bytes) refl
+
+  -- what is above the file is a directory
+  dir_above : (q : List ℕ) → begins (marker_of q) k ≡ true → HasDir m q
+  dir_above [] h = tt
+  dir_above (x ∷ q) h = (k, h, object_of bytes, file_stands)
+
+  dir_kept : (q : List ℕ) → HasDir z q → HasDir m q
+  dir_kept [] h = tt
+  dir_kept (x ∷ q) h = by (same_or_other h.0 k) (in_or_out h.0 ks)
+    where
+      -- its witness was a marker above the file
+      up : (a : List ℕ) → begins (marker_of (x ∷ q)) (marker_of a) ≡ true → IsIn a (keys_above k) → (x ∷ q ≡ a) ⊎ (begins (marker_of (x ∷ q)) a ≡ true) → begins (marker_of (x ∷ q)) k ≡ true
+      up a b i (inl e) = ap (λ v. begins (marker_of v) k) e ∙ above_begins a k i
+      up a b i (inr g) = begins_trans (marker_of (x ∷ q)) a k g (begins_trans a (marker_of a) k (begins_marker a) (above_begins a k i))
+
+      by : (h.0 ≡ k) ⊎ (h.0 ≡ k → ⊥) → IsIn h.0 ks ⊎ (IsIn h.0 ks → ⊥) → HasDir m (x ∷ q)
+      by (inl e) o = dir_above (x ∷ q) (ap (begins (marker_of (x ∷ q))) (sym e) ∙ h.1)
+      by (inr e) (inl i) =
+          let a = above h.0 i in
+          let b = ap (begins (marker_of (x ∷ q))) (sym a.1) ∙ h.1 in
+          dir_above (x ∷ q) (up a.0 b a.2 (marker_at (x ∷ q) a.0 b))
+      by (inr e) (inr o) = (h.0, h.1, h.2, kept_out n ks h.0 o ∙ text_other z k h.0 (object_of bytes) e ∙ h.3)
+
+  dir_only : (q : List ℕ) → HasDir m q → HasDir z q ⊎ IsIn q (keys_above k)
+  dir_only [] h = inl tt
+  dir_only (x ∷ q) h = by (same_or_other h.0 k) (in_or_out h.0 ks)
+    where
+      by : (h.0 ≡ k) ⊎ (h.0 ≡ k → ⊥) → IsIn h.0 ks ⊎ (IsIn h.0 ks → ⊥) → HasDir z (x ∷ q) ⊎ IsIn (x ∷ q) (keys_above k)
+      by (inl e) o = inr (begins_above (x ∷ q) k (ap (begins (marker_of (x ∷ q))) (sym e) ∙ h.1))
+      by (inr e) (inl i) = absurd (none_some (gone_in n ks h.0 i) h.3)
+      by (inr e) (inr o) = inl (h.0, h.1, h.2, sym (text_other z k h.0 (object_of bytes) e) ∙ sym (kept_out n ks h.0 o) ∙ h.3)
+
+  -- the file is made in the tree, whichever markers above it go
+  pub makes_file : MakesFile k bytes z m
+  makes_file = record {
+    file = file_stands;
+    files = λ q f o. kept_out n ks q (kept q f) ∙ text_other z k q (object_of bytes) o;
+    above = λ q i. dir_above q (above_begins q k i);
+    kept = dir_kept;
+    only = dir_only;
+  }
+
+-- ---- one batch has room for the markers
+
+not_more : (n : ℕ) → n < 1000 → nat_lt 1000 n ≡ false
+not_more n h = grind (arith, nat_tests)
+
+element_some : (e : List ℕ) → is_element e ≡ true → 0 < length e
+element_some [] h = absurd (false≢true h)
+element_some (x ∷ e) h = omega arith
+
+last_some : (p front back : List ℕ) → is_key p ≡ true → p ≡ front ++ 47 ∷ back → NoSlash back → 0 < length back
+last_some p front back k e h =
+    let long : length p ≡ length front + suc (length back) = ap length e ∙ length-append front (47 ∷ back) in
+    let some : 0 < length p = omega (arith, long) in
+    let all = sym (ap (list_all is_element) (parts_round p front back e h) ∙ list_all-append is_element (parts_of 47 front) (back ∷ [])) ∙ (some_key p some k).0 in
+    element_some back (both (is_element back) true (both (list_all is_element (parts_of 47 front)) (is_element back && true) all).1).0
+
+more : (a f b p : ℕ) → 2 * a ≤ f → p ≡ f + suc b → 0 < b → 2 * (a + 1) ≤ p
+more a f b p h e g = omega (arith, h, e, g)
+
+-- a directory above a path has at least two bytes less
+few_above : (n : ℕ) (p : List ℕ) → length p < n → is_key p ≡ true → 2 * length (keys_above p) ≤ length p
+few_above zero p l k = absurd (omega (arith, l))
+few_above (suc n) p l k = by (cut p) (λ front. few_above n front)
+  where
+    by : Cut p → ((front : List ℕ) → length front < n → is_key front ≡ true → 2 * length (keys_above front) ≤ length front) → 2 * length (keys_above p) ≤ length p
+    by (inl h) ih = let e = ap length (none_above p h) in omega (arith, e)
+    by (inr c) ih =
+        let long : length p ≡ length c.0 + suc (length c.1) = ap length c.2 ∙ length-append c.0 (47 ∷ c.1) in
+        let one = last_some p c.0 c.1 k c.2 c.3 in
+        let less : length c.0 < n = omega (arith, long, l) in
+        let e = ap length (more_above p c.0 c.1 c.2 c.3) ∙ length-append (keys_above c.0) (c.0 ∷ []) in
+        subst (λ v. 2 * v ≤ length p) (sym e) (more (length (keys_above c.0)) (length c.0) (length c.1) (length p) (ih c.0 less (front_is_key p c.0 c.1 k c.2 c.3)) long one)
+
+half : (a p : ℕ) → 2 * a ≤ p → p ≤ 1023 → a < 1000
+half a p h l = omega (arith, h, l)
+
+key_long : (p : List ℕ) → is_key p ≡ true → length p ≤ 1023
+key_long [] k = omega arith
+key_long (x ∷ p) k = (some_key (x ∷ p) (omega arith) k).1
+
+pub few_created : (policy : MarkerPolicy) (p : Path) → is_key p.key ≡ true → nat_lt 1000 (length (created policy p)) ≡ false
+few_created Keep p k = refl
+few_created Delete p k =
+    ap (nat_lt 1000) (length-map (keys_above p.key) marker_of)
+    ∙ not_more (length (keys_above p.key)) (half (length (keys_above p.key)) (length p.key) (few_above (suc (length p.key)) p.key (omega arith) k) (key_long p.key k))

@@ -1,0 +1,52 @@
+-- What is asked of the making of a file.
+use Rattle.std.specs.Prelude.{◌≡◌, ℕ, ◌*◌, ◌≤◌, Bool, true, false, List, length}
+use Rattle.std.specs.Coded.{Coded, code_by, coded×, coded_ℕ, coded_bool}
+use Rattle.std.proofs.Common.{refl}
+use Rattle.s3_types.specs.Coded.{coded_text}
+use Rattle.s3_types.specs.declared.limits.TheConstants.{MOST_PARTS}
+use Rattle.path_keys.specs.Paths.{Path, is_key}
+use Rattle.dir_markers.specs.Markers.{keys_above, created}
+use Rattle.dir_markers.specs.declared.marker.MarkerPolicy.{MarkerPolicy}
+use Rattle.dir_markers.specs.declared.marker.MarkerPolicy.TheVariants.{Keep, Delete}
+
+-- what is to be made: the file's path, its bytes, the length in bytes of its parts, whether a file that stands there is replaced, and what becomes of the markers above it
+pub record Creation : Type 0 where
+  pub path : Path
+  pub bytes : List ℕ
+  pub block : ℕ
+  pub overwrite : Bool
+  pub policy : MarkerPolicy
+
+abbrev pub deletes : MarkerPolicy → Bool
+deletes Keep = false
+deletes Delete = true
+
+abbrev pub policy_of : Bool → MarkerPolicy
+policy_of false = Keep
+policy_of true = Delete
+
+abbrev pub policy_and_back : (p : MarkerPolicy) → policy_of (deletes p) ≡ p
+policy_and_back Keep = refl
+policy_and_back Delete = refl
+
+-- by its code proofs tell one from another
+abbrev pub coded_creation : Coded Creation
+coded_creation =
+    code_by (List ℕ × (List ℕ × (List ℕ × (ℕ × (Bool × MarkerPolicy))))) (coded× coded_text (coded× coded_text (coded× coded_text (coded× coded_ℕ (coded× coded_bool (code_by Bool coded_bool deletes policy_of policy_and_back))))))
+    (λ o. (o.path.bucket, (o.path.key, (o.bytes, (o.block, (o.overwrite, o.policy))))))
+    (λ t. record { path = record { bucket = t.0; key = t.1.0 }; bytes = t.1.1.0; block = t.1.1.1.0; overwrite = t.1.1.1.1.0; policy = t.1.1.1.1.1 }) (λ _. refl)
+
+abbrev pub created_of : List ℕ → List ℕ → List ℕ → ℕ → Bool → MarkerPolicy → Creation
+created_of bucket key bytes block overwrite policy = record { path = record { bucket = bucket; key = key }; bytes = bytes; block = block; overwrite = overwrite; policy = policy }
+
+-- what a creation is begun with
+pub record IsCreation (o : Creation) : Type 0 where
+  pub key : is_key o.path.key ≡ true
+  pub block : 1 ≤ o.block
+  pub room : length o.bytes ≤ o.block * MOST_PARTS
+
+-- what it is kept with: the keys of the directories above, and the markers that go
+pub record IsAsked (o : Creation) (keys markers : List (List ℕ)) : Type 0 where
+  pub creation : IsCreation o
+  pub above : keys ≡ keys_above o.path.key
+  pub gone : markers ≡ created o.policy o.path

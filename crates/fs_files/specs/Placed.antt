@@ -1,0 +1,35 @@
+-- A scene of which one bucket changes.
+use Rattle.std.specs.Prelude.{◌≡◌, ◌⊎◌, ℕ, ◌≤◌, ◌<◌, List, Option, Some, None}
+use Rattle.std.specs.FinMap as fin
+use Rattle.s3_types.specs.Store.{Objects, BucketContent, Scene}
+use Rattle.s3_types.specs.declared.object.Object.{Object}
+
+-- z with this in a bucket, and this as the next upload's id
+abbrev pub placed : Scene → List ℕ → BucketContent → ℕ → Scene
+placed z b d n = record { content = record { buckets = fin.insert z.content.buckets b d; next = n; minimum = z.content.minimum }; files = z.files }
+
+-- uploads that were begun before are as they were, and later ones have ids that were not drawn then
+pub record IsLater (z : Scene) (c d : BucketContent) (n : ℕ) : Type 0 where
+  pub drawn : z.content.next ≤ n
+  pub uploads : (id : ℕ) → id < z.content.next → fin.get d.uploads id ≡ fin.get c.uploads id
+
+-- the scene is z, but for the objects of a bucket that held c, of which something holds, and for uploads that were begun there since
+pub record IsBeside (z : Scene) (b : List ℕ) (c : BucketContent) (holds : Objects → Type 0) (s : Scene) : Type 0 where
+  pub content : BucketContent
+  pub next : ℕ
+  pub scene : s ≡ placed z b content next
+  pub later : IsLater z c content next
+  pub objects : holds content.objects
+
+-- so it is in a bucket that is there; and where there is none, nothing changes
+abbrev pub InFile : Option BucketContent → (Objects → Objects → Type 0) → Type 0 → Scene → List ℕ → Scene → Type 0
+InFile None holds absent z b s = (s ≡ z) × absent
+InFile (Some c) holds absent z b s = IsBeside z b c (holds c.objects) s
+
+-- the object of a file
+abbrev pub object_of : List ℕ → Object
+object_of bytes = record { bytes = bytes; header = None }
+
+-- the objects are as they were, or the file is whole
+abbrev pub IsFileOrNot : Objects → List ℕ → List ℕ → Objects → Type 0
+IsFileOrNot z key bytes m = (m ≡ z) ⊎ (m ≡ fin.insert z key (object_of bytes))
