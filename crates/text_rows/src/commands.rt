@@ -1,8 +1,9 @@
 use anyhow::Result;
+use path_keys::S3Path;
 use s3_types::{Text, let_go};
+use s3a_words::{Command, WordFault, read_words};
 use std::alloc::{AllocError, Global};
 use std::io;
-use store_commands::{Command, StoreCommand, read_command};
 
 /// The words of a row, which has a `|` between them; none where it is empty.
 fn words_in(alloc: Global, line: &str) -> Result<Vec<Text>, AllocError> {
@@ -16,23 +17,50 @@ fn words_in(alloc: Global, line: &str) -> Result<Vec<Text>, AllocError> {
     Ok(words)
 }
 
-fn show_read(rt: &impl Print, command: &Option<Command>) -> io::Result<()> {
+/// The name of a command on a path, with the path.
+fn on_path(command: &Command) -> Option<(&'static str, &S3Path)> {
     match command {
-        Some(Command::Job) => println!(rt; "job"),
-        Some(Command::Store(StoreCommand::Init { minimum })) => {
-            println!(rt; "init {}", minimum.get())
-        }
-        Some(Command::Store(StoreCommand::MakeBucket { name })) => {
-            println!(rt; "mb {}", name.as_str())
-        }
-        None => println!(rt; "none"),
+        Command::Ls { path } => Some(("ls", path)),
+        Command::Stat { path } => Some(("stat", path)),
+        Command::Cat { path } => Some(("cat", path)),
+        Command::Put { path } => Some(("put", path)),
+        Command::PutForce { path } => Some(("put-force", path)),
+        Command::Mkdir { path } => Some(("mkdir", path)),
+        Command::Rm { path } => Some(("rm", path)),
+        Command::Rmr { path } => Some(("rmr", path)),
+        Command::Uploads { path } => Some(("uploads", path)),
+        Command::AbortUploads { path } => Some(("abort-uploads", path)),
+        _ => None,
+    }
+}
+
+fn show_on_path(rt: &impl Print, name: &str, path: &S3Path) -> io::Result<()> {
+    let bucket = path.bucket().as_text().as_str();
+    println!(rt; "{name} {bucket} {}", path.key().as_str())
+}
+
+fn show_read(rt: &impl Print, command: &Command) -> io::Result<()> {
+    if let Some((name, path)) = on_path(command) {
+        return show_on_path(rt, name, path);
+    }
+    match command {
+        Command::Init {
+            minimum: Some(minimum),
+        } => println!(rt; "init {minimum}"),
+        Command::Init { minimum: None } => println!(rt; "init"),
+        Command::Mb { name } => println!(rt; "mb {}", name.as_str()),
+        _ => println!(rt; "job"),
     }
 }
 
 /// Shows the command that a row's words are.
 pub fn show_command(rt: &impl Print, alloc: Global, line: &str) -> Result<()> {
     let words = words_in(alloc, line)?;
-    let command = read_command(alloc, words.as_slice())?;
+    let command = match read_words(alloc, words.as_slice()) {
+        Ok(command) => command,
+        Err(WordFault::Usage) => return Ok(println!(rt; "none")?),
+        Err(WordFault::NoMemory) => return Err(AllocError.into()),
+    };
     let shown = show_read(rt, &command);
     let_go(command);
     Ok(shown?)

@@ -1,0 +1,73 @@
+-- The least size of a part that words name is within its bounds.
+use Rattle.std.specs.Prelude.{◌≡◌, ℕ, ◌≤◌, ◌&&◌, nat_le, Bool, true, false, cond, List, [], ◌∷◌, codes, bytes_eq, Option, Some, None, option_map, option_and_then}
+use Rattle.std.proofs.Common.{refl, subst}
+use Rattle.std.proofs.lemmas.Bool.{and_parts, leb-true}
+use Rattle.std.specs.List.{list_all}
+use Rattle.path_keys.specs.Paths.{Path}
+use Rattle.s3_types.specs.declared.limits.TheConstants.{MOST_MINIMUM}
+use Rattle.s3a_words.specs.Numbers.{number_in, is_minimum, minimum_in}
+use Rattle.s3a_words.specs.Words.{is_plain, path_named, alone, with_path, with_operand, said, command_of, IsBounded}
+use Rattle.s3a_words.specs.declared.command.Command.{Command}
+use Rattle.s3a_words.specs.declared.command.Command.TheVariants.{Init, Mb, Ls, Stat, Cat, Put, PutForce, Mkdir, Rm, Rmr, Uploads, AbortUploads, Job}
+
+abbrev Of : Option Command → Type 0
+Of None = Unit {0}
+Of (Some c) = IsBounded c
+
+-- it is so of the command that there is
+record AreBounded (o : Option Command) : Type 0 where
+  so : Of o
+
+none : AreBounded None
+none = record { so = tt }
+
+is : (c : Command) → IsBounded c → AreBounded (Some c)
+is c h = record { so = h }
+
+-- one or the other
+either : (b : Bool) (o p : Option Command) → AreBounded o → AreBounded p → AreBounded (cond b o p)
+either true o p h g = h
+either false o p h g = g
+
+alone_bounded : (name : List ℕ) → AreBounded (alone name)
+unfolding alone
+alone_bounded name = either _ _ _ (is Job tt) (either _ _ _ (is (Init None) tt) none)
+
+path_bounded : (name : List ℕ) (p : Path) → AreBounded (with_path name p)
+unfolding with_path
+path_bounded name p =
+    either _ _ _ (is (Ls p) tt) (either _ _ _ (is (Stat p) tt) (either _ _ _ (is (Cat p) tt) (either _ _ _ (is (Put p) tt) (either _ _ _ (is (PutForce p) tt) (either _ _ _ (is (Mkdir p) tt) (either _ _ _ (is (Rm p) tt) (either _ _ _ (is (Rmr p) tt) (either _ _ _ (is (Uploads p) tt) (either _ _ _ (is (AbortUploads p) tt) (none))))))))))
+
+named_bounded : (name : List ℕ) (o : Option Path) → AreBounded (option_and_then (with_path name) o)
+named_bounded name None = none
+named_bounded name (Some p) = path_bounded name p
+
+least : (n : ℕ) (b : Bool) → is_minimum n ≡ b → AreBounded (option_map (λ m. Init (Some m)) (cond b (Some n) None))
+least n true e = let both = and_parts (nat_le 1 n) (nat_le n MOST_MINIMUM) e in is (Init (Some n)) (leb-true 1 n both.0, leb-true n MOST_MINIMUM both.1)
+least n false e = none
+
+least_in : (o : Option ℕ) → AreBounded (option_map (λ m. Init (Some m)) (option_and_then (λ n. cond (is_minimum n) (Some n) None) o))
+least_in None = none
+least_in (Some n) = least n (is_minimum n) refl
+
+minimum_bounded : (word : List ℕ) → AreBounded (option_map (λ m. Init (Some m)) (minimum_in word))
+unfolding minimum_in
+minimum_bounded word = least_in (number_in word)
+
+operand_bounded : (name word : List ℕ) → AreBounded (with_operand name word)
+unfolding with_operand
+operand_bounded name word = either _ _ _ (minimum_bounded word) (either _ _ _ (is (Mb word) tt) (named_bounded name (path_named word)))
+
+said_bounded : (words : List (List ℕ)) → AreBounded (said words)
+said_bounded [] = none
+said_bounded (name ∷ []) = alone_bounded name
+said_bounded (name ∷ operand ∷ []) = operand_bounded name operand
+said_bounded (name ∷ operand ∷ more ∷ others) = none
+
+all_bounded : (words : List (List ℕ)) → AreBounded (command_of words)
+unfolding command_of
+all_bounded [] = none
+all_bounded (folder ∷ words) = either _ _ _ (said_bounded words) none
+
+pub bounded : (words : List (List ℕ)) (c : Command) → command_of words ≡ Some c → IsBounded c
+bounded words c e = (subst AreBounded e (all_bounded words)).so

@@ -1,0 +1,26 @@
+-- Numbers among the program's words.
+use Rattle.std.specs.Prelude.{◌≡◌, ◌↔◌, ◌<◌, ◌^◌, ℕ, ◌==◌, ◌&&◌, ◌||◌, nat_le, not, Bool, List, length, slice_index, Option, Some, None, option_and_then, if◌then◌else◌}
+use Rattle.std.specs.Fmt.{decimal}
+use Rattle.std.specs.Str.{all_ascii_digits}
+use Rattle.std.specs.Str.Parse.{digits_value}
+use Rattle.s3_types.specs.declared.limits.TheConstants.{MOST_MINIMUM}
+
+-- a number is 1 to 18 decimal digits, of which the first is no 0 unless it is the only one
+abbrev pub is_number : List ℕ → Bool
+is_number word = nat_le 1 (length word) && nat_le (length word) 18 && all_ascii_digits word && (length word == 1 || not (slice_index word 0 == 48))
+
+-- the number that a word writes
+unfoldable pub number_in : List ℕ → Option ℕ
+number_in word = if is_number word then Some (digits_value 10 word) else None
+
+-- a word writes a number exactly where it is the decimal text of one below 10^18
+abbrev pub WritesDecimals : List ℕ → Type 0
+WritesDecimals word = (n : ℕ) → (number_in word ≡ Some n) ↔ ((n < 10 ^ 18) × (decimal n ≡ word))
+
+-- the least size of a part is 1 to 5,242,880 bytes
+abbrev pub is_minimum : ℕ → Bool
+is_minimum n = nat_le 1 n && nat_le n MOST_MINIMUM
+
+-- the least size of a part that a word writes
+unfoldable pub minimum_in : List ℕ → Option ℕ
+minimum_in word = option_and_then (λ n. if is_minimum n then Some n else None) (number_in word)

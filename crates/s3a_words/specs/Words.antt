@@ -1,0 +1,75 @@
+-- What the program's words say: the folder, the name of a command, and its operands.
+use Rattle.std.specs.Prelude.{◌≡◌, ◌≤◌, ℕ, List, [], ◌∷◌, Bool, not, nat_eq, codes, bytes_eq, Option, Some, None, option_map, option_and_then, Result, Ok, Err, if◌then◌else◌}
+use Rattle.std.specs.List.{list_all, starts_with}
+use Rattle.s3_types.specs.declared.limits.TheConstants.{MOST_MINIMUM}
+use Rattle.path_keys.specs.Paths.{Path, path_in}
+use Rattle.path_keys.specs.declared.fault.PathFault.{PathFault}
+use Rattle.s3a_words.specs.Numbers.{minimum_in}
+use Rattle.s3a_words.specs.declared.command.Command.{Command}
+use Rattle.s3a_words.specs.declared.command.Command.TheVariants.{Init, Mb, Ls, Stat, Cat, Put, PutForce, Mkdir, Rm, Rmr, Uploads, AbortUploads, Job}
+use Rattle.s3a_words.specs.declared.command.WordFault.{WordFault}
+use Rattle.s3a_words.specs.declared.command.WordFault.TheVariants.{Usage, NoMemory}
+
+-- a word that does not begin with `-`
+abbrev pub is_plain : List ℕ → Bool
+is_plain word = not (starts_with nat_eq word (codes "-"))
+
+-- what was read, unless it is a fault
+abbrev pub unless_fault : Result Path PathFault → Option Path
+unless_fault (Ok path) = Some path
+unless_fault (Err fault) = None
+
+-- the path that a word names
+unfoldable pub path_named : List ℕ → Option Path
+path_named word = unless_fault (path_in word)
+
+-- what a name says alone
+unfoldable pub alone : List ℕ → Option Command
+alone name =
+    if bytes_eq name (codes "job") then Some Job
+    else if bytes_eq name (codes "init") then Some (Init None)
+    else None
+
+-- what a name says with a path
+unfoldable pub with_path : List ℕ → Path → Option Command
+with_path name path =
+    if bytes_eq name (codes "ls") then Some (Ls path)
+    else if bytes_eq name (codes "stat") then Some (Stat path)
+    else if bytes_eq name (codes "cat") then Some (Cat path)
+    else if bytes_eq name (codes "put") then Some (Put path)
+    else if bytes_eq name (codes "put-force") then Some (PutForce path)
+    else if bytes_eq name (codes "mkdir") then Some (Mkdir path)
+    else if bytes_eq name (codes "rm") then Some (Rm path)
+    else if bytes_eq name (codes "rmr") then Some (Rmr path)
+    else if bytes_eq name (codes "uploads") then Some (Uploads path)
+    else if bytes_eq name (codes "abort-uploads") then Some (AbortUploads path)
+    else None
+
+-- what a name says with an operand: a number, a bucket's name, or a path
+unfoldable pub with_operand : List ℕ → List ℕ → Option Command
+with_operand name operand =
+    if bytes_eq name (codes "init") then option_map (λ n. Init (Some n)) (minimum_in operand)
+    else if bytes_eq name (codes "mb") then Some (Mb operand)
+    else option_and_then (with_path name) (path_named operand)
+
+-- what the words behind the folder say
+abbrev pub said : List (List ℕ) → Option Command
+said (name ∷ []) = alone name
+said (name ∷ operand ∷ []) = with_operand name operand
+said _ = None
+
+-- the command that the words are: no word behind the folder begins with `-`
+unfoldable pub command_of : List (List ℕ) → Option Command
+command_of [] = None
+command_of (folder ∷ words) = if list_all is_plain words then said words else None
+
+-- the least size of a part that a command names is within its bounds
+abbrev pub IsBounded : Command → Type 0
+IsBounded (Init (Some bytes)) = (1 ≤ bytes) × (bytes ≤ MOST_MINIMUM)
+IsBounded _ = Unit {0}
+
+-- the command that there is, or Usage exactly where there is none, unless memory was wanting
+abbrev pub Reads : Option Command → Result Command WordFault → Type 0
+Reads there (Ok command) = there ≡ Some command
+Reads there (Err Usage) = there ≡ None
+Reads there (Err NoMemory) = Unit {0}

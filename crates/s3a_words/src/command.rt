@@ -1,0 +1,41 @@
+use path_keys::S3Path;
+use s3_types::Text;
+
+/// What the program is told to do.
+#[derive(Drop)]
+pub enum Command {
+    /// Makes an empty store, with this least size of a part in bytes, 1 to 5,242,880, where one is given.
+    Init { minimum: Option<u64> },
+    /// Makes a bucket.
+    Mb { name: Text },
+    /// Lists a directory, or a file by itself.
+    Ls { path: S3Path },
+    /// Tells what stands at a path.
+    Stat { path: S3Path },
+    /// Gives the bytes of a file.
+    Cat { path: S3Path },
+    /// Makes a file of the input, where none stands.
+    Put { path: S3Path },
+    /// Makes a file of the input, also where one stands.
+    PutForce { path: S3Path },
+    /// Makes a directory.
+    Mkdir { path: S3Path },
+    /// Deletes a file or an empty directory.
+    Rm { path: S3Path },
+    /// Deletes a file, or a directory with all that is below it.
+    Rmr { path: S3Path },
+    /// Lists the live uploads below a path.
+    Uploads { path: S3Path },
+    /// Aborts the live uploads below a path.
+    AbortUploads { path: S3Path },
+    /// Plays a script that is read from the input.
+    Job,
+}
+
+/// Why words are not read as a command.
+#[derive(Clone, Copy, Debug, PartialEq, Eq)]
+pub enum WordFault {
+    /// The words are no command.
+    Usage,
+    NoMemory,
+}

@@ -1,0 +1,38 @@
+ghost use Rattle.std.specs.Prelude.{◌≡◌, IfOk};
+ghost use Rattle.s3a_words.specs.Numbers.{number_in, WritesDecimals, minimum_in};
+
+use s3_types::MOST_MINIMUM;
+use std::alloc::{AllocError, Global};
+
+/// The most digits of a number.
+const MOST_DIGITS: usize = 18;
+
+/// The number that a word writes: the word is the number's own text.
+#[tactic(auto, unfolding(crate::specs::Numbers::number_in))]
+fn number_in(alloc: Global, word: &str) -> Result<Option<u64>, AllocError>
+    ensures exact { IfOk result (λ o. o ≡ number_in word.now) }
+    ensures decimal { WritesDecimals word.now }
+{
+    if word.len() > MOST_DIGITS {
+        return Ok(None);
+    }
+    let Ok(number) = word.parse::<u64>() else {
+        return Ok(None);
+    };
+    let written = number.to_string(alloc)?;
+    if written.as_str() != word {
+        return Ok(None);
+    }
+    Ok(Some(number))
+}
+
+/// The least size of a part in bytes that a word writes.
+#[tactic(auto, unfolding(crate::specs::Numbers::minimum_in))]
+pub fn minimum_in(alloc: Global, word: &str) -> Result<Option<u64>, AllocError>
+    ensures { IfOk result (λ o. o ≡ minimum_in word.now) }
+{
+    match number_in(alloc, word)? {
+        Some(bytes) if bytes >= 1 && bytes <= MOST_MINIMUM => { Ok(Some(bytes)) }
+        _ => Ok(None),
+    }
+}

@@ -1,0 +1,124 @@
+ghost use Rattle.std.specs.Prelude.{◌≡◌, Some, None, IfOk};
+ghost use Rattle.std.specs.List.{list_all};
+ghost use Rattle.s3a_words.specs.Words.{is_plain, path_named, alone, with_path, with_operand, said, command_of, IsBounded, Reads};
+
+use crate::command::{Command, WordFault};
+use crate::numbers::minimum_in;
+use path_keys::{PathFault, S3Path};
+use s3_types::Text;
+use std::alloc::{AllocError, Global};
+
+/// The path that a word names.
+#[tactic(auto, unfolding(crate::specs::Words::path_named))]
+fn path_named(alloc: Global, word: &str) -> Result<Option<S3Path>, AllocError>
+    ensures { IfOk result (λ path. path ≡ path_named word.now) }
+{
+    match S3Path::read(alloc, word) {
+        Ok(path) => Ok(Some(path)),
+        Err(PathFault::NoMemory) => Err(AllocError),
+        Err(_) => Ok(None),
+    }
+}
+
+/// What a name says alone.
+#[tactic(auto, unfolding(crate::specs::Words::alone))]
+fn alone(name: &str) -> Option<Command>
+    ensures { result ≡ alone name.now }
+{
+    match name {
+        "job" => Some(Command::Job),
+        "init" => Some(Command::Init { minimum: None }),
+        _ => None,
+    }
+}
+
+/// What a name says with a path.
+#[tactic(auto, unfolding(crate::specs::Words::with_path))]
+fn with_path(name: &str, path: S3Path) -> Option<Command>
+    ensures { result ≡ with_path name.now path }
+{
+    match name {
+        "ls" => Some(Command::Ls { path }),
+        "stat" => Some(Command::Stat { path }),
+        "cat" => Some(Command::Cat { path }),
+        "put" => Some(Command::Put { path }),
+        "put-force" => Some(Command::PutForce { path }),
+        "mkdir" => Some(Command::Mkdir { path }),
+        "rm" => Some(Command::Rm { path }),
+        "rmr" => Some(Command::Rmr { path }),
+        "uploads" => Some(Command::Uploads { path }),
+        "abort-uploads" => Some(Command::AbortUploads { path }),
+        _ => None,
+    }
+}
+
+/// What a name says with an operand.
+#[tactic(auto, unfolding(crate::specs::Words::with_operand))]
+fn with_operand(alloc: Global, name: &str, operand: &Text) -> Result<Option<Command>, AllocError>
+    ensures { IfOk result (λ o. o ≡ with_operand name.now operand.now) }
+{
+    match name {
+        "init" => match minimum_in(alloc, operand.as_str())? {
+            Some(minimum) => Ok(Some(Command::Init {
+                minimum: Some(minimum),
+            })),
+            None => Ok(None),
+        },
+        "mb" => {
+            let name = operand.clone()?;
+            Ok(Some(Command::Mb { name }))
+        }
+        _ => match path_named(alloc, operand.as_str())? {
+            Some(path) => Ok(with_path(name, path)),
+            None => Ok(None),
+        },
+    }
+}
+
+/// Whether no word begins with `-`.
+fn are_plain(words: &[Text]) -> bool
+    ensures { result ≡ list_all is_plain words.now }
+{
+    words.iter().all(|word| !word.as_str().starts_with("-"))
+}
+
+/// What the words behind the folder say.
+fn said(alloc: Global, words: &[Text]) -> Result<Option<Command>, AllocError>
+    ensures { IfOk result (λ o. o ≡ said words.now) }
+{
+    match words {
+        [name] => Ok(alone(name.as_str())),
+        [name, operand] => with_operand(alloc, name.as_str(), operand),
+        _ => Ok(None),
+    }
+}
+
+/// The command that the words are.
+#[tactic(auto, unfolding(crate::specs::Words::command_of))]
+fn command_in(alloc: Global, words: &[Text]) -> Result<Option<Command>, AllocError>
+    ensures { IfOk result (λ o. o ≡ command_of words.now) }
+{
+    let Some((_, words)) = words.split_first() else {
+        return Ok(None);
+    };
+    if !are_plain(words) {
+        return Ok(None);
+    }
+    said(alloc, words)
+}
+
+/// The command that the words are: word 0 is the folder, word 1 the command's name, and the others are its
+/// operands. The commands are `init`, `init MIN`, `mb NAME`, `job`, and with a path `ls`, `stat`, `cat`,
+/// `put`, `put-force`, `mkdir`, `rm`, `rmr`, `uploads` and `abort-uploads`. No word behind the folder begins with
+/// `-`. A number has 1 to 18 decimal digits, no sign and no leading zero, and MIN is from 1 to 5,242,880. A path is
+/// one that `S3Path::read` takes. Usage comes exactly where the words are no command, so for `--help` too.
+pub fn read_words(alloc: Global, words: &[Text]) -> Result<Command, WordFault>
+    ensures exact { Reads (command_of words.now) result }
+    ensures bounded { IfOk result IsBounded }
+{
+    match command_in(alloc, words) {
+        Ok(Some(command)) => Ok(command),
+        Ok(None) => Err(WordFault::Usage),
+        Err(_) => Err(WordFault::NoMemory),
+    }
+}
