@@ -1,0 +1,101 @@
+-- What is left once uploads were aborted one by one.
+use Rattle.std.specs.Prelude.{◌≡◌, ◌⊎◌, ℕ, ◌+◌, List, [], ◌∷◌, length, drop, Option, Some, None, option_map}
+use Rattle.std.proofs.Common.{refl, sym, ap, subst, ◌∙◌, inl, inr}
+use Rattle.std.specs.FinMap as fin
+use Rattle.s3_types.specs.Store.{Upload, Uploads, BucketContent, Scene}
+use Rattle.s3_types.specs.Answer.{apply, apply_in, aborted, with_uploads}
+use Rattle.s3_types.specs.Multipart.{live, listed, with_key}
+use Rattle.s3_types.specs.declared.request.Request.TheVariants.{AbortUpload}
+use Rattle.s3_types.specs.declared.request.UploadRef.{UploadRef}
+use Rattle.request_frame.specs.Members.{IsIn}
+use Rattle.request_frame.proofs.Members.{same_or_not, nat_gone, nat_left}
+use Rattle.fs_files.specs.Placed.{placed}
+use Rattle.fs_files.specs.WritingLaws.{placed_same, placed_by}
+use Rattle.path_keys.specs.Paths.{Path, below}
+use Rattle.list_walk.specs.Kinds.{uploads_from}
+use Rattle.request_frame.proofs.Members.{some_is}
+use Rattle.s3a_shell.specs.declared.said.Said.{Said}
+use Rattle.s3a_shell.specs.Texts.{fine}
+use Rattle.s3a_shell.specs.Uploading.{AreEnded, after_aborts, uploads_below, aborted_line, AbortedIn, DidAbort}
+
+abbrev without_all : Uploads → List UploadRef → Uploads
+without_all m [] = m
+without_all m (r ∷ rs) = without_all (aborted m r.upload (live m r.key r.upload)) rs
+
+-- ---- one upload
+
+-- what another id has stays
+other_left : (m : Uploads) (id q : ℕ) (o : Option Upload) → (id ≡ q → ⊥) → fin.get (aborted m id o) q ≡ fin.get m q
+other_left m id q None ne = refl
+other_left m id q (Some u) ne = nat_left m id q (λ e. ne (sym e))
+
+-- it is not live
+gone_one : (m : Uploads) (k : List ℕ) (id : ℕ) (o : Option Upload) → live m k id ≡ o → live (aborted m id o) k id ≡ None
+gone_one m k id None e = e
+gone_one m k id (Some u) e = ap (with_key k) (nat_gone m id id refl)
+
+-- and stays so
+gone_still : (m : Uploads) (id : ℕ) (o : Option Upload) (k : List ℕ) (q : ℕ) → live m k q ≡ None → live (aborted m id o) k q ≡ None
+gone_still m id None k q h = h
+gone_still m id (Some u) k q h = by (same_or_not q id)
+  where
+    by : (q ≡ id) ⊎ (q ≡ id → ⊥) → live (fin.remove m id) k q ≡ None
+    by (inl e) = ap (with_key k) (nat_gone m id q e)
+    by (inr ne) = ap (with_key k) (nat_left m id q ne) ∙ h
+
+-- ---- all of them
+
+still_gone : (m : Uploads) (rs : List UploadRef) (k : List ℕ) (q : ℕ) → live m k q ≡ None → live (without_all m rs) k q ≡ None
+still_gone m [] k q h = h
+still_gone m (r ∷ rs) k q h = still_gone (aborted m r.upload (live m r.key r.upload)) rs k q (gone_still m r.upload (live m r.key r.upload) k q h)
+
+all_gone : (m : Uploads) (rs : List UploadRef) (r : UploadRef) → IsIn r rs → live (without_all m rs) r.key r.upload ≡ None
+all_gone m [] r i = absurd i
+all_gone m (x ∷ rs) r (inl e) =
+    subst (λ (y : UploadRef). live (without_all (aborted m x.upload (live m x.key x.upload)) rs) y.key y.upload ≡ None) (sym e)
+    (still_gone (aborted m x.upload (live m x.key x.upload)) rs x.key x.upload (gone_one m x.key x.upload (live m x.key x.upload) refl))
+all_gone m (x ∷ rs) r (inr i) = all_gone (aborted m x.upload (live m x.key x.upload)) rs r i
+
+others_left : (m : Uploads) (rs : List UploadRef) (q : ℕ) → ((r : UploadRef) → IsIn r rs → r.upload ≡ q → ⊥) → fin.get (without_all m rs) q ≡ fin.get m q
+others_left m [] q ne = refl
+others_left m (r ∷ rs) q ne =
+    others_left (aborted m r.upload (live m r.key r.upload)) rs q (λ x i. ne x (inr i)) ∙ other_left m r.upload q (live m r.key r.upload) (ne r (inl refl))
+
+-- ---- the scene
+
+one_aborted : (z : Scene) (b : List ℕ) (d : BucketContent) (r : UploadRef) → apply (placed z b d z.content.next) (AbortUpload b r.key r.upload) ≡ placed z b (with_uploads d (aborted d.uploads r.upload (live d.uploads r.key r.upload))) z.content.next
+one_aborted z b d r = placed_by z b d z.content.next (AbortUpload b r.key r.upload) refl
+
+after_all_aborts : (z : Scene) (b : List ℕ) (d : BucketContent) (rs : List UploadRef) → after_aborts (placed z b d z.content.next) b rs ≡ placed z b (with_uploads d (without_all d.uploads rs)) z.content.next
+after_all_aborts z b d [] = refl
+after_all_aborts z b d (r ∷ rs) =
+    ap (λ (s : Scene). after_aborts s b rs) (one_aborted z b d r) ∙ after_all_aborts z b (with_uploads d (aborted d.uploads r.upload (live d.uploads r.key r.upload))) rs
+
+pub are_ended : (z : Scene) (b : List ℕ) (c : BucketContent) (rs : List UploadRef) (s : Scene) → fin.get z.content.buckets b ≡ Some c → s ≡ after_aborts z b rs → AreEnded b c rs z s
+are_ended z b c rs s e h = record {
+  content = with_uploads c (without_all c.uploads rs);
+  scene = h ∙ (ap (λ (v : Scene). after_aborts v b rs) (sym (placed_same z b c e)) ∙ after_all_aborts z b c rs);
+  objects = refl;
+  gone = λ r i. all_gone c.uploads rs r i;
+  kept = λ id ne. others_left c.uploads rs id ne;
+}
+
+-- one more is aborted
+pub more_aborted : (z mid s : Scene) (b : List ℕ) (us : List UploadRef) (i : ℕ) (x : UploadRef) → drop i us ≡ x ∷ drop (i + 1) us → s ≡ apply mid (AbortUpload b x.key x.upload) → after_aborts mid b (drop i us) ≡ after_aborts z b us
+    → after_aborts s b (drop (i + 1) us) ≡ after_aborts z b us
+more_aborted z mid s b us i x front is so_far = ap (λ (v : Scene). after_aborts v b (drop (i + 1) us)) is ∙ (ap (after_aborts mid b) (sym front) ∙ so_far)
+
+-- what is said of it
+pub did_abort : (path : Path) (z mid s : Scene) (o : Option (List UploadRef)) (rs us : List UploadRef) (b line : List ℕ) (count : ℕ) (what : Said) → o ≡ uploads_from z path.bucket (below path.key []) None → o ≡ Some rs → us ≡ rs → b ≡ path.bucket → mid ≡ z
+    → s ≡ after_aborts mid b us → count ≡ length rs → line ≡ aborted_line count → what ≡ fine line → DidAbort path z what s
+did_abort path z mid s o rs us b line count what found is same at still ends counted told says = by (fin.get z.content.buckets path.bucket) refl (sym is ∙ found)
+  where
+    ended : s ≡ after_aborts z path.bucket rs
+    ended = ends ∙ (ap (λ (v : Scene). after_aborts v b us) still ∙ (ap (λ (n : List ℕ). after_aborts z n us) at ∙ ap (after_aborts z path.bucket) same))
+
+    said : what ≡ fine (aborted_line (length rs))
+    said = says ∙ ap fine (told ∙ ap aborted_line counted)
+
+    by : (v : Option BucketContent) → fin.get z.content.buckets path.bucket ≡ v → Some rs ≡ option_map (λ c. listed (below path.key []) None c.uploads) v → AbortedIn v path z what s
+    by None e h = absurd (cc)
+    by (Some c) e h = subst (λ (l : List UploadRef). (what ≡ fine (aborted_line (length l))) × AreEnded path.bucket c l z s) (some_is h) (said, are_ended z path.bucket c rs s e ended)

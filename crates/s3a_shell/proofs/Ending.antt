@@ -1,0 +1,60 @@
+-- What a command's sendings lead to, from their beginning.
+use Rattle.std.specs.Prelude.{◌≡◌, ℕ, true, false, List, [], ◌++◌, take, length}
+use Rattle.std.proofs.Common.{refl, sym, ap, subst, ◌∙◌, arith}
+use Rattle.std.proofs.lemmas.List.{take_all}
+use Rattle.s3_types.specs.Store.{Content, Scene, opening}
+use Rattle.s3_types.specs.Moment.{AreHonest, IsHonest, after_all, moment}
+use Rattle.s3_types.specs.declared.request.Actor.TheVariants.{Shell}
+use Rattle.s3_types.specs.declared.journal.Entry.{Entry}
+use Rattle.machine.specs.Counted.{AreAnswered}
+use Rattle.machine.specs.Turns.{AreBy}
+use Rattle.s3a_words.specs.declared.command.Command.{Command}
+use Rattle.s3a_shell.specs.declared.said.Said.{Said}
+use Rattle.s3a_shell.specs.Sendings.{Sends, has_changed}
+use Rattle.s3a_shell.specs.Doings.{Does}
+use Rattle.s3a_shell.specs.Stays.{OnlyIn, bucket_in, ended_by}
+use Rattle.s3a_shell.proofs.Staying.{does_only}
+use Rattle.s3a_shell.proofs.Unchanged.{no_change}
+use Rattle.s3a_shell.proofs.Undone.{does_keeps}
+
+module _ (c : Content) (old es : List Entry) (z s : Scene) (first : old ≡ []) (begun : z ≡ opening c) (h : Sends old z es s) where
+  whole : es ≡ h.part
+  whole = h.appended ∙ ap (λ (l : List Entry). l ++ h.part) first
+
+  -- the scene at the end is the last moment
+  pub at_last : s ≡ moment c es (length es)
+  at_last =
+      let all : take (length es) es ≡ es = take_all (length es) es (omega arith) in
+      h.scene ∙ ap (λ (v : Scene). after_all v h.part) begun ∙ ap (after_all (opening c)) (sym whole ∙ sym all)
+
+  pub all_by : AreBy Shell 0 es
+  all_by = subst (λ (l : List Entry). AreBy Shell 0 l) (sym whole) h.by
+
+  pub all_answered : AreAnswered es
+  all_answered = subst AreAnswered (sym whole) h.answered
+
+  pub all_honest : IsHonest c es
+  all_honest = subst (λ (l : List Entry). AreHonest (opening c) l) (sym whole) (subst (λ (v : Scene). AreHonest v h.part) begun h.honest)
+
+  -- it is the first where no sending is a change
+  pub same_at : has_changed es ≡ false → s.content ≡ c
+  same_at none =
+      let all : take (length es) es ≡ es = take_all (length es) es (omega arith) in
+      ap (λ (v : Scene). v.content) at_last ∙ (ap (λ (l : List Entry). (after_all (opening c) l).content) all ∙ no_change es (opening c) all_honest all_answered none)
+
+  -- and so of what was done
+  module _ (command : Command) (bytes : List ℕ) (what : Said) (did : Does command bytes z what s) where
+    pub did_at : Does command bytes (opening c) what (moment c es (length es))
+    did_at =
+        subst (λ (v : Scene). Does command bytes v what (moment c es (length es))) begun
+        (subst (λ (v : Scene). Does command bytes z what v) at_last did)
+
+    pub only_at : OnlyIn (bucket_in command) (ended_by command c) c s.content
+    only_at = subst (λ (v : Scene). OnlyIn (bucket_in command) (ended_by command v.content) v.content s.content) begun (does_only command bytes z what s did)
+
+    -- it is the first where the command was refused
+    pub undone_at : what.refused ≡ true → s.content ≡ c
+    undone_at e = ap (λ (v : Scene). v.content) (does_keeps command bytes z what s did e ∙ begun)
+
+  pub content_at : s.content ≡ (moment c es (length es)).content
+  content_at = ap (λ (v : Scene). v.content) at_last

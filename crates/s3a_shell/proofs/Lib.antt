@@ -1,0 +1,9 @@
+mod Performing
+mod Staying
+mod Unchanged
+mod Ending
+mod Blocks
+mod Joining
+mod Aborting
+mod Listing
+mod Undone

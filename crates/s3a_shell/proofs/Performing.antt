@@ -1,0 +1,115 @@
+-- What performing an operation over a store that answers every request sends.
+use Rattle.std.specs.Prelude.{◌≡◌, ℕ, ◌+◌, ◌<◌, ◌≤◌, nat_lt, Bool, true, false, List, [], ◌∷◌, ◌++◌, length, codes, Option, Some, None, Result, Ok, Err, IfOk, OnOk}
+use Rattle.std.proofs.Common.{refl, sym, ap, subst, ◌∙◌, arith}
+use Rattle.std.proofs.lemmas.Bool.Decides.{nat_tests}
+use Rattle.std.specs.FinMap as fin
+use Rattle.s3_types.specs.Store.{Objects, Scene}
+use Rattle.s3_types.specs.Answer.{answer, apply}
+use Rattle.s3_types.specs.Moment.{is_unanswered}
+use Rattle.s3_types.specs.declared.request.Request.{Request}
+use Rattle.s3_types.specs.declared.request.Request.TheVariants.{MakeBucket}
+use Rattle.s3_types.specs.Foretold.{fate_of, AreForetold}
+use Rattle.s3_types.specs.declared.fates.Fate.{Fate}
+use Rattle.s3_types.specs.declared.fates.Fate.TheVariants.{Answer}
+use Rattle.s3_types.specs.declared.request.Actor.TheVariants.{Shell}
+use Rattle.s3_types.specs.declared.journal.Outcome.{Outcome}
+use Rattle.s3_types.specs.declared.journal.Outcome.TheVariants.{Answered, Slow, RequestLost, ReplyLost}
+use Rattle.s3_types.specs.declared.journal.Entry.{Entry}
+use Rattle.path_keys.specs.Paths.{Path}
+use Rattle.machine.specs.Counted.{AreAnswered}
+use Rattle.machine.specs.declared.driving.DriveStop.{DriveStop}
+use Rattle.operations.specs.Performed.{Performed}
+use Rattle.bucket_ops.specs.Phases.{GivesIn}
+use Rattle.dir_markers.specs.declared.marker.MarkerPolicy.TheVariants.{Keep}
+use Rattle.fs_tree.specs.Answers.{Creates}
+use Rattle.fs_tree.specs.declared.answers.FsRefusal.{FsRefusal}
+use Rattle.fs_tree.specs.declared.answers.FsRefusal.TheVariants.{NoSuchBucket}
+use Rattle.fs_files.specs.Placed.{InFile}
+use Rattle.fs_files.specs.Create.{IsUndone, GivesFile}
+use Rattle.fs_files.specs.Creation.{Creation}
+use Rattle.s3a_shell.specs.declared.said.Said.{Said}
+use Rattle.s3a_shell.specs.Texts.{said, nothing, refusing}
+use Rattle.s3a_shell.specs.Sendings.{Sends, answered_by}
+use Rattle.s3a_shell.specs.Doings.{Did, most_input, Created, CreatedUnless, DidPut, refusal_word, refused_or_fine, DidMake}
+
+one : (o : Outcome) → fate_of o ≡ Answer → is_unanswered o ≡ false
+one (Answered r) h = refl
+one Slow h = absurd (cc)
+one RequestLost h = absurd (cc)
+one ReplyLost h = absurd (cc)
+
+-- what is told to be answered is
+answered : (n : ℕ) (es : List Entry) → AreForetold (λ m. Some Answer) n es → AreAnswered es
+answered n [] h = tt
+answered n (e ∷ es) h = (one e.outcome h.0, answered (n + 1) es h.1)
+
+pub sends : {A : Type 0} (always : Scene → Type 0) (z s : Scene) (old new : List Entry) (first requests : ℕ) (result : Result A DriveStop)
+    → Performed Shell 0 0 always z s old new first requests 0 0 (λ n. Some Answer) (λ n. Some Answer) result → Sends old z new s
+sends always z s old new first requests result h = record {
+  part = h.part;
+  appended = h.appended;
+  by = h.by;
+  answered = answered (first + 1) h.part h.foretold;
+  honest = h.honest;
+  scene = h.scene;
+}
+
+-- what holds, holds where a call returned
+pub on_ok : {T E : Type 0} {P : Type 0} (r : Result T E) → P → OnOk r P
+on_ok (Ok x) p = p
+on_ok (Err e) p = tt
+
+-- what an operation gave was said
+pub did_if : {A E : Type 0} (path : Path) (gives : Objects → Result A FsRefusal → Objects → Type 0) (text : A → List ℕ) (z s : Scene) (a : Result A FsRefusal) (r : Result Said E)
+    → GivesIn path.bucket gives (Err NoSuchBucket) z a s → IfOk r (λ w. w ≡ said text a) → IfOk r (λ w. Did path gives text z w s)
+did_if path gives text z s a (Ok w) g e = record { answer = a; given = g; told = e }
+did_if path gives text z s a (Err x) g e = tt
+
+pub created_if : {E : Type 0} (path : Path) (bytes : List ℕ) (overwrite : Bool) (z s : Scene) (a : Result (Unit {0}) FsRefusal) (r : Result Said E)
+    → InFile (fin.get z.content.buckets path.bucket) (λ m n. Creates path bytes overwrite Keep m a n) (a ≡ Err NoSuchBucket) z path.bucket s × IsUndone a z s
+    → IfOk r (λ w. w ≡ said nothing a) → IfOk r (λ w. Created path bytes overwrite z w s)
+created_if path bytes overwrite z s a (Ok w) g e = record { answer = a; given = g.0; undone = g.1; told = e }
+created_if path bytes overwrite z s a (Err x) g e = tt
+
+-- and what the making of a file gave
+pub file_if : {E : Type 0} (path : Path) (bytes copy : List ℕ) (block : ℕ) (overwrite : Bool) (z s : Scene) (file : Creation) (a : Result (Unit {0}) FsRefusal) (r : Result Said E)
+    → copy ≡ bytes → file ≡ record { path = path; bytes = copy; block = block; overwrite = overwrite; policy = Keep } → z.content.minimum ≤ block → GivesFile file z a s
+    → IfOk r (λ w. w ≡ said nothing a) → IfOk r (λ w. Created path bytes overwrite z w s)
+file_if path bytes copy block overwrite z s file a r same is least gives told =
+    let of_copy = subst (λ (o : Creation). GivesFile o z a s) is gives least in
+    created_if path bytes overwrite z s a r
+    (subst (λ (b : List ℕ). InFile (fin.get z.content.buckets path.bucket) (λ m n. Creates path b overwrite Keep m a n) (a ≡ Err NoSuchBucket) z path.bucket s × IsUndone a z s) same of_copy) told
+
+-- a sending that was answered as was due
+pub sends_one : (old new : List Entry) (z s : Scene) (r : Request) → s ≡ apply z r → new ≡ old ++ answered_by r (answer z r) ∷ [] → Sends old z new s
+sends_one old new z s r e f = record {
+  part = answered_by r (answer z r) ∷ [];
+  appended = f;
+  by = (refl, refl, tt);
+  answered = (refl, tt);
+  honest = (refl, tt);
+  scene = e;
+}
+
+-- ---- the making of a bucket
+
+pub made_if : {E : Type 0} (name : List ℕ) (z s : Scene) (o : Option (List ℕ)) (r : Result Said E) → IfOk r (λ w. w ≡ refused_or_fine o) → o ≡ refusal_word (answer z (MakeBucket name)) → s ≡ apply z (MakeBucket name) → IfOk r (λ w. DidMake name z w s)
+made_if name z s o (Ok w) e f g = (e ∙ ap refused_or_fine f, g)
+made_if name z s o (Err x) e f g = tt
+
+-- ---- the putting of a file
+
+large : {E : Type 0} (path : Path) (bytes : List ℕ) (overwrite : Bool) (z : Scene) (r : Result Said E) → IfOk r (λ w. w ≡ refusing (codes "too-large") None) → IfOk r (λ w. CreatedUnless true path bytes overwrite z w z)
+large path bytes overwrite z (Ok w) e = (e, refl)
+large path bytes overwrite z (Err x) e = tt
+
+-- too many bytes are refused
+pub large_if : {E : Type 0} (path : Path) (bytes : List ℕ) (overwrite : Bool) (z : Scene) (r : Result Said E) → most_input < length bytes → IfOk r (λ w. w ≡ refusing (codes "too-large") None) → IfOk r (λ w. DidPut path bytes overwrite z w z)
+large_if path bytes overwrite z r h e =
+    let test : nat_lt most_input (length bytes) ≡ true = grind (arith, nat_tests) in
+    subst (λ (t : Bool). IfOk r (λ w. CreatedUnless t path bytes overwrite z w z)) (sym test) (large path bytes overwrite z r e)
+
+pub small_if : {E : Type 0} (path : Path) (bytes : List ℕ) (overwrite : Bool) (z s : Scene) (r : Result Said E) → length bytes ≤ most_input → IfOk r (λ w. Created path bytes overwrite z w s) → IfOk r (λ w. DidPut path bytes overwrite z w s)
+small_if path bytes overwrite z s r h e =
+    let test : nat_lt most_input (length bytes) ≡ false = grind (arith, nat_tests) in
+    subst (λ (t : Bool). IfOk r (λ w. CreatedUnless t path bytes overwrite z w s)) (sym test) e

@@ -1,0 +1,18 @@
+use Rattle.std.proofs.Common.{subst, Err}
+use Rattle.path_keys.specs.Paths.{Path}
+use Rattle.bucket_ops.specs.Phases.{GivesIn}
+use Rattle.fs_tree.specs.Answers.{Makes}
+use Rattle.fs_tree.specs.declared.answers.FsRefusal.TheVariants.{NoSuchBucket}
+use Rattle.s3a_shell.specs.Texts.{nothing}
+use Rattle.s3a_shell.proofs.Performing.{sends, on_ok, did_if}
+use Rattle.s3a_shell.proofs.paths.mkdir.Goals as goal
+
+pub returns-in-Ok-clause-did : goal.returns-in-Ok-clause-did
+returns-in-Ok-clause-did c =
+    let z = c.args.store.now.scene in
+    let s = c.perform.new.store.scene in
+    did_if c.args.path.now (Makes c.args.path.now.key) nothing z s c.in-Ok.answer c.nothing_said.result
+    (subst (λ (p : Path). GivesIn p.bucket (Makes p.key) (Err NoSuchBucket) z c.in-Ok.answer s) c.in_ok-dirs.ensures c.in-Ok.ensures.makes) c.nothing_said.ensures
+
+pub returns-in-Ok-clause-sent : goal.returns-in-Ok-clause-sent
+returns-in-Ok-clause-sent c = on_ok c.nothing_said.result (sends _ _ _ _ _ _ _ _ c.in-Ok.ensures.performed)

@@ -1,0 +1,99 @@
+-- What each command does and says.
+use Rattle.std.specs.Prelude.{◌≡◌, ℕ, nat_lt, Bool, true, false, List, [], length, codes, Option, Some, None, Result, Err}
+use Rattle.std.specs.FinMap as fin
+use Rattle.s3_types.specs.Store.{Objects, Content, Scene}
+use Rattle.s3_types.specs.Answer.{answer, apply}
+use Rattle.s3_types.specs.declared.request.Request.TheVariants.{MakeBucket}
+use Rattle.s3_types.specs.declared.reply.Reply.{Reply}
+use Rattle.s3_types.specs.declared.reply.Reply.TheVariants.{Refused}
+use Rattle.s3_types.specs.declared.reply.Refusal.TheVariants.{BadName, BucketExists}
+use Rattle.path_keys.specs.Paths.{Path}
+use Rattle.bucket_ops.specs.Phases.{GivesIn}
+use Rattle.dir_markers.specs.declared.marker.MarkerPolicy.TheVariants.{Keep}
+use Rattle.fs_tree.specs.Answers.{Stats, Reads, Lists, Creates, Makes, Deletes}
+use Rattle.fs_tree.specs.declared.answers.FsRefusal.{FsRefusal}
+use Rattle.fs_tree.specs.declared.answers.FsRefusal.TheVariants.{NoSuchBucket}
+use Rattle.fs_files.specs.Placed.{InFile}
+use Rattle.fs_files.specs.Create.{IsUndone}
+use Rattle.s3a_words.specs.declared.command.Command.{Command}
+use Rattle.s3a_words.specs.declared.command.Command.TheVariants.{Mb, Ls, Stat, Cat, Put, PutForce, Mkdir, Rm, Rmr, Uploads, AbortUploads}
+use Rattle.s3a_shell.specs.declared.said.Said.{Said}
+use Rattle.s3a_shell.specs.Texts.{status_line, entry_lines, bytes_alone, nothing, fine, refusing, said}
+use Rattle.s3a_shell.specs.Uploading.{DidList, DidAbort}
+
+-- ---- on a path
+
+-- an operation was done on a path of the scene z, which left s, and its answer or refusal was said
+pub record Did {A : Type 0} (path : Path) (gives : Objects → Result A FsRefusal → Objects → Type 0) (text : A → List ℕ) (z : Scene) (what : Said) (s : Scene) : Type 0 where
+  pub answer : Result A FsRefusal
+  pub given : GivesIn path.bucket gives (Err NoSuchBucket) z answer s
+  pub told : what ≡ said text answer
+
+-- ---- a file of the input
+
+-- the most bytes of an input
+abbrev pub most_input : ℕ
+most_input = 67108864
+
+-- a file was made, markers kept, or that was refused
+pub record Created (path : Path) (bytes : List ℕ) (overwrite : Bool) (z : Scene) (what : Said) (s : Scene) : Type 0 where
+  pub answer : Result (Unit {0}) FsRefusal
+  pub given : InFile (fin.get z.content.buckets path.bucket) (λ m n. Creates path bytes overwrite Keep m answer n) (answer ≡ Err NoSuchBucket) z path.bucket s
+  pub undone : IsUndone answer z s
+  pub told : what ≡ said nothing answer
+
+-- unless the input is too large, which is refused before all else
+abbrev pub CreatedUnless : Bool → Path → List ℕ → Bool → Scene → Said → Scene → Type 0
+CreatedUnless true path bytes overwrite z what s = (what ≡ refusing (codes "too-large") None) × (s ≡ z)
+CreatedUnless false path bytes overwrite z what s = Created path bytes overwrite z what s
+
+abbrev pub DidPut : Path → List ℕ → Bool → Scene → Said → Scene → Type 0
+DidPut path bytes overwrite z what s = CreatedUnless (nat_lt most_input (length bytes)) path bytes overwrite z what s
+
+-- ---- a bucket
+
+-- why a new bucket is refused
+abbrev pub refusal_word : Reply → Option (List ℕ)
+refusal_word (Refused BadName) = Some (codes "bad-name")
+refusal_word (Refused BucketExists) = Some (codes "bucket-exists")
+refusal_word _ = None
+
+abbrev pub refused_or_fine : Option (List ℕ) → Said
+refused_or_fine (Some word) = refusing word None
+refused_or_fine None = fine []
+
+-- a bucket was made, or that was refused
+abbrev pub DidMake : List ℕ → Scene → Said → Scene → Type 0
+DidMake name z what s = (what ≡ refused_or_fine (refusal_word (answer z (MakeBucket name)))) × (s ≡ apply z (MakeBucket name))
+
+-- ---- each command
+
+-- the commands that work on a store
+abbrev pub is_of_shell : Command → Bool
+is_of_shell (Mb name) = true
+is_of_shell (Ls path) = true
+is_of_shell (Stat path) = true
+is_of_shell (Cat path) = true
+is_of_shell (Put path) = true
+is_of_shell (PutForce path) = true
+is_of_shell (Mkdir path) = true
+is_of_shell (Rm path) = true
+is_of_shell (Rmr path) = true
+is_of_shell (Uploads path) = true
+is_of_shell (AbortUploads path) = true
+is_of_shell _ = false
+
+-- what a command does in a scene with the bytes of its input, says, and leaves
+abbrev pub Does : Command → List ℕ → Scene → Said → Scene → Type 0
+Does (Mb name) bytes z what s = DidMake name z what s
+Does (Ls path) bytes z what s = Did path (Lists path.key) entry_lines z what s
+Does (Stat path) bytes z what s = Did path (Stats path.key) status_line z what s
+Does (Cat path) bytes z what s = Did path (Reads path.key) bytes_alone z what s
+Does (Put path) bytes z what s = DidPut path bytes false z what s
+Does (PutForce path) bytes z what s = DidPut path bytes true z what s
+Does (Mkdir path) bytes z what s = Did path (Makes path.key) nothing z what s
+Does (Rm path) bytes z what s = Did path (Deletes false path.key) nothing z what s
+Does (Rmr path) bytes z what s = Did path (Deletes true path.key) nothing z what s
+Does (Uploads path) bytes z what s = DidList path z what s
+Does (AbortUploads path) bytes z what s = DidAbort path z what s
+Does _ bytes z what s = ⊥

@@ -1,0 +1,5 @@
+pub mod Texts
+pub mod Sendings
+pub mod Uploading
+pub mod Doings
+pub mod Stays

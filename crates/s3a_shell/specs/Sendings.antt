@@ -1,0 +1,48 @@
+-- What the shell sends.
+use Rattle.std.specs.Prelude.{◌≡◌, ℕ, ◌&&◌, Bool, true, false, not, List, ◌++◌}
+use Rattle.std.specs.List.{list_any}
+use Rattle.s3_types.specs.Store.{Scene}
+use Rattle.s3_types.specs.Moment.{AreHonest, after_all, is_effective}
+use Rattle.s3_types.specs.declared.request.Actor.TheVariants.{Shell}
+use Rattle.s3_types.specs.declared.request.Request.{Request}
+use Rattle.s3_types.specs.declared.reply.Reply.{Reply}
+use Rattle.s3_types.specs.declared.reply.Reply.TheVariants.{Refused}
+use Rattle.s3_types.specs.declared.journal.Outcome.{Outcome}
+use Rattle.s3_types.specs.declared.journal.Outcome.TheVariants.{Answered, Slow, RequestLost, ReplyLost}
+use Rattle.s3_types.specs.declared.journal.Entry.{Entry}
+use Rattle.machine.specs.Counted.{AreAnswered}
+use Rattle.machine.specs.Turns.{AreBy}
+use Rattle.log_format.specs.Change.{is_changing}
+
+-- a journal gained sendings by the shell, in event 0, each with the answer that was due, which lead from the scene z to s
+pub record Sends (old : List Entry) (z : Scene) (new : List Entry) (s : Scene) : Type 0 where
+  pub part : List Entry
+  pub appended : new ≡ old ++ part
+  pub by : AreBy Shell 0 part
+  pub answered : AreAnswered part
+  pub honest : AreHonest z part
+  pub scene : s ≡ after_all z part
+
+-- a sending by the shell that was answered
+abbrev pub answered_by : Request → Reply → Entry
+answered_by request reply = record { event = 0; actor = Shell; request = request; outcome = Answered reply }
+
+-- ---- what changes a store
+
+abbrev pub is_refusal : Reply → Bool
+is_refusal (Refused r) = true
+is_refusal _ = false
+
+-- a sending took effect, as far as is known, and was not refused
+abbrev pub is_taken : Outcome → Bool
+is_taken (Answered reply) = not (is_refusal reply)
+is_taken Slow = false
+is_taken RequestLost = false
+is_taken ReplyLost = true
+
+-- an effective sending of a request that is no read and no list, which was not refused
+abbrev pub is_change : Entry → Bool
+is_change entry = is_changing entry.request && is_taken entry.outcome
+
+abbrev pub has_changed : List Entry → Bool
+has_changed entries = list_any is_change entries

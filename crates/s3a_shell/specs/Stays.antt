@@ -1,0 +1,43 @@
+-- What a command leaves as it was.
+use Rattle.std.specs.Prelude.{◌≡◌, ◌<◌, ◌≤◌, ℕ, List, [], Option, Some, None}
+use Rattle.std.specs.FinMap as fin
+use Rattle.s3_types.specs.Store.{BucketContent, Content}
+use Rattle.s3_types.specs.declared.request.UploadRef.{UploadRef}
+use Rattle.path_keys.specs.Paths.{Path}
+use Rattle.request_frame.specs.Held.{upload_at}
+use Rattle.request_frame.specs.Members.{IsIn}
+use Rattle.s3a_words.specs.declared.command.Command.{Command}
+use Rattle.s3a_words.specs.declared.command.Command.TheVariants.{Mb, Ls, Stat, Cat, Put, PutForce, Mkdir, Rm, Rmr, Uploads, AbortUploads}
+use Rattle.s3a_shell.specs.Uploading.{uploads_below}
+
+-- Every bucket but this one is as it was, and so are the uploads of this one that were begun before, but for those that are ended.
+pub record OnlyIn (bucket : List ℕ) (Ended : ℕ → Type 0) (c d : Content) : Type 0 where
+  pub others : (name : List ℕ) → (name ≡ bucket → ⊥) → fin.get d.buckets name ≡ fin.get c.buckets name
+  pub uploads : (id : ℕ) → id < c.next → (Ended id → ⊥) → upload_at d bucket id ≡ upload_at c bucket id
+  pub minimum : d.minimum ≡ c.minimum
+  pub next : c.next ≤ d.next
+
+-- the bucket that a command names
+abbrev pub bucket_in : Command → List ℕ
+bucket_in (Mb name) = name
+bucket_in (Ls path) = path.bucket
+bucket_in (Stat path) = path.bucket
+bucket_in (Cat path) = path.bucket
+bucket_in (Put path) = path.bucket
+bucket_in (PutForce path) = path.bucket
+bucket_in (Mkdir path) = path.bucket
+bucket_in (Rm path) = path.bucket
+bucket_in (Rmr path) = path.bucket
+bucket_in (Uploads path) = path.bucket
+bucket_in (AbortUploads path) = path.bucket
+bucket_in _ = []
+
+-- an upload of this id is live below a path
+abbrev pub IsBelow : Option BucketContent → Path → ℕ → Type 0
+IsBelow None path id = ⊥
+IsBelow (Some c) path id = (r : UploadRef) × IsIn r (uploads_below path c) × (r.upload ≡ id)
+
+-- the ids of the uploads that a command ends
+abbrev pub ended_by : Command → Content → ℕ → Type 0
+ended_by (AbortUploads path) c = λ id. IsBelow (fin.get c.buckets path.bucket) path id
+ended_by _ c = λ id. ⊥

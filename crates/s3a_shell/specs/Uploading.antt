@@ -1,0 +1,89 @@
+-- What the commands on uploads do and say (Amazon S3 API: ListMultipartUploads, ListParts, AbortMultipartUpload).
+use Rattle.std.specs.Prelude.{◌≡◌, ℕ, List, [], ◌∷◌, ◌++◌, length, codes, Option, Some, None}
+use Rattle.std.specs.FinMap as fin
+use Rattle.std.specs.Fmt.{decimal}
+use Rattle.std.specs.List.{flat_map, sum_by}
+use Rattle.s3_types.specs.Store.{Upload, BucketContent, Scene}
+use Rattle.s3_types.specs.Multipart.{live, listed, sizes}
+use Rattle.s3_types.specs.Answer.{answer, apply}
+use Rattle.s3_types.specs.declared.request.Request.TheVariants.{ListParts, AbortUpload}
+use Rattle.s3_types.specs.declared.request.UploadRef.{UploadRef}
+use Rattle.s3_types.specs.declared.reply.Reply.{Reply}
+use Rattle.s3_types.specs.declared.reply.Reply.TheVariants.{Parts}
+use Rattle.s3_types.specs.declared.reply.PartSize.{PartSize}
+use Rattle.path_keys.specs.Paths.{Path, below}
+use Rattle.request_frame.specs.Members.{IsIn}
+use Rattle.fs_files.specs.Placed.{placed}
+use Rattle.s3a_shell.specs.declared.said.Said.{Said}
+use Rattle.s3a_shell.specs.Texts.{fine, refusing}
+
+-- the live uploads below a path of a bucket, by key and then by id; at the root, all
+abbrev pub uploads_below : Path → BucketContent → List UploadRef
+uploads_below path c = listed (below path.key []) None c.uploads
+
+-- the parts that an upload has
+abbrev pub sizes_of : Option Upload → List PartSize
+sizes_of None = []
+sizes_of (Some u) = sizes u.parts
+
+abbrev pub bytes_in : List PartSize → ℕ
+bytes_in parts = sum_by (λ p. p.length) parts
+
+-- `ID PARTS BYTES KEY`: the upload's id, how many parts it has, their bytes, and its key
+abbrev pub upload_line : UploadRef → List PartSize → List ℕ
+upload_line r parts = decimal r.upload ++ (codes " " ++ (decimal (length parts) ++ (codes " " ++ (decimal (bytes_in parts) ++ (codes " " ++ (r.key ++ 10 ∷ []))))))
+
+-- a line for each of them
+abbrev pub upload_lines : BucketContent → List UploadRef → List ℕ
+upload_lines c rs = flat_map (λ r. upload_line r (sizes_of (live c.uploads r.key r.upload))) rs
+
+-- the refusal of a command on uploads
+abbrev pub no_bucket : Said
+no_bucket = refusing (codes "no-such-bucket") None
+
+abbrev pub ListedIn : Option BucketContent → Path → Said → Type 0
+ListedIn None path what = what ≡ no_bucket
+ListedIn (Some c) path what = what ≡ fine (upload_lines c (uploads_below path c))
+
+-- the uploads were listed, and nothing changed
+abbrev pub DidList : Path → Scene → Said → Scene → Type 0
+DidList path z what s = ListedIn (fin.get z.content.buckets path.bucket) path what × (s ≡ z)
+
+-- `aborted N`
+abbrev pub aborted_line : ℕ → List ℕ
+aborted_line count = codes "aborted " ++ (decimal count ++ 10 ∷ [])
+
+-- these uploads of a bucket that held c are gone, and nothing else changed
+pub record AreEnded (bucket : List ℕ) (c : BucketContent) (rs : List UploadRef) (z s : Scene) : Type 0 where
+  pub content : BucketContent
+  pub scene : s ≡ placed z bucket content z.content.next
+  pub objects : content.objects ≡ c.objects
+  pub gone : (r : UploadRef) → IsIn r rs → live content.uploads r.key r.upload ≡ None
+  pub kept : (id : ℕ) → ((r : UploadRef) → IsIn r rs → r.upload ≡ id → ⊥) → fin.get content.uploads id ≡ fin.get c.uploads id
+
+abbrev pub AbortedIn : Option BucketContent → Path → Scene → Said → Scene → Type 0
+AbortedIn None path z what s = (what ≡ no_bucket) × (s ≡ z)
+AbortedIn (Some c) path z what s = (what ≡ fine (aborted_line (length (uploads_below path c)))) × AreEnded path.bucket c (uploads_below path c) z s
+
+-- the uploads were aborted
+abbrev pub DidAbort : Path → Scene → Said → Scene → Type 0
+DidAbort path z what s = AbortedIn (fin.get z.content.buckets path.bucket) path z what s
+
+-- ---- as it is asked
+
+-- the parts that a reply tells
+abbrev pub sizes_in : Reply → List PartSize
+sizes_in (Parts sizes) = sizes
+sizes_in _ = []
+
+-- the line of an upload by what is answered of its parts
+abbrev pub asked_line : Scene → List ℕ → UploadRef → List ℕ
+asked_line z b r = upload_line r (sizes_in (answer z (ListParts b r.key r.upload)))
+
+abbrev pub asked_lines : Scene → List ℕ → List UploadRef → List ℕ
+asked_lines z b rs = flat_map (asked_line z b) rs
+
+-- the scene after these were aborted one by one
+abbrev pub after_aborts : Scene → List ℕ → List UploadRef → Scene
+after_aborts s b [] = s
+after_aborts s b (r ∷ rs) = after_aborts (apply s (AbortUpload b r.key r.upload)) b rs

@@ -1,0 +1,143 @@
+ghost use Rattle.std.specs.Prelude.{◌≡◌, ◌≤◌, ◌^◌, true, false, length, IfOk, OnOk};
+ghost use Rattle.s3_types.specs.Store.{opening};
+ghost use Rattle.s3_types.specs.Moment.{moment, IsHonest};
+ghost use Rattle.s3_types.specs.declared.request.Actor.TheVariants as actors;
+ghost use Rattle.machine.specs.Counted.{AreAnswered};
+ghost use Rattle.machine.specs.Turns.{AreBy};
+ghost use Rattle.s3a_shell.specs.Sendings.{Sends, is_refusal, is_taken, is_change, has_changed};
+ghost use Rattle.s3a_shell.specs.Doings.{is_of_shell, Does};
+ghost use Rattle.s3a_shell.specs.Stays.{OnlyIn, bucket_in, ended_by};
+
+use crate::buckets::make_bucket;
+use crate::files::put;
+use crate::paths::{cat, ls, mkdir, remove, stat};
+use crate::said::Said;
+use crate::uploads::{abort_uploads, uploads};
+use log_format::is_changing;
+use s3_service::Service;
+use s3_types::{Bytes, Entry, Journal, Outcome, Reply, let_go};
+use s3a_words::Command;
+use std::alloc::{AllocError, Global};
+use store_link::MemStore;
+
+/// What a command of the shell leaves: the store; whether that is to be kept; whether the command was refused; what is
+/// to be written; and what was sent.
+#[derive(Drop)]
+pub struct ShellEnd {
+    pub service: Service,
+    pub changed: bool,
+    pub refused: bool,
+    pub text: Bytes,
+    pub journal: Journal,
+}
+
+fn is_refusal(reply: &Reply) -> bool
+    ensures { result ≡ is_refusal reply.now }
+{
+    match reply {
+        Reply::Refused(_) => true,
+        _ => false,
+    }
+}
+
+fn is_taken(outcome: &Outcome) -> bool
+    ensures { result ≡ is_taken outcome.now }
+{
+    match outcome {
+        Outcome::Answered(reply) => !is_refusal(reply),
+        Outcome::Slow => false,
+        Outcome::RequestLost => false,
+        Outcome::ReplyLost => true,
+    }
+}
+
+fn is_change(entry: &Entry) -> bool
+    ensures { result ≡ is_change entry.now }
+{
+    is_changing(&entry.request) && is_taken(&entry.outcome)
+}
+
+fn has_changed(entries: &[Entry]) -> bool
+    ensures { result ≡ has_changed entries.now }
+{
+    entries.iter().any(|entry| is_change(entry))
+}
+
+/// Does a command on a store.
+fn obey(
+    alloc: Global,
+    command: &Command,
+    bytes: &Bytes,
+    store: &mut MemStore,
+    journal: &mut Journal,
+) -> Result<Said, AllocError>
+    requires one { is_of_shell command.now ≡ true }
+    requires counted { store.old.requests ≤ length journal.old.entries }
+    ensures did { IfOk result (λ what. Does command.now bytes.now store.old.scene what store.new.scene) }
+    ensures sent { OnOk result (Sends journal.old.entries store.old.scene journal.new.entries store.new.scene) }
+{
+    match command {
+        Command::Mb { name } => make_bucket(alloc, name, store, journal),
+        Command::Ls { path } => ls(alloc, path, store, journal),
+        Command::Stat { path } => stat(alloc, path, store, journal),
+        Command::Cat { path } => cat(alloc, path, store, journal),
+        Command::Put { path } => put(alloc, path, bytes, false, store, journal),
+        Command::PutForce { path } => put(alloc, path, bytes, true, store, journal),
+        Command::Mkdir { path } => mkdir(alloc, path, store, journal),
+        Command::Rm { path } => remove(alloc, path, false, store, journal),
+        Command::Rmr { path } => remove(alloc, path, true, store, journal),
+        Command::Uploads { path } => uploads(alloc, path, store, journal),
+        Command::AbortUploads { path } => abort_uploads(alloc, path, store, journal),
+        Command::Init { .. } => unreachable!(),
+        Command::Job => unreachable!(),
+    }
+}
+
+/// The end of a command.
+fn ended(store: MemStore, journal: Journal, said: Said) -> ShellEnd
+    ensures { result ≡ record { service = store.scene.content; changed = has_changed journal.entries; refused = said.refused; text = said.text; journal = journal } }
+{
+    let changed = has_changed(journal.as_slice());
+    let Said { refused, text } = said;
+    ShellEnd {
+        service: store.into_service(),
+        changed,
+        refused,
+        text,
+        journal,
+    }
+}
+
+/// Does a command of the shell on a store, where `bytes` are its input. `text` is what it says, or the line of its
+/// refusal: `refused WORD`, and behind a blank the value that is kept. `changed` tells whether some request was
+/// answered that is no read and no list and was not refused; where it is false, the store is as it was, and so it is
+/// where the command was refused. Markers are kept, and each request is sent once. (Hadoop FileSystem specification.)
+pub fn shell(
+    alloc: Global,
+    command: &Command,
+    service: Service,
+    bytes: Bytes,
+) -> Result<ShellEnd, AllocError>
+    requires one { is_of_shell command.now ≡ true }
+    requires few { service.next ≤ 2 ^ 62 }
+    ensures did { IfOk result (λ end. Does command.now bytes (opening service) (record { refused = end.refused; text = end.text }) (moment service end.journal.entries (length end.journal.entries))) }
+    ensures content { IfOk result (λ end. end.service ≡ (moment service end.journal.entries (length end.journal.entries)).content) }
+    ensures by { IfOk result (λ end. AreBy actors.Shell 0 end.journal.entries) }
+    ensures answered { IfOk result (λ end. AreAnswered end.journal.entries) }
+    ensures honest { IfOk result (λ end. IsHonest service end.journal.entries) }
+    ensures changed { IfOk result (λ end. end.changed ≡ has_changed end.journal.entries) }
+    ensures same { IfOk result (λ end. end.changed ≡ false → end.service ≡ service) }
+    ensures refused { IfOk result (λ end. end.refused ≡ true → end.service ≡ service) }
+    ensures stays { IfOk result (λ end. OnlyIn (bucket_in command.now) (ended_by command.now service) service end.service) }
+{
+    let mut store = MemStore::new(alloc, service);
+    let mut journal = Journal::new(alloc);
+    match obey(alloc, command, &bytes, &mut store, &mut journal) {
+        Ok(said) => Ok(ended(store, journal, said)),
+        Err(error) => {
+            let_go(store);
+            let_go(journal);
+            Err(error)
+        }
+    }
+}
