@@ -1,0 +1,4 @@
+pub mod Following
+pub mod Found
+pub mod Replacing
+pub mod Keeping

@@ -1,0 +1,4 @@
+pub mod Works
+pub mod Doing
+pub mod Stores
+pub mod Outcomes

@@ -1,0 +1,99 @@
+-- What comes of a load and of a command, beside what the shelf holds.
+use Rattle.std.specs.Prelude.{◌≡◌, ◌≢◌, ℕ, ◌<◌, ◌≤◌, ◌^◌, ◌⊎◌, List, [], Option, Result, Ok, Err}
+use Rattle.s3_types.specs.Store.{Content}
+use Rattle.s3_types.specs.declared.journal.Entry.{Entry}
+use Rattle.s3_types.specs.declared.limits.TheConstants.{MOST_MINIMUM}
+use Rattle.shelf.specs.Logged.{Holding, Stored, fresh, IsDurable, LeavesOnly}
+use Rattle.shelf.specs.Logged.Holding.{Nothing as Absent}
+use Rattle.store_image.specs.Image.{image}
+use Rattle.kept_runs.specs.Changes.{changes}
+use Rattle.kept_runs.specs.Kept.{StandsFor, IsMoment, Holds, HoldsPart}
+use Rattle.kept_runs.specs.Crashes.{WhereTold}
+use Rattle.kept_appends.specs.Appends.{AreCalled, AreCut}
+use Rattle.kept_stores.specs.Works.{Work, Says, Saves}
+use Rattle.kept_stores.specs.declared.held.Held.{Held}
+use Rattle.kept_stores.specs.declared.held.Held.TheVariants.{Nothing, Store, Faulty}
+use Rattle.kept_stores.specs.declared.held.ShelfStop.{ShelfStop}
+use Rattle.kept_stores.specs.declared.held.ShelfStop.TheVariants.{Failed, NoMemory}
+
+-- ---- a load
+
+-- the shelf's count of faults rose where it failed, and else stands
+abbrev pub Counts : {A : Type 0} → Result A ShelfStop → ℕ → ℕ → Type 0
+Counts (Ok x) before after = after ≡ before
+Counts (Err Failed) before after = before < after
+Counts (Err NoMemory) before after = after ≡ before
+
+-- a store over which a run may begin: its parts have a least size within the store's bounds, and ids are left
+pub record IsOpen (c : Content) : Type 0 where
+  pub some : 1 ≤ c.minimum
+  pub most : c.minimum ≤ MOST_MINIMUM
+  pub few : c.next ≤ 2 ^ 62
+
+abbrev pub IsSound : Held → Type 0
+IsSound Nothing = Unit {0}
+IsSound (Store c) = IsOpen c
+IsSound (Faulty number place) = Unit {0}
+
+-- the store that was found is what is held stands for
+abbrev pub IsOf : Held → Holding → Type 0
+IsOf Nothing h = h ≡ Absent
+IsOf (Store c) h = StandsFor h c
+IsOf (Faulty number place) h = Unit {0}
+
+-- where what was found is no fault
+abbrev pub WhereSound : Held → Type 0 → Type 0
+WhereSound Nothing P = P
+WhereSound (Store c) P = P
+WhereSound (Faulty number place) P = Unit {0}
+
+-- ---- a save
+
+-- the image of a store was put in place of what was held
+pub record Replaced {S : Type 0} (held : S → Option Stored) (may_leave : S → Holding → Type 0) (answers : S → S → Type 0) (moment_of : S → ℕ) (left_since : S → ℕ → Holding → Type 0) (c : Content) (old new : S) : Type 0 where
+  pub holds : Holds (held new) c (changes [])
+  pub durable : IsDurable (held new) (may_leave new)
+  pub leaves : LeavesOnly moment_of left_since old new (λ h. may_leave old h ⊎ (h ≡ fresh (image c)))
+  pub answered : answers old new
+
+-- ---- a command
+
+-- the status of a save
+abbrev pub status_of : {A : Type 0} → Result A ShelfStop → ℕ
+status_of (Ok x) = 0
+status_of (Err Failed) = 5
+status_of (Err NoMemory) = 9
+
+-- What is answered: what is to be said, with what was sent. What is saved is answered by 0 and its text, or by 5 where the shelf
+-- failed and by 9 where memory was wanting, with no text, and in each case with what was sent.
+pub data IsAnswer : Work → (due : ℕ) (text : List ℕ) (sent : List Entry) → Type 0 where
+  said : (due : ℕ) (text : List ℕ) (es : List Entry) → IsAnswer (Says due text es) due text es
+  saved : (c : Content) (text : List ℕ) (es : List Entry) → IsAnswer (Saves c text es) 0 text es
+  failed : (c : Content) (text : List ℕ) (es : List Entry) → IsAnswer (Saves c text es) 5 [] es
+  wanting : (c : Content) (text : List ℕ) (es : List Entry) → IsAnswer (Saves c text es) 9 [] es
+
+-- what the shelf holds after a command: what it held, or the store that was to be saved with all that was sent, or, after 5 and 9, with the first of it
+abbrev pub IsHeld : Work → (due : ℕ) (before after : Option Stored) → Type 0
+IsHeld (Says d text es) due before after = after ≡ before
+IsHeld (Saves c text es) due before after = (due ≡ 0 → Holds after c (changes es)) × (due ≢ 0 → (after ≡ before) ⊎ HoldsPart after c es)
+
+-- what a crash since the command began might have left: what one before it may leave, or a moment of what was saved
+abbrev pub MightLeave : Work → (told : Option Stored) (at_first : Holding → Type 0) → Holding → Type 0
+MightLeave (Says d text es) told at_first h = at_first h
+MightLeave (Saves c text es) told at_first h = WhereTold told (at_first h ⊎ IsMoment c es h)
+
+-- what one after it may leave
+abbrev pub IsDurableNow : Work → (due : ℕ) (held : Option Stored) (leaves : Holding → Type 0) → Type 0
+IsDurableNow (Says d text es) due held leaves = Unit {0}
+IsDurableNow (Saves c text es) due held leaves = due ≡ 0 → IsDurable held leaves
+
+-- How the shelf was called: not at all where something is said; once for the image and once for each change where all was kept; and
+-- else as far as to the call that failed.
+abbrev pub CallsBy : {S : Type 0} → (answers fails : S → S → Type 0) → Work → (due : ℕ) (old new : S) → Type 0
+CallsBy answers fails (Says d text es) due old new = old ≡ new
+CallsBy answers fails (Saves c text es) due old new = (due ≡ 0 → AreCalled answers (changes es) old new) × (due ≢ 0 → AreCut answers fails (changes es) old new)
+
+-- a count of faults rose where this status is due, and else stands
+pub record Tells (status due before after : ℕ) : Type 0 where
+  pub rose : due ≡ status → before < after
+  pub stands : due ≢ status → after ≡ before

@@ -1,0 +1,13 @@
+//! A store that a shelf keeps: what is held, and what is kept of the work of a command, or answered.
+#![tactic(auto)]
+
+mod answers;
+mod folding;
+mod held;
+mod saving;
+mod work;
+
+pub use answers::{Answer, obey};
+pub use held::{Held, ShelfStop, load};
+pub use saving::save;
+pub use work::{Work, fault_text};

@@ -1,6 +1,0 @@
-pub mod Numbers
-pub mod Following
-pub mod Found
-pub mod Replacing
-pub mod Statuses
-pub mod Keeping

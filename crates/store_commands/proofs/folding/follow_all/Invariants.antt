@@ -1,6 +1,0 @@
-use Rattle.std.proofs.Common.{◌≡◌, drop}
-use Rattle.kept_runs.specs.Changes.{content_after}
-use Rattle.store_commands.proofs.folding.follow_all.Given as goal
-
-abbrev pub invariant-loop-change : goal.invariant-loop-change
-invariant-loop-change l = content_after l.service (drop l.change-index l.changes) ≡ content_after l.fn.service l.changes

@@ -1,5 +1,0 @@
-pub mod Commands
-pub mod Works
-pub mod Doing
-pub mod Stores
-pub mod Outcomes
