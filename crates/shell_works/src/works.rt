@@ -1,0 +1,167 @@
+ghost use Rattle.std.specs.Prelude.{◌≡◌, ◌≢◌, ◌≤◌, ◌^◌, true, [], codes, None, IfOk};
+ghost use Rattle.kept_stores.specs.Stores.{fault_text};
+ghost use Rattle.kept_stores.specs.Works as works;
+ghost use Rattle.kept_stores.specs.Doing.{work_in};
+ghost use Rattle.kept_stores.specs.Outcomes.{IsSound};
+ghost use Rattle.s3a_words.specs.Words.{IsBounded};
+ghost use Rattle.s3a_shell.specs.Doings.{is_of_shell};
+ghost use Rattle.s3a_shell.specs.Texts.{refused_line};
+ghost use Rattle.shell_works.specs.Commanded.{takes_input, minimum_of, init_work, work_said, Done, DoneOn, IsWork};
+
+use kept_stores::{Held, Work, fault_text};
+use s3_service::Service;
+use s3_types::{Bytes, Journal, MOST_MINIMUM, let_go};
+use s3a_shell::{ShellEnd, shell};
+use s3a_words::Command;
+use std::alloc::{AllocError, Global};
+
+const DONE: u8 = 0;
+
+const REFUSED: u8 = 1;
+
+const IMAGE_FAULT: u8 = 7;
+
+/// Whether a command reads the input: `put` and `put-force` do.
+pub fn takes_input(command: &Command) -> bool
+    ensures { result ≡ takes_input command.now }
+{
+    match command {
+        Command::Put { .. } => true,
+        Command::PutForce { .. } => true,
+        _ => false,
+    }
+}
+
+/// What is to be said where the shelf holds no store.
+fn faulty(alloc: Global, number: u8, place: u64) -> Result<Work, AllocError>
+    ensures { IfOk result (λ work. work_in work ≡ works.Says 7 (fault_text number place) []) }
+{
+    Ok(Work::Says {
+        due: IMAGE_FAULT,
+        text: fault_text(alloc, number, place)?,
+        sent: Journal::new(alloc),
+    })
+}
+
+/// What is to be said where a store stands already.
+fn exists(alloc: Global) -> Result<Work, AllocError>
+    ensures { IfOk result (λ work. work_in work ≡ works.Says 1 (refused_line (codes "exists") None) []) }
+{
+    Ok(Work::Says {
+        due: REFUSED,
+        text: Bytes::from_slice(alloc, b"refused exists\n")?,
+        sent: Journal::new(alloc),
+    })
+}
+
+#[tactic(auto, unfolding(crate::specs::Commanded::init_work))]
+fn init_work(alloc: Global, minimum: Option<u64>, held: Held) -> Result<Work, AllocError>
+    requires some { 1 ≤ minimum_of minimum }
+    requires most { minimum_of minimum ≤ MOST_MINIMUM }
+    ensures { IfOk result (λ work. work_in work ≡ init_work minimum held) }
+{
+    match held {
+        Held::Nothing => Ok(Work::Saves {
+            opening: Service::new(alloc, minimum.unwrap_or(MOST_MINIMUM)),
+            text: Bytes::empty(),
+            sent: Journal::new(alloc),
+        }),
+        Held::Store(service) => {
+            let_go(service);
+            exists(alloc)
+        }
+        Held::Faulty { number, place } => faulty(alloc, number, place),
+    }
+}
+
+/// What is to be done of what a command left.
+fn work_in(end: ShellEnd, opening: Service) -> Work
+    ensures { work_in result ≡ work_said end.refused end.changed opening end.text end.journal.entries }
+{
+    let ShellEnd {
+        service,
+        changed,
+        refused,
+        text,
+        journal,
+    } = end;
+    let_go(service);
+    if refused || !changed {
+        let_go(opening);
+        return Work::Says {
+            due: if refused { REFUSED } else { DONE },
+            text,
+            sent: journal,
+        };
+    }
+    Work::Saves {
+        opening,
+        text,
+        sent: journal,
+    }
+}
+
+/// A command is done on a store, of which a copy is kept as it was.
+fn done(
+    alloc: Global,
+    command: &Command,
+    bytes: Bytes,
+    service: Service,
+) -> Result<Work, AllocError>
+    requires one { is_of_shell command.now ≡ true }
+    requires few { service.next ≤ 2 ^ 62 }
+    ensures { IfOk result (λ work. Done command.now bytes service (work_in work)) }
+{
+    let Ok(opening) = service.copy() else {
+        let_go(service);
+        return Err(AllocError);
+    };
+    match shell(alloc, command, service, bytes) {
+        Ok(end) => Ok(work_in(end, opening)),
+        Err(error) => {
+            let_go(opening);
+            Err(error)
+        }
+    }
+}
+
+/// A command is done on what is held.
+fn done_on(alloc: Global, command: &Command, bytes: Bytes, held: Held) -> Result<Work, AllocError>
+    requires one { is_of_shell command.now ≡ true }
+    requires sound { IsSound held }
+    ensures { IfOk result (λ work. DoneOn command.now bytes held (work_in work)) }
+{
+    match held {
+        Held::Nothing => done(alloc, command, bytes, Service::new(alloc, MOST_MINIMUM)),
+        Held::Store(service) => done(alloc, command, bytes, service),
+        Held::Faulty { number, place } => {
+            let_go(bytes);
+            faulty(alloc, number, place)
+        }
+    }
+}
+
+/// What a command but `job` is to do on what a shelf was found to hold, where `bytes` are its input. `init` keeps a new
+/// store where nothing is held, and is refused else. The others are done on the store that is held, or on a new one where
+/// nothing is; what is refused, and what sent no change, is to be said, and else the store is to be kept as it was, and
+/// then what was sent to it. What is no store is told with its first fault. Only want of memory is an error.
+pub fn work_of(
+    alloc: Global,
+    command: &Command,
+    bytes: Bytes,
+    held: Held,
+) -> Result<Work, AllocError>
+    requires no_job { command.now ≢ Command.Job }
+    requires fit { IsBounded command.now }
+    requires sound { IsSound held }
+    ensures work { IfOk result (λ work. IsWork command.now bytes held (work_in work)) }
+    ensures plain { IfOk result (λ work. works.IsPlain (work_in work)) }
+{
+    match command {
+        Command::Init { minimum } => {
+            let_go(bytes);
+            init_work(alloc, *minimum, held)
+        }
+        _ => done_on(alloc, command, bytes, held),
+    }
+}
