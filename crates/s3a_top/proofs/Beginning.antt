@@ -1,12 +1,12 @@
 -- Over which stores a job may begin.
-use Rattle.std.proofs.Common.{◌≡◌, ◌≤◌, ◌^◌, ℕ, Bool, true, false, cond, List, Option, Some, None, refl, sym, ap, subst, ◌∙◌, arith}
+use Rattle.std.proofs.Common.{◌≡◌, ℕ, Bool, true, false, cond, List, Option, Some, None, sym, subst, arith}
 use Rattle.std.specs.FinMap as map
 use Rattle.s3_types.specs.Store.{Content, BucketContent, new_bucket, new_content}
 use Rattle.s3_types.specs.Answer.{made, apply_store}
 use Rattle.s3_types.specs.Names.{is_bucket}
 use Rattle.s3_types.specs.declared.limits.TheConstants.{MOST_MINIMUM}
 use Rattle.s3_types.specs.declared.request.Request.TheVariants.{MakeBucket}
-use Rattle.store_commands.specs.Outcomes.{IsOpen}
+use Rattle.kept_stores.specs.Outcomes.{IsOpen}
 use Rattle.job_world.specs.Worlds.{MayBegin}
 
 -- the store that was found

@@ -1,20 +1,19 @@
 -- What crashes leave of a job and of a command, since the shelf was loaded and before.
-use Rattle.std.proofs.Common.{◌≡◌, ◌⊎◌, inl, inr, ⊎_elim, ℕ, ◌≤◌, List, [], Option, Some, None, refl, sym, ap, subst, ◌∙◌}
+use Rattle.std.proofs.Common.{◌≡◌, ◌⊎◌, inl, inr, ⊎_elim, ℕ, ◌≤◌, List, Option, Some, None, refl, sym, ap, ◌∙◌}
 use Rattle.s3_types.specs.Store.{Content}
-use Rattle.s3_types.specs.declared.journal.Entry.{Entry}
 use Rattle.job_model.specs.JobScript.{Script}
 use Rattle.shelf.specs.Logged.{Holding, Stored, fresh, LeavesOnly}
 use Rattle.store_image.specs.Image.{image}
-use Rattle.store_commands.specs.Stores.{found}
-use Rattle.store_commands.specs.Works.{Work, Says, Saves}
-use Rattle.store_commands.specs.Outcomes.{MightLeave}
-use Rattle.store_commands.specs.declared.held.Held.{Held}
+use Rattle.kept_stores.specs.Stores.{found}
+use Rattle.kept_stores.specs.Works.{Work, Says, Saves}
+use Rattle.kept_stores.specs.Outcomes.{MightLeave}
+use Rattle.kept_stores.specs.declared.held.Held.{Held}
 use Rattle.kept_runs.specs.Kept.{IsMoment}
-use Rattle.kept_runs.specs.Crashes.{WhereTold}
 use Rattle.kept_runs.proofs.Leaving.{told_all, told_more, started, then_on, widened}
 use Rattle.s3a_top.specs.Openings.{IsScript, Opens, opening_in}
 use Rattle.s3a_top.specs.Jobs.{MayHaveLeft}
-use Rattle.s3a_top.specs.Plays.{IsFound, MayHaveLeftOver}
+use Rattle.s3a_top.specs.Openings.{IsFound}
+use Rattle.s3a_top.specs.Plays.{MayHaveLeftOver}
 
 -- ---- what was found
 
@@ -30,11 +29,11 @@ opens_so (Some s) before w c f e = ap (λ (b : Held). opening_in b w) (sym f) �
 
 might_first : (work : Work) (told : Option Stored) (P : Holding → Type 0) (h : Holding) → P h → MightLeave work told P h
 might_first (Says d t es) told P h is = is
-might_first (Saves c es) told P h is = told_all told (P h ⊎ IsMoment c es h) (inl is)
+might_first (Saves c text es) told P h is = told_all told (P h ⊎ IsMoment c es h) (inl is)
 
 might_more : (work : Work) (told : Option Stored) (P Q : Holding → Type 0) (h : Holding) → (P h → Q h) → MightLeave work told P h → MightLeave work told Q h
 might_more (Says d t es) told P Q h f is = f is
-might_more (Saves c es) told P Q h f is = told_more told (P h ⊎ IsMoment c es h) (Q h ⊎ IsMoment c es h) (λ o. ⊎_elim (λ l. inl (f l)) (λ m. inr m) o) is
+might_more (Saves c text es) told P Q h f is = told_more told (P h ⊎ IsMoment c es h) (Q h ⊎ IsMoment c es h) (λ o. ⊎_elim (λ l. inl (f l)) (λ m. inr m) o) is
 
 -- ---- since the shelf was loaded, and before
 

@@ -1,31 +1,32 @@
 -- What is told where the work stopped before anything was done.
-use Rattle.std.proofs.Common.{◌≡◌, ◌≢◌, ◌⊎◌, inl, inr, ⊎_elim, ℕ, ◌≤◌, List, [], Option, Some, None, Result, Ok, Err, refl, sym, ap, subst, ◌∙◌}
+use Rattle.std.proofs.Common.{◌≡◌, ◌⊎◌, inl, inr, ℕ, ◌≤◌, List, Option, Some, None, refl, sym, ap, subst, ◌∙◌}
 use Rattle.s3_types.specs.declared.journal.Entry.{Entry}
 use Rattle.job_model.specs.declared.ends.Pick.{Pick}
 use Rattle.job_model.specs.declared.ends.EventEnd.{EventEnd}
 use Rattle.shelf.specs.Logged.{Holding, Stored, LeavesOnly}
-use Rattle.store_commands.specs.Stores.{found}
-use Rattle.store_commands.specs.Outcomes.{Tells}
-use Rattle.store_commands.specs.declared.held.Held.{Held}
-use Rattle.store_commands.specs.declared.held.Held.TheVariants.{Faulty}
-use Rattle.store_commands.specs.declared.held.ShelfStop.{ShelfStop}
-use Rattle.store_commands.specs.declared.held.ShelfStop.TheVariants as shelves
-use Rattle.s3a_top.specs.Openings.{is_sound, IsSoundly}
-use Rattle.s3a_top.specs.Statuses.{code, IsDue, IsIdle, shelf_text, memory_text, usage_text}
-use Rattle.s3a_top.specs.Jobs.{status_of, of_shelf, stop_text, IsFaulty, HasCause, AreFew, MayHaveLeft, JobStopped}
-use Rattle.s3a_top.specs.Commands.{NoCommand, StoreStopped}
-use Rattle.s3a_top.specs.Plays.{IsFound, HasCauseIn, MayHaveLeftOver, HasFailed}
-use Rattle.s3a_top.specs.Workings.{IsMade, IsToldOf, IsOfWords, IsOfShelf, JobHalted, StoreHalted}
+use Rattle.kept_stores.specs.Outcomes.{Tells}
+use Rattle.kept_stores.specs.declared.held.Held.{Held}
+use Rattle.kept_stores.specs.declared.held.Held.TheVariants.{Faulty}
+use Rattle.kept_stores.specs.declared.held.ShelfStop.{ShelfStop}
+use Rattle.kept_stores.specs.declared.held.ShelfStop.TheVariants as shelves
+use Rattle.s3a_top.specs.Openings.{is_sound, IsSoundly, IsFound}
+use Rattle.s3a_top.specs.Statuses.{code, IsDue, IsIdle, memory_text, usage_text}
+use Rattle.s3a_top.specs.Stops.{status_of, of_shelf, stop_text}
+use Rattle.s3a_top.specs.Jobs.{IsFaulty, HasCause, JobStopped}
+use Rattle.s3a_words.specs.declared.command.Command.{Command}
+use Rattle.s3a_top.specs.Commands.{NoCommand, HasReason, StoreStopped}
+use Rattle.s3a_top.specs.Plays.{HasCauseIn, MayHaveLeftOver, HasFailed}
+use Rattle.s3a_top.specs.Workings.{IsMade, IsToldOf, IsOfWords, JobHalted, StoreHalted}
 use Rattle.s3a_top.specs.declared.statuses.Status.{Status}
 use Rattle.s3a_top.specs.declared.statuses.Status.TheVariants as statuses
 use Rattle.s3a_top.specs.declared.stop.Stop.{Stop}
 use Rattle.s3a_top.specs.declared.stop.Stop.TheVariants.{Usage, ReadFault, ShelfFault, Script as BadScript, Image, NoMemory, NotBuilt}
 use Rattle.s3a_top.proofs.Crashing.{loaded_alone, loaded_first}
-use Rattle.s3a_top.proofs.Telling.{tells_none, load_which}
+use Rattle.s3a_top.proofs.Telling.{tells_none}
 
 -- ---- causes, where it is told what the shelf held
 
-sound_of : (told : Option Stored) (before : Held) → IsFound told before → is_sound before → IsSoundly told
+pub sound_of : (told : Option Stored) (before : Held) → IsFound told before → is_sound before → IsSoundly told
 sound_of None before f h = tt
 sound_of (Some s) before f h = subst is_sound f h
 
@@ -39,17 +40,17 @@ cause_of ReadFault told before left rest f h = sound_of told before f h
 cause_of ShelfFault told before left rest f h = tt
 cause_of (BadScript e) told before left rest f h = (sound_of told before f h.0, h.1)
 cause_of (Image number place) told before left rest f h = (faulty_of told before number place f h.0, h.1)
-cause_of NoMemory told before left rest f h = tt
+cause_of NoMemory told before left rest f h = inr (sound_of told before f h)
 cause_of NotBuilt told before left rest f h = (sound_of told before f h.0, h.1)
 
 -- ---- a job
 
 module _ {S : Type 0} (held : S → Option Stored) (may_leave : S → Holding → Type 0) (answers fails : S → S → Type 0) (moment_of : S → ℕ) (left_since : S → ℕ → Holding → Type 0) (left rest : Option (List ℕ)) where
   -- the shelf was not loaded
-  pub load_halted : (old new : S) (fault : ShelfStop) → held new ≡ held old → LeavesOnly moment_of left_since old new (may_leave old) → ((fault ≡ shelves.Failed → ⊥) → answers old new) → (fault ≡ shelves.Failed → fails old new)
+  pub load_halted : (old new : S) (fault : ShelfStop) → rest ≡ left → held new ≡ held old → LeavesOnly moment_of left_since old new (may_leave old) → ((fault ≡ shelves.Failed → ⊥) → answers old new) → (fault ≡ shelves.Failed → fails old new)
       → JobHalted held may_leave answers fails moment_of left_since left rest old new (of_shelf fault)
-  load_halted old new shelves.Failed same leaves answered broken = record { cause = tt; same = same; calls = inr (inl (broken refl)); leaves = loaded_alone may_leave moment_of left_since old new (held old) left rest leaves }
-  load_halted old new shelves.NoMemory same leaves answered broken = record { cause = tt; same = same; calls = inr (inr (new, (answered (λ e. cc), inl refl))); leaves = loaded_alone may_leave moment_of left_since old new (held old) left rest leaves }
+  load_halted old new shelves.Failed unread same leaves answered broken = record { cause = tt; same = same; calls = inr (inl (broken refl, unread)); leaves = loaded_alone may_leave moment_of left_since old new (held old) left rest leaves }
+  load_halted old new shelves.NoMemory unread same leaves answered broken = record { cause = inl unread; same = same; calls = inr (inr (new, (answered (λ e. cc), inl refl))); leaves = loaded_alone may_leave moment_of left_since old new (held old) left rest leaves }
 
   -- it stopped since
   pub job_halted : ((s : S) (t : ℕ) (h : Holding) → t ≤ moment_of s → may_leave s h → left_since s t h) → (old mid new : S) (before : Held) (stop : Stop) → IsFound (held old) before → held mid ≡ held old → answers old mid
@@ -62,11 +63,17 @@ module _ {S : Type 0} (held : S → Option Stored) (may_leave : S → Holding �
     leaves = loaded_first may_leave moment_of left_since counts_now old mid new (held old) before left rest f load leaves;
   }
 
+  -- a stop whose text is made has a cause of want of memory too
+  made_cause : (stop : Stop) (told : Option Stored) → IsMade stop → HasCause stop told left rest → HasCause NoMemory told left rest
+  made_cause (BadScript e) told m h = inr h.0
+  made_cause (Image number place) told m h = inl h.1
+  made_cause _ told m h = absurd m
+
   -- and that was told
   pub halted_told : (old new : S) (stop : Stop) (due : Status) (text : List ℕ) (es : List Entry) (ps : List Pick) (xs : List EventEnd) → JobHalted held may_leave answers fails moment_of left_since left rest old new stop → IsToldOf stop due text → IsIdle es ps xs
       → JobStopped held may_leave answers fails moment_of left_since left rest old new (code due) es ps xs (λ t. text ≡ t)
   halted_told old new stop due text es ps xs h (inl told) idle = record { stop = stop; status = ap code told.0; cause = h.cause; text = told.1; idle = idle; same = h.same; calls = h.calls; leaves = h.leaves }
-  halted_told old new stop due text es ps xs h (inr told) idle = record { stop = NoMemory; status = ap code told.0; cause = tt; text = told.1.0; idle = idle; same = h.same; calls = h.calls; leaves = h.leaves }
+  halted_told old new stop due text es ps xs h (inr told) idle = record { stop = NoMemory; status = ap code told.0; cause = made_cause stop (held old) told.1.1 h.cause; text = told.1.0; idle = idle; same = h.same; calls = h.calls; leaves = h.leaves }
 
 -- ---- another command
 
@@ -75,17 +82,20 @@ own_told : (stop : Stop) (due : Status) (text : List ℕ) → (IsMade stop → �
 own_told stop due text own (inl told) = (ap code told.0, told.1)
 own_told stop due text own (inr told) = absurd (own told.1.1)
 
-shelf_said : (stop : Stop) (due : Status) (text : List ℕ) → IsOfShelf stop → IsToldOf stop due text → ((code due ≡ 5) × (text ≡ shelf_text)) ⊎ ((code due ≡ 9) × (text ≡ memory_text))
-shelf_said stop due text (inl e) told = inl (own_told ShelfFault due text (λ h. h) (subst (λ (s : Stop). IsToldOf s due text) e told))
-shelf_said stop due text (inr e) told = inr (own_told NoMemory due text (λ h. h) (subst (λ (s : Stop). IsToldOf s due text) e told))
-
 words_said : (stop : Stop) (due : Status) (text : List ℕ) → IsOfWords stop → IsToldOf stop due text → ((code due ≡ 2) × (text ≡ usage_text)) ⊎ ((code due ≡ 9) × (text ≡ memory_text))
 words_said stop due text (inl e) told = inl (own_told Usage due text (λ h. h) (subst (λ (s : Stop). IsToldOf s due text) e told))
 words_said stop due text (inr e) told = inr (own_told NoMemory due text (λ h. h) (subst (λ (s : Stop). IsToldOf s due text) e told))
 
-pub store_halted : {S : Type 0} (held : S → Option Stored) (may_leave : S → Holding → Type 0) (moment_of : S → ℕ) (left_since : S → ℕ → Holding → Type 0) (old new : S) (stop : Stop) (due : Status) (text : List ℕ) (es : List Entry) (ps : List Pick) (xs : List EventEnd)
-    → StoreHalted held may_leave moment_of left_since old new stop → IsToldOf stop due text → IsIdle es ps xs → StoreStopped held may_leave moment_of left_since old new (code due) es (λ t. text ≡ t)
-store_halted held may_leave moment_of left_since old new stop due text es ps xs h told idle = record { said = shelf_said stop due text h.which told; entries = idle.entries; same = h.same; leaves = h.leaves }
+own_reason : (stop : Stop) (command : Command) (told : Option Stored) (left rest : Option (List ℕ)) → HasReason stop command told left rest → IsMade stop → ⊥
+own_reason (BadScript e) command told left rest h m = h
+own_reason (Image number place) command told left rest h m = h
+own_reason _ command told left rest h m = m
+
+pub store_halted : {S : Type 0} (held : S → Option Stored) (may_leave : S → Holding → Type 0) (answers fails : S → S → Type 0) (moment_of : S → ℕ) (left_since : S → ℕ → Holding → Type 0) (command : Command) (left rest : Option (List ℕ)) (old new : S) (stop : Stop) (due : Status) (text : List ℕ) (es : List Entry) (ps : List Pick)
+    (xs : List EventEnd) → StoreHalted held may_leave answers fails moment_of left_since command left rest old new stop → IsToldOf stop due text → IsIdle es ps xs → StoreStopped held may_leave answers fails moment_of left_since command left rest old new (code due) es (λ t. text ≡ t)
+store_halted held may_leave answers fails moment_of left_since command left rest old new stop due text es ps xs h told idle =
+    let own = own_told stop due text (own_reason stop command (held old) left rest h.reason) told in
+    record { stop = stop; status = own.0; reason = h.reason; text = own.1; entries = idle.entries; same = h.same; calls = h.calls; leaves = h.leaves }
 
 pub no_command : {S : Type 0} (old new : S) (stop : Stop) (due : Status) (text : List ℕ) (es : List Entry) (ps : List Pick) (xs : List EventEnd) → IsOfWords stop → new ≡ old → IsToldOf stop due text → IsIdle es ps xs → NoCommand (code due) old new es ps xs (λ t. text ≡ t)
 no_command old new stop due text es ps xs which same told idle = record { said = words_said stop due text which told; idle = idle; untouched = same }

@@ -1,78 +1,52 @@
--- What comes of a command of the store.
-use Rattle.std.proofs.Common.{◌≡◌, ◌⊎◌, inl, inr, ℕ, ◌≤◌, List, [], ◌∷◌, Option, Some, None, refl, sym, ap, subst, ◌∙◌}
-use Rattle.s3_types.specs.Store.{Content}
+-- What comes of a command but a job.
+use Rattle.std.proofs.Common.{◌≡◌, inl, inr, ℕ, ◌≤◌, List, Option, Result, Ok, Err, IfOk, IfErr, OnErr, refl, sym, subst}
 use Rattle.s3_types.specs.declared.journal.Entry.{Entry}
 use Rattle.shelf.specs.Logged.{Holding, Stored, LeavesOnly}
-use Rattle.store_commands.specs.Stores.{found, work_of, init_work, bucket_work, made_in, saved_unless}
-use Rattle.store_commands.specs.Works.{Work, Says, Saves}
-use Rattle.store_commands.specs.Outcomes.{IsAnswer, said, saved, failed, wanting, wanting_behind, IsHeld, MightLeave, IsDurableNow}
-use Rattle.store_commands.specs.declared.command.StoreCommand.{StoreCommand}
-use Rattle.store_commands.specs.declared.command.StoreCommand.TheVariants.{Init, MakeBucket}
-use Rattle.store_commands.specs.declared.held.Held.{Held}
-use Rattle.store_commands.specs.declared.held.Held.TheVariants.{Nothing, Store, Faulty}
-use Rattle.s3a_top.specs.Commands.{answer_text, StoreDone}
-use Rattle.s3a_top.specs.Workings.{IsOfAnswer}
+use Rattle.kept_stores.specs.Works.{Work as Doing, IsPlain}
+use Rattle.kept_stores.specs.Outcomes.{IsAnswer, IsHeld, MightLeave, IsDurableNow, CallsBy, Tells}
+use Rattle.kept_stores.specs.Outcomes.IsAnswer.{said, saved, failed, wanting}
+use Rattle.kept_stores.specs.declared.held.Held.{Held}
+use Rattle.kept_stores.specs.declared.held.ShelfStop.{ShelfStop}
+use Rattle.kept_stores.specs.declared.held.ShelfStop.TheVariants as shelves
+use Rattle.s3a_words.specs.declared.command.Command.{Command}
+use Rattle.s3a_top.specs.Openings.{IsFound}
+use Rattle.s3a_top.specs.Statuses.{code}
+use Rattle.s3a_top.specs.Stops.{status_of, of_shelf}
+use Rattle.s3a_top.specs.Commands.{answer_text, HasReason, WorkDone, StoreDone}
+use Rattle.s3a_top.specs.Workings.{IsOfAnswer, HasReasonIn, StoreOver, StoreHalted, IsWritten, StoreGoes}
+use Rattle.s3a_top.specs.declared.stop.Stop.{Stop}
+use Rattle.s3a_top.specs.declared.stop.Stop.TheVariants.{ReadFault, NoMemory}
+use Rattle.s3a_top.specs.declared.work.Work.{Work}
 use Rattle.s3a_top.proofs.Crashing.{command_since}
+use Rattle.s3a_top.proofs.Halting.{sound_of}
+use Rattle.s3a_top.proofs.Telling.{tells_none}
 
 -- ---- the statuses of answers
 
--- what is said has status 1 or 7
-abbrev IsSaid : Work → Type 0
-IsSaid (Says d t es) = (d ≡ 1) ⊎ (d ≡ 7)
-IsSaid (Saves c es) = Unit {0}
-
-saved_said : (o : Option (List ℕ)) (c : Content) (e : Entry) → IsSaid (saved_unless o c e)
-saved_said (Some why) c e = inl refl
-saved_said None c e = tt
-
-made_said : (name : List ℕ) (c : Content) → IsSaid (made_in name c)
-unfolding made_in
-made_said name c = saved_said _ c _
-
-init_said : (m : ℕ) (before : Held) → IsSaid (init_work m before)
-unfolding init_work
-init_said m Nothing = tt
-init_said m (Store c) = inl refl
-init_said m (Faulty number place) = inr refl
-
-bucket_said : (name : List ℕ) (before : Held) → IsSaid (bucket_work name before)
-unfolding bucket_work
-bucket_said name Nothing = made_said name _
-bucket_said name (Store c) = made_said name c
-bucket_said name (Faulty number place) = inr refl
-
-work_said : (c : StoreCommand) (before : Held) → IsSaid (work_of c before)
-unfolding work_of
-work_said (Init m) before = init_said m before
-work_said (MakeBucket name) before = bucket_said name before
-
-answer_which : (work : Work) (due : ℕ) (text : List ℕ) (es : List Entry) → IsAnswer work due text es → IsSaid work → IsOfAnswer due
-answer_which _ _ _ _ (said d t es) (inl e) = inr (inl e)
-answer_which _ _ _ _ (said d t es) (inr e) = inr (inr (inr (inl e)))
-answer_which _ _ _ _ (saved c es) s = inl refl
-answer_which _ _ _ _ (failed c es) s = inr (inr (inl refl))
-answer_which _ _ _ _ (wanting work) s = inr (inr (inr (inr refl)))
-answer_which _ _ _ _ (wanting_behind c es) s = inr (inr (inr (inr refl)))
-
-pub obey_which : (c : StoreCommand) (before : Held) (due : ℕ) (text : List ℕ) (es : List Entry) → IsAnswer (work_of c before) due text es → IsOfAnswer due
-obey_which c before due text es a = answer_which (work_of c before) due text es a (work_said c before)
+pub answer_which : (work : Doing) (due : ℕ) (text : List ℕ) (es : List Entry) → IsAnswer work due text es → IsPlain work → IsOfAnswer due
+answer_which _ _ _ _ (said d t es) (inl e) = inl e
+answer_which _ _ _ _ (said d t es) (inr (inl e)) = inr (inl e)
+answer_which _ _ _ _ (said d t es) (inr (inr e)) = inr (inr (inr (inl e)))
+answer_which _ _ _ _ (saved c t es) plain = inl refl
+answer_which _ _ _ _ (failed c t es) plain = inr (inr (inl refl))
+answer_which _ _ _ _ (wanting c t es) plain = inr (inr (inr (inr refl)))
 
 -- ---- what was done
 
 module _ {S : Type 0} (held : S → Option Stored) (may_leave : S → Holding → Type 0) (moment_of : S → ℕ) (left_since : S → ℕ → Holding → Type 0) where
   -- it is told so
-  pub done_of : (work : Work) (old new : S) (due status : ℕ) (text written : List ℕ) (es fs : List Entry) → status ≡ due → fs ≡ es → written ≡ answer_text due text → IsAnswer work due text es → IsHeld work due (held old) (held new)
-      → LeavesOnly moment_of left_since old new (MightLeave work (held new) (may_leave old)) → IsDurableNow work due (held new) (may_leave new) → StoreDone held may_leave moment_of left_since work old new status fs (λ t. written ≡ t)
+  pub done_of : (work : Doing) (old new : S) (due status : ℕ) (text written : List ℕ) (es fs : List Entry) → status ≡ due → fs ≡ es → written ≡ answer_text due text → IsAnswer work due text es → IsHeld work due (held old) (held new)
+      → LeavesOnly moment_of left_since old new (MightLeave work (held new) (may_leave old)) → IsDurableNow work due (held new) (may_leave new) → WorkDone held may_leave moment_of left_since work old new status fs (λ t. written ≡ t)
   done_of work old new due status text written es fs is same told answer holds leaves durable =
       let Told : List ℕ → Type 0 = λ t. written ≡ t in
-      subst (λ (n : ℕ). StoreDone held may_leave moment_of left_since work old new n fs Told) (sym is)
-      (subst (λ (l : List Entry). StoreDone held may_leave moment_of left_since work old new due l Told) (sym same)
+      subst (λ (n : ℕ). WorkDone held may_leave moment_of left_since work old new n fs Told) (sym is)
+      (subst (λ (l : List Entry). WorkDone held may_leave moment_of left_since work old new due l Told) (sym same)
       (record { text = text; answer = answer; said = told; holds = holds; leaves = leaves; durable = durable }))
 
   -- since the shelf was loaded, and before
-  pub done_from : ((s : S) (t : ℕ) (h : Holding) → t ≤ moment_of s → may_leave s h → left_since s t h) → (work : Work) (old mid new : S) (status : ℕ) (es : List Entry) (Told : List ℕ → Type 0) → held mid ≡ held old → LeavesOnly moment_of left_since old mid (may_leave old)
-      → StoreDone held may_leave moment_of left_since work mid new status es Told → StoreDone held may_leave moment_of left_since work old new status es Told
-  done_from counts_now work old mid new status es Told same load h = record {
+  work_from : ((s : S) (t : ℕ) (h : Holding) → t ≤ moment_of s → may_leave s h → left_since s t h) → (work : Doing) (old mid new : S) (status : ℕ) (es : List Entry) (Told : List ℕ → Type 0) → held mid ≡ held old → LeavesOnly moment_of left_since old mid (may_leave old)
+      → WorkDone held may_leave moment_of left_since work mid new status es Told → WorkDone held may_leave moment_of left_since work old new status es Told
+  work_from counts_now work old mid new status es Told same load h = record {
     text = h.text;
     answer = h.answer;
     said = h.said;
@@ -81,7 +55,56 @@ module _ {S : Type 0} (held : S → Option Stored) (may_leave : S → Holding �
     durable = h.durable;
   }
 
-  -- by what was found
-  pub done_found : (c : StoreCommand) (before : Held) (old new : S) (status : ℕ) (es : List Entry) (Told : List ℕ → Type 0) (s : Stored) → before ≡ found s → StoreDone held may_leave moment_of left_since (work_of c before) old new status es Told
-      → StoreDone held may_leave moment_of left_since (work_of c (found s)) old new status es Told
-  done_found c before old new status es Told s is h = subst (λ (b : Held). StoreDone held may_leave moment_of left_since (work_of c b) old new status es Told) is h
+-- the calls, by its own number of the status
+pub calls_of : {S : Type 0} (answers fails : S → S → Type 0) (work : Doing) (due status : ℕ) (old new : S) → status ≡ due → CallsBy answers fails work due old new → CallsBy answers fails work status old new
+calls_of answers fails work due status old new is h = subst (λ (n : ℕ). CallsBy answers fails work n old new) (sym is) h
+
+-- ---- causes, where it is told what the shelf held
+
+reason_of : (stop : Stop) (command : Command) (told : Option Stored) (before : Held) (left rest : Option (List ℕ)) → IsFound told before → HasReasonIn stop command before left rest → HasReason stop command told left rest
+reason_of ReadFault command told before left rest f h = (sound_of told before f h.0, h.1)
+reason_of NoMemory command told before left rest f (inl h) = inl h
+reason_of NoMemory command told before left rest f (inr h) = inr (sound_of told before f h.0, h.1)
+reason_of _ command told before left rest f h = absurd h
+
+-- the shelf was not called
+pub reason_calm : (stop : Stop) (command : Command) (before : Held) (left rest : Option (List ℕ)) (count : ℕ) → HasReasonIn stop command before left rest → Tells 5 (code (status_of stop)) count count
+reason_calm ReadFault command before left rest count h = tells_none 5 3 count count (λ e. cc) refl
+reason_calm NoMemory command before left rest count h = tells_none 5 9 count count (λ e. cc) refl
+reason_calm _ command before left rest count h = absurd h
+
+-- ---- since the shelf was loaded, and before
+
+module _ {S : Type 0} (held : S → Option Stored) (may_leave : S → Holding → Type 0) (answers fails : S → S → Type 0) (moment_of : S → ℕ) (left_since : S → ℕ → Holding → Type 0) (command : Command) (left rest : Option (List ℕ)) where
+  -- the shelf was not loaded
+  pub load_stopped : (old new : S) (fault : ShelfStop) → rest ≡ left → held new ≡ held old → LeavesOnly moment_of left_since old new (may_leave old) → ((fault ≡ shelves.Failed → ⊥) → answers old new) → (fault ≡ shelves.Failed → fails old new)
+      → StoreHalted held may_leave answers fails moment_of left_since command left rest old new (of_shelf fault)
+  load_stopped old new shelves.Failed unread same leaves answered broken = record { reason = unread; same = same; calls = inr (inl (broken refl)); leaves = leaves }
+  load_stopped old new shelves.NoMemory unread same leaves answered broken = record { reason = inl unread; same = same; calls = inr (inr (answered (λ e. cc))); leaves = leaves }
+
+  done_from : ((s : S) (t : ℕ) (h : Holding) → t ≤ moment_of s → may_leave s h → left_since s t h) → (before : Held) (old mid new : S) (due : ℕ) (es : List Entry) (Told : List ℕ → Type 0) → IsFound (held old) before → held mid ≡ held old → answers old mid → LeavesOnly moment_of left_since old mid (may_leave old)
+      → StoreOver held may_leave answers fails moment_of left_since command before left rest mid new due es Told → StoreDone held may_leave answers fails moment_of left_since command left rest old new due es Told
+  done_from counts_now before old mid new due es Told found same answered load h = record {
+    before = before;
+    found = found;
+    bytes = h.bytes;
+    input = h.input;
+    work = h.work;
+    does = h.does;
+    done = work_from held may_leave moment_of left_since counts_now h.work old mid new due es Told same load h.done;
+    loaded = mid;
+    load = answered;
+    calls = h.calls;
+  }
+
+  halted_from : (before : Held) (old mid new : S) (stop : Stop) → IsFound (held old) before → held mid ≡ held old → answers old mid → LeavesOnly moment_of left_since old mid (may_leave old) → HasReasonIn stop command before left rest → new ≡ mid
+      → StoreHalted held may_leave answers fails moment_of left_since command left rest old new stop
+  halted_from before old mid new stop found same answered load reason still =
+      subst (λ (s : S). StoreHalted held may_leave answers fails moment_of left_since command left rest old s stop) (sym still)
+      (record { reason = reason_of stop command (held old) before left rest found reason; same = same; calls = inr (inr answered); leaves = load })
+
+  pub store_from : (result : Result Work Stop) → ((s : S) (t : ℕ) (h : Holding) → t ≤ moment_of s → may_leave s h → left_since s t h) → (before : Held) (old mid new : S) → IsFound (held old) before → held mid ≡ held old → answers old mid → LeavesOnly moment_of left_since old mid (may_leave old)
+      → IfOk result (λ work. StoreOver held may_leave answers fails moment_of left_since command before left rest mid new (code work.due) work.journal.entries (IsWritten work)) → IfErr result (λ stop. HasReasonIn stop command before left rest) → OnErr result (new ≡ mid)
+      → StoreGoes held may_leave answers fails moment_of left_since command left rest old new result
+  store_from (Ok work) counts_now before old mid new found same answered load over reason still = done_from counts_now before old mid new (code work.due) work.journal.entries (IsWritten work) found same answered load over
+  store_from (Err stop) counts_now before old mid new found same answered load over reason still = halted_from before old mid new stop found same answered load reason still

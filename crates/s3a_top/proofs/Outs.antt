@@ -6,10 +6,11 @@ use Rattle.job_model.specs.JobScript.{Script}
 use Rattle.job_model.specs.declared.ends.Pick.{Pick}
 use Rattle.job_model.specs.declared.ends.EventEnd.{EventEnd}
 use Rattle.shelf.specs.Logged.{Holding, Stored}
-use Rattle.store_commands.specs.Works.{Work}
+use Rattle.kept_stores.specs.Works.{Work as Doing}
+use Rattle.s3a_words.specs.declared.command.Command.{Command}
 use Rattle.s3a_top.specs.Statuses.{Writes}
 use Rattle.s3a_top.specs.Jobs.{JobEnded, JobCut, JobRan, JobPlayed, JobStopped}
-use Rattle.s3a_top.specs.Commands.{NoCommand, StoreStopped, StoreDone}
+use Rattle.s3a_top.specs.Commands.{NoCommand, StoreStopped, WorkDone, StoreDone}
 
 -- what was to be said was written
 pub written_so : (status : ℕ) (before after : Option (List ℕ)) (text : List ℕ) → Writes status before after text → (t : List ℕ) → text ≡ t → Writes status before after t
@@ -55,16 +56,32 @@ module _ (A B : List ℕ → Type 0) (f : (t : List ℕ) → A t → B t) {S : T
         subst (λ (m : ℕ). JobPlayed held may_leave answers fails moment_of left_since left rest old new m es ps xs B ⊎ JobStopped held may_leave answers fails moment_of left_since left rest old new m es ps xs B) (sym is)
         (⊎_elim (λ p. inl (played_out left rest old new p)) (λ s. inr (stopped_out left rest old new s)) h)
 
-  module _ (due : ℕ) (es : List Entry) (old new : S) where
-    done_out : (work : Work) → StoreDone held may_leave moment_of left_since work old new due es A → StoreDone held may_leave moment_of left_since work old new due es B
-    done_out work h = record { text = h.text; answer = h.answer; said = f _ h.said; holds = h.holds; leaves = h.leaves; durable = h.durable }
+    work_out : (work : Doing) (old new : S) → WorkDone held may_leave moment_of left_since work old new due es A → WorkDone held may_leave moment_of left_since work old new due es B
+    work_out work old new h = record { text = h.text; answer = h.answer; said = f _ h.said; holds = h.holds; leaves = h.leaves; durable = h.durable }
 
-    halted_out : StoreStopped held may_leave moment_of left_since old new due es A → StoreStopped held may_leave moment_of left_since old new due es B
-    halted_out h = record { said = said_out _ _ _ _ _ _ (f _) (f _) h.said; entries = h.entries; same = h.same; leaves = h.leaves }
+    done_out : (command : Command) (left rest : Option (List ℕ)) (old new : S) → StoreDone held may_leave answers fails moment_of left_since command left rest old new due es A → StoreDone held may_leave answers fails moment_of left_since command left rest old new due es B
+    done_out command left rest old new h = record {
+      before = h.before;
+      found = h.found;
+      bytes = h.bytes;
+      input = h.input;
+      work = h.work;
+      does = h.does;
+      done = work_out h.work old new h.done;
+      loaded = h.loaded;
+      load = h.load;
+      calls = h.calls;
+    }
 
-    pub store_out : (work : Work) → StoreDone held may_leave moment_of left_since work old new due es A ⊎ StoreStopped held may_leave moment_of left_since old new due es A
-        → StoreDone held may_leave moment_of left_since work old new due es B ⊎ StoreStopped held may_leave moment_of left_since old new due es B
-    store_out work h = ⊎_elim (λ d. inl (done_out work d)) (λ s. inr (halted_out s)) h
+    halted_out : (command : Command) (left rest : Option (List ℕ)) (old new : S) → StoreStopped held may_leave answers fails moment_of left_since command left rest old new due es A → StoreStopped held may_leave answers fails moment_of left_since command left rest old new due es B
+    halted_out command left rest old new h = record { stop = h.stop; status = h.status; reason = h.reason; text = f _ h.text; entries = h.entries; same = h.same; calls = h.calls; leaves = h.leaves }
+
+    pub store_out : (command : Command) (left rest : Option (List ℕ)) (old new : S) (n : ℕ) → n ≡ due
+        → StoreDone held may_leave answers fails moment_of left_since command left rest old new due es A ⊎ StoreStopped held may_leave answers fails moment_of left_since command left rest old new due es A
+        → StoreDone held may_leave answers fails moment_of left_since command left rest old new n es B ⊎ StoreStopped held may_leave answers fails moment_of left_since command left rest old new n es B
+    store_out command left rest old new n is h =
+        subst (λ (m : ℕ). StoreDone held may_leave answers fails moment_of left_since command left rest old new m es B ⊎ StoreStopped held may_leave answers fails moment_of left_since command left rest old new m es B) (sym is)
+        (⊎_elim (λ d. inl (done_out command left rest old new d)) (λ s. inr (halted_out command left rest old new s)) h)
 
 pub none_out : (A B : List ℕ → Type 0) (f : (t : List ℕ) → A t → B t) {S : Type 0} (due : ℕ) (old new : S) (es : List Entry) (ps : List Pick) (xs : List EventEnd) → NoCommand due old new es ps xs A → NoCommand due old new es ps xs B
 none_out A B f due old new es ps xs h = record { said = said_out _ _ _ _ _ _ (f _) (f _) h.said; idle = h.idle; untouched = h.untouched }

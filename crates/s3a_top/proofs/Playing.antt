@@ -1,5 +1,5 @@
 -- What is promised of a job that was played.
-use Rattle.std.proofs.Common.{◌≡◌, ◌≢◌, ◌⊎◌, inl, inr, ⊎_elim, ℕ, ◌≤◌, List, [], ◌∷◌, ◌++◌, length, Option, Some, None, refl, sym, ap, subst, ◌∙◌, append_assoc, arith}
+use Rattle.std.proofs.Common.{◌≡◌, ◌⊎◌, inl, inr, ⊎_elim, ℕ, ◌≤◌, List, [], ◌∷◌, ◌++◌, length, Option, Some, None, sym, ap, subst, ◌∙◌, append_assoc, arith}
 use Rattle.s3_types.specs.Store.{Content}
 use Rattle.s3_types.specs.declared.journal.Entry.{Entry}
 use Rattle.job_model.specs.JobScript.{Script}
@@ -8,20 +8,21 @@ use Rattle.job_model.specs.declared.ends.EventEnd.{EventEnd}
 use Rattle.job_promise.specs.States.{verdict}
 use Rattle.job_promise.specs.ReportText.{report_text}
 use Rattle.job_world.specs.declared.played.Played.{Played}
-use Rattle.shelf.specs.Logged.{Holding, Stored, IsDurable, LeavesOnly}
+use Rattle.shelf.specs.Logged.{Holding, Stored, LeavesOnly}
 use Rattle.shelf.specs.declared.kept.AppendFault.{AppendFault}
 use Rattle.shelf.specs.declared.kept.AppendFault.TheVariants.{Failed, NoMemory}
-use Rattle.store_commands.specs.declared.held.Held.{Held}
-use Rattle.kept_runs.specs.Changes.{changes, Begins}
+use Rattle.kept_stores.specs.declared.held.Held.{Held}
+use Rattle.kept_runs.specs.Changes.{changes}
 use Rattle.kept_runs.specs.Kept.{Holds, HasEarlier, HoldsPart, IsToEnd, IsKept}
-use Rattle.kept_runs.specs.Crashes.{SurvivesCrashes, IsLast}
+use Rattle.kept_runs.specs.Crashes.{IsLast}
 use Rattle.kept_runs.proofs.Journals.{changes_append}
 use Rattle.kept_runs.proofs.Standing.{begins_all, last}
 use Rattle.kept_runs.proofs.Leaving.{survives}
 use Rattle.kept_jobs.specs.Played.{IsPlayed, IsHeld, Survives}
 use Rattle.s3a_top.specs.Statuses.{memory_text}
 use Rattle.s3a_top.specs.Jobs.{JobEnded, JobCut, JobRan, JobPlayed}
-use Rattle.s3a_top.specs.Plays.{IsFound, IsTold, Survived, JobOver}
+use Rattle.s3a_top.specs.Openings.{IsFound}
+use Rattle.s3a_top.specs.Plays.{IsTold, Survived, JobOver}
 use Rattle.s3a_top.proofs.Crashing.{opens_so}
 
 -- ---- what is kept

@@ -1,21 +1,22 @@
 -- What is known of a result by what its function's callee says of it.
-use Rattle.std.proofs.Common.{◌≡◌, ◌≢◌, ◌⊎◌, ℕ, ◌≤◌, List, [], Option, Some, None, Result, Ok, Err, IfOk, IfErr, OnErr, refl, sym, ap, subst, ◌∙◌}
+use Rattle.std.proofs.Common.{◌≡◌, ◌≢◌, ◌⊎◌, ℕ, ◌≤◌, List, Option, Some, Result, Ok, Err, IfOk, IfErr, OnErr, sym, ap, subst, ◌∙◌}
 use Rattle.s3_types.specs.Store.{Content}
 use Rattle.s3_types.specs.declared.request.Committer.TheVariants.{Magic}
 use Rattle.job_model.specs.JobScript.{Script}
 use Rattle.job_script.specs.Script.{script_of}
 use Rattle.shelf.specs.Logged.{Holding, Stored, fresh, LeavesOnly}
 use Rattle.store_image.specs.Image.{image}
-use Rattle.store_commands.specs.declared.held.Held.{Held}
+use Rattle.kept_stores.specs.declared.held.Held.{Held}
 use Rattle.s3a_top.specs.Bytes.{IsRead}
 use Rattle.s3a_top.specs.Openings.{IsScript, opening_in}
 use Rattle.s3a_top.specs.Statuses.{code}
 use Rattle.s3a_top.specs.Jobs.{JobRan}
 use Rattle.s3a_top.specs.Reads.{IsReadStop, IsNone}
-use Rattle.s3a_top.specs.Plays.{IsFound, Survived, JobOver, HasCauseIn, MayHaveLeftOver, HasFailed}
+use Rattle.s3a_top.specs.Openings.{IsFound}
+use Rattle.s3a_top.specs.Plays.{Survived, JobOver, HasCauseIn, MayHaveLeftOver, HasFailed}
 use Rattle.s3a_top.specs.Workings.{IsWritten, JobGoes}
 use Rattle.s3a_top.specs.declared.stop.Stop.{Stop}
-use Rattle.s3a_top.specs.declared.stop.Stop.TheVariants.{Usage, ReadFault, ShelfFault, Script as BadScript, Image, NoMemory, NotBuilt}
+use Rattle.s3a_top.specs.declared.stop.Stop.TheVariants.{Script as BadScript, NoMemory, NotBuilt}
 use Rattle.s3a_top.specs.declared.work.Work.{Work}
 use Rattle.s3a_top.proofs.Readings.{script_is, no_script}
 use Rattle.s3a_top.proofs.Crashing.{image_left}

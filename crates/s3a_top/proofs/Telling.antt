@@ -1,30 +1,22 @@
 -- Which counts of faults rise, and which causes stops have.
-use Rattle.std.proofs.Common.{◌≡◌, ◌≢◌, ◌⊎◌, inl, inr, ⊎_elim, ℕ, ◌<◌, List, [], Option, Some, None, Result, Ok, Err, IfOk, IfErr, IsErrOf, refl, sym, ap, subst, ◌∙◌, arith}
-use Rattle.s3_types.specs.declared.journal.Entry.{Entry}
-use Rattle.job_model.specs.declared.ends.Pick.{Pick}
-use Rattle.job_model.specs.declared.ends.EventEnd.{EventEnd}
-use Rattle.shelf.specs.Logged.{Holding, Stored, LeavesOnly}
+use Rattle.std.proofs.Common.{◌≡◌, ◌≢◌, inl, inr, ℕ, ◌<◌, List, Option, Some, None, Err, refl, sym, subst, ◌∙◌}
 use Rattle.shelf.specs.declared.kept.AppendFault.{AppendFault}
 use Rattle.shelf.specs.declared.kept.AppendFault.TheVariants as appends
-use Rattle.store_commands.specs.Stores.{found, work_of}
-use Rattle.store_commands.specs.Outcomes.{Counts as CountsLoad, Tells}
-use Rattle.store_commands.specs.declared.command.StoreCommand.{StoreCommand}
-use Rattle.store_commands.specs.declared.held.Held.{Held}
-use Rattle.store_commands.specs.declared.held.ShelfStop.{ShelfStop}
-use Rattle.store_commands.specs.declared.held.ShelfStop.TheVariants as shelves
+use Rattle.kept_stores.specs.Outcomes.{Counts as CountsLoad, Tells}
+use Rattle.kept_stores.specs.declared.held.Held.{Held}
+use Rattle.kept_stores.specs.declared.held.ShelfStop.{ShelfStop}
+use Rattle.kept_stores.specs.declared.held.ShelfStop.TheVariants as shelves
 use Rattle.kept_jobs.specs.Played.{Counts}
-use Rattle.s3a_top.specs.Openings.{is_sound, IsSoundly}
-use Rattle.s3a_top.specs.Statuses.{code, IsDue, IsWorked, IsIdle, written_text, usage_text, shelf_text, memory_text}
-use Rattle.s3a_top.specs.Jobs.{status_of, of_shelf, stop_text, HasCause, AreFew, MayHaveLeft, JobPlayed, JobStopped}
-use Rattle.s3a_top.specs.Commands.{NoCommand, StoreStopped, StoreDone}
+use Rattle.s3a_top.specs.Openings.{is_sound}
+use Rattle.s3a_top.specs.Statuses.{code, IsDue, IsWorked}
+use Rattle.s3a_top.specs.Stops.{status_of, of_shelf}
 use Rattle.s3a_top.specs.Reads.{IsReadStop, CountsReads}
-use Rattle.s3a_top.specs.Plays.{IsFound, IsVerdict, IsOfStop, HasCauseIn, HasFailed}
-use Rattle.s3a_top.specs.Workings.{CountsAs, IsMade, IsToldOf, IsOfWords, IsOfShelf, IsNothing, JobHalted, StoreHalted, IsWritten, JobGoes, StoreGoes}
+use Rattle.s3a_top.specs.Plays.{IsVerdict, IsOfStop, HasCauseIn}
+use Rattle.s3a_top.specs.Workings.{IsOfShelf}
 use Rattle.s3a_top.specs.declared.statuses.Status.{Status}
 use Rattle.s3a_top.specs.declared.statuses.Status.TheVariants as statuses
 use Rattle.s3a_top.specs.declared.stop.Stop.{Stop}
 use Rattle.s3a_top.specs.declared.stop.Stop.TheVariants.{Usage, ReadFault, ShelfFault, Script as BadScript, Image, NoMemory, NotBuilt}
-use Rattle.s3a_top.specs.declared.work.Work.{Work}
 
 -- ---- counts of faults
 
@@ -115,15 +107,15 @@ read_calm _ left rest count h = absurd h
 pub read_cause : (stop : Stop) (before : Held) (left rest : Option (List ℕ)) → is_sound before → IsReadStop stop left rest → HasCauseIn stop before left rest
 read_cause ReadFault before left rest sound h = sound
 read_cause (BadScript e) before left rest sound h = (sound, h)
-read_cause NoMemory before left rest sound h = tt
+read_cause NoMemory before left rest sound h = sound
 read_cause NotBuilt before left rest sound h = (sound, h)
 read_cause _ before left rest sound h = absurd h
 
 -- ---- a stop of the shelf
 
-pub shelf_cause : (stop : Stop) (before : Held) (left rest : Option (List ℕ)) → IsOfShelf stop → HasCauseIn stop before left rest
-shelf_cause stop before left rest (inl e) = subst (λ (s : Stop). HasCauseIn s before left rest) (sym e) tt
-shelf_cause stop before left rest (inr e) = subst (λ (s : Stop). HasCauseIn s before left rest) (sym e) tt
+pub shelf_cause : (stop : Stop) (before : Held) (left rest : Option (List ℕ)) → is_sound before → IsOfShelf stop → HasCauseIn stop before left rest
+shelf_cause stop before left rest sound (inl e) = subst (λ (s : Stop). HasCauseIn s before left rest) (sym e) tt
+shelf_cause stop before left rest sound (inr e) = subst (λ (s : Stop). HasCauseIn s before left rest) (sym e) sound
 
 -- the input did not fail
 pub shelf_read : (stop : Stop) (before after : ℕ) → IsOfShelf stop → after ≡ before → Tells 3 (code (status_of stop)) before after

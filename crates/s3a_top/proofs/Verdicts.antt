@@ -1,7 +1,5 @@
 -- Which statuses are due of a job and of a command.
-use Rattle.std.proofs.Common.{◌≡◌, ◌≢◌, ◌⊎◌, inl, inr, ℕ, List, [], ◌∷◌, Option, Some, None, refl, sym, ap, subst, ◌∙◌, arith}
-use Rattle.s3_types.specs.Store.{Content}
-use Rattle.s3_types.specs.declared.journal.Entry.{Entry}
+use Rattle.std.proofs.Common.{inl, inr, ℕ, List, refl}
 use Rattle.job_model.specs.JobScript.{Script}
 use Rattle.job_model.specs.declared.ends.SetupEnd.{SetupEnd}
 use Rattle.job_model.specs.declared.ends.SetupEnd.TheVariants as setups

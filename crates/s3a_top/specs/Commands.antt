@@ -1,12 +1,22 @@
 -- What comes of the other commands, and of words that are none.
-use Rattle.std.specs.Prelude.{◌≡◌, ◌⊎◌, ℕ, ◌==◌, List, [], Option, if◌then◌else◌}
+use Rattle.std.specs.Prelude.{◌≡◌, ◌⊎◌, ℕ, ◌==◌, Bool, true, false, List, [], Option, Some, None, if◌then◌else◌}
 use Rattle.s3_types.specs.declared.journal.Entry.{Entry}
 use Rattle.job_model.specs.declared.ends.Pick.{Pick}
 use Rattle.job_model.specs.declared.ends.EventEnd.{EventEnd}
-use Rattle.shelf.specs.Logged.{Holding, Stored, IsDurable, LeavesOnly}
-use Rattle.store_commands.specs.Works.{Work}
-use Rattle.store_commands.specs.Outcomes.{IsAnswer, IsHeld, MightLeave, IsDurableNow}
-use Rattle.s3a_top.specs.Statuses.{IsIdle, usage_text, shelf_text, memory_text}
+use Rattle.shelf.specs.Logged.{Holding, Stored, LeavesOnly}
+use Rattle.kept_stores.specs.Works.{Work}
+use Rattle.kept_stores.specs.Outcomes.{IsAnswer, IsHeld, MightLeave, IsDurableNow, CallsBy}
+use Rattle.kept_stores.specs.declared.held.Held.{Held}
+use Rattle.kept_stores.specs.declared.held.Held.TheVariants.{Faulty}
+use Rattle.s3a_words.specs.declared.command.Command.{Command}
+use Rattle.s3a_words.specs.declared.command.Command.TheVariants.{Job}
+use Rattle.shell_works.specs.Commanded.{takes_input, IsWork}
+use Rattle.s3a_top.specs.Bytes.{IsRead}
+use Rattle.s3a_top.specs.Openings.{IsFound, IsSoundly}
+use Rattle.s3a_top.specs.Statuses.{IsIdle, code, usage_text, shelf_text, memory_text}
+use Rattle.s3a_top.specs.Stops.{status_of, stop_text}
+use Rattle.s3a_top.specs.declared.stop.Stop.{Stop}
+use Rattle.s3a_top.specs.declared.stop.Stop.TheVariants.{ReadFault, ShelfFault, NoMemory}
 
 -- words that are no command: the usage is said, and nothing was done
 pub record NoCommand {S : Type 0} (due : ℕ) (old new : S) (es : List Entry) (ps : List Pick) (xs : List EventEnd) (Says : List ℕ → Type 0) : Type 0 where
@@ -14,22 +24,72 @@ pub record NoCommand {S : Type 0} (due : ℕ) (old new : S) (es : List Entry) (p
   pub idle : IsIdle es ps xs
   pub untouched : new ≡ old
 
+-- ---- what is taken from the input
+
+-- by the words
+abbrev pub may_read : Option Command → Bool
+may_read None = false
+may_read (Some Job) = true
+may_read (Some command) = takes_input command
+
+-- a command reads its input, if it has one, where the shelf holds a store or nothing
+abbrev pub reads_input : Command → Held → Bool
+reads_input command (Faulty number place) = false
+reads_input command before = takes_input command
+
+-- its bytes are all that was left of the input, to one byte over the limit; where it reads none, there are none, and nothing was taken
+abbrev pub IsInput : Bool → (left rest : Option (List ℕ)) → List ℕ → Type 0
+IsInput true left rest bytes = IsRead left rest bytes
+IsInput false left rest bytes = (bytes ≡ []) × (rest ≡ left)
+
+-- ---- it stopped before anything was done
+
+-- a stop has its cause: the shelf failed, and nothing was taken from the input; or that failed; or memory was wanting
+abbrev pub HasReason : Stop → Command → Option Stored → (left rest : Option (List ℕ)) → Type 0
+HasReason ShelfFault command told left rest = rest ≡ left
+HasReason ReadFault command told left rest = IsSoundly told × (takes_input command ≡ true)
+HasReason NoMemory command told left rest = (rest ≡ left) ⊎ (IsSoundly told × (takes_input command ≡ true))
+HasReason _ command told left rest = ⊥
+
+pub record StoreStopped {S : Type 0} (held : S → Option Stored) (may_leave : S → Holding → Type 0) (answers fails : S → S → Type 0) (moment_of : S → ℕ) (left_since : S → ℕ → Holding → Type 0) (command : Command) (left rest : Option (List ℕ)) (old new : S)
+    (due : ℕ) (es : List Entry) (Says : List ℕ → Type 0) : Type 0 where
+  pub stop : Stop
+  pub status : due ≡ code (status_of stop)
+  pub reason : HasReason stop command (held old) left rest
+  pub text : Says (stop_text stop)
+  -- nothing was sent, and the shelf holds what it held
+  pub entries : es ≡ []
+  pub same : held new ≡ held old
+  -- it was called once at most, to be loaded
+  pub calls : (old ≡ new) ⊎ (fails old new ⊎ answers old new)
+  pub leaves : LeavesOnly moment_of left_since old new (may_leave old)
+
+-- ---- it was done
+
 -- what is said with an answer's status and text
 abbrev pub answer_text : ℕ → List ℕ → List ℕ
 answer_text due text = if due == 5 then shelf_text else if due == 9 then memory_text else text
 
--- the shelf failed as it was loaded, or memory was wanting before anything was done
-pub record StoreStopped {S : Type 0} (held : S → Option Stored) (may_leave : S → Holding → Type 0) (moment_of : S → ℕ) (left_since : S → ℕ → Holding → Type 0) (old new : S) (due : ℕ) (es : List Entry) (Says : List ℕ → Type 0) : Type 0 where
-  pub said : ((due ≡ 5) × Says shelf_text) ⊎ ((due ≡ 9) × Says memory_text)
-  pub entries : es ≡ []
-  pub same : held new ≡ held old
-  pub leaves : LeavesOnly moment_of left_since old new (may_leave old)
-
--- it did what is to be done on what was held
-pub record StoreDone {S : Type 0} (held : S → Option Stored) (may_leave : S → Holding → Type 0) (moment_of : S → ℕ) (left_since : S → ℕ → Holding → Type 0) (work : Work) (old new : S) (due : ℕ) (es : List Entry) (Says : List ℕ → Type 0) : Type 0 where
+-- this work was done
+pub record WorkDone {S : Type 0} (held : S → Option Stored) (may_leave : S → Holding → Type 0) (moment_of : S → ℕ) (left_since : S → ℕ → Holding → Type 0) (work : Work) (old new : S) (due : ℕ) (es : List Entry) (Says : List ℕ → Type 0) : Type 0 where
   pub text : List ℕ
   pub answer : IsAnswer work due text es
   pub said : Says (answer_text due text)
   pub holds : IsHeld work due (held old) (held new)
   pub leaves : LeavesOnly moment_of left_since old new (MightLeave work (held new) (may_leave old))
   pub durable : IsDurableNow work due (held new) (may_leave new)
+
+-- A command's work was done, on what the shelf holds and with the bytes of its input.
+pub record StoreDone {S : Type 0} (held : S → Option Stored) (may_leave : S → Holding → Type 0) (answers fails : S → S → Type 0) (moment_of : S → ℕ) (left_since : S → ℕ → Holding → Type 0) (command : Command) (left rest : Option (List ℕ)) (old new : S)
+    (due : ℕ) (es : List Entry) (Says : List ℕ → Type 0) : Type 0 where
+  pub before : Held
+  pub found : IsFound (held old) before
+  pub bytes : List ℕ
+  pub input : IsInput (reads_input command before) left rest bytes
+  pub work : Work
+  pub does : IsWork command bytes before work
+  pub done : WorkDone held may_leave moment_of left_since work old new due es Says
+  -- the shelf was loaded, and then called as the work wants
+  pub loaded : S
+  pub load : answers old loaded
+  pub calls : CallsBy answers fails work due loaded new

@@ -15,45 +15,20 @@ use Rattle.job_script.specs.declared.fault.ScriptFault.{ScriptFault}
 use Rattle.job_script.specs.declared.fault.ScriptFault.TheVariants as faults
 use Rattle.shelf.specs.Logged.{Holding, Stored, fresh, IsDurable, LeavesOnly}
 use Rattle.store_image.specs.Image.{image}
-use Rattle.store_commands.specs.Stores.{found, fault_text}
-use Rattle.store_commands.specs.declared.held.Held.TheVariants.{Faulty}
-use Rattle.store_commands.specs.declared.held.ShelfStop.{ShelfStop}
-use Rattle.store_commands.specs.declared.held.ShelfStop.TheVariants as shelves
+use Rattle.kept_stores.specs.Stores.{found}
+use Rattle.kept_stores.specs.declared.held.Held.TheVariants.{Faulty}
 use Rattle.kept_runs.specs.Changes.{changes}
 use Rattle.kept_runs.specs.Kept.{Holds, HoldsPart, IsKept}
 use Rattle.kept_runs.specs.Crashes.{SurvivesCrashes}
 use Rattle.kept_appends.specs.Appends.{AreCalled}
 use Rattle.kept_jobs.specs.Pace.{Stops}
 use Rattle.s3a_top.specs.Openings.{IsScript, IsSoundly, Opens}
-use Rattle.s3a_top.specs.Statuses.{IsIdle, code, usage_text, read_text, shelf_text, memory_text, not_built_text, script_fault_text}
-use Rattle.s3a_top.specs.declared.statuses.Status.{Status}
-use Rattle.s3a_top.specs.declared.statuses.Status.TheVariants as statuses
+use Rattle.s3a_top.specs.Statuses.{IsIdle, code, shelf_text, memory_text}
+use Rattle.s3a_top.specs.Stops.{status_of, stop_text}
 use Rattle.s3a_top.specs.declared.stop.Stop.{Stop}
 use Rattle.s3a_top.specs.declared.stop.Stop.TheVariants.{Usage, ReadFault, ShelfFault, Script as BadScript, Image, NoMemory, NotBuilt}
 
 -- ---- it stopped before its first event
-
-abbrev pub status_of : Stop → Status
-status_of Usage = statuses.Usage
-status_of ReadFault = statuses.ReadFault
-status_of ShelfFault = statuses.ShelfFault
-status_of (BadScript e) = statuses.BadScript
-status_of (Image number place) = statuses.BadImage
-status_of NoMemory = statuses.NoMemory
-status_of NotBuilt = statuses.NotBuilt
-
-abbrev pub of_shelf : ShelfStop → Stop
-of_shelf shelves.Failed = ShelfFault
-of_shelf shelves.NoMemory = NoMemory
-
-abbrev pub stop_text : Stop → List ℕ
-stop_text Usage = usage_text
-stop_text ReadFault = read_text
-stop_text ShelfFault = shelf_text
-stop_text (BadScript e) = script_fault_text e
-stop_text (Image number place) = fault_text number place
-stop_text NoMemory = memory_text
-stop_text NotBuilt = not_built_text
 
 -- the shelf holds what is no store, with this fault, where it tells it
 abbrev pub IsFaulty : Option Stored → ℕ → ℕ → Type 0
@@ -65,19 +40,19 @@ abbrev pub IsNoScript : Option (List ℕ) → ScriptFault → Type 0
 IsNoScript None e = Unit {0}
 IsNoScript (Some bytes) e = script_of bytes ≡ Err e
 
--- a job's stop has its cause: the shelf comes before the input, and that before the script
+-- a job's stop has its cause: the shelf comes before the input, and that before the script; nothing is taken from the input before the shelf gave a store, or nothing
 abbrev pub HasCause : Stop → Option Stored → (left rest : Option (List ℕ)) → Type 0
 HasCause Usage told left rest = ⊥
 HasCause ReadFault told left rest = IsSoundly told
 HasCause ShelfFault told left rest = Unit {0}
 HasCause (BadScript e) told left rest = IsSoundly told × (IsNoScript left e × (e ≢ faults.NoMemory))
 HasCause (Image number place) told left rest = IsFaulty told number place × (rest ≡ left)
-HasCause NoMemory told left rest = Unit {0}
+HasCause NoMemory told left rest = (rest ≡ left) ⊎ IsSoundly told
 HasCause NotBuilt told left rest = IsSoundly told × ((w : Script) × (IsScript left rest w × (w.committer ≢ Magic)))
 
--- the shelf was called to load at most, and once more to take an image, which failed
-abbrev pub AreFew : {S : Type 0} → (answers fails : S → S → Type 0) → S → S → Type 0
-AreFew {S} answers fails old new = (old ≡ new) ⊎ (fails old new ⊎ ((mid : S) × (answers old mid × ((mid ≡ new) ⊎ fails mid new))))
+-- the shelf was called to load at most, and once more to take an image, which failed; a load that failed was before the input
+abbrev pub AreFew : {S : Type 0} → (answers fails : S → S → Type 0) → (left rest : Option (List ℕ)) → S → S → Type 0
+AreFew {S} answers fails left rest old new = ((old ≡ new) × (rest ≡ left)) ⊎ ((fails old new × (rest ≡ left)) ⊎ ((mid : S) × (answers old mid × ((mid ≡ new) ⊎ fails mid new))))
 
 -- what a crash before a job's first event might have left: what one at the beginning may leave, or the image of the job's opening store
 abbrev pub MayHaveLeft : (at_first : Holding → Type 0) → Option Stored → (left rest : Option (List ℕ)) → Holding → Type 0
@@ -92,7 +67,7 @@ pub record JobStopped {S : Type 0} (held : S → Option Stored) (may_leave : S �
   -- nothing was sent, and the shelf holds what it held
   pub idle : IsIdle es ps xs
   pub same : held new ≡ held old
-  pub calls : AreFew answers fails old new
+  pub calls : AreFew answers fails left rest old new
   pub leaves : LeavesOnly moment_of left_since old new (MayHaveLeft (may_leave old) (held old) left rest)
 
 -- ---- it was played

@@ -7,9 +7,9 @@ use Rattle.s3_types.specs.declared.request.Request.TheVariants.{MakeBucket}
 use Rattle.job_model.specs.JobScript.{Script}
 use Rattle.job_script.specs.Script.{script_of}
 use Rattle.shelf.specs.Logged.{Stored}
-use Rattle.store_commands.specs.Stores.{found}
-use Rattle.store_commands.specs.declared.held.Held.{Held}
-use Rattle.store_commands.specs.declared.held.Held.TheVariants.{Nothing, Store, Faulty}
+use Rattle.kept_stores.specs.Stores.{found}
+use Rattle.kept_stores.specs.declared.held.Held.{Held}
+use Rattle.kept_stores.specs.declared.held.Held.TheVariants.{Nothing, Store, Faulty}
 
 -- the input was this script, and nothing of it is left, where the source tells it
 abbrev pub IsScript : (left rest : Option (List ℕ)) → Script → Type 0
@@ -36,3 +36,8 @@ is_sound (Faulty number place) = ⊥
 abbrev pub IsSoundly : Option Stored → Type 0
 IsSoundly None = Unit {0}
 IsSoundly (Some s) = is_sound (found s)
+
+-- what was found is what is held, where it is told
+abbrev pub IsFound : Option Stored → Held → Type 0
+IsFound None before = Unit {0}
+IsFound (Some s) before = before ≡ found s

@@ -1,5 +1,5 @@
 -- What comes of a job since its shelf was loaded, by what was found.
-use Rattle.std.specs.Prelude.{◌≡◌, ◌≢◌, ◌⊎◌, ℕ, List, length, Option, Some, None, Result, Ok, Err}
+use Rattle.std.specs.Prelude.{◌≡◌, ◌≢◌, ◌⊎◌, ℕ, List, length, Option, Some, None}
 use Rattle.s3_types.specs.Store.{Content}
 use Rattle.s3_types.specs.declared.journal.Entry.{Entry}
 use Rattle.s3_types.specs.declared.request.Committer.TheVariants.{Magic}
@@ -14,9 +14,8 @@ use Rattle.shelf.specs.Logged.{Holding, Stored, fresh, LeavesOnly}
 use Rattle.shelf.specs.declared.kept.AppendFault.{AppendFault}
 use Rattle.shelf.specs.declared.kept.AppendFault.TheVariants as appends
 use Rattle.store_image.specs.Image.{image}
-use Rattle.store_commands.specs.Stores.{found}
-use Rattle.store_commands.specs.declared.held.Held.{Held}
-use Rattle.store_commands.specs.declared.held.Held.TheVariants.{Faulty}
+use Rattle.kept_stores.specs.declared.held.Held.{Held}
+use Rattle.kept_stores.specs.declared.held.Held.TheVariants.{Faulty}
 use Rattle.kept_runs.specs.Kept.{IsMoment}
 use Rattle.kept_runs.specs.Crashes.{WhereTold}
 use Rattle.s3a_top.specs.Openings.{IsScript, opening_in, is_sound}
@@ -26,11 +25,6 @@ use Rattle.s3a_top.specs.declared.statuses.Status.{Status}
 use Rattle.s3a_top.specs.declared.statuses.Status.TheVariants as statuses
 use Rattle.s3a_top.specs.declared.stop.Stop.{Stop}
 use Rattle.s3a_top.specs.declared.stop.Stop.TheVariants.{Usage, ReadFault, ShelfFault, Script as BadScript, Image, NoMemory, NotBuilt}
-
--- what was found is what is held, where it is told
-abbrev pub IsFound : Option Stored → Held → Type 0
-IsFound None before = Unit {0}
-IsFound (Some s) before = before ≡ found s
 
 -- ---- what is said of it
 
@@ -90,7 +84,7 @@ HasCauseIn ReadFault before left rest = is_sound before
 HasCauseIn ShelfFault before left rest = Unit {0}
 HasCauseIn (BadScript e) before left rest = is_sound before × (IsNoScript left e × (e ≢ faults.NoMemory))
 HasCauseIn (Image number place) before left rest = (before ≡ Faulty number place) × (rest ≡ left)
-HasCauseIn NoMemory before left rest = Unit {0}
+HasCauseIn NoMemory before left rest = is_sound before
 HasCauseIn NotBuilt before left rest = is_sound before × ((w : Script) × (IsScript left rest w × (w.committer ≢ Magic)))
 
 -- what a crash might have left: what one before it may leave, or the image of the job's opening store

@@ -1,17 +1,21 @@
 -- What the work of the words gives before its text is made and written.
-use Rattle.std.specs.Prelude.{◌≡◌, ◌⊎◌, ℕ, List, [], Option, Some, Result, Ok, Err}
+use Rattle.std.specs.Prelude.{◌≡◌, ◌⊎◌, ℕ, true, List, [], Option, Result, Ok, Err}
 use Rattle.s3_types.specs.declared.journal.Entry.{Entry}
 use Rattle.shelf.specs.Logged.{Holding, Stored, LeavesOnly}
-use Rattle.store_commands.specs.Stores.{found, work_of}
-use Rattle.store_commands.specs.Outcomes.{Tells}
-use Rattle.store_commands.specs.declared.command.StoreCommand.{StoreCommand}
+use Rattle.kept_stores.specs.Works.{Work as Doing}
+use Rattle.kept_stores.specs.Outcomes.{CallsBy, Tells}
+use Rattle.kept_stores.specs.declared.held.Held.{Held}
+use Rattle.s3a_words.specs.declared.command.Command.{Command}
+use Rattle.shell_works.specs.Commanded.{takes_input, IsWork}
+use Rattle.s3a_top.specs.Openings.{is_sound}
 use Rattle.s3a_top.specs.Statuses.{code, written_text, memory_text}
-use Rattle.s3a_top.specs.Jobs.{status_of, stop_text, HasCause, AreFew, MayHaveLeft, JobPlayed}
-use Rattle.s3a_top.specs.Commands.{StoreDone}
+use Rattle.s3a_top.specs.Stops.{status_of, stop_text}
+use Rattle.s3a_top.specs.Jobs.{HasCause, AreFew, MayHaveLeft, JobPlayed}
+use Rattle.s3a_top.specs.Commands.{reads_input, IsInput, HasReason, WorkDone, StoreDone}
 use Rattle.s3a_top.specs.declared.statuses.Status.{Status}
 use Rattle.s3a_top.specs.declared.statuses.Status.TheVariants as statuses
 use Rattle.s3a_top.specs.declared.stop.Stop.{Stop}
-use Rattle.s3a_top.specs.declared.stop.Stop.TheVariants.{Usage, ShelfFault, Script as BadScript, Image, NoMemory}
+use Rattle.s3a_top.specs.declared.stop.Stop.TheVariants.{Usage, ReadFault, ShelfFault, Script as BadScript, Image, NoMemory}
 use Rattle.s3a_top.specs.declared.work.Work.{Work}
 
 -- ---- the status
@@ -53,14 +57,33 @@ IsOfShelf stop = (stop ≡ ShelfFault) ⊎ (stop ≡ NoMemory)
 pub record JobHalted {S : Type 0} (held : S → Option Stored) (may_leave : S → Holding → Type 0) (answers fails : S → S → Type 0) (moment_of : S → ℕ) (left_since : S → ℕ → Holding → Type 0) (left rest : Option (List ℕ)) (old new : S) (stop : Stop) : Type 0 where
   pub cause : HasCause stop (held old) left rest
   pub same : held new ≡ held old
-  pub calls : AreFew answers fails old new
+  pub calls : AreFew answers fails left rest old new
   pub leaves : LeavesOnly moment_of left_since old new (MayHaveLeft (may_leave old) (held old) left rest)
 
--- a command of the store stopped before anything was done
-pub record StoreHalted {S : Type 0} (held : S → Option Stored) (may_leave : S → Holding → Type 0) (moment_of : S → ℕ) (left_since : S → ℕ → Holding → Type 0) (old new : S) (stop : Stop) : Type 0 where
-  pub which : IsOfShelf stop
+-- a command stopped before anything was done
+pub record StoreHalted {S : Type 0} (held : S → Option Stored) (may_leave : S → Holding → Type 0) (answers fails : S → S → Type 0) (moment_of : S → ℕ) (left_since : S → ℕ → Holding → Type 0) (command : Command) (left rest : Option (List ℕ)) (old new : S) (stop : Stop) : Type 0 where
+  pub reason : HasReason stop command (held old) left rest
   pub same : held new ≡ held old
+  pub calls : (old ≡ new) ⊎ (fails old new ⊎ answers old new)
   pub leaves : LeavesOnly moment_of left_since old new (may_leave old)
+
+-- ---- a command, by what was found
+
+-- why it stopped behind the load
+abbrev pub HasReasonIn : Stop → Command → Held → (left rest : Option (List ℕ)) → Type 0
+HasReasonIn ReadFault command before left rest = is_sound before × (takes_input command ≡ true)
+HasReasonIn NoMemory command before left rest = (rest ≡ left) ⊎ (is_sound before × (takes_input command ≡ true))
+HasReasonIn _ command before left rest = ⊥
+
+-- it was done
+pub record StoreOver {S : Type 0} (held : S → Option Stored) (may_leave : S → Holding → Type 0) (answers fails : S → S → Type 0) (moment_of : S → ℕ) (left_since : S → ℕ → Holding → Type 0) (command : Command) (before : Held) (left rest : Option (List ℕ)) (old new : S)
+    (due : ℕ) (es : List Entry) (Says : List ℕ → Type 0) : Type 0 where
+  pub bytes : List ℕ
+  pub input : IsInput (reads_input command before) left rest bytes
+  pub work : Doing
+  pub does : IsWork command bytes before work
+  pub done : WorkDone held may_leave moment_of left_since work old new due es Says
+  pub calls : CallsBy answers fails work due old new
 
 -- ---- what comes of it
 
@@ -78,11 +101,10 @@ JobGoes held may_leave answers fails moment_of left_since left rest old new (Ok 
     JobPlayed held may_leave answers fails moment_of left_since left rest old new (code work.due) work.journal.entries work.picks work.ends (IsWritten work)
 JobGoes held may_leave answers fails moment_of left_since left rest old new (Err stop) = JobHalted held may_leave answers fails moment_of left_since left rest old new stop
 
--- of a command of the store
-abbrev pub StoreGoes : {S : Type 0} → (held : S → Option Stored) (may_leave : S → Holding → Type 0) (moment_of : S → ℕ) (left_since : S → ℕ → Holding → Type 0) → StoreCommand → (old new : S) → Result Work Stop → Type 0
-StoreGoes held may_leave moment_of left_since command old new (Ok work) =
-    (s : Stored) → held old ≡ Some s → StoreDone held may_leave moment_of left_since (work_of command (found s)) old new (code work.due) work.journal.entries (IsWritten work)
-StoreGoes held may_leave moment_of left_since command old new (Err stop) = StoreHalted held may_leave moment_of left_since old new stop
+-- of another command
+abbrev pub StoreGoes : {S : Type 0} → (held : S → Option Stored) (may_leave : S → Holding → Type 0) (answers fails : S → S → Type 0) (moment_of : S → ℕ) (left_since : S → ℕ → Holding → Type 0) → Command → (left rest : Option (List ℕ)) (old new : S) → Result Work Stop → Type 0
+StoreGoes held may_leave answers fails moment_of left_since command left rest old new (Ok work) = StoreDone held may_leave answers fails moment_of left_since command left rest old new (code work.due) work.journal.entries (IsWritten work)
+StoreGoes held may_leave answers fails moment_of left_since command left rest old new (Err stop) = StoreHalted held may_leave answers fails moment_of left_since command left rest old new stop
 
 -- no job was played
 abbrev pub IsQuiet : Result Work Stop → Type 0

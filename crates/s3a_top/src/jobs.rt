@@ -5,7 +5,7 @@ ghost use Rattle.shelf.specs.Logged.{fresh, LeavesOnly};
 ghost use Rattle.store_image.specs.Image.{image};
 ghost use Rattle.job_promise.specs.States as states;
 ghost use Rattle.job_world.specs.Worlds.{MayBegin};
-ghost use Rattle.store_commands.specs.Outcomes.{IsSound};
+ghost use Rattle.kept_stores.specs.Outcomes.{IsSound};
 ghost use Rattle.s3a_top.specs.Openings.{opening_in};
 ghost use Rattle.s3a_top.specs.Statuses.{code, written_text, IsWorked};
 ghost use Rattle.s3a_top.specs.Jobs.{JobRan};
@@ -21,12 +21,12 @@ use job_model::Script;
 use job_report::{Report, report_text};
 use job_world::Played;
 use kept_jobs::{Kept, play};
+use kept_stores::Held;
 use s3_service::Service;
 use s3_types::{Bytes, MOST_MINIMUM, Request, let_go};
 use shelf::Source;
 use shelf::kept::{AppendFault, Shelf};
 use std::alloc::{AllocError, Global};
-use store_commands::Held;
 
 /// Makes the destination's bucket in a store, whatever is answered.
 fn make_bucket(service: &mut Service, script: &Script) -> Result<(), AllocError>

@@ -1,15 +1,15 @@
 ghost use Rattle.std.specs.Prelude.{◌≡◌, ◌⊎◌, Some, IfOk, OnErr};
 ghost use Rattle.std.specs.Option.{unwrap_or};
 ghost use Rattle.s3a_top.specs.Statuses.{script_fault_text, own_text, IsIdle, written_text};
-ghost use Rattle.s3a_top.specs.Jobs.{status_of, of_shelf, stop_text};
+ghost use Rattle.s3a_top.specs.Stops.{status_of, of_shelf, stop_text};
 ghost use Rattle.s3a_top.specs.Workings.{IsMade, IsToldOf};
 
 use crate::statuses::Status;
 use crate::work::{Work, said};
 use job_script::ScriptFault;
+use kept_stores::{ShelfStop, fault_text};
 use s3_types::Bytes;
 use std::alloc::{AllocError, Global};
-use store_commands::{ShelfStop, fault_text};
 
 /// Why the work stopped before anything was sent.
 #[derive(Clone, Copy, Debug, PartialEq, Eq)]

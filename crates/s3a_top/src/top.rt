@@ -1,27 +1,27 @@
-ghost use Rattle.std.specs.Prelude.{◌≡◌, ◌≢◌, ◌⊎◌, ◌<◌, ◌^◌, ◌-◌, [], Some, None, IfOk, IfErr, OnErr, IsErrOf};
-ghost use Rattle.shelf.specs.Logged.{Stored};
-ghost use Rattle.store_commands.specs.Commands.{command_of};
-ghost use Rattle.store_commands.specs.Stores.{found, work_of};
-ghost use Rattle.store_commands.specs.Outcomes.{Tells};
-ghost use Rattle.store_commands.specs.declared.command.StoreCommand as storing;
-ghost use Rattle.store_commands.specs.declared.command.Command.TheVariants as commands;
+ghost use Rattle.std.specs.Prelude.{◌≡◌, ◌≢◌, ◌⊎◌, ◌<◌, ◌^◌, ◌-◌, false, [], Some, None, IfOk, IsErrOf};
+ghost use Rattle.kept_stores.specs.Outcomes.{Tells};
+ghost use Rattle.s3a_words.specs.Words.{command_of, IsBounded};
+ghost use Rattle.s3a_words.specs.declared.command.Command as words_said;
+ghost use Rattle.s3a_words.specs.declared.command.Command.TheVariants as commands;
+ghost use Rattle.shell_works.specs.Commanded.{takes_input};
 ghost use Rattle.s3a_top.specs.Statuses.{code, written_text, IsDue, IsWorked, Writes};
 ghost use Rattle.s3a_top.specs.Jobs.{JobPlayed, JobStopped};
-ghost use Rattle.s3a_top.specs.Commands.{NoCommand, StoreStopped, StoreDone};
+ghost use Rattle.s3a_top.specs.Commands.{may_read, NoCommand, StoreStopped, StoreDone};
 ghost use Rattle.s3a_top.specs.Workings.{CountsAs, IsNothing, IsWritten, JobGoes, StoreGoes, IsQuiet};
 
 use crate::jobs::job;
 use crate::output::write_output;
 use crate::statuses::Status;
 use crate::stop::{Stop, stopped};
-use crate::stores::obeyed;
+use crate::stores::commanded;
 use crate::work::Work;
 use job_report::Report;
+use kept_stores::load;
 use s3_types::{Text, let_go};
+use s3a_words::{Command, WordFault, read_words};
 use shelf::kept::Shelf;
 use shelf::{Sink, Source};
 use std::alloc::Global;
-use store_commands::{Command, StoreCommand, load, read_command};
 
 /// Plays a job over what the shelf holds.
 fn do_job<Q: Source, F: Shelf>(alloc: Global, input: &mut Q, shelf: &mut F) -> Result<Work, Stop>
@@ -38,17 +38,51 @@ fn do_job<Q: Source, F: Shelf>(alloc: Global, input: &mut Q, shelf: &mut F) -> R
     }
 }
 
-/// Does what a command says on what the shelf holds.
-fn do_command<F: Shelf>(alloc: Global, shelf: &mut F, command: &StoreCommand) -> Result<Work, Stop>
-    requires { F.faults shelf.old < 2 ^ 64 - 1 }
-    ensures store { StoreGoes F.held F.may_leave F.moment F.left_since command.now shelf.old shelf.new result }
+/// Does a command but `job` on what the shelf holds.
+fn do_command<Q: Source, F: Shelf>(
+    alloc: Global,
+    input: &mut Q,
+    shelf: &mut F,
+    command: &Command,
+) -> Result<Work, Stop>
+    requires source_count { Q.faults input.old < 2 ^ 64 - 1 }
+    requires shelf_count { F.faults shelf.old < 2 ^ 64 - 1 }
+    requires no_job { command.now ≢ commands.Job }
+    requires fit { IsBounded command.now }
+    ensures store { StoreGoes F.held F.may_leave F.answers F.fails F.moment F.left_since command.now (Q.left input.old) (Q.left input.new) shelf.old shelf.new result }
     ensures quiet { IsQuiet result }
     ensures due { IfOk result (λ work. IsWorked work.due) }
+    ensures unread { takes_input command.now ≡ false → input.new ≡ input.old }
+    ensures read { CountsAs 3 result (Q.faults input.old) (Q.faults input.new) }
     ensures shelf { CountsAs 5 result (F.faults shelf.old) (F.faults shelf.new) }
 {
     match load(alloc, shelf) {
-        Ok(held) => Ok(obeyed(alloc, shelf, command, held)),
+        Ok(held) => commanded(alloc, input, shelf, command, held),
         Err(fault) => Err(Stop::of_shelf(fault)),
+    }
+}
+
+/// Does a command.
+fn do_any<Q: Source, F: Shelf>(
+    alloc: Global,
+    input: &mut Q,
+    shelf: &mut F,
+    command: &Command,
+) -> Result<Work, Stop>
+    requires source_count { Q.faults input.old < 2 ^ 64 - 1 }
+    requires shelf_count { F.faults shelf.old < 2 ^ 64 - 1 }
+    requires fit { IsBounded command.now }
+    ensures job { command.now ≡ commands.Job → JobGoes F.held F.may_leave F.answers F.fails F.moment F.left_since (Q.left input.old) (Q.left input.new) shelf.old shelf.new result }
+    ensures store { command.now ≢ commands.Job → StoreGoes F.held F.may_leave F.answers F.fails F.moment F.left_since command.now (Q.left input.old) (Q.left input.new) shelf.old shelf.new result }
+    ensures quiet { command.now ≢ commands.Job → IsQuiet result }
+    ensures due { IfOk result (λ work. IsWorked work.due) }
+    ensures unread { may_read (Some command.now) ≡ false → input.new ≡ input.old }
+    ensures read { CountsAs 3 result (Q.faults input.old) (Q.faults input.new) }
+    ensures shelf { CountsAs 5 result (F.faults shelf.old) (F.faults shelf.new) }
+{
+    match command {
+        Command::Job => do_job(alloc, input, shelf),
+        _ => do_command(alloc, input, shelf, command),
     }
 }
 
@@ -62,25 +96,24 @@ fn do_work<Q: Source, F: Shelf>(
     requires source_count { Q.faults input.old < 2 ^ 64 - 1 }
     requires shelf_count { F.faults shelf.old < 2 ^ 64 - 1 }
     ensures job { command_of words.now ≡ Some commands.Job → JobGoes F.held F.may_leave F.answers F.fails F.moment F.left_since (Q.left input.old) (Q.left input.new) shelf.old shelf.new result }
-    ensures store { (c : storing.StoreCommand) → command_of words.now ≡ Some (commands.Store c) → StoreGoes F.held F.may_leave F.moment F.left_since c shelf.old shelf.new result }
-    ensures quiet { (c : storing.StoreCommand) → command_of words.now ≡ Some (commands.Store c) → IsQuiet result }
+    ensures store { (c : words_said.Command) → command_of words.now ≡ Some c → c ≢ commands.Job → StoreGoes F.held F.may_leave F.answers F.fails F.moment F.left_since c (Q.left input.old) (Q.left input.new) shelf.old shelf.new result }
+    ensures quiet { (c : words_said.Command) → command_of words.now ≡ Some c → c ≢ commands.Job → IsQuiet result }
     ensures usage { command_of words.now ≡ None → IsNothing result }
     ensures untouched { command_of words.now ≡ None → shelf.new ≡ shelf.old }
     ensures command { IsErrOf result Stop.Usage → command_of words.now ≡ None }
-    ensures unread { (command_of words.now ≡ Some commands.Job → ⊥) → input.new ≡ input.old }
+    ensures unread { may_read (command_of words.now) ≡ false → input.new ≡ input.old }
     ensures due { IfOk result (λ work. IsWorked work.due) }
     ensures read { CountsAs 3 result (Q.faults input.old) (Q.faults input.new) }
     ensures shelf { CountsAs 5 result (F.faults shelf.old) (F.faults shelf.new) }
 {
-    match read_command(alloc, words) {
-        Ok(Some(Command::Job)) => do_job(alloc, input, shelf),
-        Ok(Some(Command::Store(command))) => {
-            let done = do_command(alloc, shelf, &command);
+    match read_words(alloc, words) {
+        Ok(command) => {
+            let done = do_any(alloc, input, shelf, &command);
             let_go(command);
             done
         }
-        Ok(None) => Err(Stop::Usage),
-        Err(_) => Err(Stop::NoMemory),
+        Err(WordFault::Usage) => Err(Stop::Usage),
+        Err(WordFault::NoMemory) => Err(Stop::NoMemory),
     }
 }
 
@@ -91,13 +124,13 @@ fn worked<Q: Source, F: Shelf>(alloc: Global, words: &[Text], input: &mut Q, she
     ensures job { command_of words.now ≡ Some commands.Job
         → JobPlayed F.held F.may_leave F.answers F.fails F.moment F.left_since (Q.left input.old) (Q.left input.new) shelf.old shelf.new (code result.due) result.journal.entries result.picks result.ends (IsWritten result)
         ⊎ JobStopped F.held F.may_leave F.answers F.fails F.moment F.left_since (Q.left input.old) (Q.left input.new) shelf.old shelf.new (code result.due) result.journal.entries result.picks result.ends (IsWritten result) }
-    ensures store { (s : Stored) (c : storing.StoreCommand) → command_of words.now ≡ Some (commands.Store c) → F.held shelf.old ≡ Some s
-        → StoreDone F.held F.may_leave F.moment F.left_since (work_of c (found s)) shelf.old shelf.new (code result.due) result.journal.entries (IsWritten result)
-        ⊎ StoreStopped F.held F.may_leave F.moment F.left_since shelf.old shelf.new (code result.due) result.journal.entries (IsWritten result) }
-    ensures picks { (c : storing.StoreCommand) → command_of words.now ≡ Some (commands.Store c) → (result.picks ≡ []) × (result.ends ≡ []) }
+    ensures store { (c : words_said.Command) → command_of words.now ≡ Some c → c ≢ commands.Job
+        → StoreDone F.held F.may_leave F.answers F.fails F.moment F.left_since c (Q.left input.old) (Q.left input.new) shelf.old shelf.new (code result.due) result.journal.entries (IsWritten result)
+        ⊎ StoreStopped F.held F.may_leave F.answers F.fails F.moment F.left_since c (Q.left input.old) (Q.left input.new) shelf.old shelf.new (code result.due) result.journal.entries (IsWritten result) }
+    ensures picks { (c : words_said.Command) → command_of words.now ≡ Some c → c ≢ commands.Job → (result.picks ≡ []) × (result.ends ≡ []) }
     ensures usage { command_of words.now ≡ None → NoCommand (code result.due) shelf.old shelf.new result.journal.entries result.picks result.ends (IsWritten result) }
     ensures command { code result.due ≡ 2 → command_of words.now ≡ None }
-    ensures unread { (command_of words.now ≡ Some commands.Job → ⊥) → input.new ≡ input.old }
+    ensures unread { may_read (command_of words.now) ≡ false → input.new ≡ input.old }
     ensures due { IsDue (code result.due) }
     ensures read { Tells 3 (code result.due) (Q.faults input.old) (Q.faults input.new) }
     ensures shelf { Tells 5 (code result.due) (F.faults shelf.old) (F.faults shelf.new) }
@@ -125,10 +158,12 @@ fn say<K: Sink>(out: &mut K, work: &Work) -> u8
 
 /// Does what the words say: word 0 is the folder that the shelf stands for, word 1 the command. `init`
 /// or `init MIN` makes an empty store whose parts but the last have at least MIN bytes, 1 to 5,242,880;
-/// `mb NAME` makes a bucket; `job` reads a script from the input, plays it over the store that the shelf holds, where it is
-/// of the magic committer, and writes the report. The shelf takes the image of the store that a job opens with
-/// in place of what it holds, and after each event each change that the event made, so that a stop at any moment leaves
-/// one of the run's. The report's status is one of [`Status`]; what was sent before the shelf failed or
+/// `mb NAME` makes a bucket; `ls`, `stat`, `cat`, `put`, `put-force`, `mkdir`, `rm`, `rmr`, `uploads` and
+/// `abort-uploads` with a path do as the FileSystem specification says of the operation that they name; `job` reads a
+/// script from the input, plays it over the store that the shelf holds, where it is
+/// of the magic committer, and writes the report. The shelf takes the image of the store that a job or a changing command opens
+/// with in place of what it holds, and after each event, or after the command, each change that was made, so that a stop at any
+/// moment leaves one of the run's. The report's status is one of [`Status`]; what was sent before the shelf failed or
 /// memory was wanting is in the report.
 pub fn run<Q: Source, F: Shelf, K: Sink>(
     alloc: Global,
@@ -154,16 +189,16 @@ pub fn run<Q: Source, F: Shelf, K: Sink>(
         → JobPlayed F.held F.may_leave F.answers F.fails F.moment F.left_since (Q.left input.old) (Q.left input.new) shelf.old shelf.new result.due result.journal.entries result.picks result.ends (Writes result.status (K.written out.old) (K.written out.new))
         ⊎ JobStopped F.held F.may_leave F.answers F.fails F.moment F.left_since (Q.left input.old) (Q.left input.new) shelf.old shelf.new result.due result.journal.entries result.picks result.ends (Writes result.status (K.written out.old) (K.written out.new)) }
 
-    // The other commands, by what the shelf holds, where it tells it.
-    ensures store { (s : Stored) (c : storing.StoreCommand) → command_of words.now ≡ Some (commands.Store c) → F.held shelf.old ≡ Some s
-        → StoreDone F.held F.may_leave F.moment F.left_since (work_of c (found s)) shelf.old shelf.new result.due result.journal.entries (Writes result.status (K.written out.old) (K.written out.new))
-        ⊎ StoreStopped F.held F.may_leave F.moment F.left_since shelf.old shelf.new result.due result.journal.entries (Writes result.status (K.written out.old) (K.written out.new)) }
-    ensures picks { (c : storing.StoreCommand) → command_of words.now ≡ Some (commands.Store c) → (result.picks ≡ []) × (result.ends ≡ []) }
+    // Another command: it was done on what the shelf holds, or it stopped before anything was done.
+    ensures store { (c : words_said.Command) → command_of words.now ≡ Some c → c ≢ commands.Job
+        → StoreDone F.held F.may_leave F.answers F.fails F.moment F.left_since c (Q.left input.old) (Q.left input.new) shelf.old shelf.new result.due result.journal.entries (Writes result.status (K.written out.old) (K.written out.new))
+        ⊎ StoreStopped F.held F.may_leave F.answers F.fails F.moment F.left_since c (Q.left input.old) (Q.left input.new) shelf.old shelf.new result.due result.journal.entries (Writes result.status (K.written out.old) (K.written out.new)) }
+    ensures picks { (c : words_said.Command) → command_of words.now ≡ Some c → c ≢ commands.Job → (result.picks ≡ []) × (result.ends ≡ []) }
 
     // Words that are no command.
     ensures usage { command_of words.now ≡ None → NoCommand result.due shelf.old shelf.new result.journal.entries result.picks result.ends (Writes result.status (K.written out.old) (K.written out.new)) }
     ensures command { result.due ≡ 2 → command_of words.now ≡ None }
-    ensures unread { (command_of words.now ≡ Some commands.Job → ⊥) → input.new ≡ input.old }
+    ensures unread { may_read (command_of words.now) ≡ false → input.new ≡ input.old }
 {
     let work = worked(alloc, words, input, shelf);
     let status = say(out, &work);

@@ -1,5 +1,5 @@
 use Rattle.std.proofs.Common.{refl}
-use Rattle.store_commands.specs.declared.held.Held.TheVariants.{Store}
+use Rattle.kept_stores.specs.declared.held.Held.TheVariants.{Store}
 use Rattle.s3a_top.proofs.Results.{over_of, image_over}
 use Rattle.s3a_top.proofs.jobs.play_over.Goals as goal
 

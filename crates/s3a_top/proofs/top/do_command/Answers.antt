@@ -1,13 +1,9 @@
-use Rattle.store_commands.specs.Stores.{found, work_of}
-use Rattle.s3a_top.specs.Statuses.{code}
-use Rattle.s3a_top.specs.Workings.{IsWritten}
-use Rattle.s3a_top.proofs.Obeying.{done_from, done_found}
+use Rattle.s3a_top.proofs.Crashing.{as_found}
+use Rattle.s3a_top.proofs.Obeying.{store_from}
 use Rattle.s3a_top.proofs.top.do_command.Goals as goal
 
 pub returns-in-Ok-clause-store : goal.returns-in-Ok-clause-store
-returns-in-Ok-clause-store g c held is =
+returns-in-Ok-clause-store g c =
     let s = g.F.Shelf in
-    let work = c.obeyed.result in
-    done_found s.held s.may_leave s.moment s.left_since c.args.command.now c.in-Ok.held c.args.shelf.now c.obeyed.new.shelf (code work.due) work.journal.entries (IsWritten work) held (c.in-Ok.ensures.exact held is)
-    (done_from s.held s.may_leave s.moment s.left_since g.met.F.Shelf.counts_now (work_of c.args.command.now c.in-Ok.held) c.args.shelf.now c.load.new.shelf c.obeyed.new.shelf (code work.due) work.journal.entries (IsWritten work) c.in-Ok.ensures.same
-    c.in-Ok.ensures.any_moment c.obeyed.ensures.done)
+    store_from s.held s.may_leave s.answers s.fails s.moment s.left_since c.args.command.now (g.Q.Source.left c.args.input.now) (g.Q.Source.left c.commanded.new.input) c.commanded.result g.met.F.Shelf.counts_now c.in-Ok.held c.args.shelf.now c.load.new.shelf c.commanded.new.shelf
+    (as_found (s.held c.args.shelf.now) c.in-Ok.held c.in-Ok.ensures.exact) c.in-Ok.ensures.same (c.in-Ok.ensures.answered (λ e. cc)) c.in-Ok.ensures.any_moment c.commanded.ensures.over c.commanded.ensures.stop c.commanded.ensures.same

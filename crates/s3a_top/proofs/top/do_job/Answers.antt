@@ -1,4 +1,3 @@
-use Rattle.std.proofs.Common.{◌≡◌}
 use Rattle.s3a_top.proofs.Crashing.{as_found}
 use Rattle.s3a_top.proofs.Results.{job_from}
 use Rattle.s3a_top.proofs.top.do_job.Goals as goal
