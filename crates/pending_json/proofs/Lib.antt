@@ -1,3 +1,4 @@
+pub mod Candidates
 pub mod Floats
 pub mod Least
 pub mod Loop

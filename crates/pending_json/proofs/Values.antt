@@ -108,7 +108,7 @@ is_tag v t e = option_and_then_some tag_of (as_str v) t e (λ s e1 e2.
     let d : s ≡ t.digits = ap (λ (x : Spelled). x.digits) p.1 in
     (is_string v t.digits (e1 ∙ ap Some d), subst (λ x. is_plain_tag x ≡ true) p.1 (rw p.0 refl)))
 
-counted : (a b c : Bool) → (a && b) ≡ true → c ≡ true → (a && b && c) ≡ true
+pub counted : (a b c : Bool) → (a && b) ≡ true → c ≡ true → (a && b && c) ≡ true
 counted true true c h k = k
 counted true false c h k = absurd cc
 counted false b c h k = absurd cc

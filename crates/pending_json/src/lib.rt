@@ -17,6 +17,7 @@ ghost use Rattle.pending_json.specs.Reading.{is_field_of, pending_of, set_of, su
 ghost use Rattle.pending_json.specs.Records.{IsPending, IsSet, IsMark, IsLeastOther, Spell};
 ghost use Rattle.pending_json.specs.Trees.{pending_tree, set_tree, success_tree};
 
+mod drafts;
 mod fault;
 mod fields;
 mod groups;
@@ -24,7 +25,9 @@ mod parsing;
 mod pending;
 mod pending_reading;
 mod printing;
+mod quick;
 mod records;
+mod scanning;
 mod sending;
 mod set_reading;
 mod sizes;

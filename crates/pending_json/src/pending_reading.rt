@@ -12,6 +12,7 @@ use crate::fields::{is_sized, members_of};
 use crate::groups::{numbers_of, parts_of, target_of};
 use crate::parsing::tree;
 use crate::pending::PendingUpload;
+use crate::quick::{Miss, printed_upload};
 use serde_json::Value;
 use std::alloc::Global;
 
@@ -43,11 +44,22 @@ pub fn pending_in(alloc: Global, value: &Value) -> Result<PendingUpload, RecordF
 }
 
 #[tactic(auto, unfolding(crate::specs::Reading::pending_of))]
-fn pending_of(alloc: Global, bytes: &[u8]) -> Result<PendingUpload, RecordFault>
+fn pending_by_tree(alloc: Global, bytes: &[u8]) -> Result<PendingUpload, RecordFault>
     ensures { Gives result (pending_of bytes.now) }
 {
     let value = tree(alloc, bytes)?;
     pending_in(alloc, &value)
+}
+
+/// A pending upload, quickly where its text is the printed one, and else by its tree.
+fn pending_of(alloc: Global, bytes: &[u8]) -> Result<PendingUpload, RecordFault>
+    ensures { Gives result (pending_of bytes.now) }
+{
+    match printed_upload(alloc, bytes) {
+        Ok(upload) => Ok(upload),
+        Err(Miss::NoMemory) => Err(RecordFault::NoMemory),
+        Err(Miss::Unlike) => pending_by_tree(alloc, bytes),
+    }
 }
 
 impl PendingUpload {

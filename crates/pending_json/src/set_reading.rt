@@ -12,6 +12,7 @@ use crate::fields::{list_field, members_of, text_field};
 use crate::groups::{attempt_of, task_of};
 use crate::parsing::tree;
 use crate::pending_reading::pending_in;
+use crate::quick::{Miss, printed_set};
 use crate::records::{PendingList, PendingSet};
 use s3_types::Sequence;
 use serde_json::Value;
@@ -62,11 +63,22 @@ fn set_in(alloc: Global, value: &Value) -> Result<PendingSet, RecordFault>
 }
 
 #[tactic(auto, unfolding(crate::specs::Reading::set_of))]
-fn set_of(alloc: Global, bytes: &[u8]) -> Result<PendingSet, RecordFault>
+fn set_by_tree(alloc: Global, bytes: &[u8]) -> Result<PendingSet, RecordFault>
     ensures { Gives result (set_of bytes.now) }
 {
     let value = tree(alloc, bytes)?;
     set_in(alloc, &value)
+}
+
+/// A task's set, quickly where its text is the printed one, and else by its tree.
+fn set_of(alloc: Global, bytes: &[u8]) -> Result<PendingSet, RecordFault>
+    ensures { Gives result (set_of bytes.now) }
+{
+    match printed_set(alloc, bytes) {
+        Ok(set) => Ok(set),
+        Err(Miss::NoMemory) => Err(RecordFault::NoMemory),
+        Err(Miss::Unlike) => set_by_tree(alloc, bytes),
+    }
 }
 
 impl PendingSet {

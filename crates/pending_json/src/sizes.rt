@@ -24,7 +24,7 @@ fn sizes(alloc: Global, list: &[Value]) -> Result<Option<SizeList>, AllocError>
 }
 
 /// Whether lengths are so many and together a file's.
-fn fit(sizes: &[u64], count: usize, total: u64) -> bool
+pub fn fit(sizes: &[u64], count: usize, total: u64) -> bool
     ensures { result ≡ fit sizes.now count total }
 {
     let mut left = total;

@@ -25,10 +25,9 @@ fn are_hex_digits(bytes: &[u8]) -> bool
 }
 
 /// The tag of a part that a text spells.
-fn tag_of(text: &str) -> Option<Tag>
-    ensures { result ≡ tag_of text.now }
+pub fn tag_of(bytes: &[u8]) -> Option<Tag>
+    ensures { result ≡ tag_of bytes.now }
 {
-    let bytes = text.as_bytes();
     let Ok(digits) = <[u8; 32]>::try_from(bytes) else {
         return None;
     };
@@ -43,7 +42,7 @@ fn tag(value: &Value) -> Option<Tag>
     ensures { result ≡ as_tag (view value.now) }
 {
     match value.as_str() {
-        Some(text) => tag_of(text),
+        Some(text) => tag_of(text.as_bytes()),
         None => None,
     }
 }
@@ -61,7 +60,8 @@ fn tags(alloc: Global, list: &[Value]) -> Result<Option<TagList>, AllocError>
     Ok(Some(tags))
 }
 
-fn is_count(tags: &TagList) -> bool
+/// Whether these are 1 to 10,000.
+pub fn is_count(tags: &TagList) -> bool
     ensures { result ≡ is_count tags.now }
 {
     1 <= tags.len() && tags.len() <= MOST_PARTS as usize

@@ -1,0 +1,25 @@
+-- What a quick look makes of a text may be a record.
+use Rattle.std.proofs.Common.{◌≡◌, true, List, [], ◌∷◌, ◌++◌, length, leb, Some, refl, subst, ◌∙◌, ℕ}
+use Rattle.std.specs.List.{AllByRecursion, list_all}
+use Rattle.std.proofs.lemmas.List.Folds.{list_all-append}
+use Rattle.std.proofs.lemmas.Option.{cond_some}
+use Rattle.s3_types.specs.Tags.{Spelled, is_plain_tag}
+use Rattle.pending_json.specs.Fields.{is_count, is_tag_text, tag_of}
+use Rattle.pending_json.specs.Pending.{are_tags}
+use Rattle.pending_json.proofs.Values.{counted}
+
+-- one more of which P holds
+pub all_more : {X : Type 0} (P : X → Type 0) (xs : List X) (x : X) → AllByRecursion P xs → P x → AllByRecursion P (xs ++ x ∷ [])
+all_more P [] x h p = (p, tt)
+all_more P (y ∷ xs) x h p = (h.0, all_more P xs x h.1 p)
+
+-- the tag that a text spells is one of a part
+pub plain_tag : (s : List ℕ) (t : Spelled) → tag_of s ≡ Some t → is_plain_tag t ≡ true
+plain_tag s t e = let p = cond_some (is_tag_text s) (record { digits = s; parts = 0 }) t e in subst (λ x. is_plain_tag x ≡ true) p.1 (rw p.0 refl)
+
+pub plain_more : (ts : List Spelled) (t : Spelled) → list_all is_plain_tag ts ≡ true → is_plain_tag t ≡ true → list_all is_plain_tag (ts ++ t ∷ []) ≡ true
+plain_more ts t h p = list_all-append is_plain_tag ts (t ∷ []) ∙ rw (h, p) refl
+
+-- 1 to 10,000 such tags
+pub tags_are : (ts : List Spelled) → is_count ts ≡ true → list_all is_plain_tag ts ≡ true → are_tags ts ≡ true
+tags_are ts h p = counted (leb 1 (length ts)) (leb (length ts) 10000) _ h p

@@ -1,0 +1,10 @@
+use Rattle.std.proofs.Common.{◌≡◌, ◌∙◌, List, ℕ, Ok, subst, sym}
+use Rattle.std.proofs.lemmas.Slice.Eq.{bytes_eq-Decides}
+use Rattle.pending_json.specs.Reading.{set_of}
+use Rattle.pending_json.proofs.RoundTrip.{set_text}
+use Rattle.pending_json.proofs.quick.printed_set.Goals as goal
+
+pub returns-then-eq : goal.returns-then-eq
+returns-then-eq c =
+    let same : c.in_ok-text.text ≡ c.args.bytes.now = sym c.as_slice.ensures ∙ (bytes_eq-Decides c.as_slice.result.now c.args.bytes.now).0 (sym c.if-eq.ensures) in
+    subst (λ (b : List ℕ). set_of b ≡ Ok c.in_ok-set.set) (sym c.in_ok-text.ensures ∙ same) (set_text c.in_ok-set.set c.in_ok-set.ensures)
