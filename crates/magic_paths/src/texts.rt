@@ -1,7 +1,19 @@
-ghost use Rattle.std.specs.Prelude.{◌≡◌, ◌++◌, IfOk, string_bytes};
+ghost use Rattle.std.specs.Prelude.{◌≡◌, ◌++◌, [], IfOk, string_bytes};
 ghost use Rattle.magic_paths.specs.Layout as keys;
 
 use std::alloc::{AllocError, Global};
+
+/// How many bytes there are at most beside a destination and a job's id in the keys that are asked for
+/// again and again: two numbers, and the pieces between them.
+const MOST_BETWEEN: usize = 48;
+
+/// No text, with room for such a key, so that it is one allocation.
+fn with_room(alloc: Global, dest: &str, job: &str) -> Result<String, AllocError>
+    ensures { IfOk result (λ text. string_bytes text ≡ []) }
+{
+    let named = dest.len().saturating_add(job.len());
+    String::with_capacity(alloc, named.saturating_add(MOST_BETWEEN))
+}
 
 pub fn attempt_text(
     alloc: Global,
@@ -12,13 +24,18 @@ pub fn attempt_text(
 ) -> Result<String, AllocError>
     ensures { IfOk result (λ text. string_bytes text ≡ keys.attempt_key dest.now job.now task attempt) }
 {
-    format!(in alloc; "{dest}/__magic/job-{job}/tasks/{task}_{attempt}/__base")
+    let mut text = with_room(alloc, dest, job)?;
+    text.push_str(dest)?;
+    write!(text, "/__magic/job-{job}/tasks/{task}_{attempt}/__base")?;
+    Ok(text)
 }
 
 pub fn set_text(alloc: Global, dest: &str, job: &str, task: u32) -> Result<String, AllocError>
     ensures { IfOk result (λ text. string_bytes text ≡ keys.set_key dest.now job.now task) }
 {
-    format!(in alloc; "{dest}/__magic/job-{job}/sets/task_{task}.pendingset")
+    let mut text = with_room(alloc, dest, job)?;
+    write!(text, "{dest}/__magic/job-{job}/sets/task_{task}.pendingset")?;
+    Ok(text)
 }
 
 pub fn success_text(alloc: Global, dest: &str) -> Result<String, AllocError>

@@ -15,7 +15,8 @@ fn below(alloc: Global, key: &str, relative: &str) -> Result<String, AllocError>
     if key.is_empty() {
         return String::from_str(alloc, relative);
     }
-    let mut text = String::from_str(alloc, key)?;
+    let mut text = String::with_capacity(alloc, key.len() + 1 + relative.len())?;
+    text.push_str(key)?;
     text.push('/')?;
     text.push_str(relative)?;
     Ok(text)

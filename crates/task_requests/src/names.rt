@@ -75,12 +75,18 @@ pub fn marker(alloc: Global, plan: &TaskPlan, dir: &S3Path, path: &Text) -> Resu
     file_key(alloc, dir, path)
 }
 
+/// What stands behind a file's path in that of its record.
+const PENDING: &str = ".pending";
+
 /// The path of a file's record.
 fn pending_path(alloc: Global, path: &Text) -> Result<Text, AllocError>
     ensures { IfOk result (λ name. name ≡ path.now ++ codes ".pending") }
 {
     let path = path.as_str();
-    Text::new(alloc, format!(in alloc; "{path}.pending")?)
+    let mut text = String::with_capacity(alloc, path.len() + PENDING.len())?;
+    text.push_str(path)?;
+    text.push_str(PENDING)?;
+    Text::new(alloc, text)
 }
 
 /// The key of a file's record.
