@@ -28,7 +28,7 @@ use Rattle.job_operations.specs.Uploading.{Creating, Sending}
 use Rattle.job_operations.specs.TaskCommits.{TaskCommit, Looking, Reading, Publishing, Checking, Storing, Renaming, TaskCommitOver, task_commit_start_by, task_commit_asks, task_commit_hears, in_order, reading, looked, looked_at, least_missing, read_record}
 use Rattle.task_magic.specs.declared.committing.Committing.{Committing}
 use Rattle.task_requests.specs.Publishing.{picked, IsPending, AreReady, are_places, drawn_of, FitsRecord}
-use Rattle.task_magic.specs.Committing.{commit_by, commit_of, HoldsCommit, record_of, is_no_key, publishes, known_if, with_sent, seen_in, least_unseen}
+use Rattle.task_magic.specs.Committing.{commit_by, commit_of, HoldsCommit, AreRecords, record_of, is_no_key, publishes, known_if, with_sent, seen_in, least_unseen}
 use Rattle.task_laws.specs.Commits.{FitsCommit}
 use Rattle.task_magic.proofs.Listed.{missing_is}
 
@@ -54,9 +54,25 @@ within_at count (q ∷ places) (suc at) p k h = within_at count places at p (and
 
 -- ---- what it asks
 
-pub asks_record : (t : Task) (places : List ℕ) (at p : ℕ) → Some p ≡ slice_get places at
-    → (let cs = picked t.files places in Some (GetObject t.job.dest.bucket (record_of t (get_or t.files p ([], [])))) ≡ task_commit_asks (task_script t) (who_of t) t.known (reading cs (drop at cs)))
-asks_record t places at p h = sym (ap (λ (l : List File). task_commit_asks (task_script t) (who_of t) t.known (reading (picked t.files places) l)) (at_file t.files places at p h))
+asks_key : (t : Task) (cs fs : List File) (at : ℕ) (key : List ℕ) → Some key ≡ slice_get (map (record_of t) fs) at → Some (GetObject t.job.dest.bucket key) ≡ task_commit_asks (task_script t) (who_of t) t.known (reading cs (drop at fs))
+asks_key t cs [] zero key h = absurd (cc)
+asks_key t cs [] (suc at) key h = absurd (cc)
+asks_key t cs (f ∷ fs) zero key h = let same : key ≡ record_of t f = cc in ap (λ (k : List ℕ). Some (GetObject t.job.dest.bucket k)) same
+asks_key t cs (f ∷ fs) (suc at) key h = asks_key t cs fs at key h
+
+pub asks_record : (t : Task) (places : List ℕ) (keys : List (List ℕ)) (at : ℕ) (key : List ℕ) → AreRecords t keys places → Some key ≡ slice_get keys at
+    → (let cs = picked t.files places in Some (GetObject t.job.dest.bucket key) ≡ task_commit_asks (task_script t) (who_of t) t.known (reading cs (drop at cs)))
+asks_record t places keys at key e h = asks_key t (picked t.files places) (picked t.files places) at key (h ∙ ap (λ (l : List (List ℕ)). slice_get l at) e)
+
+place_none : (t : Task) (fs : List File) (places : List ℕ) (at : ℕ) → None ≡ slice_get (map (record_of t) (picked fs places)) at → None ≡ slice_get places at
+place_none t fs [] zero h = refl
+place_none t fs [] (suc at) h = refl
+place_none t fs (q ∷ places) zero h = absurd (cc)
+place_none t fs (q ∷ places) (suc at) h = place_none t fs places at h
+
+-- behind the last record is no place
+pub no_place : (t : Task) (places : List ℕ) (keys : List (List ℕ)) (at : ℕ) → AreRecords t keys places → None ≡ slice_get keys at → None ≡ slice_get places at
+no_place t places keys at e h = place_none t t.files places at (h ∙ ap (λ (l : List (List ℕ)). slice_get l at) e)
 
 pub asks_set : (t : Task) (places : List ℕ) (at : ℕ) → None ≡ slice_get places at
     → (let cs = picked t.files places in task_commit_asks (task_script t) (who_of t) t.known (Publishing cs) ≡ task_commit_asks (task_script t) (who_of t) t.known (reading cs (drop at cs)))
@@ -69,8 +85,8 @@ all_taken fs [] (suc at) h = refl
 all_taken fs (q ∷ places) zero h = absurd (cc)
 all_taken fs (q ∷ places) (suc at) h = ap (λ (l : List File). get_or fs q ([], []) ∷ l) (all_taken fs places at h)
 
-pub all_ready : (t : Task) (places : List ℕ) (at : ℕ) → HoldsCommit t places at → None ≡ slice_get places at → AreReady t (picked t.files places)
-all_ready t places at k h = subst (AreReady t) (all_taken t.files places at h) k.ready
+pub all_ready : (t : Task) (places : List ℕ) (keys : List (List ℕ)) (at : ℕ) → HoldsCommit t places keys at → None ≡ slice_get places at → AreReady t (picked t.files places)
+all_ready t places keys at k h = subst (AreReady t) (all_taken t.files places at h) k.ready
 
 -- ---- a page
 
@@ -134,14 +150,24 @@ ready_more : (t : Task) (xs : List File) (f : File) → AreReady t xs → IsPend
 ready_more t [] f h g = (g, tt)
 ready_more t (x ∷ xs) f h g = (h.0, ready_more t xs f h.1 g)
 
-keeps_read : (t : Task) (keys : List (List ℕ)) (places : List ℕ) (at p : ℕ) (r : Reply) → Some p ≡ slice_get places at → FitsCommit (task_script t) (who_of t) t.known (commit_by false keys (picked t.files places) at None) r → is_no_key r ≡ false
-    → HoldsCommit t places at → HoldsCommit t places (at + 1)
-keeps_read t keys places at p r h f g k = record {
+keeps_read : (t : Task) (keys : List (List ℕ)) (places : List ℕ) (rs : List (List ℕ)) (at p : ℕ) (r : Reply) → Some p ≡ slice_get places at → FitsCommit (task_script t) (who_of t) t.known (commit_by false keys (picked t.files places) at None) r → is_no_key r ≡ false
+    → HoldsCommit t places rs at → HoldsCommit t places rs (at + 1)
+keeps_read t keys places rs at p r h f g k = record {
   within = k.within;
+  records = k.records;
   ready = subst (AreReady t) (sym (take_file t.files places at p h))
       (ready_more t (take at (picked t.files places)) (get_or t.files p ([], [])) k.ready
       (ready_here (task_script t) (who_of t) t.known (get_or t.files p ([], [])) r (fits_at t keys places at p r h f) g));
 }
+
+-- ---- once a request was sent
+
+pub keeps_sent : (t new : Task) (p : Bool) (places : List ℕ) (keys : List (List ℕ)) (at : ℕ) → new ≡ with_sent t p → HoldsCommit t places keys at → HoldsCommit new places keys at
+keeps_sent t new p places keys at e h = subst (λ (t : Task). HoldsCommit t places keys at) (sym e) (by p)
+  where
+    by : (p : Bool) → HoldsCommit (with_sent t p) places keys at
+    by true = record { within = h.within; records = h.records; ready = h.ready }
+    by false = record { within = h.within; records = h.records; ready = h.ready }
 
 -- ---- where the stage is told by equations
 
@@ -162,8 +188,8 @@ module _ (t : Task) (listing : Bool) (keys : List (List ℕ)) (places : List ℕ
       as_reading listing keys (picked t.files places) (at + 1) end e l
       ∙ (goes_read t keys places at p r h fits_as g ∙ sym (ap (λ o. task_commit_hears (task_script t) t.minimum (who_of t) o r false) (as_reading listing keys (picked t.files places) at end e l)))
 
-  pub keeps_read_at : is_no_key r ≡ false → HoldsCommit t places at → HoldsCommit t places (at + 1)
-  keeps_read_at g k = keeps_read t keys places at p r h fits_as g k
+  pub keeps_read_at : (rs : List (List ℕ)) → is_no_key r ≡ false → HoldsCommit t places rs at → HoldsCommit t places rs (at + 1)
+  keeps_read_at rs g k = keeps_read t keys places rs at p r h fits_as g k
 
 -- ---- what it learns
 

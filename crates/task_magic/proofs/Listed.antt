@@ -7,6 +7,7 @@ use Rattle.std.specs.Cmp.Lexicographic.{bytes_decides}
 use Rattle.std.proofs.lemmas.Bool.{true≢false}
 use Rattle.std.proofs.lemmas.Bool.Decides.{nat_tests}
 use Rattle.std.proofs.lemmas.Grind.{flat_map-append}
+use Rattle.std.proofs.lemmas.Option.{slice_get-get_or}
 use Rattle.std.proofs.lemmas.List.{append_cancel_left, append_cancel_right, map-append, drop_all, get_or-map}
 use Rattle.std.proofs.lemmas.List.Folds.{list_any-append, list_all-append}
 use Rattle.std.proofs.lemmas.List.Quantifiers.{position-Some}
@@ -23,7 +24,7 @@ use Rattle.job_operations.specs.Outputs.{files}
 use Rattle.job_operations.specs.Records.{attempt_dir}
 use Rattle.job_operations.specs.TaskCommits.{attempt_prefix, in_order, least_missing, least_of}
 use Rattle.task_requests.specs.Publishing.{picked, are_places}
-use Rattle.task_magic.specs.Committing.{record_of, IsRecordAt, IsPlaceOf, is_at, places_in, set_at, seen_in, least_unseen}
+use Rattle.task_magic.specs.Committing.{record_of, AreRecords, IsRecordAt, IsPlaceOf, is_at, places_in, records_in, set_at, seen_in, least_unseen}
 use Rattle.task_requests.proofs.Told.{own_files}
 
 -- ---- tests on texts
@@ -183,6 +184,21 @@ places_more : (count : ℕ) (places : List ℕ) (i : ℕ) → are_places count p
 places_more count places i h w =
     let within : nat_lt i count ≡ true = below_so i count w in
     list_all-append (λ i. nat_lt i count) places (i ∷ []) ∙ rw (h, within) refl
+
+-- ---- the keys of the records
+
+same_place : (i : ℕ) → nat_eq i i ≡ true
+same_place i = grind (arith, nat_tests)
+
+record_there : (t : Task) (k : List ℕ) (i : ℕ) → i < length t.files → IsPlaceOf t k (Some i) → record_of t (get_or t.files i ([], [])) ≡ k
+record_there t k i w h = (bytes_decides (record_of t (get_or t.files i ([], []))) k).0 (h i (get_or t.files i ([], [])) (slice_get-get_or t.files i ([], []) w) ∙ same_place i)
+
+pub records_with : (t : Task) (keys : List (List ℕ)) (places : List ℕ) (k : List ℕ) (place : Option ℕ) → AreRecords t keys places → IfSome place (λ i. i < length t.files) → IsPlaceOf t k place → AreRecords t (keys ++ records_in place k) (places ++ places_in place)
+records_with t keys places k None e w h = append_nil keys ∙ (e ∙ sym (ap (λ (l : List ℕ). map (record_of t) (picked t.files l)) (append_nil places)))
+records_with t keys places k (Some i) e w h =
+    ap (λ (l : List (List ℕ)). l ++ k ∷ []) e
+    ∙ (ap (λ (x : List ℕ). map (record_of t) (picked t.files places) ++ x ∷ []) (sym (record_there t k i w h))
+    ∙ sym (ap (map (record_of t)) (map-append (λ i. get_or t.files i ([], [])) places (i ∷ [])) ∙ map-append (record_of t) (picked t.files places) (get_or t.files i ([], []) ∷ [])))
 
 -- ---- which files are seen
 

@@ -28,13 +28,22 @@ commit_of t c = commit_by c.listing c.walk (picked t.files c.places) c.at c.end
 
 -- ---- what is kept
 
--- the places are of files, and what is known of those that were read is a record
-pub record HoldsCommit (t : Task) (places : List ℕ) (at : ℕ) : Type 0 where
+-- the key of a file's record
+abbrev pub record_of : Task → File → List ℕ
+record_of t f = record_key (task_script t) (who_of t) f
+
+-- these are the keys of the records of the files at these places
+abbrev pub AreRecords : Task → List (List ℕ) → List ℕ → Type 0
+AreRecords t keys places = keys ≡ map (record_of t) (picked t.files places)
+
+-- the places are of files, these are the keys of their records, and what is known of those that were read is a record
+pub record HoldsCommit (t : Task) (places : List ℕ) (keys : List (List ℕ)) (at : ℕ) : Type 0 where
   pub within : are_places (length t.files) places ≡ true
+  pub records : AreRecords t keys places
   pub ready : AreReady t (take at (picked t.files places))
 
 abbrev pub Keeps : Task → Committing → Type 0
-Keeps t c = HoldsCommit t c.places c.at
+Keeps t c = HoldsCommit t c.places c.records c.at
 
 -- ---- replies and sendings
 
@@ -71,14 +80,15 @@ abbrev pub places_in : Option ℕ → List ℕ
 places_in None = []
 places_in (Some i) = i ∷ []
 
+-- the key, where there is a place
+abbrev pub records_in : Option ℕ → List ℕ → List (List ℕ)
+records_in None key = []
+records_in (Some i) key = key ∷ []
+
 -- what is set at it
 abbrev pub set_at : List Bool → Option ℕ → List Bool
 set_at seen None = seen
 set_at seen (Some i) = slice_set seen i true
-
--- the key of a file's record
-abbrev pub record_of : Task → File → List ℕ
-record_of t f = record_key (task_script t) (who_of t) f
 
 -- a key is that of the record of the file at this place, and of no other
 abbrev pub IsPlaceOf : Task → List ℕ → Option ℕ → Type 0

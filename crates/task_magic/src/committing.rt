@@ -1,4 +1,4 @@
-ghost use Rattle.std.specs.Prelude.{◌≡◌, ◌+◌, ◌<◌, Bool, length, drop, get_or, [], true, false, Decides, IfOk, OnOk, OnErr, Some, None, slice_get};
+ghost use Rattle.std.specs.Prelude.{◌≡◌, ◌+◌, ◌<◌, Bool, length, drop, get_or, [], true, false, Decides, IfOk, OnOk, OnErr, Some, None, option_map, slice_get};
 ghost use Rattle.std.specs.Option.{option_copied};
 ghost use Rattle.s3_types.specs.declared.request.Request.TheVariants.{GetObject};
 ghost use Rattle.s3_types.specs.declared.request.Committer.TheVariants.{Magic};
@@ -14,18 +14,19 @@ use crate::listing::{Listed, files_of_keys, missing, record_at};
 use crate::paging::fits_listing;
 use asking::NextRequest;
 use job_model::{TaskEnd, TaskPlan};
-use s3_types::{Key, Refusal, Reply, Request, Sequence, put};
+use s3_types::{Key, KeyList, Refusal, Reply, Request, Sequence, put};
 use std::alloc::{AllocError, Global};
 use sweep::KeyWalk;
 use task_requests::{bucket_of, directory, fits_record, prefix, publish_request};
 
-/// A commit as it goes on: whether it lists, the keys so far, the places of the files that it commits, how
-/// many of their records were read, and how it ended.
+/// A commit as it goes on: whether it lists, the keys so far, the places of the files that it commits, the
+/// keys of their records, how many of them were read, and how it ended.
 #[derive(Drop)]
 pub struct Committing {
     pub listing: bool,
     pub walk: KeyWalk,
     pub places: Sequence<usize>,
+    pub records: KeyList,
     pub at: usize,
     pub end: Option<TaskEnd>,
 }
@@ -54,13 +55,11 @@ fn record_key_at(alloc: Global, plan: &TaskPlan, place: usize) -> Result<Key, Al
     record_at(alloc, plan, &dir, place)
 }
 
-/// The read of the record of the file at a place.
-fn read_request(alloc: Global, plan: &TaskPlan, place: usize) -> Result<Option<Request>, AllocError>
-    requires { place < length plan.now.files }
-    ensures { IfOk result (λ request. request ≡ Some (GetObject plan.now.job.dest.bucket (record_of plan.now (get_or plan.now.files place ([], []))))) }
+/// The read of the record at a key.
+fn read_request(plan: &TaskPlan, key: &Key) -> Result<Option<Request>, AllocError>
+    ensures { IfOk result (λ request. request ≡ Some (GetObject plan.now.job.dest.bucket key.now)) }
 {
-    let key = record_key_at(alloc, plan, place)?;
-    match Request::get_object(bucket_of(plan), &key) {
+    match Request::get_object(bucket_of(plan), key) {
         Ok(request) => Ok(Some(request)),
         Err(error) => Err(error),
     }
@@ -73,18 +72,26 @@ fn place_at(places: &[usize], at: usize) -> Option<&usize>
     places.get(at)
 }
 
+/// The key of a record behind so many. Takes no memory.
+fn record_key(records: &[Key], at: usize) -> Option<&Key>
+    ensures { option_map (λ key. key.now) result ≡ slice_get records.now at }
+{
+    records.get(at)
+}
+
 /// The read of the record behind so many, or where all are read the put of the set.
 fn record_or_set(
     alloc: Global,
     plan: &TaskPlan,
     places: &[usize],
+    records: &[Key],
     at: usize,
 ) -> Result<Option<Request>, AllocError>
-    requires { HoldsCommit plan.now places.now at }
+    requires { HoldsCommit plan.now places.now records.now at }
     ensures { let cs = picked plan.now.files places.now in IfOk result (λ request. request ≡ task_commit_asks (task_script plan.now) (who_of plan.now) plan.now.known (reading cs (drop at cs))) }
 {
-    match place_at(places, at) {
-        Some(place) => read_request(alloc, plan, *place),
+    match record_key(records, at) {
+        Some(key) => read_request(plan, key),
         None => publish_request(alloc, plan, places),
     }
 }
@@ -127,6 +134,7 @@ impl Committing {
             listing: true,
             walk: KeyWalk::new(alloc),
             places: Sequence::new(alloc),
+            records: KeyList::new(alloc),
             at: 0,
             end: None,
         }
@@ -143,7 +151,8 @@ impl Committing {
         if self.listing {
             return page_request(alloc, plan, &self.walk);
         }
-        record_or_set(alloc, plan, self.places.as_slice(), self.at)
+        let places = self.places.as_slice();
+        record_or_set(alloc, plan, places, self.records.as_slice(), self.at)
     }
 
     /// Whether its present request publishes. Takes no memory.
@@ -169,13 +178,18 @@ impl Committing {
         if self.walk.hear(reply)? {
             return Ok(());
         }
-        let Listed { places, seen } = files_of_keys(alloc, plan, self.walk.keys().as_slice())?;
+        let Listed {
+            places,
+            records,
+            seen,
+        } = files_of_keys(alloc, plan, self.walk.keys().as_slice())?;
         if let Some(key) = missing(alloc, plan, seen.as_slice())? {
             let name = key.as_text().clone()?;
             self.finish(TaskEnd::Gone(name));
             return Ok(());
         }
         put(&mut self.places, places);
+        put(&mut self.records, records);
         self.at = 0;
         self.listing = false;
         Ok(())
@@ -282,7 +296,7 @@ impl Committing {
 
     /// Ends it. Takes no memory.
     pub fn finish(&mut self, end: TaskEnd)
-        ensures { self.new ≡ record { listing = self.old.listing; walk = self.old.walk; places = self.old.places; at = self.old.at; end = Some end } }
+        ensures { self.new ≡ record { listing = self.old.listing; walk = self.old.walk; places = self.old.places; records = self.old.records; at = self.old.at; end = Some end } }
     {
         put(&mut self.end, Some(end));
     }

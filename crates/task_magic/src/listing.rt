@@ -3,19 +3,20 @@ ghost use Rattle.job_operations.specs.AtWork.{task_script, who_of};
 ghost use Rattle.job_operations.specs.TaskCommits.{attempt_prefix, in_order, least_of};
 ghost use Rattle.task_requests.specs.Writing.{dir_of};
 ghost use Rattle.task_requests.specs.Publishing.{picked, are_places};
-ghost use Rattle.task_magic.specs.Committing.{record_of, IsRecordAt, IsPlaceOf, places_in, set_at, seen_in, least_unseen};
+ghost use Rattle.task_magic.specs.Committing.{record_of, AreRecords, IsRecordAt, IsPlaceOf, places_in, records_in, set_at, seen_in, least_unseen};
 
 use job_model::TaskPlan;
 use path_keys::S3Path;
-use s3_types::{Key, Sequence, Text};
+use s3_types::{Key, KeyList, Sequence, Text};
 use std::alloc::{AllocError, Global};
 use task_requests::{directory, file_at, prefix, record};
 
 /// What the keys of a listing are of: the places of the files whose records are listed, in the order of the
-/// keys, and of each file whether its record is listed.
+/// keys, the keys of these records, and of each file whether its record is listed.
 #[derive(Drop)]
 pub struct Listed {
     pub places: Sequence<usize>,
+    pub records: KeyList,
     pub seen: Vec<bool>,
 }
 
@@ -54,16 +55,18 @@ fn unseen(alloc: Global, count: usize) -> Result<Vec<bool>, AllocError>
     vec![in alloc; false; count]
 }
 
-/// Adds the file at a place, where there is one.
-fn add_place(listed: &mut Listed, place: Option<usize>) -> Result<(), AllocError>
+/// Adds the file at a place, where there is one, whose record has this key.
+fn add_place(listed: &mut Listed, place: Option<usize>, key: &Key) -> Result<(), AllocError>
     requires { IfSome place (λ i. i < length listed.old.seen.items) }
     ensures places { OnOk result (listed.new.places ≡ listed.old.places ++ places_in place) }
+    ensures records { OnOk result (listed.new.records ≡ listed.old.records ++ records_in place key.now) }
     ensures seen { OnOk result (listed.new.seen.items ≡ set_at listed.old.seen.items place) }
 {
     let Some(place) = place else {
         return Ok(());
     };
     listed.places.push(place)?;
+    listed.records.push(key.clone()?)?;
     listed.seen[place] = true;
     Ok(())
 }
@@ -71,17 +74,19 @@ fn add_place(listed: &mut Listed, place: Option<usize>) -> Result<(), AllocError
 /// What these keys are of.
 pub fn files_of_keys(alloc: Global, plan: &TaskPlan, keys: &[Key]) -> Result<Listed, AllocError>
     ensures places { IfOk result (λ x. are_places (length plan.now.files) x.places ≡ true) }
+    ensures records { IfOk result (λ x. AreRecords plan.now x.records x.places) }
     ensures files { IfOk result (λ x. picked plan.now.files x.places ≡ in_order (task_script plan.now) (who_of plan.now) keys.now) }
     ensures seen { IfOk result (λ x. x.seen.items ≡ seen_in plan.now keys.now) }
 {
     let prefix = prefix(alloc, plan)?;
     let mut listed = Listed {
         places: Sequence::new(alloc),
+        records: KeyList::new(alloc),
         seen: unseen(alloc, plan.files.len())?,
     };
     for key in keys {
         let place = place_of(alloc, plan, &prefix, key)?;
-        add_place(&mut listed, place)?;
+        add_place(&mut listed, place, key)?;
     }
     Ok(listed)
 }

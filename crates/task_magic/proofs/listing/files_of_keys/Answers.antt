@@ -1,13 +1,15 @@
-use Rattle.std.proofs.Common.{◌∙◌, ap, sym, length, take, List, ℕ, ◌++◌, ◌∷◌, [], ◌+◌}
+use Rattle.std.proofs.Common.{◌∙◌, ap, sym, length, take, List, ℕ, ◌++◌, ◌∷◌, [], ◌+◌, map}
 use Rattle.std.proofs.lemmas.List.{take_more}
 use Rattle.job_model.specs.Jobs.{Task}
 use Rattle.task_requests.specs.Publishing.{are_places, picked}
-use Rattle.task_magic.proofs.Listed.{first_seen, ordered_with, seen_with, places_with, within_seen}
+use Rattle.task_magic.specs.Committing.{record_of}
+use Rattle.task_magic.proofs.Listed.{first_seen, ordered_with, records_with, seen_with, places_with, within_seen}
 use Rattle.task_magic.proofs.listing.files_of_keys.Goals as goal
 
 pub loop-key-init : goal.loop-key-init
 loop-key-init c = record {
   within = ap (are_places (length c.args.plan.now.files)) c.new.ensures;
+  records = c.new-2.ensures ∙ sym (ap (λ (l : List ℕ). map (record_of c.args.plan.now) (picked c.args.plan.now.files l)) c.new.ensures);
   files = ap (picked c.args.plan.now.files) c.new.ensures;
   seen = first_seen c.args.plan.now c.len.result c.in_ok-unseen.field-0.items (c.len.ensures ∙ ap (λ (t : Task). length t.files) c.plan.view_is) c.in_ok-unseen.ensures;
 }
@@ -25,6 +27,9 @@ loop-key-preserved c =
     let e = take_more c.args.keys.now c.loop-key.key-index k c.loop-key-test.true ∙ ap (λ (x : List ℕ). keys ++ x ∷ []) (sym c.key-item.is) in
     record {
       within = ap (are_places (length t.files)) c.in_ok-add_place.ensures.places ∙ places_with (length t.files) c.loop-key.listed.places place c.loop-key.invariant.within c.in_ok-place.ensures.within;
+      records = c.in_ok-add_place.ensures.records
+          ∙ (records_with t c.loop-key.listed.records c.loop-key.listed.places k place c.loop-key.invariant.records c.in_ok-place.ensures.within c.in_ok-place.ensures.is
+          ∙ sym (ap (λ (l : List ℕ). map (record_of t) (picked t.files l)) c.in_ok-add_place.ensures.places));
       files = ap (picked t.files) c.in_ok-add_place.ensures.places ∙ ordered_with t keys more k c.loop-key.listed.places place e c.loop-key.invariant.files c.in_ok-place.ensures.within c.in_ok-place.ensures.is;
       seen = c.in_ok-add_place.ensures.seen ∙ seen_with t keys more k c.loop-key.listed.seen.items place e c.loop-key.invariant.seen c.in_ok-place.ensures.within c.in_ok-place.ensures.is;
     }

@@ -21,8 +21,8 @@ behind-self-requires c = omega (arith, c.len.ensures, slice_get_within c.args.se
 pub returns-clause-keeps : goal.returns-clause-keeps
 returns-clause-keeps c =
     let h = c.args.self.now in
-    subst (HoldsCommit c.args.plan.now h.places) (sym c.behind-self.ensures)
-    (keeps_read_at c.args.plan.now h.listing h.walk h.places h.at c.args.place h.end c.args.reply.now c.requires.end c.requires.listing c.requires.at c.requires.fits (sym c.is_no_key.ensures ∙ c.if-is_no_key.false) c.requires.keeps)
+    subst (HoldsCommit c.args.plan.now h.places h.records) (sym c.behind-self.ensures)
+    (keeps_read_at c.args.plan.now h.listing h.walk h.places h.at c.args.place h.end c.args.reply.now c.requires.end c.requires.listing c.requires.at c.requires.fits h.records (sym c.is_no_key.ensures ∙ c.if-is_no_key.false) c.requires.keeps)
 
 pub returns-clause-goes : goal.returns-clause-goes
 returns-clause-goes c =
