@@ -16,7 +16,7 @@ use Rattle.job_operations.specs.View.{is_folder, is_file_path}
 use Rattle.request_frame.specs.Members.{IsIn}
 use Rattle.request_frame.proofs.Members.{true_or_false, false_true}
 use Rattle.job_facts.proofs.Legal.{from_script, given_of}
-use Rattle.job_facts.proofs.Unique.{id_bytes, unique_parts}
+use Rattle.job_model.proofs.Unique.{id_bytes, unique_parts}
 use Rattle.job_facts.proofs.JobCommitting.{file_open}
 
 -- a text that ends in `/` has an empty part

@@ -24,7 +24,8 @@ use Rattle.job_model.specs.JobScript.{Script}
 use Rattle.job_operations.specs.Outputs.{files}
 use Rattle.job_operations.specs.Records.{file_key}
 use Rattle.request_frame.specs.Members.{IsIn}
-use Rattle.job_facts.proofs.Unique.{Cut, cut_id, unique_parts, id_bytes, some_part}
+use Rattle.words.proofs.Counts.{some_part}
+use Rattle.job_model.proofs.Unique.{Cut, cut_id, unique_parts, id_bytes}
 use Rattle.job_facts.proofs.Legal.{some_dest, from_script, given_of}
 
 -- ---- elements
@@ -93,8 +94,8 @@ joined_long id e (f ∷ g ∷ es) =
 
 unique_long : (id p : List ℕ) → length (unique_name p id) ≡ length p + (length id + 1)
 unique_long id p =
-    let f = some_part [] p in
-    ap (λ es. length (join_with_byte 47 (with_id_last id es))) f.is ∙ joined_long id f.first f.others ∙ ap (λ n. n + (length id + 1)) (ap (λ es. length (join_with_byte 47 es)) (sym f.is) ∙ ap length (join_parts 47 p))
+    let f = some_part 47 [] p in
+    ap (λ es. length (join_with_byte 47 (with_id_last id es))) f.2 ∙ joined_long id f.0 f.1 ∙ ap (λ n. n + (length id + 1)) (ap (λ es. length (join_with_byte 47 es)) (sym f.2) ∙ ap length (join_parts 47 p))
 
 short_path : (p : List ℕ) → IsGiven p → length p ≤ 400
 short_path p g = leb-true (length p) 400 (and_parts (nat_le 1 (length p)) (nat_le (length p) 400) (and_parts _ _ (and_parts _ _ g.stated).0).0).1
@@ -153,9 +154,9 @@ lasts_utf8 id e (f ∷ g ∷ es) i h =
 
 placed_utf8 : (unique : Bool) (id p : List ℕ) → is_job_id id ≡ true → IsGiven p → IsUtf8 (path_of unique id p)
 placed_utf8 true id p job g =
-    let f = some_part [] p in
-    let whole : IsUtf8 (join_with_byte 47 (f.first ∷ f.others)) = subst IsUtf8 (sym (ap (join_with_byte 47) (sym f.is) ∙ join_parts 47 p)) (IsUtf8-from_is_utf8 p g.word.0) in
-    subst (λ es. IsUtf8 (join_with_byte 47 (with_id_last id es))) (sym f.is) (lasts_utf8 id f.first f.others (id_utf8 id job) whole)
+    let f = some_part 47 [] p in
+    let whole : IsUtf8 (join_with_byte 47 (f.0 ∷ f.1)) = subst IsUtf8 (sym (ap (join_with_byte 47) (sym f.2) ∙ join_parts 47 p)) (IsUtf8-from_is_utf8 p g.word.0) in
+    subst (λ es. IsUtf8 (join_with_byte 47 (with_id_last id es))) (sym f.2) (lasts_utf8 id f.0 f.1 (id_utf8 id job) whole)
 placed_utf8 false id p job g = IsUtf8-from_is_utf8 p g.word.0
 
 -- ---- keys

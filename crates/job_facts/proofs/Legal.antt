@@ -20,7 +20,7 @@ use Rattle.job_promise.specs.Seen.{is_magic}
 use Rattle.request_frame.specs.Members.{IsIn}
 use Rattle.request_frame.proofs.Members.{eq_nat, false_true, text_true, in_front, in_last, in_map}
 use Rattle.job_facts.specs.Facts.{IsAttempt, ApartFiles}
-use Rattle.job_facts.proofs.Unique.{path_same}
+use Rattle.job_model.proofs.Unique.{path_same}
 
 -- ---- the destination's key is not empty
 

@@ -1,5 +1,4 @@
 pub mod Whose
-pub mod Unique
 pub mod Legal
 pub mod Placed
 pub mod Shapes

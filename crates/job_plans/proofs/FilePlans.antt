@@ -9,7 +9,7 @@ use Rattle.job_model.specs.Files.{File, has_path}
 use Rattle.job_model.specs.Legal.{IsGiven, AreFiles, bytes_of}
 use Rattle.job_model.specs.Placed.{path_of, placed}
 use Rattle.job_model.specs.Plans.{IsPlaced, ArePlaced}
-use Rattle.job_plans.proofs.Unique.{path_same}
+use Rattle.job_model.proofs.Unique.{path_same}
 
 -- a file at its path
 abbrev one_placed : Bool → List ℕ → File → File

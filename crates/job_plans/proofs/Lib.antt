@@ -1,4 +1,3 @@
 pub mod CutNames
-pub mod Unique
 pub mod FilePlans
 pub mod PlanBounds

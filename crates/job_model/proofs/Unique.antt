@@ -24,20 +24,20 @@ id_others : (s : ℕ) (id : List ℕ) → is_id_byte s ≡ false → list_all is
 id_others s [] n h = refl
 id_others s (b ∷ id) n h = let p = and_parts (is_id_byte b) (list_all is_id_byte id) h in rw (id_byte s b n p.0, id_others s id n p.1) refl
 
-id_bytes : (id : List ℕ) → is_job_id id ≡ true → list_all is_id_byte id ≡ true
+pub id_bytes : (id : List ℕ) → is_job_id id ≡ true → list_all is_id_byte id ≡ true
 id_bytes id h = (and_parts _ _ h).1
 
 -- ---- a name with the id, cut at the first dot
 
-record Cut (id x : List ℕ) : Type 0 where
-  front : List ℕ
-  rest : List ℕ
-  is : x ≡ front ++ rest
-  made : with_id id x ≡ (front ++ 45 ∷ id) ++ rest
-  clean : list_all (is_other 46) front ≡ true
-  ends : (rest ≡ []) ⊎ ((r : List ℕ) × (rest ≡ 46 ∷ r))
+pub record Cut (id x : List ℕ) : Type 0 where
+  pub front : List ℕ
+  pub rest : List ℕ
+  pub is : x ≡ front ++ rest
+  pub made : with_id id x ≡ (front ++ 45 ∷ id) ++ rest
+  pub clean : list_all (is_other 46) front ≡ true
+  pub ends : (rest ≡ []) ⊎ ((r : List ℕ) × (rest ≡ 46 ∷ r))
 
-cut_id : (id x : List ℕ) → Cut id x
+pub cut_id : (id x : List ℕ) → Cut id x
 cut_id id [] = record { front = []; rest = []; is = refl; made = sym (append-nil (45 ∷ id)); clean = refl; ends = inl refl }
 cut_id id (x ∷ name) = by (x == 46) refl (cut_id id name)
   where
@@ -137,7 +137,7 @@ joined_lasts : (id e : List ℕ) (es : List (List ℕ)) → AreParts (with_id_la
 joined_lasts id e [] p = joined_parts (with_id id e) [] p
 joined_lasts id e (f ∷ es) p = joined_parts e (with_id_last id (f ∷ es)) p
 
-unique_parts : (id p : List ℕ) → list_all is_id_byte id ≡ true → parts_of 47 (unique_name p id) ≡ with_id_last id (parts_of 47 p)
+pub unique_parts : (id p : List ℕ) → list_all is_id_byte id ≡ true → parts_of 47 (unique_name p id) ≡ with_id_last id (parts_of 47 p)
 unique_parts id p h =
     let some = some_part 47 [] p in
     let clean : AreParts (with_id_last id (some.0 ∷ some.1)) = subst (λ es. AreParts (with_id_last id es)) some.2 (lasts_clean id (parts_of 47 p) h (parts_clean [] p refl)) in
