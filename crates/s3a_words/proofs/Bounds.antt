@@ -1,14 +1,13 @@
 -- The least size of a part that words name is within its bounds.
-use Rattle.std.specs.Prelude.{◌≡◌, ℕ, ◌≤◌, ◌&&◌, nat_le, Bool, true, false, cond, List, [], ◌∷◌, codes, bytes_eq, Option, Some, None, option_map, option_and_then}
+use Rattle.std.specs.Prelude.{◌≡◌, ℕ, nat_le, Bool, true, false, cond, List, [], ◌∷◌, Option, Some, None, option_map, option_and_then}
 use Rattle.std.proofs.Common.{refl, subst}
 use Rattle.std.proofs.lemmas.Bool.{and_parts, leb-true}
-use Rattle.std.specs.List.{list_all}
 use Rattle.path_keys.specs.Paths.{Path}
 use Rattle.s3_types.specs.declared.limits.TheConstants.{MOST_MINIMUM}
 use Rattle.s3a_words.specs.Numbers.{number_in, is_minimum, minimum_in}
-use Rattle.s3a_words.specs.Words.{is_plain, path_named, alone, with_path, with_operand, said, command_of, IsBounded}
+use Rattle.s3a_words.specs.Words.{path_named, alone, with_path, with_operand, moved, with_two, said, command_of, IsBounded}
 use Rattle.s3a_words.specs.declared.command.Command.{Command}
-use Rattle.s3a_words.specs.declared.command.Command.TheVariants.{Init, Mb, Ls, Stat, Cat, Put, PutForce, Mkdir, Rm, Rmr, Uploads, AbortUploads, Job}
+use Rattle.s3a_words.specs.declared.command.Command.TheVariants.{Init, Mb, Ls, Stat, Cat, Put, PutForce, Mkdir, Rm, Rmr, Mv, Uploads, AbortUploads, Job}
 
 abbrev Of : Option Command → Type 0
 Of None = Unit {0}
@@ -58,11 +57,28 @@ operand_bounded : (name word : List ℕ) → AreBounded (with_operand name word)
 unfolding with_operand
 operand_bounded name word = either _ _ _ (minimum_bounded word) (either _ _ _ (is (Mb word) tt) (named_bounded name (path_named word)))
 
+target_bounded : (source : Path) (o : Option Path) → AreBounded (option_map (λ target. Mv source target) o)
+target_bounded source None = none
+target_bounded source (Some target) = is (Mv source target) tt
+
+source_bounded : (o p : Option Path) → AreBounded (option_and_then (λ source. option_map (λ target. Mv source target) p) o)
+source_bounded None p = none
+source_bounded (Some source) p = target_bounded source p
+
+moved_bounded : (from to : List ℕ) → AreBounded (moved from to)
+unfolding moved
+moved_bounded from to = source_bounded (path_named from) (path_named to)
+
+two_bounded : (name first second : List ℕ) → AreBounded (with_two name first second)
+unfolding with_two
+two_bounded name first second = either _ _ _ (moved_bounded first second) none
+
 said_bounded : (words : List (List ℕ)) → AreBounded (said words)
 said_bounded [] = none
 said_bounded (name ∷ []) = alone_bounded name
 said_bounded (name ∷ operand ∷ []) = operand_bounded name operand
-said_bounded (name ∷ operand ∷ more ∷ others) = none
+said_bounded (name ∷ first ∷ second ∷ []) = two_bounded name first second
+said_bounded (name ∷ first ∷ second ∷ third ∷ others) = none
 
 all_bounded : (words : List (List ℕ)) → AreBounded (command_of words)
 unfolding command_of

@@ -6,7 +6,7 @@ use Rattle.path_keys.specs.Paths.{Path, path_in}
 use Rattle.path_keys.specs.declared.fault.PathFault.{PathFault}
 use Rattle.s3a_words.specs.Numbers.{minimum_in}
 use Rattle.s3a_words.specs.declared.command.Command.{Command}
-use Rattle.s3a_words.specs.declared.command.Command.TheVariants.{Init, Mb, Ls, Stat, Cat, Put, PutForce, Mkdir, Rm, Rmr, Uploads, AbortUploads, Job}
+use Rattle.s3a_words.specs.declared.command.Command.TheVariants.{Init, Mb, Ls, Stat, Cat, Put, PutForce, Mkdir, Rm, Rmr, Mv, Uploads, AbortUploads, Job}
 use Rattle.s3a_words.specs.declared.command.WordFault.{WordFault}
 use Rattle.s3a_words.specs.declared.command.WordFault.TheVariants.{Usage, NoMemory}
 
@@ -52,10 +52,19 @@ with_operand name operand =
     else if bytes_eq name (codes "mb") then Some (Mb operand)
     else option_and_then (with_path name) (path_named operand)
 
+-- the move from the path that a word names to the one that another names
+unfoldable pub moved : List ℕ → List ℕ → Option Command
+moved from to = option_and_then (λ source. option_map (λ target. Mv source target) (path_named to)) (path_named from)
+
+-- what a name says with two operands
+unfoldable pub with_two : List ℕ → List ℕ → List ℕ → Option Command
+with_two name first second = if bytes_eq name (codes "mv") then moved first second else None
+
 -- what the words behind the folder say
 abbrev pub said : List (List ℕ) → Option Command
 said (name ∷ []) = alone name
 said (name ∷ operand ∷ []) = with_operand name operand
+said (name ∷ first ∷ second ∷ []) = with_two name first second
 said _ = None
 
 -- the command that the words are: no word behind the folder begins with `-`

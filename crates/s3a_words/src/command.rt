@@ -24,6 +24,8 @@ pub enum Command {
     Rm { path: S3Path },
     /// Deletes a file, or a directory with all that is below it.
     Rmr { path: S3Path },
+    /// Moves a file, or a directory with all that is below it, to another path.
+    Mv { from: S3Path, to: S3Path },
     /// Lists the live uploads below a path.
     Uploads { path: S3Path },
     /// Aborts the live uploads below a path.

@@ -1,9 +1,12 @@
 ghost use Rattle.std.specs.Prelude.{◌≡◌, Some, None, IfOk};
 ghost use Rattle.std.specs.List.{list_all};
-ghost use Rattle.s3a_words.specs.Words.{is_plain, path_named, alone, with_path, with_operand, said, command_of, IsBounded, Reads};
+ghost use Rattle.s3a_words.specs.Words.{is_plain, path_named, alone, with_path, with_operand, moved, with_two, said, command_of, IsBounded, Reads};
+ghost use Rattle.s3a_words.specs.Grammar.{given};
 
 use crate::command::{Command, WordFault};
+use crate::grammar::{as_texts, matches_in};
 use crate::numbers::minimum_in;
+use clap::ArgMatches;
 use path_keys::{PathFault, S3Path};
 use s3_types::Text;
 use std::alloc::{AllocError, Global};
@@ -54,24 +57,54 @@ fn with_path(name: &str, path: S3Path) -> Option<Command>
 
 /// What a name says with an operand.
 #[tactic(auto, unfolding(crate::specs::Words::with_operand))]
-fn with_operand(alloc: Global, name: &str, operand: &Text) -> Result<Option<Command>, AllocError>
+fn with_operand(alloc: Global, name: &str, operand: &str) -> Result<Option<Command>, AllocError>
     ensures { IfOk result (λ o. o ≡ with_operand name.now operand.now) }
 {
     match name {
-        "init" => match minimum_in(alloc, operand.as_str())? {
+        "init" => match minimum_in(alloc, operand)? {
             Some(minimum) => Ok(Some(Command::Init {
                 minimum: Some(minimum),
             })),
             None => Ok(None),
         },
         "mb" => {
-            let name = operand.clone()?;
+            let name = Text::copied(alloc, operand)?;
             Ok(Some(Command::Mb { name }))
         }
-        _ => match path_named(alloc, operand.as_str())? {
+        _ => match path_named(alloc, operand)? {
             Some(path) => Ok(with_path(name, path)),
             None => Ok(None),
         },
+    }
+}
+
+/// The move from the path that a word names to the one that another names.
+#[tactic(auto, unfolding(crate::specs::Words::moved))]
+fn moved(alloc: Global, from: &str, to: &str) -> Result<Option<Command>, AllocError>
+    ensures { IfOk result (λ o. o ≡ moved from.now to.now) }
+{
+    let Some(from) = path_named(alloc, from)? else {
+        return Ok(None);
+    };
+    match path_named(alloc, to)? {
+        Some(to) => Ok(Some(Command::Mv { from, to })),
+        None => Ok(None),
+    }
+}
+
+/// What a name says with two operands.
+#[tactic(auto, unfolding(crate::specs::Words::with_two))]
+fn with_two(
+    alloc: Global,
+    name: &str,
+    first: &str,
+    second: &str,
+) -> Result<Option<Command>, AllocError>
+    ensures { IfOk result (λ o. o ≡ with_two name.now first.now second.now) }
+{
+    match name {
+        "mv" => moved(alloc, first, second),
+        _ => Ok(None),
     }
 }
 
@@ -82,15 +115,23 @@ fn are_plain(words: &[Text]) -> bool
     words.iter().all(|word| !word.as_str().starts_with("-"))
 }
 
-/// What the words behind the folder say.
-fn said(alloc: Global, words: &[Text]) -> Result<Option<Command>, AllocError>
-    ensures { IfOk result (λ o. o ≡ said words.now) }
+/// What the words that matches give say.
+fn said(alloc: Global, matches: &ArgMatches<'_>) -> Result<Option<Command>, AllocError>
+    ensures { IfOk result (λ o. o ≡ said (given matches.now)) }
 {
-    match words {
-        [name] => Ok(alone(name.as_str())),
-        [name, operand] => with_operand(alloc, name.as_str(), operand),
-        _ => Ok(None),
+    let Some(name) = matches.get_str("command") else {
+        return Ok(None);
+    };
+    let Some(first) = matches.get_str("first") else {
+        return Ok(alone(name));
+    };
+    let Some(second) = matches.get_str("second") else {
+        return with_operand(alloc, name, first);
+    };
+    if matches.get_str("third").is_some() {
+        return Ok(None);
     }
+    with_two(alloc, name, first, second)
 }
 
 /// The command that the words are.
@@ -104,14 +145,19 @@ fn command_in(alloc: Global, words: &[Text]) -> Result<Option<Command>, AllocErr
     if !are_plain(words) {
         return Ok(None);
     }
-    said(alloc, words)
+    let words = as_texts(alloc, words)?;
+    match matches_in(alloc, words.as_slice())? {
+        Some(matches) => said(alloc, &matches),
+        None => Ok(None),
+    }
 }
 
 /// The command that the words are: word 0 is the folder, word 1 the command's name, and the others are its
-/// operands. The commands are `init`, `init MIN`, `mb NAME`, `job`, and with a path `ls`, `stat`, `cat`,
-/// `put`, `put-force`, `mkdir`, `rm`, `rmr`, `uploads` and `abort-uploads`. No word behind the folder begins with
-/// `-`. A number has 1 to 18 decimal digits, no sign and no leading zero, and MIN is from 1 to 5,242,880. A path is
-/// one that `S3Path::read` takes. Usage comes exactly where the words are no command, so for `--help` too.
+/// operands. The commands are `init`, `init MIN`, `mb NAME`, `job`, with a path `ls`, `stat`, `cat`, `put`,
+/// `put-force`, `mkdir`, `rm`, `rmr`, `uploads` and `abort-uploads`, and with two paths `mv`. No word behind the
+/// folder begins with `-`. A number has 1 to 18 decimal digits, no sign and no leading zero, and MIN is from 1 to
+/// 5,242,880. A path is one that `S3Path::read` takes. Usage comes exactly where the words are no command, so for
+/// `--help` too.
 pub fn read_words(alloc: Global, words: &[Text]) -> Result<Command, WordFault>
     ensures exact { Reads (command_of words.now) result }
     ensures bounded { IfOk result IsBounded }
