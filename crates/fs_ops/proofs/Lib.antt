@@ -1,3 +1,3 @@
 pub mod Names
 pub mod Deleting
-pub mod Fits
+pub mod Fitting

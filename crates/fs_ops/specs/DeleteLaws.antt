@@ -97,7 +97,7 @@ some_marker : (u k : List ℕ) → marker_if u ≡ Some k → marker_of u ≡ k
 some_marker [] k h = absurd (cc)
 some_marker (x ∷ u) k h = cc
 
-parent_page : (u k : List ℕ) (m : Objects) → marker_if u ≡ Some k → IsSeen (look_of (page 1 (listed k false [] m))) (SomeBelow m k) (NoneBelow m k)
+pub parent_page : (u k : List ℕ) (m : Objects) → marker_if u ≡ Some k → IsSeen (look_of (page 1 (listed k false [] m))) (SomeBelow m k) (NoneBelow m k)
 parent_page [] k m h = absurd (cc)
 parent_page (x ∷ u) k m h = subst (λ k. IsSeen (look_of (page 1 (listed k false [] m))) (SomeBelow m k) (NoneBelow m k)) (some_marker (x ∷ u) k h) (page_tells x (marker_of u) m)
 

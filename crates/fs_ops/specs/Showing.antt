@@ -38,12 +38,12 @@ child_at n s = record { name = n; status = s }
 
 -- ---- texts
 
-rest_is : (q r : List ℕ) → rest_of q (q ++ r) ≡ Some r
+pub rest_is : (q r : List ℕ) → rest_of q (q ++ r) ≡ Some r
 rest_is q r =
     ap (λ b. cond b (Some (drop (length q) (q ++ r))) None) (begins_is q (q ++ r) ∙ begins_more q r)
     ∙ ap Some (drop-append_seam q r)
 
-cmp_behind : (q a b : List ℕ) → text_cmp (q ++ a) (q ++ b) ≡ text_cmp a b
+pub cmp_behind : (q a b : List ℕ) → text_cmp (q ++ a) (q ++ b) ≡ text_cmp a b
 cmp_behind [] a b = refl
 cmp_behind (x ∷ q) a b = ap (λ r. ordering_then r (text_cmp (q ++ a) (q ++ b))) (equal x) ∙ cmp_behind q a b
   where

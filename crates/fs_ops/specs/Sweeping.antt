@@ -22,7 +22,7 @@ use Rattle.s3_types.specs.declared.reply.PageEntry.TheVariants.{Object as Single
 use Rattle.request_frame.specs.Members.{IsIn}
 use Rattle.request_frame.proofs.Members.{text_gone, text_left}
 use Rattle.request_frame.proofs.Flat.{listed_all, page_begins}
-use Rattle.job_operations.specs.Walks.{keys_on, last_of, walked_by, Sweep, Listing, Deleting, sweep_start, sweep_hears, swept, deleting, all_go}
+use Rattle.job_operations.specs.Walks.{keys_on, last_of, Walked, More, Whole, walked, walked_by, Sweep, Listing, Deleting, sweep_start, sweep_hears, swept, deleting, all_go}
 use Rattle.sweep.specs.Fitting.{is_key}
 use Rattle.sweep.proofs.Listing.{last_append, behind_page}
 use Rattle.bucket_ops.specs.Asks.{Ask, Page, DropAll, reply_in, edited}
@@ -48,10 +48,29 @@ fits _ = true
 abbrev pub keys_below : List ℕ → Objects → List (List ℕ)
 keys_below q z = keys_on (listed q false [] z)
 
+-- what was listed and what is left are all keys
+abbrev pub IsWalking : List ℕ → Objects → List (List ℕ) → Type 0
+IsWalking q z keys = keys ++ keys_on (listed q false (last_of keys) z) ≡ keys_below q z
+
+-- it goes on, or these are all
+abbrev pub IsWalked : List ℕ → Objects → Walked (List ℕ) → Type 0
+IsWalked q z (More keys) = IsWalking q z keys
+IsWalked q z (Whole keys) = keys ≡ keys_below q z
+
+-- of all these keys the first are deleted from z, and those that are left are still there
+abbrev pub IsDeleting : Objects → List (List ℕ) → List (List ℕ) → Objects → Type 0
+IsDeleting z all left m = (gone : List (List ℕ)) × (gone ++ left ≡ all) × (m ≡ without z gone)
+
+-- it goes on, or all of them are deleted
+abbrev pub IsDeleted : Objects → List (List ℕ) → Option Sweep → Objects → Type 0
+IsDeleted z all (Some (Listing keys)) m = ⊥
+IsDeleted z all (Some (Deleting k ks)) m = IsDeleting z all (k ∷ ks) m
+IsDeleted z all None m = m ≡ without z all
+
 -- what was listed and what is left are all, and nothing is deleted; or the first of them are deleted
 abbrev pub IsSweeping : List ℕ → Objects → Sweep → Objects → Type 0
-IsSweeping q z (Listing keys) m = (m ≡ z) × (keys ++ keys_on (listed q false (last_of keys) z) ≡ keys_below q z)
-IsSweeping q z (Deleting k ks) m = (gone : List (List ℕ)) × (gone ++ k ∷ ks ≡ keys_below q z) × (m ≡ without z gone)
+IsSweeping q z (Listing keys) m = (m ≡ z) × IsWalking q z keys
+IsSweeping q z (Deleting k ks) m = IsDeleting z (keys_below q z) (k ∷ ks) m
 
 -- it goes on, or all of them are deleted
 abbrev pub IsSwept : List ℕ → Objects → Option Sweep → Objects → Type 0
@@ -117,38 +136,26 @@ without_append : (m : Objects) (ks qs : List (List ℕ)) → without m (ks ++ qs
 without_append m [] qs = refl
 without_append m (k ∷ ks) qs = without_append (fin.remove m k) ks qs
 
-module _ (q : List ℕ) (z : Objects) where
+-- ---- batches
+
+-- a batch is never over the limit
+within : (l : List (List ℕ)) → nat_lt 1000 (length (take 1000 l)) ≡ false
+within l = by (nat_lt 1000 (length (take 1000 l))) refl
+  where
+    by : (b : Bool) → nat_lt 1000 (length (take 1000 l)) ≡ b → nat_lt 1000 (length (take 1000 l)) ≡ false
+    by false e = e
+    by true e = let h = is_less 1000 (length (take 1000 l)) e in absurd (omega (arith, h, length-take 1000 l))
+
+pub batch_deletes : (l : List (List ℕ)) (m : Objects) → edited (DropAll (take 1000 l)) m ≡ without m (take 1000 l)
+batch_deletes l m = ap (λ c. cond c m (without m (take 1000 l))) (within l)
+
+module _ (z : Objects) (all : List (List ℕ)) where
   -- keys that are to go from the start
-  delete_all : (ks : List (List ℕ)) → ks ≡ keys_below q z → IsSwept q z (deleting ks) z
-  delete_all [] e = ap (without z) e
-  delete_all (k ∷ ks) e = ([], e, refl)
+  pub deleting_all : (ks : List (List ℕ)) → ks ≡ all → IsDeleted z all (deleting ks) z
+  deleting_all [] e = ap (without z) e
+  deleting_all (k ∷ ks) e = ([], e, refl)
 
-  paged : (keys : List (List ℕ)) (l : List PageEntry) → listed q false (last_of keys) z ≡ l → keys ++ keys_on (listed q false (last_of keys) z) ≡ keys_below q z
-      → (c : Bool) → nat_lt 1000 (length l) ≡ c → IsSwept q z (swept all_go (walked_by c (keys ++ keys_on (take 1000 l)))) z
-  paged keys l e h true t = (
-    refl,
-    ap (λ a. (keys ++ keys_on (take 1000 l)) ++ keys_on (listed q false a z)) (last_append keys (keys_on (take 1000 l)))
-        ∙ ap (λ x. (keys ++ keys_on (take 1000 l)) ++ keys_on x) (behind_page q (last_of keys) z 1000 l e)
-        ∙ append_assoc keys (keys_on (take 1000 l)) (keys_on (drop 1000 l))
-        ∙ ap (λ x. keys ++ x) (sym (map_append (take 1000 l) (drop 1000 l)) ∙ ap keys_on (take-append-drop 1000 l))
-        ∙ ap (λ x. keys ++ keys_on x) (sym e) ∙ h,
-  )
-  paged keys l e h false t =
-      delete_all (filter all_go (keys ++ keys_on (take 1000 l)))
-      (filter_all (keys ++ keys_on (take 1000 l)) ∙ ap (λ x. keys ++ keys_on x) (take_all 1000 l (not_less 1000 (length l) t) ∙ sym e) ∙ h)
-
-  -- a batch is never over the limit
-  within : (l : List (List ℕ)) → nat_lt 1000 (length (take 1000 l)) ≡ false
-  within l = by (nat_lt 1000 (length (take 1000 l))) refl
-    where
-      by : (b : Bool) → nat_lt 1000 (length (take 1000 l)) ≡ b → nat_lt 1000 (length (take 1000 l)) ≡ false
-      by false e = e
-      by true e = let h = is_less 1000 (length (take 1000 l)) e in absurd (omega (arith, h, length-take 1000 l))
-
-  pub batch_deletes : (l : List (List ℕ)) (m : Objects) → edited (DropAll (take 1000 l)) m ≡ without m (take 1000 l)
-  batch_deletes l m = ap (λ c. cond c m (without m (take 1000 l))) (within l)
-
-  rest_goes : (gone l r : List (List ℕ)) (m : Objects) → drop 1000 l ≡ r → gone ++ l ≡ keys_below q z → m ≡ without z gone → IsSwept q z (deleting r) (without m (take 1000 l))
+  rest_goes : (gone l r : List (List ℕ)) (m : Objects) → drop 1000 l ≡ r → gone ++ l ≡ all → m ≡ without z gone → IsDeleted z all (deleting r) (without m (take 1000 l))
   rest_goes gone l [] m e h f =
       ap (λ m. without m (take 1000 l)) f ∙ sym (without_append z gone (take 1000 l))
       ∙ ap (without z) (ap (λ x. gone ++ x) (sym (append-nil (take 1000 l)) ∙ ap (λ x. take 1000 l ++ x) (sym e) ∙ take-append-drop 1000 l) ∙ h)
@@ -158,14 +165,41 @@ module _ (q : List ℕ) (z : Objects) where
     ap (λ m. without m (take 1000 l)) f ∙ sym (without_append z gone (take 1000 l)),
   )
 
+  -- a batch leads on
+  pub batch_goes : (l : List (List ℕ)) (m : Objects) → IsDeleting z all l m → IsDeleted z all (deleting (drop 1000 l)) (edited (DropAll (take 1000 l)) m)
+  batch_goes l m h = subst (IsDeleted z all (deleting (drop 1000 l))) (sym (batch_deletes l m)) (rest_goes h.0 l (drop 1000 l) m refl h.1 h.2)
+
+-- ---- the honest replies
+
+module _ (q : List ℕ) (z : Objects) where
+  paged : (keys : List (List ℕ)) (l : List PageEntry) → listed q false (last_of keys) z ≡ l → IsWalking q z keys
+      → (c : Bool) → nat_lt 1000 (length l) ≡ c → IsWalked q z (walked_by c (keys ++ keys_on (take 1000 l)))
+  paged keys l e h true t =
+      ap (λ a. (keys ++ keys_on (take 1000 l)) ++ keys_on (listed q false a z)) (last_append keys (keys_on (take 1000 l)))
+      ∙ ap (λ x. (keys ++ keys_on (take 1000 l)) ++ keys_on x) (behind_page q (last_of keys) z 1000 l e)
+      ∙ append_assoc keys (keys_on (take 1000 l)) (keys_on (drop 1000 l))
+      ∙ ap (λ x. keys ++ x) (sym (map_append (take 1000 l) (drop 1000 l)) ∙ ap keys_on (take-append-drop 1000 l))
+      ∙ ap (λ x. keys ++ keys_on x) (sym e) ∙ h
+  paged keys l e h false t = ap (λ x. keys ++ keys_on x) (take_all 1000 l (not_less 1000 (length l) t) ∙ sym e) ∙ h
+
+  -- a page keeps a walk
+  pub walk_goes : (keys : List (List ℕ)) → IsWalking q z keys → IsWalked q z (walked keys (reply_in z (Page q false (last_of keys) 1000)))
+  walk_goes keys h = paged keys (listed q false (last_of keys) z) refl h (nat_lt 1000 (length (listed q false (last_of keys) z))) refl
+
+  swept_batch : (ks : List (List ℕ)) (m : Objects) → IsDeleted z (keys_below q z) (deleting ks) m → IsSwept q z (deleting ks) m
+  swept_batch [] m h = h
+  swept_batch (k ∷ ks) m h = h
+
+  swept_walk : (w : Walked (List ℕ)) → IsWalked q z w → IsSwept q z (swept all_go w) z
+  swept_walk (More keys) h = (refl, h)
+  swept_walk (Whole keys) h = swept_batch (filter all_go keys) z (deleting_all z (keys_below q z) (filter all_go keys) (filter_all keys ∙ h))
+
   -- the honest reply keeps it
   pub sweep_goes : (w : Sweep) (m : Objects) → IsSweeping q z w m → IsSwept q z (sweep_hears all_go w (reply_in m (sweep_asks q w))) (edited (sweep_asks q w) m)
   sweep_goes (Listing keys) m h =
       subst (λ m. IsSwept q z (sweep_hears all_go (Listing keys) (reply_in m (Page q false (last_of keys) 1000))) m) (sym h.0)
-      (paged keys (listed q false (last_of keys) z) refl h.1 (nat_lt 1000 (length (listed q false (last_of keys) z))) refl)
-  sweep_goes (Deleting k ks) m h =
-      subst (IsSwept q z (deleting (drop 1000 (k ∷ ks)))) (sym (batch_deletes (k ∷ ks) m))
-      (rest_goes h.0 (k ∷ ks) (drop 1000 (k ∷ ks)) m refl h.1 h.2)
+      (swept_walk (walked keys (reply_in z (Page q false (last_of keys) 1000))) (walk_goes keys h.1))
+  sweep_goes (Deleting k ks) m h = swept_batch (drop 1000 (k ∷ ks)) (edited (DropAll (take 1000 (k ∷ ks))) m) (batch_goes z (keys_below q z) (k ∷ ks) m h)
 
   pub sweep_fits : (w : Sweep) (m : Objects) → fits (reply_in m (sweep_asks q w)) ≡ true
   sweep_fits (Listing keys) m = page_fits 1000 q (last_of keys) m
@@ -193,8 +227,13 @@ less_deleting : (q : List ℕ) (m : Objects) (l : List (List ℕ)) (n : ℕ) →
 less_deleting q m [] n h = omega (arith, h)
 less_deleting q m (k ∷ ks) n h = h
 
+-- a walk has less left; and all keys are fewer than it had left
+abbrev pub LessWalked : List ℕ → Objects → Walked (List ℕ) → ℕ → Type 0
+LessWalked q m (More keys) n = sweep_left q (Listing keys) m < n
+LessWalked q m (Whole keys) n = length keys < n
+
 less_paged : (q : List ℕ) (m : Objects) (keys : List (List ℕ)) (l : List PageEntry) → listed q false (last_of keys) m ≡ l → (c : Bool) → nat_lt 1000 (length l) ≡ c
-    → LessLeft q m (swept all_go (walked_by c (keys ++ keys_on (take 1000 l)))) (1 + length keys + 2 * length l)
+    → LessWalked q m (walked_by c (keys ++ keys_on (take 1000 l))) (1 + length keys + 2 * length l)
 less_paged q m keys l e true t =
     let a = length-append keys (keys_on (take 1000 l)) in
     let b = length_keys (take 1000 l) in
@@ -204,15 +243,20 @@ less_paged q m keys l e true t =
     let g = is_less 1000 (length l) t in
     omega (arith, a, b, c, d, f, g)
 less_paged q m keys l e false t =
-    less_deleting q m (filter all_go (keys ++ keys_on (take 1000 l))) (1 + length keys + 2 * length l)
-    (let a = ap length (filter_all (keys ++ keys_on (take 1000 l))) in
     let b = length-append keys (keys_on (take 1000 l)) in
     let c = length_keys (take 1000 l) in
     let d = length-take 1000 l in
-    omega (arith, a, b, c, d))
+    omega (arith, b, c, d)
+
+pub walk_falls : (q : List ℕ) (keys : List (List ℕ)) (m : Objects) → LessWalked q m (walked keys (reply_in m (Page q false (last_of keys) 1000))) (sweep_left q (Listing keys) m)
+walk_falls q keys m = less_paged q m keys (listed q false (last_of keys) m) refl (nat_lt 1000 (length (listed q false (last_of keys) m))) refl
+
+less_swept : (q : List ℕ) (m : Objects) (w : Walked (List ℕ)) (n : ℕ) → LessWalked q m w n → LessLeft q m (swept all_go w) n
+less_swept q m (More keys) n h = h
+less_swept q m (Whole keys) n h = less_deleting q m (filter all_go keys) n (let a = ap length (filter_all keys) in omega (arith, a, h))
 
 pub sweep_falls : (q : List ℕ) (w : Sweep) (m : Objects) → LessLeft q (edited (sweep_asks q w) m) (sweep_hears all_go w (reply_in m (sweep_asks q w))) (sweep_left q w m)
-sweep_falls q (Listing keys) m = less_paged q m keys (listed q false (last_of keys) m) refl (nat_lt 1000 (length (listed q false (last_of keys) m))) refl
+sweep_falls q (Listing keys) m = less_swept q m (walked keys (reply_in m (Page q false (last_of keys) 1000))) (sweep_left q (Listing keys) m) (walk_falls q keys m)
 sweep_falls q (Deleting k ks) m = less_deleting q (edited (DropAll (take 1000 (k ∷ ks))) m) (drop 1000 (k ∷ ks)) (length (k ∷ ks)) (let a = length-drop 1000 (k ∷ ks) in omega (arith, a))
 
 pub sweep_stays : (q : List ℕ) (w : Sweep) (m : Objects) → sweep_left q w (edited (sweep_asks q w) m) ≡ sweep_left q w m

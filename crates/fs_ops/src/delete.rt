@@ -113,8 +113,8 @@ fn on_parent(marker: Key, seen: Look) -> Step<DeleteStage, Answer>
     }
 }
 
-/// Whether a sweep may be told a reply.
-fn fits(reply: &Reply) -> bool
+/// Whether a walk or a sweep may be told a reply. Takes no memory.
+pub fn fits(reply: &Reply) -> bool
     ensures { result ≡ fits reply.now }
 {
     fits_page(reply)
@@ -263,7 +263,7 @@ impl Phases for DeleteNames {
 }
 
 /// The marker of the directory above a path, unless that is the root.
-fn marker_above(alloc: Global, path: &S3Path) -> Result<Option<Key>, AllocError>
+pub fn marker_above(alloc: Global, path: &S3Path) -> Result<Option<Key>, AllocError>
     ensures { IfOk result (λ marker. marker ≡ marker_if (parent path.now.key)) }
 {
     match path.parent(alloc)? {

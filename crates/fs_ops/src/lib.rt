@@ -12,8 +12,8 @@ mod read;
 mod stat;
 
 pub use above::keys_above;
-pub use delete::DeletePath;
-pub use list::ListDir;
+pub use delete::{DeletePath, fits, marker_above};
+pub use list::{ListDir, last_element, rest_of};
 pub use make_dirs::MakeDirs;
 pub use place::Place;
 pub use read::ReadFile;

@@ -71,8 +71,8 @@ fn has_file(found: &[DirEntry], name: &Text) -> bool
         .any(|entry| is_file(entry.status) && entry.name == *name)
 }
 
-/// What stands behind a prefix in a text that begins so.
-fn rest_of<'t>(prefix: &str, text: &'t str) -> Option<&'t str>
+/// What stands behind a prefix in a text that begins so. Takes no memory.
+pub fn rest_of<'t>(prefix: &str, text: &'t str) -> Option<&'t str>
     ensures { option_map (λ r. r.now) result ≡ rest_of prefix.now text.now }
 {
     text.strip_prefix(prefix)
@@ -173,7 +173,7 @@ fn add_all(
 }
 
 /// The last element of a key.
-fn last_element(alloc: Global, key: &str) -> Result<Text, AllocError>
+pub fn last_element(alloc: Global, key: &str) -> Result<Text, AllocError>
     ensures { IfOk result (λ name. name ≡ own_name key.now) }
 {
     match key.rsplit_once('/') {

@@ -1,4 +1,4 @@
-use Rattle.fs_ops.proofs.Fits.{page_fits_so}
+use Rattle.fs_ops.proofs.Fitting.{page_fits_so}
 use Rattle.fs_ops.proofs.delete.fits.Goals as goal
 
 pub returns : goal.returns

@@ -1,4 +1,4 @@
-use Rattle.fs_ops.proofs.Fits.{sweep_fits_so}
+use Rattle.fs_ops.proofs.Fitting.{sweep_fits_so}
 use Rattle.fs_ops.proofs.delete.DeleteNames.on_sweep.Goals as goal
 
 pub hear-requires : goal.hear-requires
