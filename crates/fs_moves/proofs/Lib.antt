@@ -1,0 +1,4 @@
+pub mod CopyLaws
+pub mod Whole
+pub mod NewKeys
+pub mod Placed

@@ -1,0 +1,25 @@
+-- What keys become where they move to another place (Hadoop, S3A: renaming).
+use Rattle.std.specs.Prelude.{ℕ, cond, List, [], ◌∷◌, ◌++◌, Option, Some, None, Result, Ok, Err}
+use Rattle.fs_tree.specs.Moves.{is_too_long}
+use Rattle.fs_ops.specs.List.{rest_of}
+
+-- a key, unless it is over its limit
+abbrev pub fitting : List ℕ → Option (List ℕ)
+fitting k = cond (is_too_long k) None (Some k)
+
+abbrev pub new_by : Option (List ℕ) → List ℕ → List ℕ → List ℕ
+new_by (Some rest) to k = to ++ rest
+new_by None to k = k
+
+-- what a key has behind a text it has behind another; a key that does not begin so stays
+abbrev pub new_key : List ℕ → List ℕ → List ℕ → List ℕ
+new_key from to k = new_by (rest_of from k) to k
+
+abbrev pub with_front : List (List ℕ) → Result (List (List ℕ)) (List ℕ) → Result (List (List ℕ)) (List ℕ)
+with_front front (Ok qs) = Ok (front ++ qs)
+with_front front (Err k) = Err k
+
+-- what all keys become, or the first that would be over the limit
+abbrev pub new_keys : List ℕ → List ℕ → List (List ℕ) → Result (List (List ℕ)) (List ℕ)
+new_keys from to [] = Ok []
+new_keys from to (k ∷ ks) = cond (is_too_long (new_key from to k)) (Err k) (with_front (new_key from to k ∷ []) (new_keys from to ks))
