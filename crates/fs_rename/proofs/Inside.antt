@@ -1,0 +1,128 @@
+-- The new place inside a directory, and the paths above the target.
+use Rattle.std.proofs.Common.{◌≡◌, inl, inr, ℕ, suc, ◌<◌, ◌&&◌, ◌==◌, Bool, true, false, List, [], ◌∷◌, ◌++◌, length, Option, Some, None, Result, IfOk, refl, sym, ap, subst, ◌∙◌, arith, if◌then◌else◌}
+use Rattle.std.specs.List.{list_all}
+use Rattle.std.proofs.lemmas.Bool.{false≢true, true≢false, eqb-true}
+use Rattle.std.proofs.lemmas.List.Folds.{list_all-append}
+use Rattle.words.specs.Parts.{parts_of}
+use Rattle.words.proofs.Pieces.{one_part, parts_append}
+use Rattle.s3_types.specs.Names.{are_elements, is_element}
+use Rattle.path_keys.specs.Paths.{Path, is_key, parent_of}
+use Rattle.path_keys.proofs.Keys.{some_key}
+use Rattle.path_keys.proofs.Last.{parts_round, before_none}
+use Rattle.path_keys.proofs.Beneath.{below_elements}
+use Rattle.request_frame.proofs.Members.{none_some, some_is}
+use Rattle.fs_tree.specs.Tree.{is_marker}
+use Rattle.fs_tree.specs.Changes.{parent, last_of, own_name}
+use Rattle.fs_tree.specs.Moves.{inside}
+use Rattle.fs_tree.proofs.Begins.{both, marker_is}
+use Rattle.fs_tree.proofs.Above.{Cut, cut, marker_ends}
+use Rattle.fs_ops.specs.Places.{key_if, prefix_of}
+use Rattle.fs_rename.specs.Rename.{place_by}
+
+not_zero : (n : ℕ) → (suc n == 0) ≡ true → ⊥
+not_zero n e = let z = eqb-true (suc n) 0 e in absurd (omega (arith, z))
+
+some_long : (s : List ℕ) → (length s == 0) ≡ false → 0 < length s
+some_long [] h = absurd (true≢false h)
+some_long (x ∷ s) h = omega arith
+
+-- ---- elements
+
+-- they do not end in `/`
+pub no_marker : (q : List ℕ) → are_elements q ≡ true → is_marker q ≡ false
+no_marker q k = by (is_marker q) refl
+  where
+    by : (b : Bool) → is_marker q ≡ b → is_marker q ≡ false
+    by false e = e
+    by true e =
+        let w = marker_ends q e in
+        let parts = ap (parts_of 47) w.1 ∙ parts_append 47 w.0 [] ∙ ap (λ (l : List (List ℕ)). parts_of 47 w.0 ++ l) (one_part 47 [] refl) in
+        let all : (list_all is_element (parts_of 47 w.0) && false) ≡ true = sym (ap (list_all is_element) parts ∙ list_all-append is_element (parts_of 47 w.0) ([] ∷ [])) ∙ k in
+        absurd (false≢true (both (list_all is_element (parts_of 47 w.0)) false all).1)
+
+-- there is at least one
+key_is : (q : List ℕ) → are_elements q ≡ true → key_if q ≡ Some q
+key_is [] h = absurd (false≢true (sym (ap (list_all is_element) (one_part 47 [] refl)) ∙ h))
+key_is (x ∷ q) h = refl
+
+-- ---- the last element of a path
+
+last_end : (ps : List (List ℕ)) (p : List ℕ) → last_of (ps ++ p ∷ []) ≡ p
+last_end [] p = refl
+last_end (q ∷ []) p = refl
+last_end (q ∷ r ∷ ps) p = last_end (r ∷ ps) p
+
+own_elements : (p : List ℕ) → are_elements p ≡ true → are_elements (own_name p) ≡ true
+own_elements p k = by (cut p)
+  where
+    by : Cut p → are_elements (own_name p) ≡ true
+    by (inl n) = ap are_elements (ap last_of (one_part 47 p n)) ∙ k
+    by (inr c) =
+        let e = parts_round p c.0 c.1 c.2 c.3 in
+        let name : own_name p ≡ c.1 = ap last_of e ∙ last_end (parts_of 47 c.0) c.1 in
+        let all = sym (ap (list_all is_element) e ∙ list_all-append is_element (parts_of 47 c.0) (c.1 ∷ [])) ∙ k in
+        ap are_elements name ∙ ap (list_all is_element) (one_part 47 c.1 c.3) ∙ (both (list_all is_element (parts_of 47 c.0)) (list_all is_element (c.1 ∷ [])) all).1
+
+-- the path inside the target has elements alone
+pub inside_elements : (s t : List ℕ) → 0 < length s → is_key s ≡ true → is_key t ≡ true → are_elements (inside s t) ≡ true
+inside_elements s t some k h = below_elements t (own_name s) h (own_elements s (some_key s some k).0)
+
+pub inside_text : (s t name text : List ℕ) → (length s == 0) ≡ false → is_key s ≡ true → is_key t ≡ true → name ≡ own_name s → text ≡ inside s t → are_elements text ≡ true
+inside_text s t name text f k h n e = ap are_elements e ∙ inside_elements s t (some_long s f) k h
+
+-- ---- the new places
+
+pub target_elements : (t : List ℕ) → (length t == 0) ≡ false → is_key t ≡ true → are_elements t ≡ true
+target_elements t f k = (some_key t (some_long t f) k).0
+
+pub root_none : (s t : List ℕ) (i : Bool) → (length s == 0) ≡ true → place_by s t i ≡ None
+root_none [] t i h = refl
+root_none (x ∷ s) t i h = absurd (not_zero (length s) h)
+
+pub target_none : (s t : List ℕ) → (length t == 0) ≡ true → place_by s t false ≡ None
+target_none [] t h = refl
+target_none (x ∷ s) [] h = refl
+target_none (x ∷ s) (y ∷ t) h = absurd (not_zero (length t) h)
+
+pub target_some : (s t : List ℕ) → (length s == 0) ≡ false → (length t == 0) ≡ false → place_by s t false ≡ Some t
+target_some [] t f g = absurd (true≢false f)
+target_some (x ∷ s) [] f g = absurd (true≢false g)
+target_some (x ∷ s) (y ∷ t) f g = refl
+
+pub inside_some : (s t : List ℕ) → (length s == 0) ≡ false → is_key s ≡ true → is_key t ≡ true → place_by s t true ≡ Some (inside s t)
+inside_some [] t f k h = absurd (true≢false f)
+inside_some (x ∷ s) t f k h = key_is (inside (x ∷ s) t) (inside_elements (x ∷ s) t (omega arith) k h)
+
+-- ---- the path above a path
+
+abbrev above_by : Bool → Path → Option Path
+above_by b p = if b then None else Some (record { bucket = p.bucket; key = parent p.key })
+
+pub above_some : (p : Path) (o : Option Path) (q : Path) → o ≡ parent_of p → o ≡ Some q → q.key ≡ parent p.key
+above_some p o q e f = by (length p.key == 0) (sym e ∙ f)
+  where
+    by : (b : Bool) → above_by b p ≡ Some q → q.key ≡ parent p.key
+    by true h = absurd (none_some refl h)
+    by false h = sym (ap (λ (q : Path). q.key) (some_is h))
+
+zero_not : (n : ℕ) → (suc n == 0) ≡ false
+zero_not n = by (suc n == 0) refl
+  where
+    by : (b : Bool) → (suc n == 0) ≡ b → (suc n == 0) ≡ false
+    by false e = e
+    by true e = absurd (not_zero n e)
+
+pub above_none : (p : Path) (o : Option Path) → o ≡ parent_of p → o ≡ None → p.key ≡ parent p.key
+above_none p o e f = by p.key refl (sym e ∙ f)
+  where
+    by : (k : List ℕ) → p.key ≡ k → above_by (length k == 0) p ≡ None → p.key ≡ parent p.key
+    by [] i h = i ∙ before_none [] refl ∙ ap parent (sym i)
+    by (x ∷ k) i h = absurd (none_some h (ap (λ b. above_by b p) (zero_not (length k))))
+
+pub is_above : {E : Type 0} (r : Result (List ℕ) E) (a b : List ℕ) → IfOk r (λ n. n ≡ a) → a ≡ b → IfOk r (λ n. n ≡ b)
+is_above r a b h e = subst (λ a. IfOk r (λ n. n ≡ a)) e h
+
+-- what has a new place is below a marker
+pub place_marker : (s t q : List ℕ) (i : Bool) → place_by s t i ≡ Some q → is_marker (prefix_of s) ≡ true
+place_marker [] t q i h = absurd (none_some refl h)
+place_marker (x ∷ s) t q i h = marker_is (x ∷ s)

@@ -1,0 +1,158 @@
+-- A renaming, in the tree.
+use Rattle.std.proofs.Common.{◌≡◌, ◌⊎◌, inl, inr, ℕ, Bool, true, false, List, [], ◌∷◌, take, Option, Some, None, Ok, Err, refl, sym, ap, subst, ◌∙◌, arith}
+use Rattle.s3_types.specs.Store.{Objects, Scene}
+use Rattle.s3_types.specs.Pages.{begins}
+use Rattle.s3_types.specs.Answer.{without}
+use Rattle.request_frame.specs.Members.{IsIn}
+use Rattle.request_frame.proofs.Members.{none_some, in_front}
+use Rattle.path_keys.specs.Paths.{is_key}
+use Rattle.bucket_ops.specs.Asks.{objects_at}
+use Rattle.bucket_ops.specs.AskLaws.{with_same}
+use Rattle.bucket_ops.specs.Phases.{InScene, GivesIn, AlwaysIn}
+use Rattle.dir_markers.specs.Markers.{marker_of}
+use Rattle.fs_tree.specs.declared.rename.RenameRefusal.TheVariants.{NoSuchBucket}
+use Rattle.fs_tree.specs.Tree.{is_marker, HasDir, HasFile, IsDirectory, IsAbsent}
+use Rattle.fs_tree.specs.Changes.{parent, marker_if, IsMarked}
+use Rattle.fs_tree.specs.Moves.{inside, IsPlace, IsFreePlace, IsFileMoved, IsDirMoved, IsWhole, MayStand}
+use Rattle.fs_tree.specs.Renames.{RenamesFile, RenamesDir, Renames}
+use Rattle.fs_tree.proofs.Begins.{begins_trans}
+use Rattle.fs_tree.proofs.Above.{key_no_marker}
+use Rattle.fs_tree.proofs.Moving.{place_above, place_apart, moves_file, moves_dir}
+use Rattle.fs_ops.specs.Sweeping.{IsDeleting}
+use Rattle.fs_moves.specs.Copies.{Move, sources, copied_all, AreFree, moves_of}
+use Rattle.fs_moves.proofs.Whole.{AreWhole, whole_copying, whole_emptying, whole_marked, is_whole}
+use Rattle.fs_moves.proofs.Placed.{file_free, file_to, file_from, file_apart, file_moved, dir_free, dir_to, dir_from, dir_apart, dir_moved}
+use Rattle.fs_rename.specs.Rename.{Renaming, Answer}
+use Rattle.fs_rename.specs.Meaning.{IsSource, MayGo, moved, gives, IsOnWay, always}
+use Rattle.fs_rename.proofs.Inside.{no_marker, inside_elements}
+
+-- ---- the source is not the root
+
+no_root : (d : Bool) (z : Objects) → IsSource d z [] → ⊥
+no_root true z h = h.0
+no_root false z h = h.1
+
+-- ---- at any moment
+
+-- some moves are made, or all are and of the old keys some are deleted, or all are and the marker is put where it is due
+whole_of : (u : Option (List ℕ)) (z : Objects) (ps : List Move) (m : Objects) → AreFree z ps → ((k : List ℕ) → u ≡ Some k → IsIn k (sources ps) → ⊥)
+    → ((n : ℕ) × (m ≡ copied_all z (take n ps))) ⊎ (((left : List (List ℕ)) × IsDeleting (copied_all z ps) (sources ps) left m) ⊎ IsMarked u (without (copied_all z ps) (sources ps)) m)
+    → AreWhole u z ps m
+whole_of u z ps m h a (inl w) = subst (AreWhole u z ps) (sym w.1) (whole_copying u z ps h w.0)
+whole_of u z ps m h a (inr (inl w)) = subst (AreWhole u z ps) (sym w.1.2) (whole_emptying u z ps h w.1.0 (λ k i. subst (IsIn k) w.1.1 (in_front k w.1.0 w.0 i)))
+whole_of u z ps m h a (inr (inr g)) = whole_marked u z ps h m a g
+
+module _ (x : ℕ) (p t : List ℕ) (z : Objects) where
+  abbrev O : Renaming
+  O = record { source = x ∷ p; target = t }
+
+  file_whole : (y : ℕ) (q : List ℕ) (m : Objects) → is_marker (x ∷ p) ≡ false → HasFile z (x ∷ p) → IsAbsent z (y ∷ q) → IsOnWay O z false (y ∷ q) m → IsWhole (x ∷ p) (y ∷ q) z m
+  file_whole y q m f h a w =
+      is_whole (x ∷ p) (y ∷ q) z m (moves_of false (x ∷ p) (y ∷ q) z) (file_to z x p y q h) (file_from z x p y q h)
+      (whole_of (marker_if (parent (x ∷ p))) z (moves_of false (x ∷ p) (y ∷ q) z) m (file_free z x p y q h a.0) (file_apart z x p y q f) w)
+
+  dir_whole : (y : ℕ) (q : List ℕ) (m : Objects) → IsDirectory z (x ∷ p) → IsAbsent z (y ∷ q) → IsOnWay O z true (y ∷ q) m → IsWhole (x ∷ p) (y ∷ q) z m
+  dir_whole y q m h a w =
+      is_whole (x ∷ p) (y ∷ q) z m (moves_of true (x ∷ p) (y ∷ q) z) (dir_to z x p y q h) (dir_from z x p y q h)
+      (whole_of (marker_if (parent (x ∷ p))) z (moves_of true (x ∷ p) (y ∷ q) z) m (dir_free z x p y q a.1) (dir_apart z x p y q) w)
+
+  whole : (d i : Bool) (q : List ℕ) (m : Objects) → is_marker (x ∷ p) ≡ false → MayGo O z d i q → IsOnWay O z d q m → IsWhole (x ∷ p) q z m
+  whole d i [] m f g w = absurd g.ready.free
+  whole false i (y ∷ q) m f g w = file_whole y q m f g.ready.begun.source g.ready.free w
+  whole true i (y ∷ q) m f g w = dir_whole y q m g.ready.begun.source g.ready.free w
+
+  stands : (d : Bool) → IsSource d z (x ∷ p) → HasFile z (x ∷ p) ⊎ IsDirectory z (x ∷ p)
+  stands true h = inr h
+  stands false h = inl h
+
+  free_place : (d i : Bool) (q : List ℕ) → MayGo O z d i q → IsFreePlace z (x ∷ p) t q
+  free_place d i q g = record { source = record { stands = stands d g.ready.begun.source; apart = g.ready.begun.apart }; place = g.ready.place; free = g.ready.free }
+
+  may_stand : (m : Objects) → is_marker (x ∷ p) ≡ false → always O z m → MayStand (x ∷ p) t z m
+  may_stand m f (inl e) = inl e
+  may_stand m f (inr h) = inr (h.2, free_place h.0 h.1 h.2 h.3, whole h.0 h.1 h.2 m f h.3 h.4)
+
+  -- ---- at the end
+
+  renames_file : (y : ℕ) (q : List ℕ) (n m : Objects) → n ≡ moved O z false (y ∷ q) → is_marker (x ∷ p) ≡ false → is_marker (y ∷ q) ≡ false → HasFile z (x ∷ p) → IsAbsent z (y ∷ q) → HasDir z (parent (y ∷ q)) → IsMarked (marker_if (parent (x ∷ p))) n m → RenamesFile (x ∷ p) (y ∷ q) z m
+  renames_file y q n m e f g h a up w =
+      let is_moved : IsFileMoved (x ∷ p) (y ∷ q) z n = subst (IsFileMoved (x ∷ p) (y ∷ q) z) (sym e) (file_moved z x p y q (file_free z x p y q h a.0)) in
+      record { file = h; tree = moves_file (x ∷ p) (y ∷ q) z n m is_moved w a.0 up f g h; moved = n; placed = is_moved; marked = w }
+
+  not_above : (y : ℕ) (q : List ℕ) → IsDirectory z (x ∷ p) → IsAbsent z (y ∷ q) → begins (marker_of (y ∷ q)) (marker_of (x ∷ p)) ≡ true → ⊥
+  not_above y q h a b = none_some (a.1 h.1.0 (begins_trans (marker_of (y ∷ q)) (marker_of (x ∷ p)) h.1.0 b h.1.1)) h.1.3
+
+  renames_dir : (y : ℕ) (q : List ℕ) (n m : Objects) → n ≡ moved O z true (y ∷ q) → IsFreePlace z (x ∷ p) t (y ∷ q) → IsDirectory z (x ∷ p) → HasDir z (parent (y ∷ q)) → IsMarked (marker_if (parent (x ∷ p))) n m → RenamesDir (x ∷ p) (y ∷ q) z m
+  renames_dir y q n m e g h up w =
+      let is_moved : IsDirMoved (x ∷ p) (y ∷ q) z n =
+      subst (IsDirMoved (x ∷ p) (y ∷ q) z) (sym e)
+      (dir_moved z x p y q (dir_free z x p y q g.free.1) g.free.1 (place_apart z x p t (y ∷ q) g.source g.place g.free) (not_above y q h g.free)) in
+      record { directory = h; tree = moves_dir x p y q z n m is_moved w g.free.1 up h.1; moved = n; placed = is_moved; marked = w }
+
+  place_no_marker : (q : List ℕ) → is_key (x ∷ p) ≡ true → is_key t ≡ true → IsPlace z (x ∷ p) t q → is_marker q ≡ false
+  place_no_marker q k l (inl h) = ap is_marker h.1 ∙ no_marker (inside (x ∷ p) t) (inside_elements (x ∷ p) t (omega arith) k l)
+  place_no_marker q k l (inr h) = ap is_marker h.2 ∙ at t l h.0
+    where
+      at : (t : List ℕ) → is_key t ≡ true → IsAbsent z t → is_marker t ≡ false
+      at [] l a = absurd a
+      at (v ∷ t) l a = key_no_marker v t l
+
+  renames_by : (d i : Bool) (q : List ℕ) (n m : Objects) → is_key (x ∷ p) ≡ true → is_key t ≡ true → MayGo O z d i q → n ≡ moved O z d q → IsMarked (marker_if (parent (x ∷ p))) n m → RenamesFile (x ∷ p) q z m ⊎ RenamesDir (x ∷ p) q z m
+  renames_by d i [] n m k l g e w = absurd g.ready.free
+  renames_by false i (y ∷ q) n m k l g e w =
+      inl (renames_file y q n m e (key_no_marker x p k) (place_no_marker (y ∷ q) k l g.ready.place) g.ready.begun.source g.ready.free (place_above z (x ∷ p) t (y ∷ q) g.ready.place) w)
+  renames_by true i (y ∷ q) n m k l g e w =
+      inr (renames_dir y q n m e (free_place true i (y ∷ q) g) g.ready.begun.source (place_above z (x ∷ p) t (y ∷ q) g.ready.place) w)
+
+  path_renames : (a : Answer) (m : Objects) → is_key (x ∷ p) ≡ true → is_key t ≡ true → gives O z a m → Renames (x ∷ p) t z a m
+  path_renames (Ok u) m k l h = (h.1.2, free_place h.1.0 h.1.1 h.1.2 h.1.3, h.1.3.fit, renames_by h.1.0 h.1.1 h.1.2 h.0 m k l h.1.3 h.1.4 h.2)
+  path_renames (Err r) m k l h = h
+
+-- what a renaming gives is what it is in the tree
+renames : (o : Renaming) (z : Objects) (a : Answer) (m : Objects) → is_key o.source ≡ true → is_key o.target ≡ true → gives o z a m → Renames o.source o.target z a m
+renames o z a m k l h = by o.source refl
+  where
+    root : (t : List ℕ) (a : Answer) → gives (record { source = []; target = t }) z a m → Renames [] t z a m
+    root t (Ok u) h = absurd (no_root h.1.0 z h.1.3.ready.begun.source)
+    root t (Err r) h = h
+
+    by : (p : List ℕ) → o.source ≡ p → Renames o.source o.target z a m
+    by [] e = subst (λ p. Renames p o.target z a m) (sym e) (root o.target a (subst (λ p. gives (record { source = p; target = o.target }) z a m) e h))
+    by (x ∷ p) e =
+        subst (λ p. Renames p o.target z a m) (sym e)
+        (path_renames x p o.target z a m (ap is_key (sym e) ∙ k) l (subst (λ p. gives (record { source = p; target = o.target }) z a m) e h))
+
+-- and at any moment each object of the source stands whole
+stand_whole : (o : Renaming) (z m : Objects) → is_key o.source ≡ true → always o z m → MayStand o.source o.target z m
+stand_whole o z m k h = by o.source refl
+  where
+    root : (t : List ℕ) → always (record { source = []; target = t }) z m → MayStand [] t z m
+    root t (inl e) = inl e
+    root t (inr h) = absurd (no_root h.0 z h.3.ready.begun.source)
+
+    by : (p : List ℕ) → o.source ≡ p → MayStand o.source o.target z m
+    by [] e = subst (λ p. MayStand p o.target z m) (sym e) (root o.target (subst (λ p. always (record { source = p; target = o.target }) z m) e h))
+    by (x ∷ p) e =
+        subst (λ p. MayStand p o.target z m) (sym e)
+        (may_stand x p o.target z m (key_no_marker x p (ap is_key (sym e) ∙ k)) (subst (λ p. always (record { source = p; target = o.target }) z m) e h))
+
+-- ---- in the bucket
+
+same_scene : (x : Option Objects) (z s : Scene) (b : List ℕ) (H G : Objects → Objects → Type 0) (N : Type 0) → ((m n : Objects) → H m n → G m n) → InScene x H N z b s → InScene x G N z b s
+same_scene None z s b H G N f h = h
+same_scene (Some m) z s b H G N f h = (h.0, h.1, f m h.0 h.2)
+
+pub renames_in : (b : List ℕ) (o : Renaming) (z : Scene) (a : Answer) (s : Scene) → is_key o.source ≡ true → is_key o.target ≡ true → GivesIn b (gives o) (Err NoSuchBucket) z a s → GivesIn b (Renames o.source o.target) (Err NoSuchBucket) z a s
+renames_in b o z a s k l h =
+    same_scene (objects_at z b) z s b (λ m n. gives o m a n) (λ m n. Renames o.source o.target m a n) (a ≡ Err NoSuchBucket) (λ m n g. renames o m a n k l g) h
+
+pub whole_in : (b : List ℕ) (o : Renaming) (z s : Scene) → is_key o.source ≡ true → AlwaysIn b (always o) z s → AlwaysIn b (MayStand o.source o.target) z s
+whole_in b o z s k h = same_scene (objects_at z b) z s b (λ m n. always o m n) (λ m n. MayStand o.source o.target m n) (Unit {0}) (λ m n g. stand_whole o m n k g) h
+
+-- where nothing was sent, it stands so too
+pub still_in : (b p t : List ℕ) (z : Scene) → AlwaysIn b (MayStand p t) z z
+still_in b p t z = by (objects_at z b) refl
+  where
+    by : (x : Option Objects) → objects_at z b ≡ x → InScene x (λ m n. MayStand p t m n) (Unit {0}) z b z
+    by None e = (refl, tt)
+    by (Some m) e = (m, sym (with_same z b m e), inl refl)

@@ -1,0 +1,175 @@
+ghost use Rattle.std.specs.Prelude.{◌≡◌, true, false, IfOk, Some};
+ghost use Rattle.std.specs.Option.{option_copied};
+ghost use Rattle.bucket_ops.specs.Asks.{request_of};
+ghost use Rattle.fs_tree.specs.Changes.{parent};
+ghost use Rattle.fs_rename.specs.Rename.{place_by, place_at, asks_at, inside_asks, look_at_asks, is_root_at};
+
+use crate::stages::Spot;
+use fs_moves::Base;
+use fs_ops::{Place, last_element, marker_above};
+use path_keys::S3Path;
+use s3_types::{Bucket, Key, PageLimit, Request, Text};
+use std::alloc::{AllocError, Global};
+use std::marker::Model;
+
+/// The source and the target of a renaming, the path above the target, the new places that the source may come
+/// to, whether the target is the source or below it, and the marker of the directory above the source, unless that
+/// is the root.
+#[derive(Drop)]
+pub(crate) struct RenameNames {
+    pub(crate) alloc: Global,
+    pub(crate) source: Place,
+    target: Place,
+    above: Place,
+    to_target: Option<Base>,
+    to_inside: Option<Base>,
+    pub(crate) under: bool,
+    pub(crate) marker: Option<Key>,
+}
+
+impl Model for RenameNames {
+    ghost use Rattle.std.specs.Prelude.{◌≡◌, true, false};
+    ghost use Rattle.s3_types.specs.Pages.{begins};
+    ghost use Rattle.fs_tree.specs.Changes.{parent, marker_if};
+    ghost use Rattle.fs_ops.specs.Places.{prefix_of};
+    ghost use Rattle.fs_rename.specs.Rename.{Renaming, place_by};
+
+    ghost Value = { Renaming };
+
+    ghost view = { λ o. record { source = o.source; target = o.target } };
+
+    ghost invariant = { λ o.
+        (o.above ≡ parent o.target) × (o.to_target ≡ place_by o.source o.target false) × (o.to_inside ≡ place_by o.source o.target true)
+        × (o.under ≡ begins (prefix_of o.source) (prefix_of o.target)) × (o.marker ≡ marker_if (parent o.source)) };
+}
+
+/// The path above a path; the root is above itself.
+fn place_above(alloc: Global, path: &S3Path) -> Result<Place, AllocError>
+    ensures { IfOk result (λ place. place ≡ parent path.now.key) }
+{
+    match path.parent(alloc)? {
+        Some(parent) => Place::of(alloc, &parent),
+        None => Place::of(alloc, path),
+    }
+}
+
+/// The target as a new place; there is none where the source or the target is the root.
+#[tactic(auto, using(crate::proofs::Inside::root_none, crate::proofs::Inside::target_none, crate::proofs::Inside::target_some, crate::proofs::Inside::target_elements))]
+fn target_base(alloc: Global, source: &S3Path, target: &S3Path) -> Result<Option<Base>, AllocError>
+    ensures { IfOk result (λ base. base ≡ place_by source.now.key target.now.key false) }
+{
+    if source.is_root() {
+        return Ok(None);
+    }
+    if target.is_root() {
+        return Ok(None);
+    }
+    Ok(Some(Base::new(alloc, target.key().clone()?)?))
+}
+
+/// The path inside the target that bears the source's last element, as a new place; there is none where the
+/// source is the root.
+#[tactic(auto, using(crate::proofs::Inside::root_none, crate::proofs::Inside::inside_some, crate::proofs::Inside::inside_text))]
+fn inside_base(alloc: Global, source: &S3Path, target: &S3Path) -> Result<Option<Base>, AllocError>
+    ensures { IfOk result (λ base. base ≡ place_by source.now.key target.now.key true) }
+{
+    if source.is_root() {
+        return Ok(None);
+    }
+    let name = last_element(alloc, source.key().as_str())?;
+    let text = target.text_below(alloc, name.as_str())?;
+    Ok(Some(Base::new(alloc, Text::new(alloc, text)?)?))
+}
+
+/// The look whether a file stands at a path, or whether something stands below it.
+fn look(place: &Place, bucket: &Bucket, below: bool) -> Result<Request, AllocError>
+    ensures { IfOk result (λ request. request ≡ request_of bucket.now (asks_at place.now below)) }
+{
+    if below {
+        place.below(bucket, PageLimit::new(1))
+    } else {
+        place.look(bucket)
+    }
+}
+
+/// The same for a path that may be over the limit of keys, by the first key that begins with it.
+fn look_inside(base: &Base, bucket: &Bucket, below: bool) -> Result<Request, AllocError>
+    ensures { IfOk result (λ request. request ≡ request_of bucket.now (inside_asks base.now below)) }
+{
+    let prefix = if below { base.prefix() } else { base.path() };
+    Request::list_page(bucket, prefix, false, &Text::empty(), PageLimit::new(1))
+}
+
+impl RenameNames {
+    pub(crate) fn of(
+        alloc: Global,
+        source: &S3Path,
+        target: &S3Path,
+    ) -> Result<RenameNames, AllocError>
+        ensures { IfOk result (λ names. names ≡ record { source = source.now.key; target = target.now.key }) }
+    {
+        let from = Place::of(alloc, source)?;
+        let to = Place::of(alloc, target)?;
+        let above = place_above(alloc, target)?;
+        let to_target = target_base(alloc, source, target)?;
+        let to_inside = inside_base(alloc, source, target)?;
+        let marker = marker_above(alloc, source)?;
+        let under = to.prefix().starts_with(from.prefix());
+        Ok(RenameNames {
+            alloc,
+            source: from,
+            target: to,
+            above,
+            to_target,
+            to_inside,
+            under,
+            marker,
+        })
+    }
+
+    /// Whether a path that is looked at is the root. Takes no memory.
+    pub(crate) fn is_root(&self, spot: Spot) -> bool
+        ensures { result ≡ is_root_at self.now spot }
+    {
+        match spot {
+            Spot::Source => self.source.is_root(),
+            Spot::Target => self.target.is_root(),
+            Spot::Inside => match &self.to_inside {
+                Some(_) => false,
+                None => true,
+            },
+            Spot::Above => self.above.is_root(),
+        }
+    }
+
+    /// The new place, at the target or inside it. Takes no memory.
+    pub(crate) fn place(&self, inside: bool) -> Option<&Base>
+        ensures { option_copied result ≡ place_at self.now inside }
+    {
+        if inside {
+            self.to_inside.as_ref()
+        } else {
+            self.to_target.as_ref()
+        }
+    }
+
+    /// The request that looks at a path.
+    pub(crate) fn look(
+        &self,
+        bucket: &Bucket,
+        spot: Spot,
+        below: bool,
+    ) -> Result<Request, AllocError>
+        ensures { IfOk result (λ request. request ≡ request_of bucket.now (look_at_asks self.now spot below)) }
+    {
+        match spot {
+            Spot::Source => look(&self.source, bucket, below),
+            Spot::Target => look(&self.target, bucket, below),
+            Spot::Above => look(&self.above, bucket, below),
+            Spot::Inside => match &self.to_inside {
+                Some(base) => look_inside(base, bucket, below),
+                None => look(&self.source, bucket, below),
+            },
+        }
+    }
+}

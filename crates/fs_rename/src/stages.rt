@@ -1,0 +1,457 @@
+ghost use Rattle.std.specs.Prelude.{◌≡◌, false, Some, IfOk, Ok, Err};
+ghost use Rattle.std.specs.Option.{option_copied};
+ghost use Rattle.proof_base.specs.Order.{text_eq};
+ghost use Rattle.s3_types.specs.Pages.{text_in};
+ghost use Rattle.bucket_ops.specs.Asks.{request_of};
+ghost use Rattle.bucket_ops.specs.Looks.{look_of};
+ghost use Rattle.job_operations.specs.Walks.{deleting};
+ghost use Rattle.fs_tree.specs.declared.rename.RenameRefusal.TheVariants.{NoSuchBucket};
+ghost use Rattle.fs_ops.specs.Delete.{entries_in};
+ghost use Rattle.fs_ops.specs.Places.{key_if};
+ghost use Rattle.fs_ops.specs.Sweeping.{fits};
+ghost use Rattle.fs_moves.specs.Keys.{fitting};
+ghost use Rattle.fs_rename.specs.Rename.{first_is, seen_inside, seen_at, kind_of, one_copy, file_to, place_at, go, begun, on_kind, on_source, on_target, on_inside, on_above, found, looked, with_places, listed_to, on_walked, on_walk, up_to, up, swept, on_copied, on_batch, on_parent, first, asks, on, goes, is_root, is_root_at};
+ghost use Rattle.fs_rename.specs.Meaning.{holds, gives, always};
+ghost use Rattle.fs_rename.specs.Steps.{left};
+ghost use Rattle.fs_rename.specs.RenameLaws.{rename_laws};
+
+use crate::names::RenameNames;
+use bucket_ops::{Look, Phases, seen_in};
+use fs_moves::{Base, CopyStep, Copying};
+use fs_ops::fits;
+use fs_tree::RenameRefusal;
+use operations::Step;
+use s3_types::{Bucket, Bytes, Key, KeyList, PageEntry, PageLimit, Reply, Request, Text};
+use std::alloc::AllocError;
+use sweep::{AllKeys, KeyWalk, Sweep};
+
+/// The paths that a renaming looks at: the source, the target, the new place inside the target, and the path above
+/// the target.
+#[derive(Clone, Copy, Debug)]
+pub enum Spot {
+    Source,
+    Target,
+    Inside,
+    Above,
+}
+
+/// What stands at a path.
+#[derive(Clone, Copy, Debug)]
+pub enum Kind {
+    File,
+    Directory,
+    Nothing,
+}
+
+/// Where a renaming stands.
+#[derive(Drop)]
+pub enum RenameStage {
+    /// Whether a file stands at a path, or, where none does, whether something stands below it; and whether the
+    /// source is a directory, once that is known.
+    Look {
+        spot: Spot,
+        below: bool,
+        directory: bool,
+    },
+    /// The keys below the source are listed, for a new place inside the target or at it.
+    Walk {
+        inside: bool,
+        walk: KeyWalk,
+    },
+    /// They are copied to their new keys.
+    Copy(Copying),
+    /// They are deleted.
+    Batch(Sweep),
+    /// Whether something is left below the directory above the source, whose marker this is.
+    Parent(Key),
+    /// The marker of the directory above the source is put.
+    PutMarker(Key),
+}
+
+type Answer = Result<(), RenameRefusal>;
+
+fn is_at(entry: &PageEntry, text: &Text) -> bool
+    ensures { result ≡ text_eq (text_in entry.now) text.now }
+{
+    match entry {
+        PageEntry::Object { key, .. } => key.as_text() == text,
+        PageEntry::Prefix(prefix) => prefix == text,
+    }
+}
+
+/// Whether the first of these entries is the path itself.
+fn first_is(path: &Text, entries: &[PageEntry]) -> Look
+    ensures { result ≡ first_is path.now entries.now }
+{
+    match entries.first() {
+        Some(entry) => {
+            if is_at(entry, path) {
+                Look::There
+            } else {
+                Look::Nothing
+            }
+        }
+        None => Look::Nothing,
+    }
+}
+
+/// What a reply tells of the new place inside the target.
+fn seen_inside(base: &Base, below: bool, reply: &Reply, seen: Look) -> Look
+    requires { seen ≡ look_of reply.now }
+    ensures { result ≡ seen_inside (Some base.now) below reply.now }
+{
+    if below {
+        return seen;
+    }
+    match reply {
+        Reply::Page { entries, .. } => first_is(base.path(), entries.as_slice()),
+        _ => Look::Nothing,
+    }
+}
+
+/// What stands at a path, where that is known.
+fn kind_of(root: bool, below: bool, seen: Look) -> Option<Kind>
+    ensures { result ≡ kind_of root below seen }
+{
+    if root {
+        return Some(Kind::Directory);
+    }
+    match (below, seen) {
+        (false, Look::There) => Some(Kind::File),
+        (false, _) => None,
+        (true, Look::There) => Some(Kind::Directory),
+        (true, _) => Some(Kind::Nothing),
+    }
+}
+
+fn begun(under: bool, directory: bool) -> Step<RenameStage, Answer>
+    ensures { result ≡ begun under directory }
+{
+    if under {
+        Step::End(Err(RenameRefusal::UnderSource))
+    } else {
+        Step::Next(RenameStage::Look {
+            spot: Spot::Target,
+            below: false,
+            directory,
+        })
+    }
+}
+
+fn on_kind(under: bool, kind: Kind) -> Step<RenameStage, Answer>
+    ensures { result ≡ on_kind under kind }
+{
+    match kind {
+        Kind::File => begun(under, false),
+        Kind::Directory => begun(under, true),
+        Kind::Nothing => Step::End(Err(RenameRefusal::SourceMissing)),
+    }
+}
+
+fn on_target(directory: bool, kind: Kind) -> Step<RenameStage, Answer>
+    ensures { result ≡ on_target directory kind }
+{
+    let spot = match kind {
+        Kind::File => return Step::End(Err(RenameRefusal::TargetFile)),
+        Kind::Directory => Spot::Inside,
+        Kind::Nothing => Spot::Above,
+    };
+    Step::Next(RenameStage::Look {
+        spot,
+        below: false,
+        directory,
+    })
+}
+
+fn with_places(keys: KeyList, places: KeyList) -> Step<RenameStage, Answer>
+    ensures { result ≡ with_places keys (Ok places) }
+{
+    if keys.len() == 0 {
+        return Step::End(Err(RenameRefusal::SourceMissing));
+    }
+    Step::Next(RenameStage::Copy(Copying::new(keys, places)))
+}
+
+fn up_to(marker: &Option<Key>) -> Result<Step<RenameStage, Answer>, AllocError>
+    ensures { IfOk result (λ step. step ≡ up_to marker.now) }
+{
+    match marker {
+        Some(marker) => Ok(Step::Next(RenameStage::Parent(marker.clone()?))),
+        None => Ok(Step::End(Ok(()))),
+    }
+}
+
+fn on_parent(marker: Key, seen: Look) -> Step<RenameStage, Answer>
+    ensures { result ≡ on_parent marker seen }
+{
+    match seen {
+        Look::There => Step::End(Ok(())),
+        _ => Step::Next(RenameStage::PutMarker(marker)),
+    }
+}
+
+impl RenameNames {
+    fn seen_at(&self, spot: Spot, below: bool, reply: &Reply, seen: Look) -> Look
+        requires { seen ≡ look_of reply.now }
+        ensures { result ≡ seen_at self.now spot below reply.now }
+    {
+        match spot {
+            Spot::Inside => match self.place(true) {
+                Some(base) => seen_inside(base, below, reply, seen),
+                None => Look::Nothing,
+            },
+            _ => seen,
+        }
+    }
+
+    /// The source's own key alone is copied.
+    fn one_copy(&self, place: Option<Key>) -> Result<Step<RenameStage, Answer>, AllocError>
+        ensures { IfOk result (λ step. step ≡ one_copy (key_if self.now.source) place) }
+    {
+        let Some(key) = self.source.key() else {
+            return Ok(Step::End(Err(RenameRefusal::SourceMissing)));
+        };
+        let Some(place) = place else {
+            return Ok(Step::End(Err(RenameRefusal::TooLong(key.as_text().clone()?))));
+        };
+        let mut keys = KeyList::new(self.alloc);
+        keys.push(key.clone()?)?;
+        let mut places = KeyList::new(self.alloc);
+        places.push(place)?;
+        Ok(Step::Next(RenameStage::Copy(Copying::new(keys, places))))
+    }
+
+    fn file_to(&self, place: Option<&Base>) -> Result<Step<RenameStage, Answer>, AllocError>
+        ensures { IfOk result (λ step. step ≡ file_to self.now (option_copied place.entry)) }
+    {
+        match place {
+            Some(base) => self.one_copy(base.key()?),
+            None => Ok(Step::End(Err(RenameRefusal::SourceMissing))),
+        }
+    }
+
+    fn go(&self, directory: bool, inside: bool) -> Result<Step<RenameStage, Answer>, AllocError>
+        ensures { IfOk result (λ step. step ≡ go self.now directory inside) }
+    {
+        if directory {
+            return Ok(Step::Next(RenameStage::Walk {
+                inside,
+                walk: KeyWalk::new(self.alloc),
+            }));
+        }
+        self.file_to(self.place(inside))
+    }
+
+    fn on_source(&self, root: bool, kind: Kind) -> Step<RenameStage, Answer>
+        ensures { result ≡ on_source self.now root kind }
+    {
+        if root {
+            return Step::End(Err(RenameRefusal::SourceRoot));
+        }
+        on_kind(self.under, kind)
+    }
+
+    fn on_inside(
+        &self,
+        directory: bool,
+        kind: Kind,
+    ) -> Result<Step<RenameStage, Answer>, AllocError>
+        ensures { IfOk result (λ step. step ≡ on_inside self.now directory kind) }
+    {
+        match kind {
+            Kind::File => Ok(Step::End(Err(RenameRefusal::TargetFile))),
+            Kind::Directory => Ok(Step::End(Err(RenameRefusal::TargetExists))),
+            Kind::Nothing => self.go(directory, true),
+        }
+    }
+
+    fn on_above(&self, directory: bool, kind: Kind) -> Result<Step<RenameStage, Answer>, AllocError>
+        ensures { IfOk result (λ step. step ≡ on_above self.now directory kind) }
+    {
+        match kind {
+            Kind::File => Ok(Step::End(Err(RenameRefusal::ParentIsFile))),
+            Kind::Directory => self.go(directory, false),
+            Kind::Nothing => Ok(Step::End(Err(RenameRefusal::ParentMissing))),
+        }
+    }
+
+    fn found(
+        &self,
+        spot: Spot,
+        directory: bool,
+        kind: Kind,
+    ) -> Result<Step<RenameStage, Answer>, AllocError>
+        ensures { IfOk result (λ step. step ≡ found self.now spot directory kind) }
+    {
+        match spot {
+            Spot::Source => Ok(self.on_source(self.source.is_root(), kind)),
+            Spot::Target => Ok(on_target(directory, kind)),
+            Spot::Inside => self.on_inside(directory, kind),
+            Spot::Above => self.on_above(directory, kind),
+        }
+    }
+
+    fn on_look(
+        &self,
+        spot: Spot,
+        below: bool,
+        directory: bool,
+        seen: Look,
+    ) -> Result<Step<RenameStage, Answer>, AllocError>
+        ensures { IfOk result (λ step. step ≡ looked self.now spot directory (kind_of (is_root_at self.now spot) below seen)) }
+    {
+        match kind_of(self.is_root(spot), below, seen) {
+            Some(kind) => self.found(spot, directory, kind),
+            None => Ok(Step::Next(RenameStage::Look {
+                spot,
+                below: true,
+                directory,
+            })),
+        }
+    }
+
+    /// All keys below the source were listed.
+    fn listed_to(
+        &self,
+        inside: bool,
+        keys: KeyList,
+    ) -> Result<Step<RenameStage, Answer>, AllocError>
+        ensures { IfOk result (λ step. step ≡ listed_to self.now (place_at self.now inside) keys) }
+    {
+        let Some(base) = self.place(inside) else {
+            return Ok(Step::End(Err(RenameRefusal::SourceMissing)));
+        };
+        match base.new_keys(self.alloc, self.source.prefix(), keys.as_slice())? {
+            Ok(places) => Ok(with_places(keys, places)),
+            Err(key) => Ok(Step::End(Err(RenameRefusal::TooLong(key.as_text().clone()?)))),
+        }
+    }
+
+    fn on_walk(
+        &self,
+        inside: bool,
+        walk: KeyWalk,
+        reply: &Reply,
+    ) -> Result<Step<RenameStage, Answer>, AllocError>
+        ensures { IfOk result (λ step. step ≡ on_walk self.now inside walk reply.now (fits reply.now)) }
+    {
+        let mut walk = walk;
+        if !fits(reply) {
+            return Ok(Step::Next(RenameStage::Walk { inside, walk }));
+        }
+        if walk.hear(reply)? {
+            Ok(Step::Next(RenameStage::Walk { inside, walk }))
+        } else {
+            self.listed_to(inside, walk.into_keys())
+        }
+    }
+
+    fn up(&self) -> Result<Step<RenameStage, Answer>, AllocError>
+        ensures { IfOk result (λ step. step ≡ up self.now) }
+    {
+        up_to(&self.marker)
+    }
+
+    fn on_copied(&self, step: CopyStep) -> Result<Step<RenameStage, Answer>, AllocError>
+        ensures { IfOk result (λ next. next ≡ on_copied self.now step) }
+    {
+        match step {
+            CopyStep::Next(copying) => Ok(Step::Next(RenameStage::Copy(copying))),
+            CopyStep::All(keys) => match Sweep::of(keys) {
+                Some(sweep) => Ok(Step::Next(RenameStage::Batch(sweep))),
+                None => self.up(),
+            },
+        }
+    }
+
+    fn on_batch(&self, sweep: Sweep, reply: &Reply) -> Result<Step<RenameStage, Answer>, AllocError>
+        ensures { IfOk result (λ step. step ≡ on_batch self.now sweep reply.now (fits reply.now)) }
+    {
+        let mut sweep = sweep;
+        if !fits(reply) {
+            return Ok(Step::Next(RenameStage::Batch(sweep)));
+        }
+        if sweep.hear(self.alloc, &AllKeys, reply)? {
+            Ok(Step::Next(RenameStage::Batch(sweep)))
+        } else {
+            self.up()
+        }
+    }
+}
+
+impl Phases for RenameNames {
+    type Stage = RenameStage;
+
+    type Answer = Result<(), RenameRefusal>;
+
+    ghost first = { first };
+
+    ghost asks = { asks };
+
+    ghost goes = { goes };
+
+    ghost holds = { holds };
+
+    ghost gives = { gives };
+
+    ghost always = { always };
+
+    ghost left = { left };
+
+    ghost absent = { Err NoSuchBucket };
+
+    ghost laws = { rename_laws };
+
+    fn start(&self) -> RenameStage {
+        RenameStage::Look {
+            spot: Spot::Source,
+            below: false,
+            directory: false,
+        }
+    }
+
+    fn ask(&self, bucket: &Bucket, stage: &RenameStage) -> Result<Request, AllocError> {
+        match stage {
+            RenameStage::Look { spot, below, .. } => self.look(bucket, *spot, *below),
+            RenameStage::Walk { walk, .. } => walk.request(bucket, self.source.prefix()),
+            RenameStage::Copy(copying) => copying.request(bucket),
+            RenameStage::Batch(sweep) => sweep.request(self.alloc, bucket, self.source.prefix()),
+            RenameStage::Parent(marker) => Request::list_page(
+                bucket,
+                marker.as_text(),
+                false,
+                &Text::empty(),
+                PageLimit::new(1),
+            ),
+            RenameStage::PutMarker(marker) => {
+                Request::put_object(bucket, marker, &Bytes::empty(), None)
+            }
+        }
+    }
+
+    fn next(
+        &self,
+        stage: RenameStage,
+        reply: &Reply,
+    ) -> Result<Step<RenameStage, Answer>, AllocError> {
+        let seen = seen_in(reply);
+        if let Look::NoBucket = seen {
+            return Ok(Step::End(Err(RenameRefusal::NoSuchBucket)));
+        }
+        match stage {
+            RenameStage::Look {
+                spot,
+                below,
+                directory,
+            } => {
+                let seen = self.seen_at(spot, below, reply, seen);
+                self.on_look(spot, below, directory, seen)
+            }
+            RenameStage::Walk { inside, walk } => self.on_walk(inside, walk, reply),
+            RenameStage::Copy(copying) => self.on_copied(copying.next()),
+            RenameStage::Batch(sweep) => self.on_batch(sweep, reply),
+            RenameStage::Parent(marker) => Ok(on_parent(marker, seen)),
+            RenameStage::PutMarker(_) => Ok(Step::End(Ok(()))),
+        }
+    }
+}
