@@ -3,7 +3,7 @@ use Rattle.std.specs.Prelude.{◌≡◌, ◌⊎◌, ℕ, ◌+◌, List, [], ◌�
 use Rattle.std.proofs.Common.{refl, sym, ap, subst, ◌∙◌, inl, inr}
 use Rattle.std.specs.FinMap as fin
 use Rattle.s3_types.specs.Store.{Upload, Uploads, BucketContent, Scene}
-use Rattle.s3_types.specs.Answer.{apply, apply_in, aborted, with_uploads}
+use Rattle.s3_types.specs.Answer.{apply, aborted, with_uploads}
 use Rattle.s3_types.specs.Multipart.{live, listed, with_key}
 use Rattle.s3_types.specs.declared.request.Request.TheVariants.{AbortUpload}
 use Rattle.s3_types.specs.declared.request.UploadRef.{UploadRef}
@@ -16,7 +16,7 @@ use Rattle.list_walk.specs.Kinds.{uploads_from}
 use Rattle.request_frame.proofs.Members.{some_is}
 use Rattle.s3a_shell.specs.declared.said.Said.{Said}
 use Rattle.s3a_shell.specs.Texts.{fine}
-use Rattle.s3a_shell.specs.Uploading.{AreEnded, after_aborts, uploads_below, aborted_line, AbortedIn, DidAbort}
+use Rattle.s3a_shell.specs.Uploading.{AreEnded, after_aborts, aborted_line, AbortedIn, DidAbort}
 
 abbrev without_all : Uploads → List UploadRef → Uploads
 without_all m [] = m

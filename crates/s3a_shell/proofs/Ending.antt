@@ -1,6 +1,6 @@
 -- What a command's sendings lead to, from their beginning.
 use Rattle.std.specs.Prelude.{◌≡◌, ℕ, true, false, List, [], ◌++◌, take, length}
-use Rattle.std.proofs.Common.{refl, sym, ap, subst, ◌∙◌, arith}
+use Rattle.std.proofs.Common.{sym, ap, subst, ◌∙◌, arith}
 use Rattle.std.proofs.lemmas.List.{take_all}
 use Rattle.s3_types.specs.Store.{Content, Scene, opening}
 use Rattle.s3_types.specs.Moment.{AreHonest, IsHonest, after_all, moment}

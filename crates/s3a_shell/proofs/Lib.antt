@@ -1,3 +1,5 @@
+mod SameBucket
+mod Moving
 mod Performing
 mod Staying
 mod Unchanged

@@ -1,9 +1,9 @@
 -- What is listed of uploads.
 use Rattle.std.specs.Prelude.{◌≡◌, ℕ, ◌+◌, List, [], ◌∷◌, ◌++◌, drop, Option, Some, None, option_map}
-use Rattle.std.proofs.Common.{refl, sym, ap, ◌∙◌, subst, append_assoc}
+use Rattle.std.proofs.Common.{refl, sym, ap, ◌∙◌, append_assoc}
 use Rattle.std.specs.FinMap as fin
 use Rattle.s3_types.specs.Store.{Upload, BucketContent, Scene}
-use Rattle.s3_types.specs.Answer.{answer, answer_at}
+use Rattle.s3_types.specs.Answer.{answer_at}
 use Rattle.s3_types.specs.Multipart.{live, listed}
 use Rattle.s3_types.specs.declared.request.Request.TheVariants.{ListParts}
 use Rattle.s3_types.specs.declared.request.UploadRef.{UploadRef}
@@ -12,7 +12,7 @@ use Rattle.s3a_shell.specs.declared.said.Said.{Said}
 use Rattle.s3a_shell.specs.Texts.{fine}
 use Rattle.list_walk.specs.Kinds.{uploads_from}
 use Rattle.request_frame.proofs.Members.{some_is}
-use Rattle.s3a_shell.specs.Uploading.{sizes_of, sizes_in, upload_line, upload_lines, asked_line, asked_lines, uploads_below, ListedIn, DidList, no_bucket}
+use Rattle.s3a_shell.specs.Uploading.{sizes_of, sizes_in, upload_line, upload_lines, asked_line, asked_lines, ListedIn, DidList}
 
 -- the parts that are told are those of the upload that is live
 told : (o : Option Upload) (b : BucketContent) (k : List ℕ) (id next least : ℕ) (n : List ℕ) → live b.uploads k id ≡ o → sizes_in (answer_at (Some b) next least (ListParts n k id)) ≡ sizes_of o

@@ -9,7 +9,6 @@ use Rattle.s3_types.specs.Moment.{is_unanswered}
 use Rattle.s3_types.specs.declared.request.Request.{Request}
 use Rattle.s3_types.specs.declared.request.Request.TheVariants.{MakeBucket}
 use Rattle.s3_types.specs.Foretold.{fate_of, AreForetold}
-use Rattle.s3_types.specs.declared.fates.Fate.{Fate}
 use Rattle.s3_types.specs.declared.fates.Fate.TheVariants.{Answer}
 use Rattle.s3_types.specs.declared.request.Actor.TheVariants.{Shell}
 use Rattle.s3_types.specs.declared.journal.Outcome.{Outcome}

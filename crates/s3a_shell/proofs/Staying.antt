@@ -1,29 +1,32 @@
 -- What a command leaves as it was.
-use Rattle.std.specs.Prelude.{◌≡◌, ℕ, ◌<◌, ◌≤◌, nat_lt, Bool, true, false, cond, List, length, Option, Some, None, Result, Ok, Err}
-use Rattle.std.proofs.Common.{refl, sym, ap, subst, ◌∙◌, arith}
+use Rattle.std.specs.Prelude.{◌≡◌, ℕ, ◌<◌, ◌≤◌, nat_lt, Bool, true, false, cond, List, length, Option, Some, None, Result, Err}
+use Rattle.std.proofs.Common.{refl, sym, ap, subst, ◌∙◌, ◌⊎◌, inl, inr, arith}
 use Rattle.std.specs.FinMap as fin
 use Rattle.std.specs.Ordering.{nat_cmp}
 use Rattle.request_frame.proofs.Members.{text_here, text_other}
 use Rattle.request_frame.specs.Held.{upload_in, upload_at}
 use Rattle.s3_types.specs.Names.{is_bucket}
-use Rattle.s3_types.specs.Store.{Objects, BucketContent, Content, Scene, Upload, new_bucket}
-use Rattle.s3_types.specs.Answer.{apply, made}
-use Rattle.s3_types.specs.declared.request.Request.TheVariants.{MakeBucket}
-use Rattle.bucket_ops.specs.Asks.{objects_of, objects_at, with_objects_if, with_objects}
+use Rattle.s3_types.specs.Store.{Objects, BucketContent, Content, Scene, new_bucket}
+use Rattle.s3_types.specs.Answer.{made}
+use Rattle.bucket_ops.specs.Asks.{objects_of, with_objects_if, with_objects}
 use Rattle.bucket_ops.specs.Phases.{InScene, GivesIn}
 use Rattle.path_keys.specs.Paths.{Path}
 use Rattle.dir_markers.specs.declared.marker.MarkerPolicy.TheVariants.{Keep}
 use Rattle.fs_tree.specs.Answers.{Stats, Reads, Lists, Creates, Makes, Deletes}
 use Rattle.fs_tree.specs.declared.answers.FsRefusal.{FsRefusal}
 use Rattle.fs_tree.specs.declared.answers.FsRefusal.TheVariants.{NoSuchBucket}
+use Rattle.fs_tree.specs.declared.rename.RenameRefusal.TheVariants.{NoSuchBucket as NoBucket}
+use Rattle.fs_tree.specs.Renames.{Renames}
 use Rattle.fs_files.specs.Placed.{InFile}
 use Rattle.s3a_words.specs.declared.command.Command.{Command}
-use Rattle.s3a_words.specs.declared.command.Command.TheVariants.{Init, Mb, Ls, Stat, Cat, Put, PutForce, Mkdir, Rm, Rmr, Uploads, AbortUploads, Job}
+use Rattle.s3a_words.specs.declared.command.Command.TheVariants.{Init, Mb, Ls, Stat, Cat, Put, PutForce, Mkdir, Mv, Rm, Rmr, Uploads, AbortUploads, Job}
 use Rattle.s3a_shell.specs.declared.said.Said.{Said}
 use Rattle.s3a_shell.specs.Texts.{status_line, entry_lines, bytes_alone, nothing}
 use Rattle.s3a_shell.specs.Doings.{Did, most_input, CreatedUnless, Does}
 use Rattle.s3a_shell.specs.Stays.{OnlyIn, bucket_in, IsBelow, ended_by}
+use Rattle.s3a_shell.specs.Moving.{DidMove}
 use Rattle.s3a_shell.specs.Uploading.{DidAbort, AbortedIn}
+use Rattle.s3a_shell.proofs.SameBucket.{same_or_not}
 
 abbrev pub none : ℕ → Type 0
 none = λ id. ⊥
@@ -82,6 +85,13 @@ put_only p bytes overwrite z what s false h = file_only p.bucket (λ m n. Create
 did_only : {A : Type 0} (p : Path) (gives : Objects → Result A FsRefusal → Objects → Type 0) (text : A → List ℕ) (z : Scene) (what : Said) (s : Scene) → Did p gives text z what s → OnlyIn p.bucket none z.content s.content
 did_only p gives text z what s h = given_only p.bucket gives (Err NoSuchBucket) z h.answer s h.given
 
+move_only : (from to : Path) (z : Scene) (what : Said) (s : Scene) → DidMove from to z what s → OnlyIn from.bucket none z.content s.content
+move_only from to z what s h = by (same_or_not from.bucket to.bucket)
+  where
+    by : (from.bucket ≡ to.bucket) ⊎ (from.bucket ≡ to.bucket → ⊥) → OnlyIn from.bucket none z.content s.content
+    by (inl f) = given_only from.bucket (Renames from.key to.key) (Err NoBucket) z h.answer s (h.renamed.one f)
+    by (inr f) = subst (λ (t : Scene). OnlyIn from.bucket none z.content t.content) (sym (h.renamed.other f).1) (only_same from.bucket none z.content)
+
 abort_only : (p : Path) (z : Scene) (what : Said) (s : Scene) → DidAbort p z what s → OnlyIn p.bucket (λ id. IsBelow (fin.get z.content.buckets p.bucket) p id) z.content s.content
 abort_only p z what s = by (fin.get z.content.buckets p.bucket) refl
   where
@@ -102,6 +112,7 @@ does_only (Cat p) bytes z what s h = did_only p (Reads p.key) bytes_alone z what
 does_only (Put p) bytes z what s h = put_only p bytes false z what s (nat_lt most_input (length bytes)) h
 does_only (PutForce p) bytes z what s h = put_only p bytes true z what s (nat_lt most_input (length bytes)) h
 does_only (Mkdir p) bytes z what s h = did_only p (Makes p.key) nothing z what s h
+does_only (Mv from to) bytes z what s h = move_only from to z what s h
 does_only (Rm p) bytes z what s h = did_only p (Deletes false p.key) nothing z what s h
 does_only (Rmr p) bytes z what s h = did_only p (Deletes true p.key) nothing z what s h
 does_only (Init m) bytes z what s h = absurd h

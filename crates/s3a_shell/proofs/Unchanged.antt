@@ -1,13 +1,13 @@
 -- Where no sending changes anything, the store stays as it is.
 use Rattle.std.specs.Prelude.{◌≡◌, ℕ, ◌&&◌, ◌||◌, nat_lt, Bool, true, false, not, cond, List, [], ◌∷◌, length, Option, Some, None, Result, Ok, Err}
-use Rattle.std.proofs.Common.{refl, sym, ap, subst, ◌∙◌}
+use Rattle.std.proofs.Common.{refl, ap, subst, ◌∙◌}
 use Rattle.std.proofs.lemmas.Map.Lookups.{exact_bytes}
 use Rattle.std.specs.FinMap as fin
 use Rattle.proof_base.specs.Order.{text_total}
 use Rattle.proof_base.proofs.Tree.{insert_same}
 use Rattle.s3_types.specs.Names.{is_bucket}
 use Rattle.s3_types.specs.Store.{Upload, BucketContent, Buckets, Content, Scene, new_bucket}
-use Rattle.s3_types.specs.Answer.{answer, apply, answer_at, apply_at, apply_in, make_answer, made, copied, copy_answer, part_answer, part_put, complete_answer, completed, abort_answer, aborted, with_objects, with_uploads, without, bucket_of}
+use Rattle.s3_types.specs.Answer.{answer, apply, answer_at, apply_at, make_answer, made, copied, copy_answer, part_answer, part_put, complete_answer, completed, abort_answer, aborted, with_objects, with_uploads, without, bucket_of}
 use Rattle.s3_types.specs.Moment.{IsHonestOutcome, AreHonest, is_unanswered, effect, after_all}
 use Rattle.s3_types.specs.Multipart.{live, is_part_number, with_part, joined}
 use Rattle.s3_types.specs.Tags.{plain_tag}

@@ -1,6 +1,6 @@
 -- A refused command leaves the scene as it was.
 use Rattle.std.specs.Prelude.{◌≡◌, ℕ, nat_lt, Bool, true, false, cond, List, [], ◌∷◌, length, Option, Some, None, Result, Ok, Err}
-use Rattle.std.proofs.Common.{refl, sym, ap, subst, ◌∙◌}
+use Rattle.std.proofs.Common.{refl, sym, ap, subst, ◌∙◌, ◌⊎◌, inl, inr}
 use Rattle.std.proofs.lemmas.Map.Lookups.{exact_bytes}
 use Rattle.std.specs.FinMap as fin
 use Rattle.proof_base.specs.Order.{text_total}
@@ -15,18 +15,23 @@ use Rattle.bucket_ops.specs.Asks.{objects_of, with_objects_if, with_objects}
 use Rattle.bucket_ops.specs.Phases.{InScene, GivesIn}
 use Rattle.fs_tree.specs.Answers.{Stats, Reads, Lists, Makes, Deletes}
 use Rattle.fs_tree.specs.declared.answers.FsRefusal.{FsRefusal}
-use Rattle.fs_tree.specs.declared.answers.FsRefusal.TheVariants.{NotFound, AlreadyExists, IsDirectory, NotDirectory, NotEmpty, IsRoot, NoSuchBucket}
+use Rattle.fs_tree.specs.declared.answers.FsRefusal.TheVariants.{NotFound, AlreadyExists, IsDirectory, NotDirectory, NotEmpty, NoSuchBucket}
+use Rattle.fs_tree.specs.declared.rename.RenameRefusal.{RenameRefusal}
+use Rattle.fs_tree.specs.declared.rename.RenameRefusal.TheVariants.{SourceMissing, UnderSource, TargetFile, TargetExists, ParentMissing, ParentIsFile, TooLong, NoSuchBucket as NoBucket}
+use Rattle.fs_tree.specs.Renames.{Renames}
 use Rattle.fs_files.specs.Create.{IsUndone}
 use Rattle.s3a_words.specs.declared.command.Command.{Command}
-use Rattle.s3a_words.specs.declared.command.Command.TheVariants.{Init, Mb, Ls, Stat, Cat, Put, PutForce, Mkdir, Rm, Rmr, Uploads, AbortUploads, Job}
+use Rattle.s3a_words.specs.declared.command.Command.TheVariants.{Init, Mb, Ls, Stat, Cat, Put, PutForce, Mkdir, Mv, Rm, Rmr, Uploads, AbortUploads, Job}
 use Rattle.s3a_shell.specs.declared.said.Said.{Said}
 use Rattle.s3a_shell.specs.Texts.{status_line, entry_lines, bytes_alone, nothing, said}
+use Rattle.s3a_shell.specs.Moving.{said_of_move, DidMove}
 use Rattle.s3a_shell.specs.Uploading.{AbortedIn}
 use Rattle.s3a_shell.specs.Doings.{Did, most_input, CreatedUnless, refusal_word, refused_or_fine, DidMake, Does}
+use Rattle.s3a_shell.proofs.SameBucket.{same_or_not}
 
 -- a refusal changes nothing
-abbrev pub Keeps : {A : Type 0} → (Objects → Result A FsRefusal → Objects → Type 0) → Type 0
-Keeps gives = (m n : Objects) (r : FsRefusal) → gives m (Err r) n → n ≡ m
+abbrev pub Keeps : {A R : Type 0} → (Objects → Result A R → Objects → Type 0) → Type 0
+Keeps {R = R} gives = (m n : Objects) (r : R) → gives m (Err r) n → n ≡ m
 
 stats_keep : (p : List ℕ) → Keeps (Stats p)
 stats_keep p m n NotFound h = h.1
@@ -58,7 +63,7 @@ same_objects z b c e =
     subst (λ (o : Option BucketContent). with_objects_if o z b c.objects ≡ z) (sym e)
     (ap (λ (m : Buckets). record { content = record { buckets = m; next = z.content.next; minimum = z.content.minimum }; files = z.files }) (insert_same text_total exact_bytes z.content.buckets b c e))
 
-refusal_keeps : {A : Type 0} (b : List ℕ) (gives : Objects → Result A FsRefusal → Objects → Type 0) (absent : Result A FsRefusal) (z s : Scene) (r : FsRefusal) → Keeps gives → GivesIn b gives absent z (Err r) s → s ≡ z
+refusal_keeps : {A R : Type 0} (b : List ℕ) (gives : Objects → Result A R → Objects → Type 0) (absent : Result A R) (z s : Scene) (r : R) → Keeps gives → GivesIn b gives absent z (Err r) s → s ≡ z
 refusal_keeps b gives absent z s r keeps = by (fin.get z.content.buckets b) refl
   where
     by : (o : Option BucketContent) → fin.get z.content.buckets b ≡ o → InScene (objects_of o) (λ m n. gives m (Err r) n) (Err r ≡ absent) z b s → s ≡ z
@@ -71,6 +76,30 @@ did_keeps {A = A} path gives text z what s keeps h e = by h.answer h.given h.tol
     by : (a : Result A FsRefusal) → GivesIn path.bucket gives (Err NoSuchBucket) z a s → what ≡ said text a → s ≡ z
     by (Ok x) g t = let no : false ≡ true = sym (ap (λ (w : Said). w.refused) t) ∙ e in absurd (cc)
     by (Err r) g t = refusal_keeps path.bucket gives (Err NoSuchBucket) z s r keeps g
+
+-- ---- a renaming
+
+renames_keep : (p t : List ℕ) → Keeps (Renames p t)
+renames_keep [] t m n r h = h.1
+renames_keep (x ∷ p) t m n SourceMissing h = h.1
+renames_keep (x ∷ p) t m n UnderSource h = h.2
+renames_keep (x ∷ p) t m n TargetFile h = h.2
+renames_keep (x ∷ p) t m n TargetExists h = h.3
+renames_keep (x ∷ p) t m n ParentIsFile h = h.3
+renames_keep (x ∷ p) t m n ParentMissing h = h.3
+renames_keep (x ∷ p) t m n (TooLong k) h = h.1
+renames_keep (x ∷ p) t m n _ h = absurd h
+
+move_keeps : (from to : Path) (z : Scene) (what : Said) (s : Scene) → DidMove from to z what s → what.refused ≡ true → s ≡ z
+move_keeps from to z what s h e = by (same_or_not from.bucket to.bucket)
+  where
+    one : (a : Result (Unit {0}) RenameRefusal) → GivesIn from.bucket (Renames from.key to.key) (Err NoBucket) z a s → what ≡ said_of_move a → s ≡ z
+    one (Ok x) g t = let no : false ≡ true = sym (ap (λ (w : Said). w.refused) t) ∙ e in absurd (cc)
+    one (Err r) g t = refusal_keeps from.bucket (Renames from.key to.key) (Err NoBucket) z s r (renames_keep from.key to.key) g
+
+    by : (from.bucket ≡ to.bucket) ⊎ (from.bucket ≡ to.bucket → ⊥) → s ≡ z
+    by (inl f) = one h.answer (h.renamed.one f) h.told
+    by (inr f) = (h.renamed.other f).1
 
 -- ---- the other commands
 
@@ -108,6 +137,7 @@ does_keeps (Cat p) bytes z what s h e = did_keeps p (Reads p.key) bytes_alone z 
 does_keeps (Put p) bytes z what s h e = put_keeps p bytes false z what s (nat_lt most_input (length bytes)) h e
 does_keeps (PutForce p) bytes z what s h e = put_keeps p bytes true z what s (nat_lt most_input (length bytes)) h e
 does_keeps (Mkdir p) bytes z what s h e = did_keeps p (Makes p.key) nothing z what s (makes_keep p.key) h e
+does_keeps (Mv from to) bytes z what s h e = move_keeps from to z what s h e
 does_keeps (Rm p) bytes z what s h e = did_keeps p (Deletes false p.key) nothing z what s (deletes_keep false p.key) h e
 does_keeps (Rmr p) bytes z what s h e = did_keeps p (Deletes true p.key) nothing z what s (deletes_keep true p.key) h e
 does_keeps (Uploads p) bytes z what s h e = h.1

@@ -1,7 +1,7 @@
 -- What each command does and says.
 use Rattle.std.specs.Prelude.{◌≡◌, ℕ, nat_lt, Bool, true, false, List, [], length, codes, Option, Some, None, Result, Err}
 use Rattle.std.specs.FinMap as fin
-use Rattle.s3_types.specs.Store.{Objects, Content, Scene}
+use Rattle.s3_types.specs.Store.{Objects, Scene}
 use Rattle.s3_types.specs.Answer.{answer, apply}
 use Rattle.s3_types.specs.declared.request.Request.TheVariants.{MakeBucket}
 use Rattle.s3_types.specs.declared.reply.Reply.{Reply}
@@ -16,9 +16,10 @@ use Rattle.fs_tree.specs.declared.answers.FsRefusal.TheVariants.{NoSuchBucket}
 use Rattle.fs_files.specs.Placed.{InFile}
 use Rattle.fs_files.specs.Create.{IsUndone}
 use Rattle.s3a_words.specs.declared.command.Command.{Command}
-use Rattle.s3a_words.specs.declared.command.Command.TheVariants.{Mb, Ls, Stat, Cat, Put, PutForce, Mkdir, Rm, Rmr, Uploads, AbortUploads}
+use Rattle.s3a_words.specs.declared.command.Command.TheVariants.{Mb, Ls, Stat, Cat, Put, PutForce, Mkdir, Mv, Rm, Rmr, Uploads, AbortUploads}
 use Rattle.s3a_shell.specs.declared.said.Said.{Said}
 use Rattle.s3a_shell.specs.Texts.{status_line, entry_lines, bytes_alone, nothing, fine, refusing, said}
+use Rattle.s3a_shell.specs.Moving.{DidMove}
 use Rattle.s3a_shell.specs.Uploading.{DidList, DidAbort}
 
 -- ---- on a path
@@ -77,6 +78,7 @@ is_of_shell (Cat path) = true
 is_of_shell (Put path) = true
 is_of_shell (PutForce path) = true
 is_of_shell (Mkdir path) = true
+is_of_shell (Mv from to) = true
 is_of_shell (Rm path) = true
 is_of_shell (Rmr path) = true
 is_of_shell (Uploads path) = true
@@ -92,6 +94,7 @@ Does (Cat path) bytes z what s = Did path (Reads path.key) bytes_alone z what s
 Does (Put path) bytes z what s = DidPut path bytes false z what s
 Does (PutForce path) bytes z what s = DidPut path bytes true z what s
 Does (Mkdir path) bytes z what s = Did path (Makes path.key) nothing z what s
+Does (Mv from to) bytes z what s = DidMove from to z what s
 Does (Rm path) bytes z what s = Did path (Deletes false path.key) nothing z what s
 Does (Rmr path) bytes z what s = Did path (Deletes true path.key) nothing z what s
 Does (Uploads path) bytes z what s = DidList path z what s

@@ -1,4 +1,5 @@
 pub mod Texts
+pub mod Moving
 pub mod Sendings
 pub mod Uploading
 pub mod Doings

@@ -1,8 +1,8 @@
 -- What the shell sends.
-use Rattle.std.specs.Prelude.{◌≡◌, ℕ, ◌&&◌, Bool, true, false, not, List, ◌++◌}
+use Rattle.std.specs.Prelude.{◌≡◌, ◌&&◌, Bool, true, false, not, List, ◌++◌}
 use Rattle.std.specs.List.{list_any}
 use Rattle.s3_types.specs.Store.{Scene}
-use Rattle.s3_types.specs.Moment.{AreHonest, after_all, is_effective}
+use Rattle.s3_types.specs.Moment.{AreHonest, after_all}
 use Rattle.s3_types.specs.declared.request.Actor.TheVariants.{Shell}
 use Rattle.s3_types.specs.declared.request.Request.{Request}
 use Rattle.s3_types.specs.declared.reply.Reply.{Reply}

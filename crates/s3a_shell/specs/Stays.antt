@@ -7,7 +7,7 @@ use Rattle.path_keys.specs.Paths.{Path}
 use Rattle.request_frame.specs.Held.{upload_at}
 use Rattle.request_frame.specs.Members.{IsIn}
 use Rattle.s3a_words.specs.declared.command.Command.{Command}
-use Rattle.s3a_words.specs.declared.command.Command.TheVariants.{Mb, Ls, Stat, Cat, Put, PutForce, Mkdir, Rm, Rmr, Uploads, AbortUploads}
+use Rattle.s3a_words.specs.declared.command.Command.TheVariants.{Mb, Ls, Stat, Cat, Put, PutForce, Mkdir, Mv, Rm, Rmr, Uploads, AbortUploads}
 use Rattle.s3a_shell.specs.Uploading.{uploads_below}
 
 -- Every bucket but this one is as it was, and so are the uploads of this one that were begun before, but for those that are ended.
@@ -26,6 +26,7 @@ bucket_in (Cat path) = path.bucket
 bucket_in (Put path) = path.bucket
 bucket_in (PutForce path) = path.bucket
 bucket_in (Mkdir path) = path.bucket
+bucket_in (Mv from to) = from.bucket
 bucket_in (Rm path) = path.bucket
 bucket_in (Rmr path) = path.bucket
 bucket_in (Uploads path) = path.bucket

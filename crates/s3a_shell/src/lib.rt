@@ -4,6 +4,7 @@
 
 mod buckets;
 mod files;
+mod moves;
 mod obeying;
 mod paths;
 mod said;

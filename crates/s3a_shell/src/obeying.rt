@@ -10,6 +10,7 @@ ghost use Rattle.s3a_shell.specs.Stays.{OnlyIn, bucket_in, ended_by};
 
 use crate::buckets::make_bucket;
 use crate::files::put;
+use crate::moves::rename;
 use crate::paths::{cat, ls, mkdir, remove, stat};
 use crate::said::Said;
 use crate::uploads::{abort_uploads, uploads};
@@ -84,6 +85,7 @@ fn obey(
         Command::Put { path } => put(alloc, path, bytes, false, store, journal),
         Command::PutForce { path } => put(alloc, path, bytes, true, store, journal),
         Command::Mkdir { path } => mkdir(alloc, path, store, journal),
+        Command::Mv { from, to } => rename(alloc, from, to, store, journal),
         Command::Rm { path } => remove(alloc, path, false, store, journal),
         Command::Rmr { path } => remove(alloc, path, true, store, journal),
         Command::Uploads { path } => uploads(alloc, path, store, journal),

@@ -39,6 +39,13 @@ fn show_on_path(rt: &impl Print, name: &str, path: &S3Path) -> io::Result<()> {
     println!(rt; "{name} {bucket} {}", path.key().as_str())
 }
 
+fn show_move(rt: &impl Print, from: &S3Path, to: &S3Path) -> io::Result<()> {
+    let bucket = from.bucket().as_text().as_str();
+    let to_bucket = to.bucket().as_text().as_str();
+    let (key, to_key) = (from.key().as_str(), to.key().as_str());
+    println!(rt; "mv {bucket} {key} {to_bucket} {to_key}")
+}
+
 fn show_read(rt: &impl Print, command: &Command) -> io::Result<()> {
     if let Some((name, path)) = on_path(command) {
         return show_on_path(rt, name, path);
@@ -49,6 +56,7 @@ fn show_read(rt: &impl Print, command: &Command) -> io::Result<()> {
         } => println!(rt; "init {minimum}"),
         Command::Init { minimum: None } => println!(rt; "init"),
         Command::Mb { name } => println!(rt; "mb {}", name.as_str()),
+        Command::Mv { from, to } => show_move(rt, from, to),
         _ => println!(rt; "job"),
     }
 }

@@ -1,11 +1,10 @@
-use Rattle.std.proofs.Common.{◌≡◌, ℕ, true, false, List, [], length, sym, ap, subst}
-use Rattle.s3_types.specs.Store.{Scene, opening}
+use Rattle.std.proofs.Common.{◌≡◌, true, false, length, sym, ap, subst}
+use Rattle.s3_types.specs.Store.{opening}
 use Rattle.s3_types.specs.Moment.{moment, IsHonest}
 use Rattle.s3_types.specs.declared.request.Actor.TheVariants.{Shell}
 use Rattle.machine.specs.Counted.{AreAnswered}
 use Rattle.machine.specs.Turns.{AreBy}
 use Rattle.s3a_shell.specs.declared.obeying.ShellEnd.{ShellEnd}
-use Rattle.s3a_shell.specs.Sendings.{has_changed}
 use Rattle.s3a_shell.specs.Doings.{Does}
 use Rattle.s3a_shell.specs.Stays.{OnlyIn, bucket_in, ended_by}
 use Rattle.s3a_shell.proofs.Ending.{all_by, all_answered, all_honest, did_at, only_at, undone_at, same_at, content_at}
