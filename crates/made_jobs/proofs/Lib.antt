@@ -1,0 +1,10 @@
+pub mod Ranges
+pub mod Written
+pub mod Faults
+pub mod PartPaths
+pub mod PartFiles
+pub mod Adding
+pub mod Declaring
+pub mod Counting
+pub mod Happening
+pub mod LegalScript
