@@ -1,13 +1,13 @@
--- The least size of a part that words name is within its bounds.
-use Rattle.std.specs.Prelude.{◌≡◌, ℕ, nat_le, Bool, true, false, cond, List, [], ◌∷◌, Option, Some, None, option_map, option_and_then}
+-- The numbers that words name are within their bounds.
+use Rattle.std.specs.Prelude.{◌≡◌, ℕ, ◌≤◌, ◌&&◌, nat_le, Bool, true, false, cond, List, [], ◌∷◌, Option, Some, None, option_map, option_and_then}
 use Rattle.std.proofs.Common.{refl, subst}
 use Rattle.std.proofs.lemmas.Bool.{and_parts, leb-true}
 use Rattle.path_keys.specs.Paths.{Path}
 use Rattle.s3_types.specs.declared.limits.TheConstants.{MOST_MINIMUM}
-use Rattle.s3a_words.specs.Numbers.{number_in, is_minimum, minimum_in}
-use Rattle.s3a_words.specs.Words.{path_named, alone, with_path, with_operand, moved, with_two, said, command_of, IsBounded}
+use Rattle.s3a_words.specs.Numbers.{number_in, is_minimum, minimum_in, number_within}
+use Rattle.s3a_words.specs.Words.{path_named, alone, with_path, with_operand, moved, with_two, made, with_three, said, command_of, IsBounded}
 use Rattle.s3a_words.specs.declared.command.Command.{Command}
-use Rattle.s3a_words.specs.declared.command.Command.TheVariants.{Init, Mb, Ls, Stat, Cat, Put, PutForce, Mkdir, Rm, Rmr, Mv, Uploads, AbortUploads, Job}
+use Rattle.s3a_words.specs.declared.command.Command.TheVariants.{Init, Mb, Ls, Stat, Cat, Put, PutForce, Mkdir, Rm, Rmr, Mv, Uploads, AbortUploads, Job, Gen}
 
 abbrev Of : Option Command → Type 0
 Of None = Unit {0}
@@ -73,12 +73,41 @@ two_bounded : (name first second : List ℕ) → AreBounded (with_two name first
 unfolding with_two
 two_bounded name first second = either _ _ _ (moved_bounded first second) none
 
+-- a number that a word writes, if it writes one, is within its bounds
+abbrev Within : ℕ → ℕ → Option ℕ → Type 0
+Within low high None = Unit {0}
+Within low high (Some n) = (low ≤ n) × (n ≤ high)
+
+tested : (low high n : ℕ) (b : Bool) → (nat_le low n && nat_le n high) ≡ b → Within low high (cond b (Some n) None)
+tested low high n true e = let both = and_parts (nat_le low n) (nat_le n high) e in (leb-true low n both.0, leb-true n high both.1)
+tested low high n false e = tt
+
+tested_in : (low high : ℕ) (o : Option ℕ) → Within low high (option_and_then (λ n. cond (nat_le low n && nat_le n high) (Some n) None) o)
+tested_in low high None = tt
+tested_in low high (Some n) = tested low high n (nat_le low n && nat_le n high) refl
+
+within : (low high : ℕ) (word : List ℕ) → Within low high (number_within low high word)
+unfolding number_within
+within low high word = tested_in low high (number_in word)
+
+made_bounded : (s t f : Option ℕ) → Within 0 4294967295 s → Within 1 200 t → Within 1 50 f
+    → AreBounded (option_and_then (λ seed. option_and_then (λ tasks. option_map (λ files. Gen seed tasks files) f) t) s)
+made_bounded None t f is_s is_t is_f = none
+made_bounded (Some seed) None f is_s is_t is_f = none
+made_bounded (Some seed) (Some tasks) None is_s is_t is_f = none
+made_bounded (Some seed) (Some tasks) (Some files) is_s is_t is_f = is (Gen seed tasks files) (is_s.1, is_t.0, is_t.1, is_f.0, is_f.1)
+
+three_bounded : (name first second third : List ℕ) → AreBounded (with_three name first second third)
+unfolding with_three made
+three_bounded name first second third = either _ _ _ (made_bounded _ _ _ (within 0 4294967295 first) (within 1 200 second) (within 1 50 third)) none
+
 said_bounded : (words : List (List ℕ)) → AreBounded (said words)
 said_bounded [] = none
 said_bounded (name ∷ []) = alone_bounded name
 said_bounded (name ∷ operand ∷ []) = operand_bounded name operand
 said_bounded (name ∷ first ∷ second ∷ []) = two_bounded name first second
-said_bounded (name ∷ first ∷ second ∷ third ∷ others) = none
+said_bounded (name ∷ first ∷ second ∷ third ∷ []) = three_bounded name first second third
+said_bounded (name ∷ first ∷ second ∷ third ∷ more ∷ others) = none
 
 all_bounded : (words : List (List ℕ)) → AreBounded (command_of words)
 unfolding command_of

@@ -24,3 +24,7 @@ is_minimum n = nat_le 1 n && nat_le n MOST_MINIMUM
 -- the least size of a part that a word writes
 unfoldable pub minimum_in : List ℕ → Option ℕ
 minimum_in word = option_and_then (λ n. if is_minimum n then Some n else None) (number_in word)
+
+-- the number from `least` to `most` that a word writes
+unfoldable pub number_within : ℕ → ℕ → List ℕ → Option ℕ
+number_within least most word = option_and_then (λ n. if nat_le least n && nat_le n most then Some n else None) (number_in word)

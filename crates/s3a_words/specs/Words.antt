@@ -4,9 +4,9 @@ use Rattle.std.specs.List.{list_all, starts_with}
 use Rattle.s3_types.specs.declared.limits.TheConstants.{MOST_MINIMUM}
 use Rattle.path_keys.specs.Paths.{Path, path_in}
 use Rattle.path_keys.specs.declared.fault.PathFault.{PathFault}
-use Rattle.s3a_words.specs.Numbers.{minimum_in}
+use Rattle.s3a_words.specs.Numbers.{minimum_in, number_within}
 use Rattle.s3a_words.specs.declared.command.Command.{Command}
-use Rattle.s3a_words.specs.declared.command.Command.TheVariants.{Init, Mb, Ls, Stat, Cat, Put, PutForce, Mkdir, Rm, Rmr, Mv, Uploads, AbortUploads, Job}
+use Rattle.s3a_words.specs.declared.command.Command.TheVariants.{Init, Mb, Ls, Stat, Cat, Put, PutForce, Mkdir, Rm, Rmr, Mv, Uploads, AbortUploads, Job, Gen}
 use Rattle.s3a_words.specs.declared.command.WordFault.{WordFault}
 use Rattle.s3a_words.specs.declared.command.WordFault.TheVariants.{Usage, NoMemory}
 
@@ -60,11 +60,21 @@ moved from to = option_and_then (λ source. option_map (λ target. Mv source tar
 unfoldable pub with_two : List ℕ → List ℕ → List ℕ → Option Command
 with_two name first second = if bytes_eq name (codes "mv") then moved first second else None
 
+-- the script that a seed, a number of tasks and a number of files make
+unfoldable pub made : List ℕ → List ℕ → List ℕ → Option Command
+made seed tasks files =
+    option_and_then (λ s. option_and_then (λ t. option_map (λ f. Gen s t f) (number_within 1 50 files)) (number_within 1 200 tasks)) (number_within 0 4294967295 seed)
+
+-- what a name says with three operands
+unfoldable pub with_three : List ℕ → List ℕ → List ℕ → List ℕ → Option Command
+with_three name first second third = if bytes_eq name (codes "gen") then made first second third else None
+
 -- what the words behind the folder say
 abbrev pub said : List (List ℕ) → Option Command
 said (name ∷ []) = alone name
 said (name ∷ operand ∷ []) = with_operand name operand
 said (name ∷ first ∷ second ∷ []) = with_two name first second
+said (name ∷ first ∷ second ∷ third ∷ []) = with_three name first second third
 said _ = None
 
 -- the command that the words are: no word behind the folder begins with `-`
@@ -72,9 +82,10 @@ unfoldable pub command_of : List (List ℕ) → Option Command
 command_of [] = None
 command_of (folder ∷ words) = if list_all is_plain words then said words else None
 
--- the least size of a part that a command names is within its bounds
+-- the numbers that a command names are within their bounds
 abbrev pub IsBounded : Command → Type 0
 IsBounded (Init (Some bytes)) = (1 ≤ bytes) × (bytes ≤ MOST_MINIMUM)
+IsBounded (Gen seed tasks files) = (seed ≤ 4294967295) × (1 ≤ tasks) × (tasks ≤ 200) × (1 ≤ files) × (files ≤ 50)
 IsBounded _ = Unit {0}
 
 -- the command that there is, or Usage exactly where there is none, unless memory was wanting

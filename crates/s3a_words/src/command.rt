@@ -32,6 +32,8 @@ pub enum Command {
     AbortUploads { path: S3Path },
     /// Plays a script that is read from the input.
     Job,
+    /// Prints a script made from a seed, with 1 to 200 tasks of 1 to 50 files.
+    Gen { seed: u32, tasks: u32, files: u32 },
 }
 
 /// Why words are not read as a command.

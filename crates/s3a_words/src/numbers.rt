@@ -1,5 +1,5 @@
 ghost use Rattle.std.specs.Prelude.{◌≡◌, IfOk};
-ghost use Rattle.s3a_words.specs.Numbers.{number_in, WritesDecimals, minimum_in};
+ghost use Rattle.s3a_words.specs.Numbers.{number_in, WritesDecimals, minimum_in, number_within};
 
 use s3_types::MOST_MINIMUM;
 use std::alloc::{AllocError, Global};
@@ -33,6 +33,25 @@ pub fn minimum_in(alloc: Global, word: &str) -> Result<Option<u64>, AllocError>
 {
     match number_in(alloc, word)? {
         Some(bytes) if bytes >= 1 && bytes <= MOST_MINIMUM => { Ok(Some(bytes)) }
+        _ => Ok(None),
+    }
+}
+
+/// The number from `least` to `most` that a word writes.
+#[tactic(auto, unfolding(crate::specs::Numbers::number_within))]
+pub fn number_within(
+    alloc: Global,
+    word: &str,
+    least: u32,
+    most: u32,
+) -> Result<Option<u32>, AllocError>
+    ensures { IfOk result (λ o. o ≡ number_within least most word.now) }
+{
+    let Some(number) = number_in(alloc, word)? else {
+        return Ok(None);
+    };
+    match u32::try_from(number) {
+        Ok(number) if number >= least && number <= most => { Ok(Some(number)) }
         _ => Ok(None),
     }
 }

@@ -1,15 +1,21 @@
 ghost use Rattle.std.specs.Prelude.{◌≡◌, Some, None, IfOk};
 ghost use Rattle.std.specs.List.{list_all};
-ghost use Rattle.s3a_words.specs.Words.{is_plain, path_named, alone, with_path, with_operand, moved, with_two, said, command_of, IsBounded, Reads};
+ghost use Rattle.s3a_words.specs.Words.{is_plain, path_named, alone, with_path, with_operand, moved, with_two, made, with_three, said, command_of, IsBounded, Reads};
 ghost use Rattle.s3a_words.specs.Grammar.{given};
 
 use crate::command::{Command, WordFault};
 use crate::grammar::{as_texts, matches_in};
-use crate::numbers::minimum_in;
+use crate::numbers::{minimum_in, number_within};
 use clap::ArgMatches;
 use path_keys::{PathFault, S3Path};
 use s3_types::Text;
 use std::alloc::{AllocError, Global};
+
+/// The most tasks of a script that is made.
+const MOST_TASKS: u32 = 200;
+
+/// The most files of one of its tasks.
+const MOST_FILES: u32 = 50;
 
 /// The path that a word names.
 #[tactic(auto, unfolding(crate::specs::Words::path_named))]
@@ -108,6 +114,40 @@ fn with_two(
     }
 }
 
+/// The script that a seed, a number of tasks and a number of files make.
+#[tactic(auto, unfolding(crate::specs::Words::made))]
+fn made(alloc: Global, seed: &str, tasks: &str, files: &str) -> Result<Option<Command>, AllocError>
+    ensures { IfOk result (λ o. o ≡ made seed.now tasks.now files.now) }
+{
+    let Some(seed) = number_within(alloc, seed, 0, u32::MAX)? else {
+        return Ok(None);
+    };
+    let Some(tasks) = number_within(alloc, tasks, 1, MOST_TASKS)? else {
+        return Ok(None);
+    };
+    match number_within(alloc, files, 1, MOST_FILES)? {
+        Some(files) => Ok(Some(Command::Gen { seed, tasks, files })),
+        None => Ok(None),
+    }
+}
+
+/// What a name says with three operands.
+#[tactic(auto, unfolding(crate::specs::Words::with_three))]
+fn with_three(
+    alloc: Global,
+    name: &str,
+    first: &str,
+    second: &str,
+    third: &str,
+) -> Result<Option<Command>, AllocError>
+    ensures { IfOk result (λ o. o ≡ with_three name.now first.now second.now third.now) }
+{
+    match name {
+        "gen" => made(alloc, first, second, third),
+        _ => Ok(None),
+    }
+}
+
 /// Whether no word begins with `-`.
 fn are_plain(words: &[Text]) -> bool
     ensures { result ≡ list_all is_plain words.now }
@@ -128,10 +168,10 @@ fn said(alloc: Global, matches: &ArgMatches<'_>) -> Result<Option<Command>, Allo
     let Some(second) = matches.get_str("second") else {
         return with_operand(alloc, name, first);
     };
-    if matches.get_str("third").is_some() {
-        return Ok(None);
-    }
-    with_two(alloc, name, first, second)
+    let Some(third) = matches.get_str("third") else {
+        return with_two(alloc, name, first, second);
+    };
+    with_three(alloc, name, first, second, third)
 }
 
 /// The command that the words are.
@@ -153,11 +193,11 @@ fn command_in(alloc: Global, words: &[Text]) -> Result<Option<Command>, AllocErr
 }
 
 /// The command that the words are: word 0 is the folder, word 1 the command's name, and the others are its
-/// operands. The commands are `init`, `init MIN`, `mb NAME`, `job`, with a path `ls`, `stat`, `cat`, `put`,
-/// `put-force`, `mkdir`, `rm`, `rmr`, `uploads` and `abort-uploads`, and with two paths `mv`. No word behind the
-/// folder begins with `-`. A number has 1 to 18 decimal digits, no sign and no leading zero, and MIN is from 1 to
-/// 5,242,880. A path is one that `S3Path::read` takes. Usage comes exactly where the words are no command, so for
-/// `--help` too.
+/// operands. The commands are `init`, `init MIN`, `mb NAME`, `job`, `gen SEED TASKS FILES`, with a path `ls`, `stat`,
+/// `cat`, `put`, `put-force`, `mkdir`, `rm`, `rmr`, `uploads` and `abort-uploads`, and with two paths `mv`. No word
+/// behind the folder begins with `-`. A number has 1 to 18 decimal digits, no sign and no leading zero; MIN is from 1 to
+/// 5,242,880, SEED from 0 to 4,294,967,295, TASKS from 1 to 200 and FILES from 1 to 50. A path is one that
+/// `S3Path::read` takes. Usage comes exactly where the words are no command, so for `--help` too.
 pub fn read_words(alloc: Global, words: &[Text]) -> Result<Command, WordFault>
     ensures exact { Reads (command_of words.now) result }
     ensures bounded { IfOk result IsBounded }

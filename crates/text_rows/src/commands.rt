@@ -57,6 +57,7 @@ fn show_read(rt: &impl Print, command: &Command) -> io::Result<()> {
         Command::Init { minimum: None } => println!(rt; "init"),
         Command::Mb { name } => println!(rt; "mb {}", name.as_str()),
         Command::Mv { from, to } => show_move(rt, from, to),
+        Command::Gen { seed, tasks, files } => println!(rt; "gen {seed} {tasks} {files}"),
         _ => println!(rt; "job"),
     }
 }
