@@ -19,7 +19,7 @@ use Rattle.fs_tree.specs.declared.rename.RenameRefusal.TheVariants.{NoSuchBucket
 use Rattle.fs_tree.specs.Renames.{Renames}
 use Rattle.fs_files.specs.Placed.{InFile}
 use Rattle.s3a_words.specs.declared.command.Command.{Command}
-use Rattle.s3a_words.specs.declared.command.Command.TheVariants.{Init, Mb, Ls, Stat, Cat, Put, PutForce, Mkdir, Mv, Rm, Rmr, Uploads, AbortUploads, Job}
+use Rattle.s3a_words.specs.declared.command.Command.TheVariants.{Init, Mb, Ls, Stat, Cat, Put, PutForce, Mkdir, Mv, Rm, Rmr, Uploads, AbortUploads, Job, Gen}
 use Rattle.s3a_shell.specs.declared.said.Said.{Said}
 use Rattle.s3a_shell.specs.Texts.{status_line, entry_lines, bytes_alone, nothing}
 use Rattle.s3a_shell.specs.Doings.{Did, most_input, CreatedUnless, Does}
@@ -119,3 +119,4 @@ does_only (Init m) bytes z what s h = absurd h
 does_only (Uploads p) bytes z what s h = subst (λ (t : Scene). OnlyIn p.bucket none z.content t.content) (sym h.1) (only_same p.bucket none z.content)
 does_only (AbortUploads p) bytes z what s h = abort_only p z what s h
 does_only Job bytes z what s h = absurd h
+does_only (Gen seed tasks files) bytes z what s h = absurd h

@@ -21,7 +21,7 @@ use Rattle.fs_tree.specs.declared.rename.RenameRefusal.TheVariants.{SourceMissin
 use Rattle.fs_tree.specs.Renames.{Renames}
 use Rattle.fs_files.specs.Create.{IsUndone}
 use Rattle.s3a_words.specs.declared.command.Command.{Command}
-use Rattle.s3a_words.specs.declared.command.Command.TheVariants.{Init, Mb, Ls, Stat, Cat, Put, PutForce, Mkdir, Mv, Rm, Rmr, Uploads, AbortUploads, Job}
+use Rattle.s3a_words.specs.declared.command.Command.TheVariants.{Init, Mb, Ls, Stat, Cat, Put, PutForce, Mkdir, Mv, Rm, Rmr, Uploads, AbortUploads, Job, Gen}
 use Rattle.s3a_shell.specs.declared.said.Said.{Said}
 use Rattle.s3a_shell.specs.Texts.{status_line, entry_lines, bytes_alone, nothing, said}
 use Rattle.s3a_shell.specs.Moving.{said_of_move, DidMove}
@@ -144,3 +144,4 @@ does_keeps (Uploads p) bytes z what s h e = h.1
 does_keeps (AbortUploads p) bytes z what s h e = abort_keeps p z what s (fin.get z.content.buckets p.bucket) h e
 does_keeps (Init m) bytes z what s h e = absurd h
 does_keeps Job bytes z what s h e = absurd h
+does_keeps (Gen seed tasks files) bytes z what s h e = absurd h

@@ -92,6 +92,7 @@ fn obey(
         Command::AbortUploads { path } => abort_uploads(alloc, path, store, journal),
         Command::Init { .. } => unreachable!(),
         Command::Job => unreachable!(),
+        Command::Gen { .. } => unreachable!(),
     }
 }
 

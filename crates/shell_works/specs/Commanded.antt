@@ -8,7 +8,7 @@ use Rattle.s3_types.specs.declared.journal.Entry.{Entry}
 use Rattle.machine.specs.Counted.{AreAnswered}
 use Rattle.machine.specs.Turns.{AreBy}
 use Rattle.s3a_words.specs.declared.command.Command.{Command}
-use Rattle.s3a_words.specs.declared.command.Command.TheVariants.{Init, Put, PutForce}
+use Rattle.s3a_words.specs.declared.command.Command.TheVariants.{Init, Put, PutForce, Job, Gen}
 use Rattle.s3a_shell.specs.declared.said.Said.{Said}
 use Rattle.s3a_shell.specs.Doings.{Does}
 use Rattle.s3a_shell.specs.Sendings.{has_changed}
@@ -24,6 +24,12 @@ abbrev pub takes_input : Command → Bool
 takes_input (Put path) = true
 takes_input (PutForce path) = true
 takes_input _ = false
+
+-- the commands that play a job
+abbrev pub plays : Command → Bool
+plays Job = true
+plays (Gen seed tasks files) = true
+plays _ = false
 
 -- the least size of a part in bytes, where none is given
 abbrev pub minimum_of : Option ℕ → ℕ

@@ -1,4 +1,4 @@
-ghost use Rattle.std.specs.Prelude.{◌≡◌, ◌≢◌, ◌≤◌, ◌^◌, true, [], codes, None, IfOk};
+ghost use Rattle.std.specs.Prelude.{◌≡◌, ◌≤◌, ◌^◌, true, false, [], codes, None, IfOk};
 ghost use Rattle.kept_stores.specs.Stores.{fault_text};
 ghost use Rattle.kept_stores.specs.Works as works;
 ghost use Rattle.kept_stores.specs.Doing.{work_in};
@@ -6,7 +6,7 @@ ghost use Rattle.kept_stores.specs.Outcomes.{IsSound};
 ghost use Rattle.s3a_words.specs.Words.{IsBounded};
 ghost use Rattle.s3a_shell.specs.Doings.{is_of_shell};
 ghost use Rattle.s3a_shell.specs.Texts.{refused_line};
-ghost use Rattle.shell_works.specs.Commanded.{takes_input, minimum_of, init_work, work_said, Done, DoneOn, IsWork};
+ghost use Rattle.shell_works.specs.Commanded.{takes_input, plays, minimum_of, init_work, work_said, Done, DoneOn, IsWork};
 
 use kept_stores::{Held, Work, fault_text};
 use s3_service::Service;
@@ -28,6 +28,17 @@ pub fn takes_input(command: &Command) -> bool
     match command {
         Command::Put { .. } => true,
         Command::PutForce { .. } => true,
+        _ => false,
+    }
+}
+
+/// Whether a command plays a job: `job` and `gen` do.
+pub fn plays(command: &Command) -> bool
+    ensures { result ≡ plays command.now }
+{
+    match command {
+        Command::Job => true,
+        Command::Gen { .. } => true,
         _ => false,
     }
 }
@@ -141,7 +152,7 @@ fn done_on(alloc: Global, command: &Command, bytes: Bytes, held: Held) -> Result
     }
 }
 
-/// What a command but `job` is to do on what a shelf was found to hold, where `bytes` are its input. `init` keeps a new
+/// What a command but `job` and `gen` is to do on what a shelf was found to hold, where `bytes` are its input. `init` keeps a new
 /// store where nothing is held, and is refused else. The others are done on the store that is held, or on a new one where
 /// nothing is; what is refused, and what sent no change, is to be said, and else the store is to be kept as it was, and
 /// then what was sent to it. What is no store is told with its first fault. Only want of memory is an error.
@@ -151,7 +162,7 @@ pub fn work_of(
     bytes: Bytes,
     held: Held,
 ) -> Result<Work, AllocError>
-    requires no_job { command.now ≢ Command.Job }
+    requires no_job { plays command.now ≡ false }
     requires fit { IsBounded command.now }
     requires sound { IsSound held }
     ensures work { IfOk result (λ work. IsWork command.now bytes held (work_in work)) }
