@@ -10,7 +10,8 @@ use Rattle.kept_stores.specs.Outcomes.{MightLeave}
 use Rattle.kept_stores.specs.declared.held.Held.{Held}
 use Rattle.kept_runs.specs.Kept.{IsMoment}
 use Rattle.kept_runs.proofs.Leaving.{told_all, told_more, started, then_on, widened}
-use Rattle.s3a_top.specs.Openings.{IsScript, Opens, opening_in}
+use Rattle.s3a_words.specs.declared.command.Command.{Command}
+use Rattle.s3a_top.specs.Openings.{IsScriptOf, Opens, opening_in}
 use Rattle.s3a_top.specs.Jobs.{MayHaveLeft}
 use Rattle.s3a_top.specs.Openings.{IsFound}
 use Rattle.s3a_top.specs.Plays.{MayHaveLeftOver}
@@ -43,24 +44,24 @@ module _ {S : Type 0} (may_leave : S → Holding → Type 0) (moment_of : S → 
   unmoved s P only_now f = started moment_of left_since s P (λ h left. f h (only_now h left))
 
   -- the shelf was loaded alone
-  pub loaded_alone : (old new : S) (told : Option Stored) (left rest : Option (List ℕ)) → LeavesOnly moment_of left_since old new (may_leave old) → LeavesOnly moment_of left_since old new (MayHaveLeft (may_leave old) told left rest)
-  loaded_alone old new told left rest load = widened moment_of left_since old new (may_leave old) (MayHaveLeft (may_leave old) told left rest) load (λ h is. inl is)
+  pub loaded_alone : (old new : S) (command : Command) (told : Option Stored) (left rest : Option (List ℕ)) → LeavesOnly moment_of left_since old new (may_leave old) → LeavesOnly moment_of left_since old new (MayHaveLeft (may_leave old) command told left rest)
+  loaded_alone old new command told left rest load = widened moment_of left_since old new (may_leave old) (MayHaveLeft (may_leave old) command told left rest) load (λ h is. inl is)
 
   -- the image of the opening store was to be put in place of what was held
-  pub image_left : (old new : S) (before : Held) (left rest : Option (List ℕ)) (w : Script) (c : Content) → IsScript left rest w → opening_in before w ≡ Some c → LeavesOnly moment_of left_since old new (λ h. may_leave old h ⊎ (h ≡ fresh (image c)))
-      → LeavesOnly moment_of left_since old new (MayHaveLeftOver (may_leave old) before left rest)
-  image_left old new before left rest w c reads opens leaves =
-      widened moment_of left_since old new (λ h. may_leave old h ⊎ (h ≡ fresh (image c))) (MayHaveLeftOver (may_leave old) before left rest) leaves (λ h is. ⊎_elim (λ l. inl l) (λ e. inr (w, (c, (reads, (opens, e))))) is)
+  pub image_left : (old new : S) (command : Command) (before : Held) (left rest : Option (List ℕ)) (w : Script) (c : Content) → IsScriptOf command left rest w → opening_in before w ≡ Some c → LeavesOnly moment_of left_since old new (λ h. may_leave old h ⊎ (h ≡ fresh (image c)))
+      → LeavesOnly moment_of left_since old new (MayHaveLeftOver (may_leave old) command before left rest)
+  image_left old new command before left rest w c reads opens leaves =
+      widened moment_of left_since old new (λ h. may_leave old h ⊎ (h ≡ fresh (image c))) (MayHaveLeftOver (may_leave old) command before left rest) leaves (λ h is. ⊎_elim (λ l. inl l) (λ e. inr (w, (c, (reads, (opens, e))))) is)
 
   module _ (counts_now : (s : S) (t : ℕ) (h : Holding) → t ≤ moment_of s → may_leave s h → left_since s t h) where
     -- what one after the load may leave, one before it may
     pub earlier : (old mid : S) → LeavesOnly moment_of left_since old mid (may_leave old) → (h : Holding) → may_leave mid h → may_leave old h
     earlier old mid load h left = load.each h (counts_now mid (moment_of old) h load.later left)
 
-    pub loaded_first : (old mid new : S) (told : Option Stored) (before : Held) (left rest : Option (List ℕ)) → IsFound told before → LeavesOnly moment_of left_since old mid (may_leave old) → LeavesOnly moment_of left_since mid new (MayHaveLeftOver (may_leave mid) before left rest)
-        → LeavesOnly moment_of left_since old new (MayHaveLeft (may_leave old) told left rest)
-    loaded_first old mid new told before left rest f load leaves =
-        then_on moment_of left_since old mid new (may_leave old) (MayHaveLeftOver (may_leave mid) before left rest) (MayHaveLeft (may_leave old) told left rest) load leaves (λ h is. inl is)
+    pub loaded_first : (old mid new : S) (command : Command) (told : Option Stored) (before : Held) (left rest : Option (List ℕ)) → IsFound told before → LeavesOnly moment_of left_since old mid (may_leave old) → LeavesOnly moment_of left_since mid new (MayHaveLeftOver (may_leave mid) command before left rest)
+        → LeavesOnly moment_of left_since old new (MayHaveLeft (may_leave old) command told left rest)
+    loaded_first old mid new command told before left rest f load leaves =
+        then_on moment_of left_since old mid new (may_leave old) (MayHaveLeftOver (may_leave mid) command before left rest) (MayHaveLeft (may_leave old) command told left rest) load leaves (λ h is. inl is)
         (λ h is. ⊎_elim (λ l. inl (earlier old mid load h l)) (λ o. inr (o.0, (o.1.0, (o.1.1.0, (opens_so told before o.0 o.1.0 f o.1.1.1.0, o.1.1.1.1))))) is)
 
     pub command_since : (old mid new : S) (work : Work) (told : Option Stored) → LeavesOnly moment_of left_since old mid (may_leave old) → LeavesOnly moment_of left_since mid new (MightLeave work told (may_leave mid))

@@ -1,5 +1,5 @@
 -- What is told where the work stopped before anything was done.
-use Rattle.std.proofs.Common.{◌≡◌, ◌⊎◌, inl, inr, ℕ, ◌≤◌, List, Option, Some, None, refl, sym, ap, subst, ◌∙◌}
+use Rattle.std.proofs.Common.{◌≡◌, ◌⊎◌, inl, inr, ⊎_elim, ℕ, ◌≤◌, List, Option, Some, None, refl, sym, ap, subst, ◌∙◌}
 use Rattle.s3_types.specs.declared.journal.Entry.{Entry}
 use Rattle.job_model.specs.declared.ends.Pick.{Pick}
 use Rattle.job_model.specs.declared.ends.EventEnd.{EventEnd}
@@ -34,44 +34,44 @@ faulty_of : (told : Option Stored) (before : Held) (number place : ℕ) → IsFo
 faulty_of None before number place f h = tt
 faulty_of (Some s) before number place f h = sym f ∙ h
 
-cause_of : (stop : Stop) (told : Option Stored) (before : Held) (left rest : Option (List ℕ)) → IsFound told before → HasCauseIn stop before left rest → HasCause stop told left rest
-cause_of Usage told before left rest f h = h
-cause_of ReadFault told before left rest f h = sound_of told before f h
-cause_of ShelfFault told before left rest f h = tt
-cause_of (BadScript e) told before left rest f h = (sound_of told before f h.0, h.1)
-cause_of (Image number place) told before left rest f h = (faulty_of told before number place f h.0, h.1)
-cause_of NoMemory told before left rest f h = inr (sound_of told before f h)
-cause_of NotBuilt told before left rest f h = (sound_of told before f h.0, h.1)
+cause_of : (stop : Stop) (command : Command) (told : Option Stored) (before : Held) (left rest : Option (List ℕ)) → IsFound told before → HasCauseIn stop command before left rest → HasCause stop command told left rest
+cause_of Usage command told before left rest f h = h
+cause_of ReadFault command told before left rest f h = (sound_of told before f h.0, h.1)
+cause_of ShelfFault command told before left rest f h = h
+cause_of (BadScript e) command told before left rest f h = (sound_of told before f h.0, h.1)
+cause_of (Image number place) command told before left rest f h = (faulty_of told before number place f h.0, h.1)
+cause_of NoMemory command told before left rest f h = ⊎_elim (λ e. inl e) (λ j. inr (sound_of told before f h.0, j)) h.1
+cause_of NotBuilt command told before left rest f h = (sound_of told before f h.0, h.1)
 
 -- ---- a job
 
-module _ {S : Type 0} (held : S → Option Stored) (may_leave : S → Holding → Type 0) (answers fails : S → S → Type 0) (moment_of : S → ℕ) (left_since : S → ℕ → Holding → Type 0) (left rest : Option (List ℕ)) where
+module _ {S : Type 0} (held : S → Option Stored) (may_leave : S → Holding → Type 0) (answers fails : S → S → Type 0) (moment_of : S → ℕ) (left_since : S → ℕ → Holding → Type 0) (command : Command) (left rest : Option (List ℕ)) where
   -- the shelf was not loaded
   pub load_halted : (old new : S) (fault : ShelfStop) → rest ≡ left → held new ≡ held old → LeavesOnly moment_of left_since old new (may_leave old) → ((fault ≡ shelves.Failed → ⊥) → answers old new) → (fault ≡ shelves.Failed → fails old new)
-      → JobHalted held may_leave answers fails moment_of left_since left rest old new (of_shelf fault)
-  load_halted old new shelves.Failed unread same leaves answered broken = record { cause = tt; same = same; calls = inr (inl (broken refl, unread)); leaves = loaded_alone may_leave moment_of left_since old new (held old) left rest leaves }
-  load_halted old new shelves.NoMemory unread same leaves answered broken = record { cause = inl unread; same = same; calls = inr (inr (new, (answered (λ e. cc), inl refl))); leaves = loaded_alone may_leave moment_of left_since old new (held old) left rest leaves }
+      → JobHalted held may_leave answers fails moment_of left_since command left rest old new (of_shelf fault)
+  load_halted old new shelves.Failed unread same leaves answered broken = record { cause = inl unread; same = same; calls = inr (inl (broken refl, unread)); leaves = loaded_alone may_leave moment_of left_since old new command (held old) left rest leaves }
+  load_halted old new shelves.NoMemory unread same leaves answered broken = record { cause = inl unread; same = same; calls = inr (inr (new, (answered (λ e. cc), inl refl))); leaves = loaded_alone may_leave moment_of left_since old new command (held old) left rest leaves }
 
   -- it stopped since
   pub job_halted : ((s : S) (t : ℕ) (h : Holding) → t ≤ moment_of s → may_leave s h → left_since s t h) → (old mid new : S) (before : Held) (stop : Stop) → IsFound (held old) before → held mid ≡ held old → answers old mid
-      → LeavesOnly moment_of left_since old mid (may_leave old) → HasCauseIn stop before left rest → held new ≡ held mid → HasFailed fails mid new → LeavesOnly moment_of left_since mid new (MayHaveLeftOver (may_leave mid) before left rest)
-      → JobHalted held may_leave answers fails moment_of left_since left rest old new stop
+      → LeavesOnly moment_of left_since old mid (may_leave old) → HasCauseIn stop command before left rest → held new ≡ held mid → HasFailed fails mid new → LeavesOnly moment_of left_since mid new (MayHaveLeftOver (may_leave mid) command before left rest)
+      → JobHalted held may_leave answers fails moment_of left_since command left rest old new stop
   job_halted counts_now old mid new before stop f same answered load cause still calls leaves = record {
-    cause = cause_of stop (held old) before left rest f cause;
+    cause = cause_of stop command (held old) before left rest f cause;
     same = still ∙ same;
     calls = inr (inr (mid, (answered, calls)));
-    leaves = loaded_first may_leave moment_of left_since counts_now old mid new (held old) before left rest f load leaves;
+    leaves = loaded_first may_leave moment_of left_since counts_now old mid new command (held old) before left rest f load leaves;
   }
 
   -- a stop whose text is made has a cause of want of memory too
-  made_cause : (stop : Stop) (told : Option Stored) → IsMade stop → HasCause stop told left rest → HasCause NoMemory told left rest
-  made_cause (BadScript e) told m h = inr h.0
+  made_cause : (stop : Stop) (told : Option Stored) → IsMade stop → HasCause stop command told left rest → HasCause NoMemory command told left rest
+  made_cause (BadScript e) told m h = inr (h.0, h.1.0)
   made_cause (Image number place) told m h = inl h.1
   made_cause _ told m h = absurd m
 
   -- and that was told
-  pub halted_told : (old new : S) (stop : Stop) (due : Status) (text : List ℕ) (es : List Entry) (ps : List Pick) (xs : List EventEnd) → JobHalted held may_leave answers fails moment_of left_since left rest old new stop → IsToldOf stop due text → IsIdle es ps xs
-      → JobStopped held may_leave answers fails moment_of left_since left rest old new (code due) es ps xs (λ t. text ≡ t)
+  pub halted_told : (old new : S) (stop : Stop) (due : Status) (text : List ℕ) (es : List Entry) (ps : List Pick) (xs : List EventEnd) → JobHalted held may_leave answers fails moment_of left_since command left rest old new stop → IsToldOf stop due text → IsIdle es ps xs
+      → JobStopped held may_leave answers fails moment_of left_since command left rest old new (code due) es ps xs (λ t. text ≡ t)
   halted_told old new stop due text es ps xs h (inl told) idle = record { stop = stop; status = ap code told.0; cause = h.cause; text = told.1; idle = idle; same = h.same; calls = h.calls; leaves = h.leaves }
   halted_told old new stop due text es ps xs h (inr told) idle = record { stop = NoMemory; status = ap code told.0; cause = made_cause stop (held old) told.1.1 h.cause; text = told.1.0; idle = idle; same = h.same; calls = h.calls; leaves = h.leaves }
 

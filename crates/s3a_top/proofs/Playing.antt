@@ -6,7 +6,6 @@ use Rattle.job_model.specs.JobScript.{Script}
 use Rattle.job_model.specs.declared.ends.Pick.{Pick}
 use Rattle.job_model.specs.declared.ends.EventEnd.{EventEnd}
 use Rattle.job_promise.specs.States.{verdict}
-use Rattle.job_promise.specs.ReportText.{report_text}
 use Rattle.job_world.specs.declared.played.Played.{Played}
 use Rattle.shelf.specs.Logged.{Holding, Stored, LeavesOnly}
 use Rattle.shelf.specs.declared.kept.AppendFault.{AppendFault}
@@ -20,7 +19,8 @@ use Rattle.kept_runs.proofs.Standing.{begins_all, last}
 use Rattle.kept_runs.proofs.Leaving.{survives}
 use Rattle.kept_jobs.specs.Played.{IsPlayed, IsHeld, Survives}
 use Rattle.s3a_top.specs.Statuses.{memory_text}
-use Rattle.s3a_top.specs.Jobs.{JobEnded, JobCut, JobRan, JobPlayed}
+use Rattle.s3a_words.specs.declared.command.Command.{Command}
+use Rattle.s3a_top.specs.Jobs.{job_text, JobEnded, JobCut, JobRan, JobPlayed}
 use Rattle.s3a_top.specs.Openings.{IsFound}
 use Rattle.s3a_top.specs.Plays.{IsTold, Survived, JobOver}
 use Rattle.s3a_top.proofs.Crashing.{opens_so}
@@ -50,8 +50,8 @@ module _ {S : Type 0} (held : S → Option Stored) (may_leave : S → Holding �
   short_due : (c : Content) (loaded new : S) (due : ℕ) (es : List Entry) (Says : List ℕ → Type 0) → JobCut held answers fails c loaded new due es Says → (due ≡ 5) ⊎ (due ≡ 9)
   short_due c loaded new due es Says h = ⊎_elim (λ e. inl e.0) (λ e. inr e.0) h.said
 
-  module _ (w : Script) (c : Content) (loaded new : S) (due : ℕ) (es : List Entry) (ps : List Pick) (xs : List EventEnd) (Says : List ℕ → Type 0)
-      (ended : JobEnded held may_leave answers w c loaded new due es ps xs Says ⊎ JobCut held answers fails c loaded new due es Says) where
+  module _ (command : Command) (w : Script) (c : Content) (loaded new : S) (due : ℕ) (es : List Entry) (ps : List Pick) (xs : List EventEnd) (Says : List ℕ → Type 0)
+      (ended : JobEnded held may_leave answers command w c loaded new due es ps xs Says ⊎ JobCut held answers fails c loaded new due es Says) where
     pub is_kept : IsKept due (held new) c es
     is_kept = record {
       whole = λ to_end. ⊎_elim (λ e. e.holds) (λ e. never due to_end (short_due c loaded new due es Says e)) ended;
@@ -65,10 +65,10 @@ module _ {S : Type 0} (held : S → Option Stored) (may_leave : S → Holding �
 
 module _ {S : Type 0} (held : S → Option Stored) (may_leave : S → Holding → Type 0) (answers fails : S → S → Type 0) (moment_of : S → ℕ) (left_since : S → ℕ → Holding → Type 0)
     (counts_now : (s : S) (t : ℕ) (h : Holding) → t ≤ moment_of s → may_leave s h → left_since s t h) where
-  pub played_from : (before : Held) (left rest : Option (List ℕ)) (old loaded new : S) (due : ℕ) (es : List Entry) (ps : List Pick) (xs : List EventEnd) (Says : List ℕ → Type 0)
-      → IsFound (held old) before → answers old loaded → LeavesOnly moment_of left_since old loaded (may_leave old) → JobOver held may_leave answers fails moment_of left_since before left rest loaded new due es ps xs Says
-      → JobPlayed held may_leave answers fails moment_of left_since left rest old new due es ps xs Says
-  played_from before left rest old loaded new due es ps xs Says found answered load over = record {
+  pub played_from : (command : Command) (before : Held) (left rest : Option (List ℕ)) (old loaded new : S) (due : ℕ) (es : List Entry) (ps : List Pick) (xs : List EventEnd) (Says : List ℕ → Type 0)
+      → IsFound (held old) before → answers old loaded → LeavesOnly moment_of left_since old loaded (may_leave old) → JobOver held may_leave answers fails moment_of left_since command before left rest loaded new due es ps xs Says
+      → JobPlayed held may_leave answers fails moment_of left_since command left rest old new due es ps xs Says
+  played_from command before left rest old loaded new due es ps xs Says found answered load over = record {
     script = over.script;
     opening = over.opening;
     reads = over.reads;
@@ -77,36 +77,36 @@ module _ {S : Type 0} (held : S → Option Stored) (may_leave : S → Holding �
     loaded = loaded;
     load = answered;
     ran = over.ran;
-    kept = is_kept held may_leave answers fails over.script over.opening loaded new due es ps xs Says over.ran.ended;
+    kept = is_kept held may_leave answers fails command over.script over.opening loaded new due es ps xs Says over.ran.ended;
     survives = record {
       within = λ h left. (survives may_leave moment_of left_since counts_now over.opening es (held new) old loaded over.survived.0 new load over.survived.1.0 over.survived.1.1).each h left;
-      behind = last_is held may_leave answers fails over.script over.opening loaded new due es ps xs Says over.ran.ended;
+      behind = last_is held may_leave answers fails command over.script over.opening loaded new due es ps xs Says over.ran.ended;
     };
   }
 
 -- ---- what is kept of a run, and what is said of it
 
-module _ {S : Type 0} (held : S → Option Stored) (may_leave : S → Holding → Type 0) (answers fails : S → S → Type 0) (w : Script) (c : Content) (p : Played) (old new : S) (due : ℕ) (text : List ℕ) (played : IsPlayed w c p) where
-  said_whole : IsTold None p due text → ((due ≡ verdict w p.ends) × (text ≡ report_text due (length p.journal.entries) p.picks p.ends w)) ⊎ ((due ≡ 9) × (text ≡ memory_text))
-  said_whole told = subst (λ (v : Script). ((due ≡ verdict v p.ends) × (text ≡ report_text due (length p.journal.entries) p.picks p.ends v)) ⊎ ((due ≡ 9) × (text ≡ memory_text))) played.script told
+module _ {S : Type 0} (held : S → Option Stored) (may_leave : S → Holding → Type 0) (answers fails : S → S → Type 0) (command : Command) (w : Script) (c : Content) (p : Played) (old new : S) (due : ℕ) (text : List ℕ) (played : IsPlayed w c p) where
+  said_whole : IsTold None command p due text → ((due ≡ verdict w p.ends) × (text ≡ job_text command due (length p.journal.entries) p.picks p.ends w)) ⊎ ((due ≡ 9) × (text ≡ memory_text))
+  said_whole told = subst (λ (v : Script). ((due ≡ verdict v p.ends) × (text ≡ job_text command due (length p.journal.entries) p.picks p.ends v)) ⊎ ((due ≡ 9) × (text ≡ memory_text))) played.script told
 
-  ended_so : (stop : Option AppendFault) → IsHeld held may_leave answers fails w c p stop old new → IsTold stop p due text
-      → JobEnded held may_leave answers w c old new due p.journal.entries p.picks p.ends (λ t. text ≡ t) ⊎ JobCut held answers fails c old new due p.journal.entries (λ t. text ≡ t)
+  ended_so : (stop : Option AppendFault) → IsHeld held may_leave answers fails w c p stop old new → IsTold stop command p due text
+      → JobEnded held may_leave answers command w c old new due p.journal.entries p.picks p.ends (λ t. text ≡ t) ⊎ JobCut held answers fails c old new due p.journal.entries (λ t. text ≡ t)
   ended_so None h told = inl (record { finished = h.0; holds = h.1.0; durable = h.1.1.0; calls = h.1.1.1; said = said_whole told })
   ended_so (Some Failed) h told = inr (record { holds = h.0; calls = (h.1.0, (h.1.1, h.1.2)); said = inl told })
   ended_so (Some NoMemory) h told = inr (record { holds = h.0; calls = (h.1.0, (h.1.1, h.1.2)); said = inr told })
 
-  ran_so : (stop : Option AppendFault) → IsHeld held may_leave answers fails w c p stop old new → IsTold stop p due text → JobRan held may_leave answers fails w c old new due p.journal.entries p.picks p.ends (λ t. text ≡ t)
+  ran_so : (stop : Option AppendFault) → IsHeld held may_leave answers fails w c p stop old new → IsTold stop command p due text → JobRan held may_leave answers fails command w c old new due p.journal.entries p.picks p.ends (λ t. text ≡ t)
   ran_so stop h told = record { promised = played.promised; sent = played.sent; own = played.own; ended = ended_so stop h told }
 
   -- where these are what was sent, picked and ended
-  pub ran_of : (stop : Option AppendFault) (es : List Entry) (ps : List Pick) (xs : List EventEnd) → es ≡ p.journal.entries → ps ≡ p.picks → xs ≡ p.ends → IsHeld held may_leave answers fails w c p stop old new → IsTold stop p due text
-      → JobRan held may_leave answers fails w c old new due es ps xs (λ t. text ≡ t)
+  pub ran_of : (stop : Option AppendFault) (es : List Entry) (ps : List Pick) (xs : List EventEnd) → es ≡ p.journal.entries → ps ≡ p.picks → xs ≡ p.ends → IsHeld held may_leave answers fails w c p stop old new → IsTold stop command p due text
+      → JobRan held may_leave answers fails command w c old new due es ps xs (λ t. text ≡ t)
   ran_of stop es ps xs is picks ends h told =
       let Says : List ℕ → Type 0 = λ t. text ≡ t in
-      subst (λ (l : List Entry). JobRan held may_leave answers fails w c old new due l ps xs Says) (sym is)
-      (subst (λ (l : List Pick). JobRan held may_leave answers fails w c old new due p.journal.entries l xs Says) (sym picks)
-      (subst (λ (l : List EventEnd). JobRan held may_leave answers fails w c old new due p.journal.entries p.picks l Says) (sym ends) (ran_so stop h told)))
+      subst (λ (l : List Entry). JobRan held may_leave answers fails command w c old new due l ps xs Says) (sym is)
+      (subst (λ (l : List Pick). JobRan held may_leave answers fails command w c old new due p.journal.entries l xs Says) (sym picks)
+      (subst (λ (l : List EventEnd). JobRan held may_leave answers fails command w c old new due p.journal.entries p.picks l Says) (sym ends) (ran_so stop h told)))
 
 pub survived_of : {S : Type 0} (held : S → Option Stored) (may_leave : S → Holding → Type 0) (moment_of : S → ℕ) (left_since : S → ℕ → Holding → Type 0) (c : Content) (p : Played) (old new : S) (es : List Entry) → es ≡ p.journal.entries
     → Survives held may_leave moment_of left_since c p old new → Survived held may_leave moment_of left_since c es old new

@@ -7,7 +7,10 @@ use Rattle.kept_stores.specs.declared.held.Held.{Held}
 use Rattle.kept_stores.specs.declared.held.ShelfStop.{ShelfStop}
 use Rattle.kept_stores.specs.declared.held.ShelfStop.TheVariants as shelves
 use Rattle.kept_jobs.specs.Played.{Counts}
-use Rattle.s3a_top.specs.Openings.{is_sound}
+use Rattle.job_model.specs.JobScript.{Script}
+use Rattle.s3a_words.specs.declared.command.Command.{Command}
+use Rattle.s3a_words.specs.declared.command.Command.TheVariants.{Job, Gen}
+use Rattle.s3a_top.specs.Openings.{IsScriptOf, StaysUnlessJob, is_sound}
 use Rattle.s3a_top.specs.Statuses.{code, IsDue, IsWorked}
 use Rattle.s3a_top.specs.Stops.{status_of, of_shelf}
 use Rattle.s3a_top.specs.Reads.{IsReadStop, CountsReads}
@@ -97,25 +100,31 @@ read_counts NoMemory before after counts = tells_none 3 9 before after (λ e. cc
 read_counts NotBuilt before after counts = tells_none 3 10 before after (λ e. cc) counts
 
 -- the shelf was not called
-pub read_calm : (stop : Stop) (left rest : Option (List ℕ)) (count : ℕ) → IsReadStop stop left rest → Tells 5 (code (status_of stop)) count count
-read_calm ReadFault left rest count h = tells_none 5 3 count count (λ e. cc) refl
-read_calm (BadScript e) left rest count h = tells_none 5 6 count count (λ e. cc) refl
-read_calm NoMemory left rest count h = tells_none 5 9 count count (λ e. cc) refl
-read_calm NotBuilt left rest count h = tells_none 5 10 count count (λ e. cc) refl
-read_calm _ left rest count h = absurd h
+pub read_calm : (stop : Stop) (command : Command) (left rest : Option (List ℕ)) (count : ℕ) → IsReadStop stop command left rest → Tells 5 (code (status_of stop)) count count
+read_calm ReadFault command left rest count h = tells_none 5 3 count count (λ e. cc) refl
+read_calm (BadScript e) command left rest count h = tells_none 5 6 count count (λ e. cc) refl
+read_calm NoMemory command left rest count h = tells_none 5 9 count count (λ e. cc) refl
+read_calm NotBuilt command left rest count h = tells_none 5 10 count count (λ e. cc) refl
+read_calm _ command left rest count h = absurd h
 
-pub read_cause : (stop : Stop) (before : Held) (left rest : Option (List ℕ)) → is_sound before → IsReadStop stop left rest → HasCauseIn stop before left rest
-read_cause ReadFault before left rest sound h = sound
-read_cause (BadScript e) before left rest sound h = (sound, h)
-read_cause NoMemory before left rest sound h = sound
-read_cause NotBuilt before left rest sound h = (sound, h)
-read_cause _ before left rest sound h = absurd h
+pub read_cause : (stop : Stop) (command : Command) (before : Held) (left rest : Option (List ℕ)) → is_sound before → IsReadStop stop command left rest → HasCauseIn stop command before left rest
+read_cause ReadFault command before left rest sound h = (sound, h)
+read_cause (BadScript e) command before left rest sound h = (sound, h)
+read_cause NoMemory command before left rest sound h = (sound, h)
+read_cause NotBuilt command before left rest sound h = (sound, h)
+read_cause _ command before left rest sound h = absurd h
+
+-- what was taken from the input was the script of `job`
+pub script_stays : (command : Command) (left rest : Option (List ℕ)) (w : Script) → IsScriptOf command left rest w → StaysUnlessJob command left rest
+script_stays Job left rest w h = inr refl
+script_stays (Gen seed tasks files) left rest w h = inl h.1
+script_stays _ left rest w h = absurd h
 
 -- ---- a stop of the shelf
 
-pub shelf_cause : (stop : Stop) (before : Held) (left rest : Option (List ℕ)) → is_sound before → IsOfShelf stop → HasCauseIn stop before left rest
-shelf_cause stop before left rest sound (inl e) = subst (λ (s : Stop). HasCauseIn s before left rest) (sym e) tt
-shelf_cause stop before left rest sound (inr e) = subst (λ (s : Stop). HasCauseIn s before left rest) (sym e) sound
+pub shelf_cause : (stop : Stop) (command : Command) (before : Held) (left rest : Option (List ℕ)) → is_sound before → StaysUnlessJob command left rest → IsOfShelf stop → HasCauseIn stop command before left rest
+shelf_cause stop command before left rest sound stays (inl e) = subst (λ (s : Stop). HasCauseIn s command before left rest) (sym e) stays
+shelf_cause stop command before left rest sound stays (inr e) = subst (λ (s : Stop). HasCauseIn s command before left rest) (sym e) (sound, stays)
 
 -- the input did not fail
 pub shelf_read : (stop : Stop) (before after : ℕ) → IsOfShelf stop → after ≡ before → Tells 3 (code (status_of stop)) before after

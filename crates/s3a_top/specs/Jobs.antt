@@ -13,6 +13,7 @@ use Rattle.job_promise.specs.ReportText.{report_text}
 use Rattle.job_script.specs.Script.{script_of}
 use Rattle.job_script.specs.declared.fault.ScriptFault.{ScriptFault}
 use Rattle.job_script.specs.declared.fault.ScriptFault.TheVariants as faults
+use Rattle.job_summary.specs.Summary.{summary}
 use Rattle.shelf.specs.Logged.{Holding, Stored, fresh, IsDurable, LeavesOnly}
 use Rattle.store_image.specs.Image.{image}
 use Rattle.kept_stores.specs.Stores.{found}
@@ -22,7 +23,9 @@ use Rattle.kept_runs.specs.Kept.{Holds, HoldsPart, IsKept}
 use Rattle.kept_runs.specs.Crashes.{SurvivesCrashes}
 use Rattle.kept_appends.specs.Appends.{AreCalled}
 use Rattle.kept_jobs.specs.Pace.{Stops}
-use Rattle.s3a_top.specs.Openings.{IsScript, IsSoundly, Opens}
+use Rattle.s3a_words.specs.declared.command.Command.{Command}
+use Rattle.s3a_words.specs.declared.command.Command.TheVariants.{Job, Gen}
+use Rattle.s3a_top.specs.Openings.{IsScript, IsScriptOf, StaysUnlessJob, IsSoundly, Opens}
 use Rattle.s3a_top.specs.Statuses.{IsIdle, code, shelf_text, memory_text}
 use Rattle.s3a_top.specs.Stops.{status_of, stop_text}
 use Rattle.s3a_top.specs.declared.stop.Stop.{Stop}
@@ -40,47 +43,52 @@ abbrev pub IsNoScript : Option (List ℕ) → ScriptFault → Type 0
 IsNoScript None e = Unit {0}
 IsNoScript (Some bytes) e = script_of bytes ≡ Err e
 
--- a job's stop has its cause: the shelf comes before the input, and that before the script; nothing is taken from the input before the shelf gave a store, or nothing
-abbrev pub HasCause : Stop → Option Stored → (left rest : Option (List ℕ)) → Type 0
-HasCause Usage told left rest = ⊥
-HasCause ReadFault told left rest = IsSoundly told
-HasCause ShelfFault told left rest = Unit {0}
-HasCause (BadScript e) told left rest = IsSoundly told × (IsNoScript left e × (e ≢ faults.NoMemory))
-HasCause (Image number place) told left rest = IsFaulty told number place × (rest ≡ left)
-HasCause NoMemory told left rest = (rest ≡ left) ⊎ IsSoundly told
-HasCause NotBuilt told left rest = IsSoundly told × ((w : Script) × (IsScript left rest w × (w.committer ≢ Magic)))
+-- a job's stop has its cause: the shelf comes before the input, and that before the script; nothing is taken from the input before the shelf gave a store, or nothing; by the input and by its script `job` alone stops
+abbrev pub HasCause : Stop → Command → Option Stored → (left rest : Option (List ℕ)) → Type 0
+HasCause Usage command told left rest = ⊥
+HasCause ReadFault command told left rest = IsSoundly told × (command ≡ Job)
+HasCause ShelfFault command told left rest = StaysUnlessJob command left rest
+HasCause (BadScript e) command told left rest = IsSoundly told × ((command ≡ Job) × (IsNoScript left e × (e ≢ faults.NoMemory)))
+HasCause (Image number place) command told left rest = IsFaulty told number place × (rest ≡ left)
+HasCause NoMemory command told left rest = (rest ≡ left) ⊎ (IsSoundly told × (command ≡ Job))
+HasCause NotBuilt command told left rest = IsSoundly told × ((command ≡ Job) × ((w : Script) × (IsScript left rest w × (w.committer ≢ Magic))))
 
 -- the shelf was called to load at most, and once more to take an image, which failed; a load that failed was before the input
 abbrev pub AreFew : {S : Type 0} → (answers fails : S → S → Type 0) → (left rest : Option (List ℕ)) → S → S → Type 0
 AreFew {S} answers fails left rest old new = ((old ≡ new) × (rest ≡ left)) ⊎ ((fails old new × (rest ≡ left)) ⊎ ((mid : S) × (answers old mid × ((mid ≡ new) ⊎ fails mid new))))
 
 -- what a crash before a job's first event might have left: what one at the beginning may leave, or the image of the job's opening store
-abbrev pub MayHaveLeft : (at_first : Holding → Type 0) → Option Stored → (left rest : Option (List ℕ)) → Holding → Type 0
-MayHaveLeft at_first told left rest h = at_first h ⊎ ((w : Script) × ((c : Content) × (IsScript left rest w × (Opens told w c × (h ≡ fresh (image c))))))
+abbrev pub MayHaveLeft : (at_first : Holding → Type 0) → Command → Option Stored → (left rest : Option (List ℕ)) → Holding → Type 0
+MayHaveLeft at_first command told left rest h = at_first h ⊎ ((w : Script) × ((c : Content) × (IsScriptOf command left rest w × (Opens told w c × (h ≡ fresh (image c))))))
 
-pub record JobStopped {S : Type 0} (held : S → Option Stored) (may_leave : S → Holding → Type 0) (answers fails : S → S → Type 0) (moment_of : S → ℕ) (left_since : S → ℕ → Holding → Type 0) (left rest : Option (List ℕ)) (old new : S)
+pub record JobStopped {S : Type 0} (held : S → Option Stored) (may_leave : S → Holding → Type 0) (answers fails : S → S → Type 0) (moment_of : S → ℕ) (left_since : S → ℕ → Holding → Type 0) (command : Command) (left rest : Option (List ℕ)) (old new : S)
     (due : ℕ) (es : List Entry) (ps : List Pick) (xs : List EventEnd) (Says : List ℕ → Type 0) : Type 0 where
   pub stop : Stop
   pub status : due ≡ code (status_of stop)
-  pub cause : HasCause stop (held old) left rest
+  pub cause : HasCause stop command (held old) left rest
   pub text : Says (stop_text stop)
   -- nothing was sent, and the shelf holds what it held
   pub idle : IsIdle es ps xs
   pub same : held new ≡ held old
   pub calls : AreFew answers fails left rest old new
-  pub leaves : LeavesOnly moment_of left_since old new (MayHaveLeft (may_leave old) (held old) left rest)
+  pub leaves : LeavesOnly moment_of left_since old new (MayHaveLeft (may_leave old) command (held old) left rest)
 
 -- ---- it was played
 
+-- what is said of it, by the status that is due: the report, or of a job that was made the line that sums it up
+abbrev pub job_text : Command → (due sent : ℕ) → List Pick → List EventEnd → Script → List ℕ
+job_text (Gen seed tasks files) due sent ps xs w = summary tasks files due sent ps xs w
+job_text _ due sent ps xs w = report_text due sent ps xs w
+
 -- all events ended, all that was sent is kept, and the status is the verdict of the job's commit
-pub record JobEnded {S : Type 0} (held : S → Option Stored) (may_leave : S → Holding → Type 0) (answers : S → S → Type 0) (w : Script) (c : Content) (loaded new : S) (due : ℕ) (es : List Entry) (ps : List Pick) (xs : List EventEnd) (Says : List ℕ → Type 0) : Type 0 where
+pub record JobEnded {S : Type 0} (held : S → Option Stored) (may_leave : S → Holding → Type 0) (answers : S → S → Type 0) (command : Command) (w : Script) (c : Content) (loaded new : S) (due : ℕ) (es : List Entry) (ps : List Pick) (xs : List EventEnd) (Says : List ℕ → Type 0) : Type 0 where
   pub finished : Finished w c es ps xs
   pub holds : Holds (held new) c (changes es)
   pub durable : IsDurable (held new) (may_leave new)
   -- the shelf was called to take the image, and once for each change
   pub calls : AreCalled answers (changes es) loaded new
-  -- the report was written, unless its text found no memory
-  pub said : ((due ≡ verdict w xs) × Says (report_text due (length es) ps xs w)) ⊎ ((due ≡ 9) × Says memory_text)
+  -- its text was written, unless that found no memory
+  pub said : ((due ≡ verdict w xs) × Says (job_text command due (length es) ps xs w)) ⊎ ((due ≡ 9) × Says memory_text)
 
 -- an append failed, or memory was wanting between two events
 pub record JobCut {S : Type 0} (held : S → Option Stored) (answers fails : S → S → Type 0) (c : Content) (loaded new : S) (due : ℕ) (es : List Entry) (Says : List ℕ → Type 0) : Type 0 where
@@ -89,7 +97,7 @@ pub record JobCut {S : Type 0} (held : S → Option Stored) (answers fails : S �
   pub said : ((due ≡ 5) × Says shelf_text) ⊎ ((due ≡ 9) × Says memory_text)
 
 -- Of a script over a store with this content, since the shelf was loaded: what was sent keeps all that is promised of the job.
-pub record JobRan {S : Type 0} (held : S → Option Stored) (may_leave : S → Holding → Type 0) (answers fails : S → S → Type 0) (w : Script) (c : Content) (loaded new : S)
+pub record JobRan {S : Type 0} (held : S → Option Stored) (may_leave : S → Holding → Type 0) (answers fails : S → S → Type 0) (command : Command) (w : Script) (c : Content) (loaded new : S)
     (due : ℕ) (es : List Entry) (ps : List Pick) (xs : List EventEnd) (Says : List ℕ → Type 0) : Type 0 where
   -- readers are shown what they may rely on at every moment, and each event, turn and operation is as the script says
   pub promised : Promised w c es ps xs
@@ -97,19 +105,19 @@ pub record JobRan {S : Type 0} (held : S → Option Stored) (may_leave : S → H
   pub sent : Sent w c es
   -- no stranger sent anything
   pub own : AreOwn es
-  pub ended : JobEnded held may_leave answers w c loaded new due es ps xs Says ⊎ JobCut held answers fails c loaded new due es Says
+  pub ended : JobEnded held may_leave answers command w c loaded new due es ps xs Says ⊎ JobCut held answers fails c loaded new due es Says
 
--- The headline. Of a job that was played: its script is the input's, the store that it opened with is the shelf's, and the promise holds of all that was sent.
-pub record JobPlayed {S : Type 0} (held : S → Option Stored) (may_leave : S → Holding → Type 0) (answers fails : S → S → Type 0) (moment_of : S → ℕ) (left_since : S → ℕ → Holding → Type 0) (left rest : Option (List ℕ)) (old new : S)
+-- The headline. Of a job that was played: its script is the command's, the store that it opened with is the shelf's, and the promise holds of all that was sent.
+pub record JobPlayed {S : Type 0} (held : S → Option Stored) (may_leave : S → Holding → Type 0) (answers fails : S → S → Type 0) (moment_of : S → ℕ) (left_since : S → ℕ → Holding → Type 0) (command : Command) (left rest : Option (List ℕ)) (old new : S)
     (due : ℕ) (es : List Entry) (ps : List Pick) (xs : List EventEnd) (Says : List ℕ → Type 0) : Type 0 where
   pub script : Script
   pub opening : Content
-  pub reads : IsScript left rest script
+  pub reads : IsScriptOf command left rest script
   pub magic : script.committer ≡ Magic
   pub opens : Opens (held old) script opening
   pub loaded : S
   pub load : answers old loaded
-  pub ran : JobRan held may_leave answers fails script opening loaded new due es ps xs Says
+  pub ran : JobRan held may_leave answers fails command script opening loaded new due es ps xs Says
   -- what the shelf keeps of it, and what crashes leave
   pub kept : IsKept due (held new) opening es
   pub survives : SurvivesCrashes due (held new) (may_leave old) (left_since new (moment_of old)) (may_leave new) opening es

@@ -1,20 +1,33 @@
 -- What a run begins with, by what the shelf held and what the input had left.
-use Rattle.std.specs.Prelude.{◌≡◌, ℕ, List, [], Option, Some, None, Ok}
+use Rattle.std.specs.Prelude.{◌≡◌, ◌⊎◌, ℕ, List, [], Option, Some, None, Ok}
 use Rattle.s3_types.specs.Store.{Content, new_content}
 use Rattle.s3_types.specs.Answer.{apply_store}
 use Rattle.s3_types.specs.declared.limits.TheConstants.{MOST_MINIMUM}
 use Rattle.s3_types.specs.declared.request.Request.TheVariants.{MakeBucket}
 use Rattle.job_model.specs.JobScript.{Script}
 use Rattle.job_script.specs.Script.{script_of}
+use Rattle.made_jobs.specs.Made.{made_script}
 use Rattle.shelf.specs.Logged.{Stored}
 use Rattle.kept_stores.specs.Stores.{found}
 use Rattle.kept_stores.specs.declared.held.Held.{Held}
 use Rattle.kept_stores.specs.declared.held.Held.TheVariants.{Nothing, Store, Faulty}
+use Rattle.s3a_words.specs.declared.command.Command.{Command}
+use Rattle.s3a_words.specs.declared.command.Command.TheVariants.{Job, Gen}
 
 -- the input was this script, and nothing of it is left, where the source tells it
 abbrev pub IsScript : (left rest : Option (List ℕ)) → Script → Type 0
 IsScript None rest w = rest ≡ None
 IsScript (Some bytes) rest w = (script_of bytes ≡ Ok w) × (rest ≡ Some [])
+
+-- the script of a command: of `job` the input's, and of `gen` the one that its numbers make, where nothing is taken from the input
+abbrev pub IsScriptOf : Command → (left rest : Option (List ℕ)) → Script → Type 0
+IsScriptOf Job left rest w = IsScript left rest w
+IsScriptOf (Gen seed tasks files) left rest w = (w ≡ made_script seed tasks files) × (rest ≡ left)
+IsScriptOf _ left rest w = ⊥
+
+-- nothing was taken from the input, unless by `job`
+abbrev pub StaysUnlessJob : Command → (left rest : Option (List ℕ)) → Type 0
+StaysUnlessJob command left rest = (rest ≡ left) ⊎ (command ≡ Job)
 
 -- the store that a job opens with: the one that is held, or a new one in which its destination's bucket was made
 abbrev pub opening_in : Held → Script → Option Content

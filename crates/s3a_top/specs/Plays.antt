@@ -7,7 +7,6 @@ use Rattle.job_model.specs.JobScript.{Script}
 use Rattle.job_model.specs.declared.ends.Pick.{Pick}
 use Rattle.job_model.specs.declared.ends.EventEnd.{EventEnd}
 use Rattle.job_promise.specs.States.{verdict}
-use Rattle.job_promise.specs.ReportText.{report_text}
 use Rattle.job_script.specs.declared.fault.ScriptFault.TheVariants as faults
 use Rattle.job_world.specs.declared.played.Played.{Played}
 use Rattle.shelf.specs.Logged.{Holding, Stored, fresh, LeavesOnly}
@@ -18,9 +17,11 @@ use Rattle.kept_stores.specs.declared.held.Held.{Held}
 use Rattle.kept_stores.specs.declared.held.Held.TheVariants.{Faulty}
 use Rattle.kept_runs.specs.Kept.{IsMoment}
 use Rattle.kept_runs.specs.Crashes.{WhereTold}
-use Rattle.s3a_top.specs.Openings.{IsScript, opening_in, is_sound}
+use Rattle.s3a_words.specs.declared.command.Command.{Command}
+use Rattle.s3a_words.specs.declared.command.Command.TheVariants.{Job}
+use Rattle.s3a_top.specs.Openings.{IsScript, IsScriptOf, StaysUnlessJob, opening_in, is_sound}
 use Rattle.s3a_top.specs.Statuses.{shelf_text, memory_text}
-use Rattle.s3a_top.specs.Jobs.{IsNoScript, JobRan}
+use Rattle.s3a_top.specs.Jobs.{IsNoScript, job_text, JobRan}
 use Rattle.s3a_top.specs.declared.statuses.Status.{Status}
 use Rattle.s3a_top.specs.declared.statuses.Status.TheVariants as statuses
 use Rattle.s3a_top.specs.declared.stop.Stop.{Stop}
@@ -46,15 +47,15 @@ IsOfStop None due = IsVerdict due
 IsOfStop (Some appends.Failed) due = due ≡ statuses.ShelfFault
 IsOfStop (Some appends.NoMemory) due = due ≡ statuses.NoMemory
 
--- the report is said with the verdict, unless its text found no memory
-abbrev pub IsReported : Played → (due : ℕ) → List ℕ → Type 0
-IsReported p due text = ((due ≡ verdict p.script p.ends) × (text ≡ report_text due (length p.journal.entries) p.picks p.ends p.script)) ⊎ ((due ≡ 9) × (text ≡ memory_text))
+-- the job's text is said with the verdict, unless it found no memory
+abbrev pub IsReported : Command → Played → (due : ℕ) → List ℕ → Type 0
+IsReported command p due text = ((due ≡ verdict p.script p.ends) × (text ≡ job_text command due (length p.journal.entries) p.picks p.ends p.script)) ⊎ ((due ≡ 9) × (text ≡ memory_text))
 
 -- what is said, by why it stopped
-abbrev pub IsTold : Option AppendFault → Played → (due : ℕ) → List ℕ → Type 0
-IsTold None p due text = IsReported p due text
-IsTold (Some appends.Failed) p due text = (due ≡ 5) × (text ≡ shelf_text)
-IsTold (Some appends.NoMemory) p due text = (due ≡ 9) × (text ≡ memory_text)
+abbrev pub IsTold : Option AppendFault → Command → Played → (due : ℕ) → List ℕ → Type 0
+IsTold None command p due text = IsReported command p due text
+IsTold (Some appends.Failed) command p due text = (due ≡ 5) × (text ≡ shelf_text)
+IsTold (Some appends.NoMemory) command p due text = (due ≡ 9) × (text ≡ memory_text)
 
 -- ---- it was played
 
@@ -64,32 +65,32 @@ Survived {S} held may_leave moment_of left_since c es old new = (mid : S)
     × (LeavesOnly moment_of left_since old mid (λ h. may_leave old h ⊎ (h ≡ fresh (image c)))
     × LeavesOnly moment_of left_since mid new (λ h. WhereTold (held new) (IsMoment c es h)))
 
--- the input's script was played over what was found
-pub record JobOver {S : Type 0} (held : S → Option Stored) (may_leave : S → Holding → Type 0) (answers fails : S → S → Type 0) (moment_of : S → ℕ) (left_since : S → ℕ → Holding → Type 0) (before : Held) (left rest : Option (List ℕ)) (old new : S)
+-- the command's script was played over what was found
+pub record JobOver {S : Type 0} (held : S → Option Stored) (may_leave : S → Holding → Type 0) (answers fails : S → S → Type 0) (moment_of : S → ℕ) (left_since : S → ℕ → Holding → Type 0) (command : Command) (before : Held) (left rest : Option (List ℕ)) (old new : S)
     (due : ℕ) (es : List Entry) (ps : List Pick) (xs : List EventEnd) (Says : List ℕ → Type 0) : Type 0 where
   pub script : Script
   pub opening : Content
-  pub reads : IsScript left rest script
+  pub reads : IsScriptOf command left rest script
   pub magic : script.committer ≡ Magic
   pub opens : opening_in before script ≡ Some opening
-  pub ran : JobRan held may_leave answers fails script opening old new due es ps xs Says
+  pub ran : JobRan held may_leave answers fails command script opening old new due es ps xs Says
   pub survived : Survived held may_leave moment_of left_since opening es old new
 
 -- ---- it stopped before its first event
 
 -- a stop has its cause
-abbrev pub HasCauseIn : Stop → Held → (left rest : Option (List ℕ)) → Type 0
-HasCauseIn Usage before left rest = ⊥
-HasCauseIn ReadFault before left rest = is_sound before
-HasCauseIn ShelfFault before left rest = Unit {0}
-HasCauseIn (BadScript e) before left rest = is_sound before × (IsNoScript left e × (e ≢ faults.NoMemory))
-HasCauseIn (Image number place) before left rest = (before ≡ Faulty number place) × (rest ≡ left)
-HasCauseIn NoMemory before left rest = is_sound before
-HasCauseIn NotBuilt before left rest = is_sound before × ((w : Script) × (IsScript left rest w × (w.committer ≢ Magic)))
+abbrev pub HasCauseIn : Stop → Command → Held → (left rest : Option (List ℕ)) → Type 0
+HasCauseIn Usage command before left rest = ⊥
+HasCauseIn ReadFault command before left rest = is_sound before × (command ≡ Job)
+HasCauseIn ShelfFault command before left rest = StaysUnlessJob command left rest
+HasCauseIn (BadScript e) command before left rest = is_sound before × ((command ≡ Job) × (IsNoScript left e × (e ≢ faults.NoMemory)))
+HasCauseIn (Image number place) command before left rest = (before ≡ Faulty number place) × (rest ≡ left)
+HasCauseIn NoMemory command before left rest = is_sound before × StaysUnlessJob command left rest
+HasCauseIn NotBuilt command before left rest = is_sound before × ((command ≡ Job) × ((w : Script) × (IsScript left rest w × (w.committer ≢ Magic))))
 
 -- what a crash might have left: what one before it may leave, or the image of the job's opening store
-abbrev pub MayHaveLeftOver : (at_first : Holding → Type 0) → Held → (left rest : Option (List ℕ)) → Holding → Type 0
-MayHaveLeftOver at_first before left rest h = at_first h ⊎ ((w : Script) × ((c : Content) × (IsScript left rest w × ((opening_in before w ≡ Some c) × (h ≡ fresh (image c))))))
+abbrev pub MayHaveLeftOver : (at_first : Holding → Type 0) → Command → Held → (left rest : Option (List ℕ)) → Holding → Type 0
+MayHaveLeftOver at_first command before left rest h = at_first h ⊎ ((w : Script) × ((c : Content) × (IsScriptOf command left rest w × ((opening_in before w ≡ Some c) × (h ≡ fresh (image c))))))
 
 -- the shelf was called once at most, and that failed
 abbrev pub HasFailed : {S : Type 0} → (fails : S → S → Type 0) → S → S → Type 0

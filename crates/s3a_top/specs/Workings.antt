@@ -54,11 +54,11 @@ abbrev pub IsOfShelf : Stop → Type 0
 IsOfShelf stop = (stop ≡ ShelfFault) ⊎ (stop ≡ NoMemory)
 
 -- a job stopped before its first event
-pub record JobHalted {S : Type 0} (held : S → Option Stored) (may_leave : S → Holding → Type 0) (answers fails : S → S → Type 0) (moment_of : S → ℕ) (left_since : S → ℕ → Holding → Type 0) (left rest : Option (List ℕ)) (old new : S) (stop : Stop) : Type 0 where
-  pub cause : HasCause stop (held old) left rest
+pub record JobHalted {S : Type 0} (held : S → Option Stored) (may_leave : S → Holding → Type 0) (answers fails : S → S → Type 0) (moment_of : S → ℕ) (left_since : S → ℕ → Holding → Type 0) (command : Command) (left rest : Option (List ℕ)) (old new : S) (stop : Stop) : Type 0 where
+  pub cause : HasCause stop command (held old) left rest
   pub same : held new ≡ held old
   pub calls : AreFew answers fails left rest old new
-  pub leaves : LeavesOnly moment_of left_since old new (MayHaveLeft (may_leave old) (held old) left rest)
+  pub leaves : LeavesOnly moment_of left_since old new (MayHaveLeft (may_leave old) command (held old) left rest)
 
 -- a command stopped before anything was done
 pub record StoreHalted {S : Type 0} (held : S → Option Stored) (may_leave : S → Holding → Type 0) (answers fails : S → S → Type 0) (moment_of : S → ℕ) (left_since : S → ℕ → Holding → Type 0) (command : Command) (left rest : Option (List ℕ)) (old new : S) (stop : Stop) : Type 0 where
@@ -96,10 +96,10 @@ abbrev pub IsOfAnswer : ℕ → Type 0
 IsOfAnswer due = (due ≡ 0) ⊎ ((due ≡ 1) ⊎ ((due ≡ 5) ⊎ ((due ≡ 7) ⊎ (due ≡ 9))))
 
 -- of a job
-abbrev pub JobGoes : {S : Type 0} → (held : S → Option Stored) (may_leave : S → Holding → Type 0) (answers fails : S → S → Type 0) (moment_of : S → ℕ) (left_since : S → ℕ → Holding → Type 0) (left rest : Option (List ℕ)) (old new : S) → Result Work Stop → Type 0
-JobGoes held may_leave answers fails moment_of left_since left rest old new (Ok work) =
-    JobPlayed held may_leave answers fails moment_of left_since left rest old new (code work.due) work.journal.entries work.picks work.ends (IsWritten work)
-JobGoes held may_leave answers fails moment_of left_since left rest old new (Err stop) = JobHalted held may_leave answers fails moment_of left_since left rest old new stop
+abbrev pub JobGoes : {S : Type 0} → (held : S → Option Stored) (may_leave : S → Holding → Type 0) (answers fails : S → S → Type 0) (moment_of : S → ℕ) (left_since : S → ℕ → Holding → Type 0) → Command → (left rest : Option (List ℕ)) (old new : S) → Result Work Stop → Type 0
+JobGoes held may_leave answers fails moment_of left_since command left rest old new (Ok work) =
+    JobPlayed held may_leave answers fails moment_of left_since command left rest old new (code work.due) work.journal.entries work.picks work.ends (IsWritten work)
+JobGoes held may_leave answers fails moment_of left_since command left rest old new (Err stop) = JobHalted held may_leave answers fails moment_of left_since command left rest old new stop
 
 -- of another command
 abbrev pub StoreGoes : {S : Type 0} → (held : S → Option Stored) (may_leave : S → Holding → Type 0) (answers fails : S → S → Type 0) (moment_of : S → ℕ) (left_since : S → ℕ → Holding → Type 0) → Command → (left rest : Option (List ℕ)) (old new : S) → Result Work Stop → Type 0

@@ -1,4 +1,4 @@
-ghost use Rattle.std.specs.Prelude.{◌≡◌, ◌⊎◌, ◌<◌, ◌^◌, ◌-◌, Some, IfOk, IfErr, OnOk, OnErr};
+ghost use Rattle.std.specs.Prelude.{◌≡◌, ◌⊎◌, ◌<◌, ◌^◌, ◌-◌, length, true, false, Some, IfOk, IfErr, OnOk, OnErr};
 ghost use Rattle.s3_types.specs.Answer.{apply_store};
 ghost use Rattle.s3_types.specs.declared.request.Committer.TheVariants.{Magic};
 ghost use Rattle.shelf.specs.Logged.{fresh, LeavesOnly};
@@ -6,24 +6,29 @@ ghost use Rattle.store_image.specs.Image.{image};
 ghost use Rattle.job_promise.specs.States as states;
 ghost use Rattle.job_world.specs.Worlds.{MayBegin};
 ghost use Rattle.kept_stores.specs.Outcomes.{IsSound};
+ghost use Rattle.s3a_words.specs.Words.{IsBounded};
+ghost use Rattle.shell_works.specs.Commanded.{plays};
 ghost use Rattle.s3a_top.specs.Openings.{opening_in};
 ghost use Rattle.s3a_top.specs.Statuses.{code, written_text, IsWorked};
-ghost use Rattle.s3a_top.specs.Jobs.{JobRan};
+ghost use Rattle.s3a_top.specs.Jobs.{job_text, JobRan};
+ghost use Rattle.s3a_top.specs.Commands.{may_read};
 ghost use Rattle.s3a_top.specs.Plays.{IsFinal, IsVerdict, IsOfStop, IsReported, IsTold, Survived, JobOver, HasCauseIn, MayHaveLeftOver, HasFailed};
 ghost use Rattle.s3a_top.specs.Workings.{CountsAs, IsOfShelf, IsWritten};
 
-use crate::script::read_job;
+use crate::script::script_for;
 use crate::statuses::Status;
 use crate::stop::Stop;
 use crate::work::Work;
 use job_actors::Act;
 use job_model::Script;
 use job_report::{Report, report_text};
+use job_summary::summary_text;
 use job_world::Played;
 use kept_jobs::{Kept, play};
 use kept_stores::Held;
 use s3_service::Service;
 use s3_types::{Bytes, MOST_MINIMUM, Request, let_go};
+use s3a_words::Command;
 use shelf::Source;
 use shelf::kept::{AppendFault, Shelf};
 use std::alloc::{AllocError, Global};
@@ -74,14 +79,33 @@ fn status_of(verdict: u8) -> Status
     }
 }
 
-/// The report of a job that was played to its end, or want of memory.
-fn reported(alloc: Global, verdict: u8, played: Played) -> Work
+/// What is said of a job that was played to its end: its report, or the summary of one that was made.
+fn text_of(
+    alloc: Global,
+    command: &Command,
+    report: &Report,
+    script: &Script,
+) -> Result<Bytes, AllocError>
+    requires { report.now.due ≡ states.verdict script.now report.now.ends }
+    ensures { IfOk result (λ text. text ≡ job_text command.now report.now.due (length report.now.journal.entries) report.now.picks report.now.ends script.now) }
+{
+    match command {
+        Command::Gen { tasks, files, .. } => {
+            let text = summary_text(alloc, report, script, *tasks, *files)?;
+            Bytes::new(alloc, text.into_bytes())
+        }
+        _ => report_text(alloc, report, script),
+    }
+}
+
+/// A job that was played to its end with its text, or want of memory for that.
+fn reported(alloc: Global, command: &Command, verdict: u8, played: Played) -> Work
     requires { verdict ≡ states.verdict played.script played.ends }
     ensures journal { result.journal ≡ played.journal }
     ensures picks { result.picks ≡ played.picks }
     ensures ends { result.ends ≡ played.ends }
     ensures which { IsVerdict result.due }
-    ensures said { IsReported played (code result.due) (written_text result.due result.text) }
+    ensures said { IsReported command.now played (code result.due) (written_text result.due result.text) }
 {
     let Played {
         script,
@@ -98,7 +122,7 @@ fn reported(alloc: Global, verdict: u8, played: Played) -> Work
         picks,
         ends,
     };
-    let text = report_text(alloc, &report, &script);
+    let text = text_of(alloc, command, &report, &script);
     let_go(script);
     let (due, text) = match text {
         Ok(text) => (status_of(verdict), Some(text)),
@@ -140,13 +164,13 @@ fn cut(due: Status, played: Played) -> Work
 }
 
 /// What is to be said of a job that was played.
-fn told(alloc: Global, kept: Kept) -> Work
+fn told(alloc: Global, command: &Command, kept: Kept) -> Work
     requires { kept.verdict ≡ states.verdict kept.played.script kept.played.ends }
     ensures journal { result.journal ≡ kept.played.journal }
     ensures picks { result.picks ≡ kept.played.picks }
     ensures ends { result.ends ≡ kept.played.ends }
     ensures which { IsOfStop kept.stop result.due }
-    ensures said { IsTold kept.stop kept.played (code result.due) (written_text result.due result.text) }
+    ensures said { IsTold kept.stop command.now kept.played (code result.due) (written_text result.due result.text) }
 {
     let Kept {
         stop,
@@ -154,7 +178,7 @@ fn told(alloc: Global, kept: Kept) -> Work
         played,
     } = kept;
     match stop {
-        None => reported(alloc, verdict, played),
+        None => reported(alloc, command, verdict, played),
         Some(AppendFault::Failed) => cut(Status::ShelfFault, played),
         Some(AppendFault::NoMemory) => cut(Status::NoMemory, played),
     }
@@ -164,13 +188,14 @@ fn told(alloc: Global, kept: Kept) -> Work
 fn play_script<F: Shelf>(
     alloc: Global,
     shelf: &mut F,
+    command: &Command,
     script: Script,
     service: Service,
 ) -> Result<Work, Stop>
     requires magic { script.committer ≡ Magic }
     requires store { MayBegin service }
     requires count { F.faults shelf.old < 2 ^ 64 - 1 }
-    ensures ran { IfOk result (λ work. JobRan F.held F.may_leave F.answers F.fails script service shelf.old shelf.new (code work.due) work.journal.entries work.picks work.ends (IsWritten work)) }
+    ensures ran { IfOk result (λ work. JobRan F.held F.may_leave F.answers F.fails command.now script service shelf.old shelf.new (code work.due) work.journal.entries work.picks work.ends (IsWritten work)) }
     ensures survived { IfOk result (λ work. Survived F.held F.may_leave F.moment F.left_since service work.journal.entries shelf.old shelf.new) }
     ensures due { IfOk result (λ work. IsWorked work.due) }
     ensures stop { IfErr result IsOfShelf }
@@ -180,31 +205,39 @@ fn play_script<F: Shelf>(
     ensures counted { CountsAs 5 result (F.faults shelf.old) (F.faults shelf.new) }
 {
     match play::<Act, F>(alloc, shelf, script, service) {
-        Ok(kept) => Ok(told(alloc, kept)),
+        Ok(kept) => Ok(told(alloc, command, kept)),
         Err(AppendFault::Failed) => Err(Stop::ShelfFault),
         Err(AppendFault::NoMemory) => Err(Stop::NoMemory),
     }
 }
 
-/// Reads the script of a job and plays it over a new store.
-fn play_new<Q: Source, F: Shelf>(alloc: Global, input: &mut Q, shelf: &mut F) -> Result<Work, Stop>
+/// Plays the script of a command over a new store.
+fn play_new<Q: Source, F: Shelf>(
+    alloc: Global,
+    input: &mut Q,
+    shelf: &mut F,
+    command: &Command,
+) -> Result<Work, Stop>
     requires source_count { Q.faults input.old < 2 ^ 64 - 1 }
     requires shelf_count { F.faults shelf.old < 2 ^ 64 - 1 }
-    ensures played { IfOk result (λ work. JobOver F.held F.may_leave F.answers F.fails F.moment F.left_since Held.Nothing (Q.left input.old) (Q.left input.new) shelf.old shelf.new (code work.due) work.journal.entries work.picks work.ends (IsWritten work)) }
+    requires one { plays command.now ≡ true }
+    requires fit { IsBounded command.now }
+    ensures played { IfOk result (λ work. JobOver F.held F.may_leave F.answers F.fails F.moment F.left_since command.now Held.Nothing (Q.left input.old) (Q.left input.new) shelf.old shelf.new (code work.due) work.journal.entries work.picks work.ends (IsWritten work)) }
     ensures due { IfOk result (λ work. IsWorked work.due) }
-    ensures stop { IfErr result (λ stop. HasCauseIn stop Held.Nothing (Q.left input.old) (Q.left input.new)) }
+    ensures stop { IfErr result (λ stop. HasCauseIn stop command.now Held.Nothing (Q.left input.old) (Q.left input.new)) }
     ensures same { OnErr result (F.held shelf.new ≡ F.held shelf.old) }
     ensures calls { OnErr result (HasFailed F.fails shelf.old shelf.new) }
-    ensures leaves { OnErr result (LeavesOnly F.moment F.left_since shelf.old shelf.new (MayHaveLeftOver (F.may_leave shelf.old) Held.Nothing (Q.left input.old) (Q.left input.new))) }
+    ensures leaves { OnErr result (LeavesOnly F.moment F.left_since shelf.old shelf.new (MayHaveLeftOver (F.may_leave shelf.old) command.now Held.Nothing (Q.left input.old) (Q.left input.new))) }
+    ensures unread { may_read (Some command.now) ≡ false → input.new ≡ input.old }
     ensures reads { CountsAs 3 result (Q.faults input.old) (Q.faults input.new) }
     ensures counted { CountsAs 5 result (F.faults shelf.old) (F.faults shelf.new) }
 {
-    let script = match read_job(alloc, input) {
+    let script = match script_for(alloc, input, command) {
         Ok(script) => script,
         Err(stop) => return Err(stop),
     };
     match new_store(alloc, &script) {
-        Ok(service) => play_script(alloc, shelf, script, service),
+        Ok(service) => play_script(alloc, shelf, command, script, service),
         Err(_) => {
             let_go(script);
             Err(Stop::NoMemory)
@@ -212,27 +245,31 @@ fn play_new<Q: Source, F: Shelf>(alloc: Global, input: &mut Q, shelf: &mut F) ->
     }
 }
 
-/// Reads the script of a job and plays it over the store that is held.
+/// Plays the script of a command over the store that is held.
 fn play_over<Q: Source, F: Shelf>(
     alloc: Global,
     input: &mut Q,
     shelf: &mut F,
+    command: &Command,
     service: Service,
 ) -> Result<Work, Stop>
     requires source_count { Q.faults input.old < 2 ^ 64 - 1 }
     requires shelf_count { F.faults shelf.old < 2 ^ 64 - 1 }
+    requires one { plays command.now ≡ true }
+    requires fit { IsBounded command.now }
     requires store { MayBegin service }
-    ensures played { IfOk result (λ work. JobOver F.held F.may_leave F.answers F.fails F.moment F.left_since (Held.Store service) (Q.left input.old) (Q.left input.new) shelf.old shelf.new (code work.due) work.journal.entries work.picks work.ends (IsWritten work)) }
+    ensures played { IfOk result (λ work. JobOver F.held F.may_leave F.answers F.fails F.moment F.left_since command.now (Held.Store service) (Q.left input.old) (Q.left input.new) shelf.old shelf.new (code work.due) work.journal.entries work.picks work.ends (IsWritten work)) }
     ensures due { IfOk result (λ work. IsWorked work.due) }
-    ensures stop { IfErr result (λ stop. HasCauseIn stop (Held.Store service) (Q.left input.old) (Q.left input.new)) }
+    ensures stop { IfErr result (λ stop. HasCauseIn stop command.now (Held.Store service) (Q.left input.old) (Q.left input.new)) }
     ensures same { OnErr result (F.held shelf.new ≡ F.held shelf.old) }
     ensures calls { OnErr result (HasFailed F.fails shelf.old shelf.new) }
-    ensures leaves { OnErr result (LeavesOnly F.moment F.left_since shelf.old shelf.new (MayHaveLeftOver (F.may_leave shelf.old) (Held.Store service) (Q.left input.old) (Q.left input.new))) }
+    ensures leaves { OnErr result (LeavesOnly F.moment F.left_since shelf.old shelf.new (MayHaveLeftOver (F.may_leave shelf.old) command.now (Held.Store service) (Q.left input.old) (Q.left input.new))) }
+    ensures unread { may_read (Some command.now) ≡ false → input.new ≡ input.old }
     ensures reads { CountsAs 3 result (Q.faults input.old) (Q.faults input.new) }
     ensures counted { CountsAs 5 result (F.faults shelf.old) (F.faults shelf.new) }
 {
-    match read_job(alloc, input) {
-        Ok(script) => play_script(alloc, shelf, script, service),
+    match script_for(alloc, input, command) {
+        Ok(script) => play_script(alloc, shelf, command, script, service),
         Err(stop) => {
             let_go(service);
             Err(stop)
@@ -240,28 +277,32 @@ fn play_over<Q: Source, F: Shelf>(
     }
 }
 
-/// Reads the script of a job and plays it over what the shelf was found to hold.
+/// Plays the script of a command, `job` or `gen`, over what the shelf was found to hold.
 pub fn job<Q: Source, F: Shelf>(
     alloc: Global,
     input: &mut Q,
     shelf: &mut F,
+    command: &Command,
     held: Held,
 ) -> Result<Work, Stop>
     requires source_count { Q.faults input.old < 2 ^ 64 - 1 }
     requires shelf_count { F.faults shelf.old < 2 ^ 64 - 1 }
+    requires one { plays command.now ≡ true }
+    requires fit { IsBounded command.now }
     requires sound { IsSound held }
-    ensures played { IfOk result (λ work. JobOver F.held F.may_leave F.answers F.fails F.moment F.left_since held (Q.left input.old) (Q.left input.new) shelf.old shelf.new (code work.due) work.journal.entries work.picks work.ends (IsWritten work)) }
+    ensures played { IfOk result (λ work. JobOver F.held F.may_leave F.answers F.fails F.moment F.left_since command.now held (Q.left input.old) (Q.left input.new) shelf.old shelf.new (code work.due) work.journal.entries work.picks work.ends (IsWritten work)) }
     ensures due { IfOk result (λ work. IsWorked work.due) }
-    ensures stop { IfErr result (λ stop. HasCauseIn stop held (Q.left input.old) (Q.left input.new)) }
+    ensures stop { IfErr result (λ stop. HasCauseIn stop command.now held (Q.left input.old) (Q.left input.new)) }
     ensures same { OnErr result (F.held shelf.new ≡ F.held shelf.old) }
     ensures calls { OnErr result (HasFailed F.fails shelf.old shelf.new) }
-    ensures leaves { OnErr result (LeavesOnly F.moment F.left_since shelf.old shelf.new (MayHaveLeftOver (F.may_leave shelf.old) held (Q.left input.old) (Q.left input.new))) }
+    ensures leaves { OnErr result (LeavesOnly F.moment F.left_since shelf.old shelf.new (MayHaveLeftOver (F.may_leave shelf.old) command.now held (Q.left input.old) (Q.left input.new))) }
+    ensures unread { may_read (Some command.now) ≡ false → input.new ≡ input.old }
     ensures reads { CountsAs 3 result (Q.faults input.old) (Q.faults input.new) }
     ensures counted { CountsAs 5 result (F.faults shelf.old) (F.faults shelf.new) }
 {
     match held {
-        Held::Nothing => play_new(alloc, input, shelf),
-        Held::Store(service) => play_over(alloc, input, shelf, service),
+        Held::Nothing => play_new(alloc, input, shelf, command),
+        Held::Store(service) => play_over(alloc, input, shelf, command, service),
         Held::Faulty { number, place } => Err(Stop::Image { number, place }),
     }
 }

@@ -1,15 +1,14 @@
-ghost use Rattle.std.specs.Prelude.{◌≡◌, ◌≢◌, ◌<◌, ◌^◌, ◌-◌, true, false, [], IfOk, IfErr, OnErr};
+ghost use Rattle.std.specs.Prelude.{◌≡◌, ◌<◌, ◌^◌, ◌-◌, true, false, [], IfOk, IfErr, OnErr};
 ghost use Rattle.kept_stores.specs.Works.{IsPlain};
 ghost use Rattle.kept_stores.specs.Doing.{work_in};
 ghost use Rattle.kept_stores.specs.Outcomes.{IsSound, CallsBy, Tells};
 ghost use Rattle.s3a_words.specs.Words.{IsBounded};
-ghost use Rattle.shell_works.specs.Commanded.{takes_input};
+ghost use Rattle.shell_works.specs.Commanded.{takes_input, plays};
 ghost use Rattle.s3a_top.specs.Openings.{is_sound};
 ghost use Rattle.s3a_top.specs.Reads.{CountsReads};
 ghost use Rattle.s3a_top.specs.Statuses.{code, written_text, IsWorked};
 ghost use Rattle.s3a_top.specs.Commands.{reads_input, IsInput, answer_text, WorkDone};
 ghost use Rattle.s3a_top.specs.Workings.{CountsAs, IsOfAnswer, HasReasonIn, StoreOver, IsWritten, IsQuiet};
-ghost use Rattle.s3a_words.specs.declared.command.Command.TheVariants as commands;
 
 use crate::input::{InputFault, read_input};
 use crate::statuses::Status;
@@ -127,7 +126,7 @@ fn read_bytes<Q: Source>(
     }
 }
 
-/// Does a command but `job` on what the shelf was found to hold, with the bytes of its input where it has one. After an error
+/// Does a command but `job` and `gen` on what the shelf was found to hold, with the bytes of its input where it has one. After an error
 /// the shelf was not called.
 pub fn commanded<Q: Source, F: Shelf>(
     alloc: Global,
@@ -138,7 +137,7 @@ pub fn commanded<Q: Source, F: Shelf>(
 ) -> Result<Work, Stop>
     requires source_count { Q.faults input.old < 2 ^ 64 - 1 }
     requires shelf_count { F.faults shelf.old < 2 ^ 64 - 1 }
-    requires no_job { command.now ≢ commands.Job }
+    requires no_job { plays command.now ≡ false }
     requires fit { IsBounded command.now }
     requires sound { IsSound held }
     ensures over { IfOk result (λ work. StoreOver F.held F.may_leave F.answers F.fails F.moment F.left_since command.now held (Q.left input.old) (Q.left input.new) shelf.old shelf.new (code work.due) work.journal.entries (IsWritten work)) }

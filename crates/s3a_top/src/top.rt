@@ -1,9 +1,8 @@
-ghost use Rattle.std.specs.Prelude.{◌≡◌, ◌≢◌, ◌⊎◌, ◌<◌, ◌^◌, ◌-◌, false, [], Some, None, IfOk, IsErrOf};
+ghost use Rattle.std.specs.Prelude.{◌≡◌, ◌≢◌, ◌⊎◌, ◌<◌, ◌^◌, ◌-◌, true, false, [], Some, None, IfOk, IsErrOf};
 ghost use Rattle.kept_stores.specs.Outcomes.{Tells};
 ghost use Rattle.s3a_words.specs.Words.{command_of, IsBounded};
 ghost use Rattle.s3a_words.specs.declared.command.Command as words_said;
-ghost use Rattle.s3a_words.specs.declared.command.Command.TheVariants as commands;
-ghost use Rattle.shell_works.specs.Commanded.{takes_input};
+ghost use Rattle.shell_works.specs.Commanded.{takes_input, plays};
 ghost use Rattle.s3a_top.specs.Statuses.{code, written_text, IsDue, IsWorked, Writes};
 ghost use Rattle.s3a_top.specs.Jobs.{JobPlayed, JobStopped};
 ghost use Rattle.s3a_top.specs.Commands.{may_read, NoCommand, StoreStopped, StoreDone};
@@ -21,24 +20,33 @@ use s3_types::{Text, let_go};
 use s3a_words::{Command, WordFault, read_words};
 use shelf::kept::Shelf;
 use shelf::{Sink, Source};
+use shell_works::plays;
 use std::alloc::Global;
 
-/// Plays a job over what the shelf holds.
-fn do_job<Q: Source, F: Shelf>(alloc: Global, input: &mut Q, shelf: &mut F) -> Result<Work, Stop>
+/// Plays the job of a command, `job` or `gen`, over what the shelf holds.
+fn do_job<Q: Source, F: Shelf>(
+    alloc: Global,
+    input: &mut Q,
+    shelf: &mut F,
+    command: &Command,
+) -> Result<Work, Stop>
     requires source_count { Q.faults input.old < 2 ^ 64 - 1 }
     requires shelf_count { F.faults shelf.old < 2 ^ 64 - 1 }
-    ensures job { JobGoes F.held F.may_leave F.answers F.fails F.moment F.left_since (Q.left input.old) (Q.left input.new) shelf.old shelf.new result }
+    requires one { plays command.now ≡ true }
+    requires fit { IsBounded command.now }
+    ensures job { JobGoes F.held F.may_leave F.answers F.fails F.moment F.left_since command.now (Q.left input.old) (Q.left input.new) shelf.old shelf.new result }
     ensures due { IfOk result (λ work. IsWorked work.due) }
+    ensures unread { may_read (Some command.now) ≡ false → input.new ≡ input.old }
     ensures read { CountsAs 3 result (Q.faults input.old) (Q.faults input.new) }
     ensures shelf { CountsAs 5 result (F.faults shelf.old) (F.faults shelf.new) }
 {
     match load(alloc, shelf) {
-        Ok(held) => job(alloc, input, shelf, held),
+        Ok(held) => job(alloc, input, shelf, command, held),
         Err(fault) => Err(Stop::of_shelf(fault)),
     }
 }
 
-/// Does a command but `job` on what the shelf holds.
+/// Does a command but `job` and `gen` on what the shelf holds.
 fn do_command<Q: Source, F: Shelf>(
     alloc: Global,
     input: &mut Q,
@@ -47,7 +55,7 @@ fn do_command<Q: Source, F: Shelf>(
 ) -> Result<Work, Stop>
     requires source_count { Q.faults input.old < 2 ^ 64 - 1 }
     requires shelf_count { F.faults shelf.old < 2 ^ 64 - 1 }
-    requires no_job { command.now ≢ commands.Job }
+    requires no_job { plays command.now ≡ false }
     requires fit { IsBounded command.now }
     ensures store { StoreGoes F.held F.may_leave F.answers F.fails F.moment F.left_since command.now (Q.left input.old) (Q.left input.new) shelf.old shelf.new result }
     ensures quiet { IsQuiet result }
@@ -72,17 +80,18 @@ fn do_any<Q: Source, F: Shelf>(
     requires source_count { Q.faults input.old < 2 ^ 64 - 1 }
     requires shelf_count { F.faults shelf.old < 2 ^ 64 - 1 }
     requires fit { IsBounded command.now }
-    ensures job { command.now ≡ commands.Job → JobGoes F.held F.may_leave F.answers F.fails F.moment F.left_since (Q.left input.old) (Q.left input.new) shelf.old shelf.new result }
-    ensures store { command.now ≢ commands.Job → StoreGoes F.held F.may_leave F.answers F.fails F.moment F.left_since command.now (Q.left input.old) (Q.left input.new) shelf.old shelf.new result }
-    ensures quiet { command.now ≢ commands.Job → IsQuiet result }
+    ensures job { plays command.now ≡ true → JobGoes F.held F.may_leave F.answers F.fails F.moment F.left_since command.now (Q.left input.old) (Q.left input.new) shelf.old shelf.new result }
+    ensures store { plays command.now ≡ false → StoreGoes F.held F.may_leave F.answers F.fails F.moment F.left_since command.now (Q.left input.old) (Q.left input.new) shelf.old shelf.new result }
+    ensures quiet { plays command.now ≡ false → IsQuiet result }
     ensures due { IfOk result (λ work. IsWorked work.due) }
     ensures unread { may_read (Some command.now) ≡ false → input.new ≡ input.old }
     ensures read { CountsAs 3 result (Q.faults input.old) (Q.faults input.new) }
     ensures shelf { CountsAs 5 result (F.faults shelf.old) (F.faults shelf.new) }
 {
-    match command {
-        Command::Job => do_job(alloc, input, shelf),
-        _ => do_command(alloc, input, shelf, command),
+    if plays(command) {
+        do_job(alloc, input, shelf, command)
+    } else {
+        do_command(alloc, input, shelf, command)
     }
 }
 
@@ -95,9 +104,9 @@ fn do_work<Q: Source, F: Shelf>(
 ) -> Result<Work, Stop>
     requires source_count { Q.faults input.old < 2 ^ 64 - 1 }
     requires shelf_count { F.faults shelf.old < 2 ^ 64 - 1 }
-    ensures job { command_of words.now ≡ Some commands.Job → JobGoes F.held F.may_leave F.answers F.fails F.moment F.left_since (Q.left input.old) (Q.left input.new) shelf.old shelf.new result }
-    ensures store { (c : words_said.Command) → command_of words.now ≡ Some c → c ≢ commands.Job → StoreGoes F.held F.may_leave F.answers F.fails F.moment F.left_since c (Q.left input.old) (Q.left input.new) shelf.old shelf.new result }
-    ensures quiet { (c : words_said.Command) → command_of words.now ≡ Some c → c ≢ commands.Job → IsQuiet result }
+    ensures job { (c : words_said.Command) → command_of words.now ≡ Some c → plays c ≡ true → JobGoes F.held F.may_leave F.answers F.fails F.moment F.left_since c (Q.left input.old) (Q.left input.new) shelf.old shelf.new result }
+    ensures store { (c : words_said.Command) → command_of words.now ≡ Some c → plays c ≡ false → StoreGoes F.held F.may_leave F.answers F.fails F.moment F.left_since c (Q.left input.old) (Q.left input.new) shelf.old shelf.new result }
+    ensures quiet { (c : words_said.Command) → command_of words.now ≡ Some c → plays c ≡ false → IsQuiet result }
     ensures usage { command_of words.now ≡ None → IsNothing result }
     ensures untouched { command_of words.now ≡ None → shelf.new ≡ shelf.old }
     ensures command { IsErrOf result Stop.Usage → command_of words.now ≡ None }
@@ -121,13 +130,13 @@ fn do_work<Q: Source, F: Shelf>(
 fn worked<Q: Source, F: Shelf>(alloc: Global, words: &[Text], input: &mut Q, shelf: &mut F) -> Work
     requires source_count { Q.faults input.old < 2 ^ 64 - 1 }
     requires shelf_count { F.faults shelf.old < 2 ^ 64 - 1 }
-    ensures job { command_of words.now ≡ Some commands.Job
-        → JobPlayed F.held F.may_leave F.answers F.fails F.moment F.left_since (Q.left input.old) (Q.left input.new) shelf.old shelf.new (code result.due) result.journal.entries result.picks result.ends (IsWritten result)
-        ⊎ JobStopped F.held F.may_leave F.answers F.fails F.moment F.left_since (Q.left input.old) (Q.left input.new) shelf.old shelf.new (code result.due) result.journal.entries result.picks result.ends (IsWritten result) }
-    ensures store { (c : words_said.Command) → command_of words.now ≡ Some c → c ≢ commands.Job
+    ensures job { (c : words_said.Command) → command_of words.now ≡ Some c → plays c ≡ true
+        → JobPlayed F.held F.may_leave F.answers F.fails F.moment F.left_since c (Q.left input.old) (Q.left input.new) shelf.old shelf.new (code result.due) result.journal.entries result.picks result.ends (IsWritten result)
+        ⊎ JobStopped F.held F.may_leave F.answers F.fails F.moment F.left_since c (Q.left input.old) (Q.left input.new) shelf.old shelf.new (code result.due) result.journal.entries result.picks result.ends (IsWritten result) }
+    ensures store { (c : words_said.Command) → command_of words.now ≡ Some c → plays c ≡ false
         → StoreDone F.held F.may_leave F.answers F.fails F.moment F.left_since c (Q.left input.old) (Q.left input.new) shelf.old shelf.new (code result.due) result.journal.entries (IsWritten result)
         ⊎ StoreStopped F.held F.may_leave F.answers F.fails F.moment F.left_since c (Q.left input.old) (Q.left input.new) shelf.old shelf.new (code result.due) result.journal.entries (IsWritten result) }
-    ensures picks { (c : words_said.Command) → command_of words.now ≡ Some c → c ≢ commands.Job → (result.picks ≡ []) × (result.ends ≡ []) }
+    ensures picks { (c : words_said.Command) → command_of words.now ≡ Some c → plays c ≡ false → (result.picks ≡ []) × (result.ends ≡ []) }
     ensures usage { command_of words.now ≡ None → NoCommand (code result.due) shelf.old shelf.new result.journal.entries result.picks result.ends (IsWritten result) }
     ensures command { code result.due ≡ 2 → command_of words.now ≡ None }
     ensures unread { may_read (command_of words.now) ≡ false → input.new ≡ input.old }
@@ -159,12 +168,13 @@ fn say<K: Sink>(out: &mut K, work: &Work) -> u8
 /// Does what the words say: word 0 is the folder that the shelf stands for, word 1 the command. `init`
 /// or `init MIN` makes an empty store whose parts but the last have at least MIN bytes, 1 to 5,242,880;
 /// `mb NAME` makes a bucket; `ls`, `stat`, `cat`, `put`, `put-force`, `mkdir`, `rm`, `rmr`, `uploads` and
-/// `abort-uploads` with a path do as the FileSystem specification says of the operation that they name; `job` reads a
-/// script from the input, plays it over the store that the shelf holds, where it is
-/// of the magic committer, and writes the report. The shelf takes the image of the store that a job or a changing command opens
-/// with in place of what it holds, and after each event, or after the command, each change that was made, so that a stop at any
-/// moment leaves one of the run's. The report's status is one of [`Status`]; what was sent before the shelf failed or
-/// memory was wanting is in the report.
+/// `abort-uploads` with a path, and `mv` with two, do as the FileSystem specification says of the operation that they name;
+/// `job` reads a script from the input, plays it over the store that the shelf holds, where it is of the magic committer,
+/// and writes the report; `gen SEED TASKS FILES` plays in the same way a script that it makes of these numbers, with nothing
+/// taken from the input, and writes a line that sums the job up. The shelf takes the image of the store that a job or a
+/// changing command opens with in place of what it holds, and after each event, or after the command, each change that was
+/// made, so that a stop at any moment leaves one of the run's. The report's status is one of [`Status`]; what was sent
+/// before the shelf failed or memory was wanting is in the report.
 pub fn run<Q: Source, F: Shelf, K: Sink>(
     alloc: Global,
     words: &[Text],
@@ -184,16 +194,17 @@ pub fn run<Q: Source, F: Shelf, K: Sink>(
     ensures otherwise { result.status ≢ 4 → result.status ≡ result.due }
     ensures out { result.status ≢ 4 → K.is_out out.new }
 
-    // A job: it was played, and the promise holds of all that was sent, or it stopped before its first event.
-    ensures job { command_of words.now ≡ Some commands.Job
-        → JobPlayed F.held F.may_leave F.answers F.fails F.moment F.left_since (Q.left input.old) (Q.left input.new) shelf.old shelf.new result.due result.journal.entries result.picks result.ends (Writes result.status (K.written out.old) (K.written out.new))
-        ⊎ JobStopped F.held F.may_leave F.answers F.fails F.moment F.left_since (Q.left input.old) (Q.left input.new) shelf.old shelf.new result.due result.journal.entries result.picks result.ends (Writes result.status (K.written out.old) (K.written out.new)) }
+    // A job, by the input's script or by one that is made: it was played, and the promise holds of all that was sent, or it
+    // stopped before its first event.
+    ensures job { (c : words_said.Command) → command_of words.now ≡ Some c → plays c ≡ true
+        → JobPlayed F.held F.may_leave F.answers F.fails F.moment F.left_since c (Q.left input.old) (Q.left input.new) shelf.old shelf.new result.due result.journal.entries result.picks result.ends (Writes result.status (K.written out.old) (K.written out.new))
+        ⊎ JobStopped F.held F.may_leave F.answers F.fails F.moment F.left_since c (Q.left input.old) (Q.left input.new) shelf.old shelf.new result.due result.journal.entries result.picks result.ends (Writes result.status (K.written out.old) (K.written out.new)) }
 
     // Another command: it was done on what the shelf holds, or it stopped before anything was done.
-    ensures store { (c : words_said.Command) → command_of words.now ≡ Some c → c ≢ commands.Job
+    ensures store { (c : words_said.Command) → command_of words.now ≡ Some c → plays c ≡ false
         → StoreDone F.held F.may_leave F.answers F.fails F.moment F.left_since c (Q.left input.old) (Q.left input.new) shelf.old shelf.new result.due result.journal.entries (Writes result.status (K.written out.old) (K.written out.new))
         ⊎ StoreStopped F.held F.may_leave F.answers F.fails F.moment F.left_since c (Q.left input.old) (Q.left input.new) shelf.old shelf.new result.due result.journal.entries (Writes result.status (K.written out.old) (K.written out.new)) }
-    ensures picks { (c : words_said.Command) → command_of words.now ≡ Some c → c ≢ commands.Job → (result.picks ≡ []) × (result.ends ≡ []) }
+    ensures picks { (c : words_said.Command) → command_of words.now ≡ Some c → plays c ≡ false → (result.picks ≡ []) × (result.ends ≡ []) }
 
     // Words that are no command.
     ensures usage { command_of words.now ≡ None → NoCommand result.due shelf.old shelf.new result.journal.entries result.picks result.ends (Writes result.status (K.written out.old) (K.written out.new)) }
