@@ -1,0 +1,549 @@
+-- What a staged commit asks, and where replies lead it.
+use Rattle.std.proofs.Common.{◌≡◌, ℕ, suc, ◌+◌, ◌<◌, ◌≤◌, ◌&&◌, nat_le, nat_lt, cond, Bool, true, false, List, [], ◌∷◌, ◌++◌, length, take, drop, get_or, slice_get, Option, Some, None, Result, Ok, Err, OnOk, refl, sym, ap, subst, ◌∙◌, arith, length-drop}
+use Rattle.std.proofs.lemmas.Bool.{true≢false}
+use Rattle.std.proofs.lemmas.List.{drop_all, take_all}
+use Rattle.proof_base.proofs.Numbers.{at_most_is, at_most_so, below_is, below_not}
+use Rattle.s3_types.specs.Tags.{Spelled, is_plain_tag}
+use Rattle.s3_types.specs.declared.request.Committer.{Committer}
+use Rattle.s3_types.specs.declared.request.Committer.TheVariants.{Magic, Directory, Partitioned}
+use Rattle.s3_types.specs.declared.request.Request.{Request}
+use Rattle.s3_types.specs.declared.request.Request.TheVariants.{CreateUpload, UploadPart, ClusterPut}
+use Rattle.s3_types.specs.declared.reply.Reply.{Reply}
+use Rattle.s3_types.specs.declared.reply.Reply.TheVariants.{Upload, Part, Refused}
+use Rattle.s3_types.specs.declared.reply.Refusal.TheVariants.{NoSuchUpload}
+use Rattle.s3_types.proofs.Blocks.{some_parts}
+use Rattle.sendings.specs.Retries.{Got, WornOut}
+use Rattle.pending_json.specs.Pending.{Pending}
+use Rattle.pending_json.specs.declared.records.PendingSet.{PendingSet}
+use Rattle.job_model.specs.Files.{File}
+use Rattle.job_model.specs.Jobs.{Task}
+use Rattle.job_model.specs.Known.{Drawn, Known, with_last}
+use Rattle.job_model.specs.Plans.{IsTask}
+use Rattle.job_model.specs.JobScript.{Script}
+use Rattle.job_model.specs.declared.ends.TaskEnd.{TaskEnd}
+use Rattle.job_model.specs.declared.ends.TaskEnd.TheVariants as ends
+use Rattle.job_operations.specs.AtWork.{Attempting, task_script, who_of, with_known, learned, task_commit_wants, task_commit_told}
+use Rattle.job_operations.specs.Knowledge.{drawn_last, first_drawn}
+use Rattle.job_operations.specs.Outputs.{files}
+use Rattle.job_operations.specs.Records.{file_key, file_record, set_text}
+use Rattle.job_operations.specs.Uploading.{Creating, sending}
+use Rattle.job_operations.specs.TaskCommits as commits
+use Rattle.job_operations.specs.TaskCommits.{TaskCommit, Checking, Storing, Renaming, TaskCommitOver, storing, checking, to_check, uploaded, renamed, temporary_path, task_commit_start, task_commit_start_by, task_commit_asks}
+use Rattle.conflict.specs.Checks.{check_asks, found_below, left_after, is_none}
+use Rattle.conflict.specs.Laws.{commit_after_check}
+use Rattle.conflict.proofs.Tells.{checks_tell}
+use Rattle.task_requests.specs.Writing.{is_new, one_more, HasSent, with_drawn, with_tag, FitsCreate, FitsPart, upload_in, tag_in, IsBehind, asks_behind, part_behind, parts_in, size_of, next_stage}
+use Rattle.task_requests.specs.declared.stage.WriteStage.{WriteStage}
+use Rattle.task_requests.specs.declared.stage.WriteStage.TheVariants as write_stages
+use Rattle.task_requests.proofs.Told.{own_files, front_is, none_left, learn_last, has_more, take_next}
+use Rattle.task_requests.proofs.Steps.{file_is, first_part, first_tags, take_length, some_drawn}
+use Rattle.task_laws.specs.Commits.{FitsCommit}
+use Rattle.task_staging.specs.declared.staging.Stage.{Stage}
+use Rattle.task_staging.specs.declared.staging.Stage.TheVariants as stages
+use Rattle.task_staging.specs.declared.staging.Staging.{Staging}
+use Rattle.task_staging.specs.Staging.{IsLastPart, opening, sending_from, sending_at, staged_at, staged_by, IsOfKey, HoldsSent, HoldsAt, set_of, Holds, KeepsBy, text_of, next_asks, worn_known}
+use Rattle.task_staging.proofs.FilesApart.{front_at, all_taken}
+use Rattle.task_staging.proofs.Records.{set_drawn, set_sent, set_closed, first_known}
+
+abbrev pub at : Task → TaskCommit → Attempting TaskCommit
+at t o = record { plan = t; operation = o }
+
+abbrev pub file_at : Task → ℕ → File
+file_at t place = get_or t.files place ([], [])
+
+-- ---- how it begins
+
+opened : (t : Task) (ds : List (List ℕ)) → opening ds t.files ≡ checking (task_script t) (who_of t) ds
+opened t [] = ap storing (sym (own_files t))
+opened t (d ∷ ds) = refl
+
+pub start_is : (t : Task) (ds : List (List ℕ)) → (t.job.committer ≡ Magic → ⊥) → ds ≡ to_check (task_script t) (who_of t) → opening ds t.files ≡ task_commit_start (task_script t) (who_of t)
+start_is t ds n e = by t.job.committer n
+  where
+    by : (c : Committer) → (c ≡ Magic → ⊥) → opening ds t.files ≡ task_commit_start_by c (task_script t) (who_of t)
+    by Magic h = absurd (h refl)
+    by Directory h = opened t ds ∙ ap (checking (task_script t) (who_of t)) e
+    by Partitioned h = opened t ds ∙ ap (checking (task_script t) (who_of t)) e
+
+-- ---- where it stands, by equations
+
+is_empty : (ds : List (List ℕ)) → is_none ds ≡ true → ds ≡ []
+is_empty [] h = refl
+is_empty (d ∷ ds) h = absurd (true≢false (sym h))
+
+pub keeps_open : (t : Task) (h : Staging) → h.end ≡ None → Holds t h.stage h.checks h.place h.set → KeepsBy t h h.end
+keeps_open t h e k = subst (KeepsBy t h) (sym e) k
+
+pub holds_open : (t : Task) (h : Staging) → h.end ≡ None → KeepsBy t h h.end → Holds t h.stage h.checks h.place h.set
+holds_open t h e k = subst (KeepsBy t h) e k
+
+module _ (t : Task) (s : Stage) (ds : List (List ℕ)) (place : ℕ) (end : Option TaskEnd) (e : end ≡ None) where
+  as_open : s ≡ stages.Opening → staged_by t s ds place end ≡ opening ds (drop place t.files)
+  as_open i = ap (staged_by t s ds place) e ∙ ap (λ x. staged_by t x ds place None) i
+
+  as_none : s ≡ stages.Opening → is_none ds ≡ true → staged_by t s ds place end ≡ storing (drop place t.files)
+  as_none i n = as_open i ∙ ap (λ l. opening l (drop place t.files)) (is_empty ds n)
+
+  as_sending : (n : ℕ) → s ≡ stages.Sending n → staged_by t s ds place end ≡ sending_at (task_script t) t.minimum n (drop place t.files)
+  as_sending n i = ap (staged_by t s ds place) e ∙ ap (λ x. staged_by t x ds place None) i
+
+  as_part : (n : ℕ) → s ≡ stages.Sending n → place < length t.files → staged_by t s ds place end ≡ sending_from (file_at t place) (drop (place + 1) t.files) (drop n (parts_in t (file_at t place)))
+  as_part n i h = as_sending n i ∙ ap (sending_at (task_script t) t.minimum n) (front_at t.files place h)
+
+  as_renaming : s ≡ stages.Renaming → staged_by t s ds place end ≡ Renaming
+  as_renaming i = ap (staged_by t s ds place) e ∙ ap (λ x. staged_by t x ds place None) i
+
+-- the parts of the file at a place that came back
+pub record IsSent (t : Task) (place n : ℕ) : Type 0 where
+  pub within : place < length t.files
+  pub more : n < length (parts_in t (file_at t place))
+  pub sent : HasSent t.known.drawn (take n (parts_in t (file_at t place)))
+  pub key : IsOfKey (file_key (task_script t) (file_at t place)) t.known.drawn
+
+pub is_sent : (t : Task) (s : Stage) (ds : List (List ℕ)) (place n : ℕ) → HoldsAt t s ds place → s ≡ stages.Sending n → IsSent t place n
+is_sent t s ds place n h i = by (drop place t.files) refl (subst (λ x. HoldsAt t x ds place) i h).1
+  where
+    by : (l : List File) → drop place t.files ≡ l → HoldsSent (task_script t) t.minimum t.known n (drop place t.files) → IsSent t place n
+    by [] e g = absurd (subst (HoldsSent (task_script t) t.minimum t.known n) e g)
+    by (f ∷ fs) e g =
+        let some : length (drop place t.files) ≡ suc (length fs) = ap length e in
+        let within : place < length t.files = omega (arith, some, length-drop place t.files) in
+        let k : HoldsSent (task_script t) t.minimum t.known n (file_at t place ∷ drop (place + 1) t.files) = subst (HoldsSent (task_script t) t.minimum t.known n) (front_at t.files place within) g in
+        record { within = within; more = k.0; sent = k.1; key = k.2 }
+
+pub none_checked : (t : Task) (s : Stage) (ds : List (List ℕ)) (place n : ℕ) → HoldsAt t s ds place → s ≡ stages.Sending n → ds ≡ []
+none_checked t s ds place n h i = (subst (λ x. HoldsAt t x ds place) i h).0
+
+pub part_within : {t : Task} {place n : ℕ} → IsSent t place n → place < length t.files
+part_within k = k.within
+
+pub part_more : {t : Task} {place n : ℕ} → IsSent t place n → n < length (parts_in t (file_at t place))
+part_more k = k.more
+
+pub part_behind_is : {t : Task} {place n : ℕ} → IsSent t place n → IsBehind (parts_in t (file_at t place)) t.known.drawn (write_stages.Sending n)
+part_behind_is {t = t} {place = place} {n = n} k = (k.more, some_drawn t.known.drawn (take n (parts_in t (file_at t place))) k.sent)
+
+-- ---- what it asks
+
+pub asks_check : (t : Task) (s : Stage) (ds : List (List ℕ)) (place : ℕ) (end : Option TaskEnd) → end ≡ None → s ≡ stages.Opening → is_none ds ≡ false → check_asks t.job.dest ds ≡ task_commit_wants (at t (staged_by t s ds place end))
+asks_check t s ds place end e i n = by ds n ∙ sym (ap (λ o. task_commit_wants (at t o)) (as_open t s ds place end e i))
+  where
+    by : (ds : List (List ℕ)) → is_none ds ≡ false → check_asks t.job.dest ds ≡ task_commit_wants (at t (opening ds (drop place t.files)))
+    by [] h = absurd (true≢false h)
+    by (d ∷ ds) h = refl
+
+next_text : (t : Task) (set : PendingSet) (place : ℕ) → set ≡ set_of t place → drop place t.files ≡ [] → text_of set ≡ set_text (task_script t) (who_of t) (files (task_script t) (who_of t)) t.known
+next_text t set place e n = ap text_of e ∙ ap (λ fs. set_text (task_script t) (who_of t) fs t.known) (all_taken t.files place n ∙ sym (own_files t))
+
+pub asks_next : (t : Task) (s : Stage) (ds : List (List ℕ)) (place : ℕ) (end : Option TaskEnd) (set : PendingSet) → end ≡ None → s ≡ stages.Opening → is_none ds ≡ true → set ≡ set_of t place
+    → Some (next_asks t set (drop place t.files)) ≡ task_commit_wants (at t (staged_by t s ds place end))
+asks_next t s ds place end set e i n g = by (drop place t.files) refl ∙ sym (ap (λ o. task_commit_wants (at t o)) (as_none t s ds place end e i n))
+  where
+    by : (l : List File) → drop place t.files ≡ l → Some (next_asks t set l) ≡ task_commit_wants (at t (storing l))
+    by [] h = ap (λ x. Some (ClusterPut (temporary_path (task_script t) (who_of t)) x)) (next_text t set place g h)
+    by (f ∷ fs) h = refl
+
+from_part : (t : Task) (f : File) (fs : List File) (n : ℕ) → n < length (parts_in t f) → HasSent t.known.drawn (take n (parts_in t f)) → Some (asks_behind t f (write_stages.Sending n)) ≡ task_commit_wants (at t (sending_from f fs (drop n (parts_in t f))))
+from_part t f fs n h g =
+    let within : n ≤ length (parts_in t f) = omega arith in
+    let tags : length (drawn_last t.known).tags ≡ n = first_tags t.known.drawn (take n (parts_in t f)) g ∙ take_length n (parts_in t f) within in
+    ap (λ m. Some (UploadPart t.job.dest.bucket (file_key (task_script t) f) (drawn_last t.known).upload (m + 1) (part_behind t f.1 n))) (sym tags)
+    ∙ ap (λ l. task_commit_wants (at t (sending_from f fs l))) (sym (first_part t f n h))
+
+pub asks_part : (t : Task) (s : Stage) (ds : List (List ℕ)) (place n : ℕ) (end : Option TaskEnd) → end ≡ None → s ≡ stages.Sending n → IsSent t place n
+    → Some (asks_behind t (file_at t place) (write_stages.Sending n)) ≡ task_commit_wants (at t (staged_by t s ds place end))
+asks_part t s ds place n end e i k =
+    from_part t (file_at t place) (drop (place + 1) t.files) n k.more k.sent ∙ sym (ap (λ o. task_commit_wants (at t o)) (as_part t s ds place end e n i k.within))
+
+pub asks_rename : (t : Task) (s : Stage) (ds : List (List ℕ)) (place : ℕ) (end : Option TaskEnd) (r : Request) → end ≡ None → s ≡ stages.Renaming → Some r ≡ task_commit_wants (at t Renaming) → Some r ≡ task_commit_wants (at t (staged_by t s ds place end))
+asks_rename t s ds place end r e i h = h ∙ sym (ap (λ o. task_commit_wants (at t o)) (as_renaming t s ds place end e i))
+
+pub asks_none : (t : Task) (s : Stage) (ds : List (List ℕ)) (place : ℕ) (end : Option TaskEnd) (x : TaskEnd) → end ≡ Some x → None ≡ task_commit_wants (at t (staged_by t s ds place end))
+asks_none t s ds place end x e = sym (ap (λ o. task_commit_wants (at t (staged_by t s ds place o))) e)
+
+-- ---- a partition is checked
+
+check_told : (t : Task) (d : List ℕ) (ds : List (List ℕ)) (fs : List File) (r : Reply) (b : Bool) → at t (commit_after_check (task_script t) (who_of t) (found_below (d ∷ ds) r) (left_after (d ∷ ds) r)) ≡ task_commit_told (at t (opening (d ∷ ds) fs)) (Got r b)
+check_told t d ds fs r b = ap (at t) (sym (checks_tell.goes (task_script t) t.minimum (who_of t) d ds r b))
+
+some_partition : (t : Task) (s : Stage) (ds : List (List ℕ)) (place : ℕ) → s ≡ stages.Opening → is_none ds ≡ false → HoldsAt t s ds place → place ≡ 0
+some_partition t s ds place i n h = by ds n (subst (λ x. HoldsAt t x ds place) i h)
+  where
+    by : (ds : List (List ℕ)) → is_none ds ≡ false → HoldsAt t stages.Opening ds place → place ≡ 0
+    by [] g k = absurd (true≢false g)
+    by (d ∷ ds) g k = k
+
+module _ (t : Task) (s : Stage) (ds : List (List ℕ)) (place : ℕ) (end : Option TaskEnd) (r : Reply) (b : Bool) (e : end ≡ None) (i : s ≡ stages.Opening) (n : is_none ds ≡ false) where
+  checked_by : (found : Option (List ℕ)) (left : List (List ℕ)) → found ≡ found_below ds r → left ≡ left_after ds r → at t (commit_after_check (task_script t) (who_of t) found left) ≡ task_commit_told (at t (staged_by t s ds place end)) (Got r b)
+  checked_by found left f l =
+      ap (λ o. at t (commit_after_check (task_script t) (who_of t) o left)) f
+      ∙ (ap (λ x. at t (commit_after_check (task_script t) (who_of t) (found_below ds r) x)) l
+      ∙ (by ds n ∙ sym (ap (λ o. task_commit_told (at t o) (Got r b)) (as_open t s ds place end e i))))
+    where
+      by : (ds : List (List ℕ)) → is_none ds ≡ false → at t (commit_after_check (task_script t) (who_of t) (found_below ds r) (left_after ds r)) ≡ task_commit_told (at t (opening ds (drop place t.files))) (Got r b)
+      by [] g = absurd (true≢false g)
+      by (d ∷ rest) g = check_told t d rest (drop place t.files) r b
+
+  pub found_told : (found : Option (List ℕ)) (left : List (List ℕ)) (d : List ℕ) → found ≡ found_below ds r → left ≡ left_after ds r → found ≡ Some d → at t (TaskCommitOver (ends.Conflict d)) ≡ task_commit_told (at t (staged_by t s ds place end)) (Got r b)
+  found_told found left d f l g = ap (λ o. at t (commit_after_check (task_script t) (who_of t) o left)) (sym g) ∙ checked_by found left f l
+
+  pub passed_told : (found : Option (List ℕ)) (left : List (List ℕ)) → HoldsAt t s ds place → found ≡ found_below ds r → left ≡ left_after ds r → found ≡ None → at t (staged_by t s left place end) ≡ task_commit_told (at t (staged_by t s ds place end)) (Got r b)
+  passed_told found left h f l g =
+      let first : place ≡ 0 = some_partition t s ds place i n h in
+      ap (at t) (as_open t s left place end e i)
+      ∙ (ap (λ m. at t (opening left (drop m t.files))) first
+      ∙ (ap (at t) (opened t left)
+      ∙ (ap (λ o. at t (commit_after_check (task_script t) (who_of t) o left)) (sym g) ∙ checked_by found left f l)))
+
+  pub passed_holds : (left : List (List ℕ)) → HoldsAt t s ds place → HoldsAt t s left place
+  passed_holds left h = subst (λ x. HoldsAt t x left place) (sym i) (by left)
+    where
+      by : (l : List (List ℕ)) → HoldsAt t stages.Opening l place
+      by [] = tt
+      by (d ∷ l) = some_partition t s ds place i n h
+
+-- ---- an upload is begun
+
+reply_upload : (r : Reply) (id : ℕ) → Some id ≡ upload_in r → r ≡ Upload id
+reply_upload (Upload n) id e = let same : n ≡ id = cc in ap Upload same
+reply_upload _ id e = absurd (cc)
+
+uploaded_from : (w : Script) (f : File) (fs : List File) (ps : List (List ℕ)) → uploaded w f fs (sending ps) ≡ sending_from f fs ps
+uploaded_from w f fs [] = refl
+uploaded_from w f fs (p ∷ ps) = refl
+
+module _ (t : Task) (s : Stage) (ds : List (List ℕ)) (place : ℕ) (end : Option TaskEnd) (e : end ≡ None) (i : s ≡ stages.Opening) (n : is_none ds ≡ true) (h : place < length t.files) where
+  as_creating : staged_by t s ds place end ≡ commits.Uploads (file_at t place) (drop (place + 1) t.files) Creating
+  as_creating = as_none t s ds place end e i n ∙ ap storing (front_at t.files place h)
+
+  pub fits_create : (r : Reply) → FitsCommit (task_script t) (who_of t) t.known (staged_by t s ds place end) r → FitsCreate t.known.drawn r
+  fits_create r f = subst (λ o. FitsCommit (task_script t) (who_of t) t.known o r) as_creating f
+
+  module _ (id : ℕ) (t' : Task) (u : t' ≡ with_known t (with_drawn t.known (file_key (task_script t) (file_at t place)) id)) where
+    abbrev begun : Task
+    begun = with_known t (with_drawn t.known (file_key (task_script t) (file_at t place)) id)
+
+    pub upload_told : (r : Reply) (b : Bool) → Some id ≡ upload_in r → at t' (staged_by t' (stages.Sending 0) ds place end) ≡ task_commit_told (at t (staged_by t s ds place end)) (Got r b)
+    upload_told r b q =
+        let f = file_at t place in
+        let fs = drop (place + 1) t.files in
+        ap (λ x. at x (staged_by x (stages.Sending 0) ds place end)) u
+        ∙ (ap (at begun) (as_part begun (stages.Sending 0) ds place end e 0 refl h)
+        ∙ (ap (at begun) (sym (uploaded_from (task_script t) f fs (parts_in t f)))
+        ∙ (ap (λ x. task_commit_told (at t (commits.Uploads f fs Creating)) (Got x b)) (sym (reply_upload r id q))
+        ∙ sym (ap (λ o. task_commit_told (at t o) (Got r b)) as_creating))))
+
+    begun_sent : is_new id t.known.drawn ≡ true → IsSent begun place 0
+    begun_sent new = record { within = h; more = some_parts (size_of t (file_at t place).1) (file_at t place).1; sent = (new, refl, refl, refl); key = refl }
+
+    pub upload_holds : (set : PendingSet) → IsTask t → is_new id t.known.drawn ≡ true → set ≡ set_of t place → Holds t' (stages.Sending 0) ds place set
+    upload_holds set k new g =
+        let x = begun_sent new in
+        subst (λ y. Holds y (stages.Sending 0) ds place set) (sym u) (record {
+          set = g ∙ set_drawn t place id k h;
+          at = (is_empty ds n, subst (HoldsSent (task_script t) t.minimum begun.known 0) (sym (front_at t.files place h)) (x.more, x.sent, x.key));
+        })
+
+    pub upload_next : (r : Request) → is_new id t.known.drawn ≡ true → r ≡ UploadPart t.job.dest.bucket (file_key (task_script t) (file_at t place)) id 1 (part_behind t (file_at t place).1 0)
+        → Some r ≡ task_commit_wants (at t' (staged_by t' (stages.Sending 0) ds place end))
+    upload_next r new q =
+        ap Some q ∙ (asks_part begun (stages.Sending 0) ds place 0 end e refl (begun_sent new) ∙ sym (ap (λ x. task_commit_wants (at x (staged_by x (stages.Sending 0) ds place end))) u))
+
+-- ---- the set is put
+
+abbrev pub put_known : Known → Known
+put_known k = record { drawn = k.drawn; put_sent = true; publish_sent = k.publish_sent }
+
+abbrev pub published_known : Known → Known
+published_known k = record { drawn = k.drawn; put_sent = k.put_sent; publish_sent = true }
+
+module _ (t : Task) (s : Stage) (ds : List (List ℕ)) (place : ℕ) (end : Option TaskEnd) (t' : Task) (u : t' ≡ with_known t (put_known t.known)) (e : end ≡ None) where
+  pub stored_told : (r : Reply) (b : Bool) → s ≡ stages.Opening → is_none ds ≡ true → length t.files ≤ place → at t' (staged_by t' stages.Renaming ds place end) ≡ task_commit_told (at t (staged_by t s ds place end)) (Got r b)
+  stored_told r b i n h =
+      let stores : staged_by t s ds place end ≡ Storing = as_none t s ds place end e i n ∙ ap storing (drop_all place t.files h) in
+      ap (λ x. at x (staged_by x stages.Renaming ds place end)) u
+      ∙ (ap (at (with_known t (put_known t.known))) (as_renaming (with_known t (put_known t.known)) stages.Renaming ds place end e refl)
+      ∙ sym (ap (λ o. task_commit_told (at t o) (Got r b)) stores))
+
+  pub stored_holds : (set : PendingSet) → set ≡ set_of t place → Holds t' stages.Renaming ds place set
+  stored_holds set g = subst (λ y. Holds y stages.Renaming ds place set) (sym u) (record { set = g; at = tt })
+
+  pub stored_next : (r : Request) → Some r ≡ task_commit_wants (at t Renaming) → Some r ≡ task_commit_wants (at t' (staged_by t' stages.Renaming ds place end))
+  stored_next r q =
+      q ∙ sym (ap (λ x. task_commit_wants (at x (staged_by x stages.Renaming ds place end))) u ∙ ap (λ o. task_commit_wants (at (with_known t (put_known t.known)) o)) (as_renaming (with_known t (put_known t.known)) stages.Renaming ds place end e refl))
+
+-- ---- a part came back
+
+key_more : (tag : Spelled) (size : ℕ) (key : List ℕ) (ds : List Drawn) → IsOfKey key ds → IsOfKey key (with_last tag size ds)
+key_more tag size key [] h = absurd h
+key_more tag size key (d ∷ ds) h = h
+
+part_told : (t : Task) (f : File) (fs : List File) (n : ℕ) (tag : Spelled) (b : Bool) → n < length (parts_in t f) → HasSent t.known.drawn (take n (parts_in t f))
+    → at (with_known t (with_tag t.known tag (length (part_behind t f.1 n)))) (sending_from f fs (drop (n + 1) (parts_in t f))) ≡ task_commit_told (at t (sending_from f fs (drop n (parts_in t f)))) (Got (Part tag) b)
+part_told t f fs n tag b h g =
+    let p = part_behind t f.1 n in
+    let rest = drop (n + 1) (parts_in t f) in
+    let now : Task = with_known t (with_tag t.known tag (length p)) in
+    ap (at now) (sym (uploaded_from (task_script t) f fs rest))
+    ∙ (ap (λ l. at (with_known t (record { drawn = l; put_sent = t.known.put_sent; publish_sent = t.known.publish_sent })) (uploaded (task_script t) f fs (sending rest))) (sym (learn_last tag (length p) t.known.drawn (take n (parts_in t f)) g))
+    ∙ ap (λ l. task_commit_told (at t (sending_from f fs l)) (Got (Part tag) b)) (sym (first_part t f n h)))
+
+module _ (t : Task) (s : Stage) (ds : List (List ℕ)) (place n : ℕ) (end : Option TaskEnd) (e : end ≡ None) (i : s ≡ stages.Sending n) (hold : HoldsAt t s ds place) (tag : Spelled) (size : ℕ) (z : size ≡ length (part_behind t (file_at t place).1 n)) (plain : is_plain_tag tag ≡ true) (t' : Task) (u : t' ≡ with_known t (with_tag t.known tag size)) where
+  here : IsSent t place n
+  here = is_sent t s ds place n hold i
+
+  abbrev after : Task
+  after = with_known t (with_tag t.known tag (length (part_behind t (file_at t place).1 n)))
+
+  after_is : t' ≡ after
+  after_is = u ∙ ap (λ m. with_known t (with_tag t.known tag m)) z
+
+  behind_told : (b : Bool) → at t' (sending_from (file_at t place) (drop (place + 1) t.files) (drop (n + 1) (parts_in t (file_at t place)))) ≡ task_commit_told (at t (staged_by t s ds place end)) (Got (Part tag) b)
+  behind_told b =
+      let f = file_at t place in
+      let fs = drop (place + 1) t.files in
+      ap (λ x. at x (sending_from f fs (drop (n + 1) (parts_in t f)))) after_is
+      ∙ (part_told t f fs n tag b here.more here.sent
+      ∙ sym (ap (λ o. task_commit_told (at t o) (Got (Part tag) b)) (as_part t s ds place end e n i here.within)))
+
+  all_sent : HasSent after.known.drawn (take (n + 1) (parts_in t (file_at t place)))
+  all_sent =
+      let f = file_at t place in
+      subst (HasSent after.known.drawn) (sym (take_next n (parts_in t f) (part_behind t f.1 n) (drop (n + 1) (parts_in t f)) (first_part t f n here.more)))
+      (has_more t.known.drawn (take n (parts_in t f)) (part_behind t f.1 n) tag here.sent plain)
+
+  -- ---- it is not the last one
+
+  module _ (more : n + 1 < length (parts_in t (file_at t place))) where
+    sent_more : IsSent after place (n + 1)
+    sent_more = record { within = here.within; more = more; sent = all_sent; key = key_more tag (length (part_behind t (file_at t place).1 n)) (file_key (task_script t) (file_at t place)) t.known.drawn here.key }
+
+    pub send_told : (b : Bool) → at t' (staged_by t' (stages.Sending (n + 1)) ds place end) ≡ task_commit_told (at t (staged_by t s ds place end)) (Got (Part tag) b)
+    send_told b =
+        ap (λ x. at x (staged_by x (stages.Sending (n + 1)) ds place end)) after_is
+        ∙ (ap (at after) (as_part after (stages.Sending (n + 1)) ds place end e (n + 1) refl here.within)
+        ∙ (ap (λ x. at x (sending_from (file_at t place) (drop (place + 1) t.files) (drop (n + 1) (parts_in t (file_at t place))))) (sym after_is) ∙ behind_told b))
+
+    pub send_holds : (set : PendingSet) → IsTask t → set ≡ set_of t place → Holds t' (stages.Sending (n + 1)) ds place set
+    send_holds set k g =
+        subst (λ y. Holds y (stages.Sending (n + 1)) ds place set) (sym after_is) (record {
+          set = g ∙ set_sent t place tag (length (part_behind t (file_at t place).1 n)) k here.within here.key;
+          at = (none_checked t s ds place n hold i, subst (HoldsSent (task_script t) t.minimum after.known (n + 1)) (sym (front_at t.files place here.within)) (sent_more.more, sent_more.sent, sent_more.key));
+        })
+
+    same_upload : (ds : List Drawn) (size : ℕ) → (first_drawn (with_last tag size ds)).upload ≡ (first_drawn ds).upload
+    same_upload [] size = refl
+    same_upload (d ∷ ds) size = refl
+
+    pub send_next : (r : Request) → r ≡ asks_behind t (file_at t place) (write_stages.Sending (n + 1)) → Some r ≡ task_commit_wants (at t' (staged_by t' (stages.Sending (n + 1)) ds place end))
+    send_next r q =
+        let f = file_at t place in
+        ap Some q
+        ∙ (ap (λ x. Some (UploadPart t.job.dest.bucket (file_key (task_script t) f) x ((n + 1) + 1) (part_behind t f.1 (n + 1)))) (sym (same_upload t.known.drawn (length (part_behind t f.1 n))))
+        ∙ (asks_part after (stages.Sending (n + 1)) ds place (n + 1) end e refl sent_more ∙ sym (ap (λ x. task_commit_wants (at x (staged_by x (stages.Sending (n + 1)) ds place end))) after_is)))
+
+    pub next_behind : IsBehind (parts_in t (file_at t place)) t.known.drawn (write_stages.Sending (n + 1))
+    next_behind = (more, some_drawn t.known.drawn (take n (parts_in t (file_at t place))) here.sent)
+
+  -- ---- it is the last one
+
+  module _ (last : length (parts_in t (file_at t place)) ≤ n + 1) where
+    pub last_sent : HasSent (with_tag t.known tag size).drawn (parts_in t (file_at t place))
+    last_sent =
+        let f = file_at t place in
+        subst (λ m. HasSent (with_tag t.known tag m).drawn (parts_in t f)) (sym z) (subst (HasSent after.known.drawn) (take_all (n + 1) (parts_in t f) last) all_sent)
+
+    closing : at t' (staged_by t' stages.Opening ds (place + 1) end) ≡ at t' (sending_from (file_at t place) (drop (place + 1) t.files) (drop (n + 1) (parts_in t (file_at t place))))
+    closing =
+        let f = file_at t place in
+        ap (λ x. at x (staged_by x stages.Opening ds (place + 1) end)) u
+        ∙ (ap (at (with_known t (with_tag t.known tag size))) (as_none (with_known t (with_tag t.known tag size)) stages.Opening ds (place + 1) end e refl (ap is_none (none_checked t s ds place n hold i)))
+        ∙ (ap (λ x. at x (storing (drop (place + 1) t.files))) (sym u)
+        ∙ ap (λ l. at t' (sending_from f (drop (place + 1) t.files) l)) (sym (drop_all (n + 1) (parts_in t f) last))))
+
+    pub close_told : (b : Bool) → at t' (staged_by t' stages.Opening ds (place + 1) end) ≡ task_commit_told (at t (staged_by t s ds place end)) (Got (Part tag) b)
+    close_told b = closing ∙ behind_told b
+
+    pub close_holds : (set : PendingSet) → set ≡ set_of (with_known t (with_tag t.known tag size)) (place + 1) → Holds t' stages.Opening ds (place + 1) set
+    close_holds set g =
+        subst (λ y. Holds y stages.Opening ds (place + 1) set) (sym u) (record {
+          set = g;
+          at = subst (λ l. HoldsAt (with_known t (with_tag t.known tag size)) stages.Opening l (place + 1)) (sym (none_checked t s ds place n hold i)) tt;
+        })
+
+    pub close_next : (set : PendingSet) (r : Request) → set ≡ set_of (with_known t (with_tag t.known tag size)) (place + 1) → r ≡ next_asks t set (drop (place + 1) t.files) → Some r ≡ task_commit_wants (at t' (staged_by t' stages.Opening ds (place + 1) end))
+    close_next set r g q =
+        ap Some q ∙ (asks_next (with_known t (with_tag t.known tag size)) stages.Opening ds (place + 1) end set e refl (ap is_none (none_checked t s ds place n hold i)) g
+        ∙ sym (ap (λ x. task_commit_wants (at x (staged_by x stages.Opening ds (place + 1) end))) u))
+
+pub fits_part : (t : Task) (s : Stage) (ds : List (List ℕ)) (place n : ℕ) (end : Option TaskEnd) (r : Reply) → end ≡ None → s ≡ stages.Sending n → IsSent t place n → FitsCommit (task_script t) (who_of t) t.known (staged_by t s ds place end) r → FitsPart r
+fits_part t s ds place n end r e i k f =
+    let g : FitsCommit (task_script t) (who_of t) t.known (sending_from (file_at t place) (drop (place + 1) t.files) (drop n (parts_in t (file_at t place)))) r =
+    subst (λ o. FitsCommit (task_script t) (who_of t) t.known o r) (as_part t s ds place end e n i k.within) f in
+    subst (λ l. FitsCommit (task_script t) (who_of t) t.known (sending_from (file_at t place) (drop (place + 1) t.files) l) r) (first_part t (file_at t place) n k.more) g
+
+pub gone_told : (t : Task) (s : Stage) (ds : List (List ℕ)) (place n : ℕ) (end : Option TaskEnd) (r : Reply) (b : Bool) (x : TaskEnd) → end ≡ None → s ≡ stages.Sending n → IsSent t place n → r ≡ Refused NoSuchUpload → x ≡ ends.Gone (file_key (task_script t) (file_at t place))
+    → at t (TaskCommitOver x) ≡ task_commit_told (at t (staged_by t s ds place end)) (Got r b)
+gone_told t s ds place n end r b x e i k q g =
+    let f = file_at t place in
+    let fs = drop (place + 1) t.files in
+    ap (λ y. at t (TaskCommitOver y)) g
+    ∙ (ap (λ l. task_commit_told (at t (sending_from f fs l)) (Got (Refused NoSuchUpload) b)) (sym (first_part t f n k.more))
+    ∙ (ap (λ y. task_commit_told (at t (sending_from f fs (drop n (parts_in t f)))) (Got y b)) (sym q)
+    ∙ sym (ap (λ o. task_commit_told (at t o) (Got r b)) (as_part t s ds place end e n i k.within))))
+
+-- ---- the rename
+
+pub rename_told : (t : Task) (s : Stage) (ds : List (List ℕ)) (place : ℕ) (end : Option TaskEnd) (r : Reply) (b : Bool) (x : TaskEnd) (t' : Task) → t' ≡ with_known t (published_known t.known) → end ≡ None → s ≡ stages.Renaming → TaskCommitOver x ≡ renamed (task_script t) (who_of t) r b
+    → at t' (TaskCommitOver x) ≡ task_commit_told (at t (staged_by t s ds place end)) (Got r b)
+rename_told t s ds place end r b x t' u e i q =
+    ap (λ y. at y (TaskCommitOver x)) u ∙ (ap (at (with_known t (published_known t.known))) q ∙ sym (ap (λ o. task_commit_told (at t o) (Got r b)) (as_renaming t s ds place end e i)))
+
+-- ---- a request wore out
+
+Tells : Task → TaskCommit → Type 0
+Tells t o = learned (task_script t) (who_of t) t.known (task_commit_wants (at t o)) WornOut ≡ worn_known o t.known
+
+worn_storing : (t : Task) (fs : List File) → Tells t (storing fs)
+unfolding Tells
+worn_storing t [] = refl
+worn_storing t (f ∷ fs) = refl
+
+worn_opening : (t : Task) (ds : List (List ℕ)) (fs : List File) → Tells t (opening ds fs)
+unfolding Tells
+worn_opening t [] fs = worn_storing t fs
+worn_opening t (d ∷ ds) fs = refl
+
+worn_from : (t : Task) (f : File) (fs : List File) (ps : List (List ℕ)) → Tells t (sending_from f fs ps)
+unfolding Tells
+worn_from t f fs [] = worn_storing t fs
+worn_from t f fs (p ∷ ps) = refl
+
+worn_sending : (t : Task) (n : ℕ) (fs : List File) → Tells t (sending_at (task_script t) t.minimum n fs)
+unfolding Tells
+worn_sending t n [] = refl
+worn_sending t n (f ∷ fs) = worn_from t f fs (drop n (parts_in t f))
+
+worn_at : (t : Task) (s : Stage) (ds : List (List ℕ)) (fs : List File) → Tells t (staged_at (task_script t) t.minimum s ds fs)
+unfolding Tells
+worn_at t stages.Opening ds fs = worn_opening t ds fs
+worn_at t (stages.Sending n) ds fs = worn_sending t n fs
+worn_at t stages.Renaming ds fs = refl
+
+worn_by : (t : Task) (s : Stage) (ds : List (List ℕ)) (place : ℕ) (end : Option TaskEnd) → Tells t (staged_by t s ds place end)
+unfolding Tells
+worn_by t s ds place None = worn_at t s ds (drop place t.files)
+worn_by t s ds place (Some x) = refl
+
+pub worn_told : (t t' : Task) (s : Stage) (ds : List (List ℕ)) (place : ℕ) (end : Option TaskEnd) → t' ≡ with_known t (worn_known (staged_by t s ds place end) t.known) → at t' (TaskCommitOver ends.StoreFault) ≡ task_commit_told (at t (staged_by t s ds place end)) WornOut
+unfolding Tells
+worn_told t t' s ds place end u = ap (λ x. at x (TaskCommitOver ends.StoreFault)) u ∙ ap (λ k. at (with_known t k) (TaskCommitOver ends.StoreFault)) (sym (worn_by t s ds place end))
+
+-- what is known then
+module _ (t : Task) (s : Stage) (ds : List (List ℕ)) (place : ℕ) (end : Option TaskEnd) (e : end ≡ None) where
+  pub worn_stored : s ≡ stages.Opening → (is_none ds && nat_le (length t.files) place) ≡ true → put_known t.known ≡ worn_known (staged_by t s ds place end) t.known
+  worn_stored i h = by (is_none ds) refl h
+    where
+      none_behind : nat_le (length t.files) place ≡ true → drop place t.files ≡ []
+      none_behind g = drop_all place t.files (at_most_is (length t.files) place g)
+
+      by : (b : Bool) → is_none ds ≡ b → (b && nat_le (length t.files) place) ≡ true → put_known t.known ≡ worn_known (staged_by t s ds place end) t.known
+      by true n g = sym (ap (λ o. worn_known o t.known) (as_none t s ds place end e i n ∙ ap storing (none_behind g)))
+      by false n g = absurd (true≢false (sym g))
+
+  pub worn_other : s ≡ stages.Opening → (is_none ds && nat_le (length t.files) place) ≡ false → t.known ≡ worn_known (staged_by t s ds place end) t.known
+  worn_other i h = by ds h ∙ sym (ap (λ o. worn_known o t.known) (as_open t s ds place end e i))
+    where
+      files_left : (l : List File) → drop place t.files ≡ l → nat_le (length t.files) place ≡ false → t.known ≡ worn_known (storing l) t.known
+      files_left [] q g =
+          let none : length (drop place t.files) ≡ 0 = ap length q in
+          absurd (true≢false (sym (at_most_so (length t.files) place (omega (arith, none, length-drop place t.files))) ∙ g))
+      files_left (f ∷ fs) q g = refl
+
+      by : (ds : List (List ℕ)) → (is_none ds && nat_le (length t.files) place) ≡ false → t.known ≡ worn_known (opening ds (drop place t.files)) t.known
+      by [] g = files_left (drop place t.files) refl g
+      by (d ∷ rest) g = refl
+
+  pub worn_part : (n : ℕ) → s ≡ stages.Sending n → IsSent t place n → t.known ≡ worn_known (staged_by t s ds place end) t.known
+  worn_part n i k =
+      sym (ap (λ o. worn_known o t.known) (as_part t s ds place end e n i k.within ∙ ap (sending_from (file_at t place) (drop (place + 1) t.files)) (first_part t (file_at t place) n k.more)))
+
+  pub worn_rename : s ≡ stages.Renaming → published_known t.known ≡ worn_known (staged_by t s ds place end) t.known
+  worn_rename i = sym (ap (λ o. worn_known o t.known) (as_renaming t s ds place end e i))
+
+-- whether it is the put of the set
+pub stores_not : (ds : List (List ℕ)) (fs : List File) (place : ℕ) (b : Bool) → b ≡ is_none ds → b ≡ false → false ≡ (is_none ds && nat_le (length fs) place)
+stores_not ds fs place b e f = sym (ap (λ x. x && nat_le (length fs) place) (sym e ∙ f))
+
+pub stores_all : (ds : List (List ℕ)) (fs : List File) (len place : ℕ) (b : Bool) → b ≡ is_none ds → b ≡ true → len ≡ length fs → nat_le len place ≡ (is_none ds && nat_le (length fs) place)
+stores_all ds fs len place b e f g = ap (λ n. nat_le n place) g ∙ sym (ap (λ x. x && nat_le (length fs) place) (sym e ∙ f))
+
+pub worn_over : (t : Task) (s : Stage) (ds : List (List ℕ)) (place : ℕ) (end : Option TaskEnd) (x : TaskEnd) → end ≡ Some x → t.known ≡ worn_known (staged_by t s ds place end) t.known
+worn_over t s ds place end x e = sym (ap (λ o. worn_known (staged_by t s ds place o) t.known) e)
+
+-- ---- the file at a place, as it was found
+
+pub asks_file : (t : Task) (set : PendingSet) (place : ℕ) (f : File) → Some f ≡ slice_get t.files place → CreateUpload t.job.dest.bucket (file_key (task_script t) f) ≡ next_asks t set (drop place t.files)
+asks_file t set place f e = sym (ap (next_asks t set) (front_is t.files place f (sym e)))
+
+pub asks_put : (t : Task) (set : PendingSet) (place : ℕ) → None ≡ slice_get t.files place → ClusterPut (temporary_path (task_script t) (who_of t)) (text_of set) ≡ next_asks t set (drop place t.files)
+asks_put t set place e = sym (ap (next_asks t set) (none_left t.files place (sym e)))
+
+-- the record of the file at a place, of the upload that was drawn last
+pub record_at : (t : Task) (place size : ℕ) (tag : Spelled) (f : File) (d : Drawn) → Some f ≡ slice_get t.files place → Some d ≡ slice_get t.known.drawn 0
+    → file_record (task_script t) (who_of t) f (one_more tag size d) ≡ file_record (task_script t) (who_of t) (file_at t place) (one_more tag size (drawn_last t.known))
+record_at t place size tag f d e g =
+    ap (λ (x : File). file_record (task_script t) (who_of t) x (one_more tag size d)) (file_is t place f e)
+    ∙ ap (λ (x : Drawn). file_record (task_script t) (who_of t) (file_at t place) (one_more tag size x)) (first_known t.known.drawn d g)
+
+-- ---- the last part of a file
+
+pub is_last : (t : Task) (s : Stage) (ds : List (List ℕ)) (place n : ℕ) (end : Option TaskEnd) → end ≡ None → (i : s ≡ stages.Sending n) → (hold : HoldsAt t s ds place) → (tag : Spelled) (size : ℕ) → size ≡ length (part_behind t (file_at t place).1 n) → is_plain_tag tag ≡ true
+    → length (parts_in t (file_at t place)) ≤ n + 1 → IsLastPart t place tag size
+is_last t s ds place n end e i hold tag size z plain last = record {
+  within = (is_sent t s ds place n hold i).within;
+  sent = last_sent t s ds place n end e i hold tag size z plain (with_known t (with_tag t.known tag size)) refl last;
+}
+
+-- the set with its record
+pub closes : (t : Task) (s : Stage) (ds : List (List ℕ)) (place n : ℕ) → (i : s ≡ stages.Sending n) → (hold : HoldsAt t s ds place) → (tag : Spelled) (size : ℕ) (set : PendingSet) (p : Pending) (commits : List Pending) → IsTask t → set ≡ set_of t place
+    → p ≡ file_record (task_script t) (who_of t) (file_at t place) (one_more tag size (drawn_last t.known)) → commits ≡ set.commits ++ p ∷ [] → record { job = set.job; task = set.task; attempt = set.attempt; commits = commits } ≡ set_of (with_known t (with_tag t.known tag size)) (place + 1)
+closes t s ds place n i hold tag size set p commits k g r e =
+    let x = is_sent t s ds place n hold i in
+    set_closed t place tag size k x.within x.key set _ p g r (ap (λ (l : List Pending). let v : PendingSet = record { job = set.job; task = set.task; attempt = set.attempt; commits = l } in v) e)
+
+-- ---- which part is sent behind it
+
+pub stage_more : (n count : ℕ) (s : WriteStage) (m : ℕ) → s ≡ next_stage n count → s ≡ write_stages.Sending m → n + 1 < count
+stage_more n count s m e f = by (nat_lt (n + 1) count) refl
+  where
+    by : (b : Bool) → nat_lt (n + 1) count ≡ b → n + 1 < count
+    by true h = below_is (n + 1) count h
+    by false h = absurd (other (ap (λ b. cond b (write_stages.Sending (n + 1)) write_stages.Marking) h))
+      where
+        other : next_stage n count ≡ write_stages.Marking → ⊥
+        other g = cc
+
+pub stage_last : (n count : ℕ) (s : WriteStage) → s ≡ next_stage n count → ((m : ℕ) → s ≡ write_stages.Sending m → ⊥) → count ≤ n + 1
+stage_last n count s e f = by (nat_lt (n + 1) count) refl
+  where
+    by : (b : Bool) → nat_lt (n + 1) count ≡ b → count ≤ n + 1
+    by true h = absurd (f (n + 1) (e ∙ ap (λ b. cond b (write_stages.Sending (n + 1)) write_stages.Marking) h))
+    by false h = below_not (n + 1) count h
+
+-- ---- what fits by the stage
+
+pub open_fits : (t : Task) (s : Stage) (ds : List (List ℕ)) (place n : ℕ) (end : Option TaskEnd) (r : Reply) → end ≡ None → s ≡ stages.Sending n → HoldsAt t s ds place → FitsCommit (task_script t) (who_of t) t.known (staged_by t s ds place end) r → FitsPart r
+open_fits t s ds place n end r e i hold f = fits_part t s ds place n end r e i (is_sent t s ds place n hold i) f
+
+part_reply : (r : Reply) (tag : Spelled) → Some tag ≡ tag_in r → Part tag ≡ r
+part_reply (Part x) tag e = let same : tag ≡ x = cc in ap Part same
+part_reply _ tag e = absurd (cc)
+
+pub at_ok : {X E : Type 0} (r : Result X E) (P : Type 0) → P → OnOk r P
+at_ok (Ok x) P h = h
+at_ok (Err x) P h = tt
+
+-- what is told of a part's tag is told of the reply
+pub told_part : {X E : Type 0} (x : Result X E) (m n : Attempting TaskCommit) (r : Reply) (tag : Spelled) → Some tag ≡ tag_in r → OnOk x ((b : Bool) → n ≡ task_commit_told m (Got (Part tag) b)) → OnOk x ((b : Bool) → n ≡ task_commit_told m (Got r b))
+told_part x m n r tag e h = subst (λ y. OnOk x ((b : Bool) → n ≡ task_commit_told m (Got y b))) (part_reply r tag e) h

@@ -1,0 +1,25 @@
+-- A staging attempt's write is done as it begins.
+use Rattle.std.proofs.Common.{◌≡◌, refl, sym, subst}
+use Rattle.std.specs.Prelude.{IsSome}
+use Rattle.std.proofs.lemmas.Bool.{false≢true}
+use Rattle.s3_types.specs.declared.request.Committer.{Committer}
+use Rattle.s3_types.specs.declared.request.Committer.TheVariants.{Magic, Directory, Partitioned}
+use Rattle.job_model.specs.Jobs.{Task}
+use Rattle.job_model.specs.declared.ends.TaskEnd.{TaskEnd}
+use Rattle.job_model.specs.declared.ends.TaskEnd.TheVariants as ends
+use Rattle.job_operations.specs.AtWork.{Attempting, task_script, who_of, write_wants}
+use Rattle.job_operations.specs.Outputs.{files}
+use Rattle.job_operations.specs.Writes as writes
+use Rattle.job_operations.specs.Writes.{write_start, write_start_by}
+
+pub start_is : (t : Task) → (t.job.committer ≡ Magic → ⊥) → writes.WriteOver ends.Done ≡ write_start (task_script t) (who_of t)
+start_is t n = by t.job.committer n
+  where
+    by : (c : Committer) → (c ≡ Magic → ⊥) → writes.WriteOver ends.Done ≡ write_start_by c (files (task_script t) (who_of t))
+    by Magic h = absurd (h refl)
+    by Directory h = refl
+    by Partitioned h = refl
+
+-- nothing is asked
+pub asks_none : (t : Task) (end : TaskEnd) (m : Attempting writes.Write) → (let n : Attempting writes.Write = record { plan = t; operation = writes.WriteOver end } in n ≡ m) → IsSome (write_wants m) → ⊥
+asks_none t end m e h = false≢true (subst (λ (x : Attempting writes.Write). IsSome (write_wants x)) (sym e) h)

@@ -1,0 +1,40 @@
+use Rattle.std.proofs.Common.{refl, ◌∙◌, arith}
+use Rattle.s3_types.proofs.Blocks.{few_parts}
+use Rattle.task_staging.proofs.Staged.{keeps_open, file_at, holds_open, is_sent, part_within, next_behind, send_told, send_holds, send_next}
+use Rattle.task_staging.proofs.staging.Staging.send_next.Goals as goal
+
+pub overflow_add-sent : goal.overflow_add-sent
+overflow_add-sent c =
+    let t = c.args.plan.now in
+    omega (arith, few_parts t.block t.minimum (file_at t c.args.self.now.place).1, c.requires.more)
+
+pub part_request-requires-clause-within : goal.part_request-requires-clause-within
+part_request-requires-clause-within c =
+    let t = c.args.plan.now in
+    let h = c.args.self.now in
+    part_within (is_sent t h.stage h.checks h.place c.args.sent (holds_open t h c.requires.end c.requires.keeps).at c.requires.sending)
+
+pub part_request-requires-clause-behind : goal.part_request-requires-clause-behind
+part_request-requires-clause-behind c =
+    let t = c.args.plan.now in
+    let h = c.args.self.now in
+    next_behind t h.stage h.checks h.place c.args.sent h.end c.requires.end c.requires.sending (holds_open t h c.requires.end c.requires.keeps).at c.args.part.now.tag c.args.part.now.size c.requires.size c.requires.plain _ refl c.requires.more
+
+pub returns-in-Ok-clause-keeps : goal.returns-in-Ok-clause-keeps
+returns-in-Ok-clause-keeps c =
+    let t = c.args.plan.now in
+    let h = c.args.self.now in
+    let k = holds_open t h c.requires.end c.requires.keeps in
+    keeps_open _ _ c.requires.end (send_holds t h.stage h.checks h.place c.args.sent h.end c.requires.end c.requires.sending k.at c.args.part.now.tag c.args.part.now.size c.requires.size c.requires.plain _ c.in-Ok.ensures.drawn c.requires.more h.set c.job_of.ensures.task k.set)
+
+pub returns-in-Ok-clause-told : goal.returns-in-Ok-clause-told
+returns-in-Ok-clause-told c =
+    let t = c.args.plan.now in
+    let h = c.args.self.now in
+    λ b. send_told t h.stage h.checks h.place c.args.sent h.end c.requires.end c.requires.sending (holds_open t h c.requires.end c.requires.keeps).at c.args.part.now.tag c.args.part.now.size c.requires.size c.requires.plain _ c.in-Ok.ensures.drawn c.requires.more b
+
+pub returns-in-Ok-clause-next : goal.returns-in-Ok-clause-next
+returns-in-Ok-clause-next c =
+    let t = c.args.plan.now in
+    let h = c.args.self.now in
+    send_next t h.stage h.checks h.place c.args.sent h.end c.requires.end c.requires.sending (holds_open t h c.requires.end c.requires.keeps).at c.args.part.now.tag c.args.part.now.size c.requires.size c.requires.plain _ c.in-Ok.ensures.drawn c.requires.more c.in-Ok.asked (c.in-Ok.ensures.asked ∙ c.in_ok-asked.ensures)

@@ -1,0 +1,121 @@
+-- A commit of a staging attempt, by the partitions that are left to check, the records of the files that are uploaded, and how far the next file has come.
+use Rattle.std.specs.Prelude.{◌≡◌, ℕ, ◌<◌, ◌&&◌, nat_le, Bool, true, false, List, [], ◌∷◌, take, drop, length, get_or, Option, Some, None}
+use Rattle.serde_json.specs.Written.{compact_text}
+use Rattle.s3_types.specs.Tags.{Spelled}
+use Rattle.s3_types.specs.declared.request.Request.{Request}
+use Rattle.s3_types.specs.declared.request.Request.TheVariants.{CreateUpload, ClusterPut}
+use Rattle.s3_types.specs.declared.reply.Reply.{Reply}
+use Rattle.s3_types.specs.declared.reply.Reply.TheVariants.{Refused}
+use Rattle.s3_types.specs.declared.reply.Refusal.TheVariants.{NoSuchFile}
+use Rattle.pending_json.specs.Trees.{set_tree}
+use Rattle.pending_json.specs.declared.records.PendingSet.{PendingSet}
+use Rattle.job_model.specs.Files.{File}
+use Rattle.job_model.specs.Jobs.{Task}
+use Rattle.job_model.specs.Known.{Drawn, Known}
+use Rattle.job_model.specs.JobScript.{Script}
+use Rattle.job_model.specs.declared.ends.TaskEnd.{TaskEnd}
+use Rattle.job_operations.specs.AtWork.{Attempting, task_script, who_of}
+use Rattle.job_operations.specs.Records.{file_key, files_set}
+use Rattle.job_operations.specs.Uploading.{Sending, file_parts}
+use Rattle.job_operations.specs.TaskCommits as commits
+use Rattle.job_operations.specs.TaskCommits.{TaskCommit, Checking, Storing, Renaming, TaskCommitOver, storing, temporary_path}
+use Rattle.conflict.specs.Checks.{is_none}
+use Rattle.task_requests.specs.Writing.{HasSent, parts_in, with_tag}
+use Rattle.task_staging.specs.declared.staging.Stage.{Stage}
+use Rattle.task_staging.specs.declared.staging.Stage.TheVariants as stages
+use Rattle.task_staging.specs.declared.staging.Staging.{Staging}
+
+-- ---- where it stands
+
+-- these partitions are to be checked, and then these files uploaded
+abbrev pub opening : List (List ℕ) → List File → TaskCommit
+opening (d ∷ ds) fs = Checking d ds
+opening [] fs = storing fs
+
+-- these parts of a file are to be sent, and then the other files uploaded
+abbrev pub sending_from : File → List File → List (List ℕ) → TaskCommit
+sending_from f fs [] = storing fs
+sending_from f fs (p ∷ ps) = commits.Uploads f fs (Sending p ps)
+
+abbrev pub sending_at : Script → ℕ → ℕ → List File → TaskCommit
+sending_at w minimum n [] = Storing
+sending_at w minimum n (f ∷ fs) = sending_from f fs (drop n (file_parts w minimum f))
+
+abbrev pub staged_at : Script → ℕ → Stage → List (List ℕ) → List File → TaskCommit
+staged_at w minimum stages.Opening ds fs = opening ds fs
+staged_at w minimum (stages.Sending n) ds fs = sending_at w minimum n fs
+staged_at w minimum stages.Renaming ds fs = Renaming
+
+-- so many files are uploaded, or it has ended
+abbrev pub staged_by : Task → Stage → List (List ℕ) → ℕ → Option TaskEnd → TaskCommit
+staged_by t s ds place None = staged_at (task_script t) t.minimum s ds (drop place t.files)
+staged_by t s ds place (Some end) = TaskCommitOver end
+
+abbrev pub commit_of : Task → Staging → TaskCommit
+commit_of t h = staged_by t h.stage h.checks h.place h.end
+
+abbrev pub seen : Task → Staging → Attempting TaskCommit
+seen t h = record { plan = t; operation = commit_of t h }
+
+-- ---- what is kept
+
+-- the upload that was drawn last is of this key
+abbrev pub IsOfKey : List ℕ → List Drawn → Type 0
+IsOfKey key [] = ⊥
+IsOfKey key (d ∷ ds) = d.key ≡ key
+
+-- so many parts of the first of these files came back, and not all
+abbrev pub HoldsSent : Script → ℕ → Known → ℕ → List File → Type 0
+HoldsSent w minimum k n [] = ⊥
+HoldsSent w minimum k n (f ∷ fs) = (n < length (file_parts w minimum f)) × HasSent k.drawn (take n (file_parts w minimum f)) × IsOfKey (file_key w f) k.drawn
+
+-- while partitions are left to check no file is uploaded
+abbrev pub HoldsAt : Task → Stage → List (List ℕ) → ℕ → Type 0
+HoldsAt t stages.Opening [] place = Unit {0}
+HoldsAt t stages.Opening (d ∷ ds) place = place ≡ 0
+HoldsAt t (stages.Sending n) ds place = (ds ≡ []) × HoldsSent (task_script t) t.minimum t.known n (drop place t.files)
+HoldsAt t stages.Renaming ds place = Unit {0}
+
+-- the set of so many files
+abbrev pub set_of : Task → ℕ → PendingSet
+set_of t place = files_set (task_script t) (who_of t) (take place t.files) t.known
+
+pub record Holds (t : Task) (s : Stage) (ds : List (List ℕ)) (place : ℕ) (held : PendingSet) : Type 0 where
+  pub set : held ≡ set_of t place
+  pub at : HoldsAt t s ds place
+
+abbrev pub KeepsBy : Task → Staging → Option TaskEnd → Type 0
+KeepsBy t h None = Holds t h.stage h.checks h.place h.set
+KeepsBy t h (Some end) = Unit {0}
+
+abbrev pub Keeps : Task → Staging → Type 0
+Keeps t h = KeepsBy t h h.end
+
+-- the tag and the size are those of the last part of the file at a place, whose others came back
+pub record IsLastPart (t : Task) (place : ℕ) (tag : Spelled) (size : ℕ) : Type 0 where
+  pub within : place < length t.files
+  pub sent : let f = get_or t.files place ([], []) in HasSent (with_tag t.known tag size).drawn (parts_in t f)
+
+-- ---- requests and replies
+
+abbrev pub text_of : PendingSet → List ℕ
+text_of set = compact_text (set_tree set)
+
+-- the upload of the first of these files is begun, or the set is put
+abbrev pub next_asks : Task → PendingSet → List File → Request
+next_asks t set [] = ClusterPut (temporary_path (task_script t) (who_of t)) (text_of set)
+next_asks t set (f ∷ fs) = CreateUpload t.job.dest.bucket (file_key (task_script t) f)
+
+abbrev pub is_no_file : Reply → Bool
+is_no_file (Refused NoSuchFile) = true
+is_no_file _ = false
+
+-- no partition is left to check, and no file to upload
+abbrev pub stores : Task → Staging → Bool
+stores t h = is_none h.checks && nat_le (length t.files) h.place
+
+-- what is known once its request wore out
+abbrev pub worn_known : TaskCommit → Known → Known
+worn_known Storing k = record { drawn = k.drawn; put_sent = true; publish_sent = k.publish_sent }
+worn_known Renaming k = record { drawn = k.drawn; put_sent = k.put_sent; publish_sent = true }
+worn_known c k = k

@@ -1,0 +1,16 @@
+//! The operations of a staging committer's attempt as machines, of the directory and the partitioned committer: the
+//! write of its files, the commit and the abort of its task. (Hadoop, S3A committer architecture: the staging
+//! committers.)
+#![tactic(auto)]
+
+mod abort;
+mod commit;
+mod opening;
+mod requests;
+mod staging;
+mod undoing;
+mod write;
+
+pub use abort::AbortTask;
+pub use commit::CommitTask;
+pub use write::WriteFiles;

@@ -1,0 +1,67 @@
+ghost use Rattle.std.specs.Prelude.{◌≡◌, ◌<◌, length, map, get_or, [], IfOk};
+ghost use Rattle.job_operations.specs.AtWork.{task_script, who_of};
+ghost use Rattle.job_operations.specs.Conflicts.{checks_partitions, partitions};
+ghost use Rattle.job_operations.specs.TaskCommits.{to_check};
+
+use conflict::partitions;
+use job_model::{JobPlan, TaskPlan};
+use s3_types::{Committer, Mode, Sequence, Text, TextList};
+use std::alloc::{AllocError, Global};
+use task_requests::{file_at, job_of};
+
+/// Whether a task's commit looks for files of the partitions that it writes.
+fn checks_partitions(committer: Committer, mode: Mode) -> bool
+    ensures { result ≡ checks_partitions committer mode }
+{
+    match committer {
+        Committer::Magic => false,
+        Committer::Directory => false,
+        Committer::Partitioned => match mode {
+            Mode::Fail => true,
+            Mode::Append => false,
+            Mode::Replace => false,
+        },
+    }
+}
+
+/// Whether the commits of a job's tasks look for files of the partitions that they write.
+fn is_checked(job: &JobPlan) -> bool
+    ensures { result ≡ checks_partitions job.now.committer job.now.mode }
+{
+    checks_partitions(job.committer, job.mode)
+}
+
+/// The path of the file at a place, which is shared.
+fn path_at(plan: &TaskPlan, place: usize) -> Result<Text, AllocError>
+    requires { place < length plan.now.files }
+    ensures { IfOk result (λ path. path ≡ (get_or plan.now.files place ([], [])).0) }
+{
+    let Some((path, _)) = file_at(plan, place) else {
+        unreachable!();
+    };
+    let copy = path.clone()?;
+    Ok(copy)
+}
+
+/// The paths of an attempt's files, which are shared.
+fn paths_of(alloc: Global, plan: &TaskPlan) -> Result<TextList, AllocError>
+    ensures { IfOk result (λ paths. paths ≡ map (λ f. f.0) plan.now.files) }
+{
+    let mut paths = Sequence::new(alloc);
+    for place in 0..plan.files.len() {
+        let path = path_at(plan, place)?;
+        paths.push(path)?;
+    }
+    Ok(paths)
+}
+
+/// The partitions that an attempt writes, where its commit is to check them.
+pub fn to_check(alloc: Global, plan: &TaskPlan) -> Result<TextList, AllocError>
+    ensures { IfOk result (λ dirs. dirs ≡ to_check (task_script plan.now) (who_of plan.now)) }
+{
+    if !is_checked(job_of(plan)) {
+        return Ok(Sequence::new(alloc));
+    }
+    let paths = paths_of(alloc, plan)?;
+    partitions(alloc, paths.as_slice())
+}

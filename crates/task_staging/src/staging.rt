@@ -1,0 +1,513 @@
+ghost use Rattle.std.specs.Prelude.{◌≡◌, ◌+◌, ◌<◌, ◌≤◌, Bool, true, false, length, drop, get_or, [], IfOk, OnOk, OnErr, Some, None};
+ghost use Rattle.s3_types.specs.declared.request.Committer.TheVariants.{Magic};
+ghost use Rattle.s3_types.specs.Tags.{is_plain_tag};
+ghost use Rattle.sendings.specs.Retries.{Got, WornOut};
+ghost use Rattle.job_operations.specs.AtWork.{task_script, who_of, task_commit_wants, task_commit_told, with_known};
+ghost use Rattle.job_operations.specs.Records.{file_key, file_record};
+ghost use Rattle.job_operations.specs.Knowledge.{drawn_last};
+ghost use Rattle.job_operations.specs.TaskCommits.{TaskCommitOver, renamed, task_commit_start};
+ghost use Rattle.conflict.specs.Checks.{is_none};
+ghost use Rattle.s3_types.specs.declared.reply.Reply.TheVariants.{Part};
+ghost use Rattle.task_requests.specs.Writing.{next_stage, one_more, part_behind, parts_in};
+ghost use Rattle.task_laws.specs.Commits.{commit_fits};
+ghost use Rattle.task_staging.specs.Staging.{commit_of, seen, Keeps, IsLastPart, is_no_file, stores, worn_known};
+
+use crate::opening::to_check;
+use crate::requests::{check_request, next_request, part_request, rename_request, temporary};
+use asking::NextRequest;
+use conflict::CheckAbsent;
+use job_model::{DrawnPart, TaskEnd, TaskPlan};
+use pending_json::{PendingSet, PendingUpload};
+use s3_types::{Refusal, Reply, Sequence, Tag, put};
+use std::alloc::{AllocError, Global};
+use task_requests::{
+    WriteStage, begin_upload, behind, file_at, job_of, last_drawn, note_part, pending_with, tag_in,
+    target, upload_in,
+};
+
+/// How far a commit has come.
+#[derive(Clone, Copy, Debug)]
+pub enum Stage {
+    /// A partition is checked, where one is left; or else the upload of the next file is begun; or where no file is
+    /// left the set is put.
+    Opening,
+    /// So many parts of the file were sent, and the next one is.
+    Sending(u64),
+    /// The set is renamed.
+    Renaming,
+}
+
+/// A commit as it goes on: the check of the partitions, the set of the files that are uploaded, how many these are,
+/// the stage, and how it ended.
+#[derive(Drop)]
+pub struct Staging {
+    pub checks: CheckAbsent,
+    pub set: PendingSet,
+    pub place: usize,
+    pub stage: Stage,
+    pub end: Option<TaskEnd>,
+}
+
+fn is_no_file(reply: &Reply) -> bool
+    ensures { result ≡ is_no_file reply.now }
+{
+    match reply {
+        Reply::Refused(Refusal::NoSuchFile) => true,
+        _ => false,
+    }
+}
+
+/// The end that a reply to the rename leads to: a repeated one that finds nothing is done.
+fn renamed_end(
+    alloc: Global,
+    plan: &TaskPlan,
+    reply: &Reply,
+    repeated: bool,
+) -> Result<TaskEnd, AllocError>
+    ensures { IfOk result (λ end. TaskCommitOver end ≡ renamed (task_script plan.now) (who_of plan.now) reply.now repeated) }
+{
+    if !is_no_file(reply) || repeated {
+        return Ok(TaskEnd::Done);
+    }
+    let name = temporary(alloc, plan)?;
+    Ok(TaskEnd::Gone(name))
+}
+
+/// The name of the upload of the file at a place, which is gone.
+fn gone_end(alloc: Global, plan: &TaskPlan, place: usize) -> Result<TaskEnd, AllocError>
+    requires { place < length plan.now.files }
+    ensures { IfOk result (λ end. end ≡ TaskEnd.Gone (file_key (task_script plan.now) (get_or plan.now.files place ([], [])))) }
+{
+    let Some((path, _)) = file_at(plan, place) else {
+        unreachable!();
+    };
+    let key = target(alloc, plan, path)?;
+    let name = key.as_text().clone()?;
+    Ok(TaskEnd::Gone(name))
+}
+
+/// The record of the file at a place, whose last part came back.
+fn last_record(
+    alloc: Global,
+    plan: &TaskPlan,
+    place: usize,
+    part: &DrawnPart,
+) -> Result<PendingUpload, AllocError>
+    requires { IsLastPart plan.now place part.now.tag part.now.size }
+    ensures { let f = get_or plan.now.files place ([], []) in IfOk result (λ p. p ≡ file_record (task_script plan.now) (who_of plan.now) f (one_more part.now.tag part.now.size (drawn_last plan.now.known))) }
+{
+    let Some((path, bytes)) = file_at(plan, place) else {
+        unreachable!();
+    };
+    let Some(drawn) = last_drawn(&plan.known) else {
+        unreachable!();
+    };
+    pending_with(alloc, plan, path, bytes, drawn, part)
+}
+
+/// The put of the set was sent. Takes no memory.
+fn tell_put(plan: &mut TaskPlan)
+    ensures { plan.new ≡ with_known plan.old (record { drawn = plan.old.known.drawn; put_sent = true; publish_sent = plan.old.known.publish_sent }) }
+{
+    plan.known.tell_put_sent();
+}
+
+/// The rename was sent. Takes no memory.
+fn tell_rename(plan: &mut TaskPlan)
+    ensures { plan.new ≡ with_known plan.old (record { drawn = plan.old.known.drawn; put_sent = plan.old.known.put_sent; publish_sent = true }) }
+{
+    plan.known.tell_publish_sent();
+}
+
+/// The stage behind a part of the file at a place that is sent behind so many others, and the part's length.
+fn behind_at(plan: &TaskPlan, place: usize, sent: u64) -> (WriteStage, u64)
+    requires within { place < length plan.now.files }
+    requires sent { sent < length (parts_in plan.now (get_or plan.now.files place ([], []))) }
+    ensures stage { result.0 ≡ next_stage sent (length (parts_in plan.now (get_or plan.now.files place ([], [])))) }
+    ensures size { let f = get_or plan.now.files place ([], []) in result.1 ≡ length (part_behind plan.now f.1 sent) }
+{
+    let Some((_, bytes)) = file_at(plan, place) else {
+        unreachable!();
+    };
+    behind(plan, bytes, sent)
+}
+
+impl Staging {
+    /// A commit of which nothing was sent yet.
+    pub fn new(alloc: Global, plan: &TaskPlan) -> Result<Staging, AllocError>
+        requires { plan.now.job.committer ≡ Magic → ⊥ }
+        ensures start { IfOk result (λ h. commit_of plan.now h ≡ task_commit_start (task_script plan.now) (who_of plan.now)) }
+        ensures keeps { IfOk result (λ h. Keeps plan.now h) }
+    {
+        let partitions = to_check(alloc, plan)?;
+        let job = job_of(plan).job.clone()?;
+        let set = PendingSet {
+            job,
+            task: plan.task,
+            attempt: plan.attempt,
+            commits: Sequence::new(alloc),
+        };
+        Ok(Staging {
+            checks: CheckAbsent::new(partitions),
+            set,
+            place: 0,
+            stage: Stage::Opening,
+            end: None,
+        })
+    }
+
+    /// Ends it. Takes no memory.
+    pub fn finish(&mut self, end: TaskEnd)
+        ensures { self.new ≡ record { checks = self.old.checks; set = self.old.set; place = self.old.place; stage = self.old.stage; end = Some end } }
+    {
+        put(&mut self.end, Some(end));
+    }
+
+    /// The next request while no upload is begun.
+    fn open_request(&self, alloc: Global, plan: &TaskPlan) -> NextRequest
+        requires stage { self.now.stage ≡ Stage.Opening }
+        requires end { self.now.end ≡ None }
+        requires keeps { Keeps plan.now self.now }
+        ensures { IfOk result (λ request. request ≡ task_commit_wants (seen plan.now self.now)) }
+    {
+        if !self.checks.is_over() {
+            return check_request(alloc, plan, &self.checks);
+        }
+        match next_request(alloc, plan, &self.set, self.place) {
+            Ok(request) => Ok(Some(request)),
+            Err(error) => Err(error),
+        }
+    }
+
+    /// The next request while a file is uploaded.
+    fn part_request(&self, alloc: Global, plan: &TaskPlan, sent: u64) -> NextRequest
+        requires stage { self.now.stage ≡ Stage.Sending sent }
+        requires end { self.now.end ≡ None }
+        requires keeps { Keeps plan.now self.now }
+        ensures { IfOk result (λ request. request ≡ task_commit_wants (seen plan.now self.now)) }
+    {
+        match part_request(alloc, plan, self.place, sent) {
+            Ok(request) => Ok(Some(request)),
+            Err(error) => Err(error),
+        }
+    }
+
+    /// The next request once the set is put.
+    fn rename_request(&self, alloc: Global, plan: &TaskPlan) -> NextRequest
+        requires stage { self.now.stage ≡ Stage.Renaming }
+        requires end { self.now.end ≡ None }
+        ensures { IfOk result (λ request. request ≡ task_commit_wants (seen plan.now self.now)) }
+    {
+        match rename_request(alloc, plan) {
+            Ok(request) => Ok(Some(request)),
+            Err(error) => Err(error),
+        }
+    }
+
+    /// The next request, or None where it is over.
+    pub fn request(&self, alloc: Global, plan: &TaskPlan) -> NextRequest
+        requires { Keeps plan.now self.now }
+        ensures { IfOk result (λ request. request ≡ task_commit_wants (seen plan.now self.now)) }
+    {
+        let None = &self.end else {
+            return Ok(None);
+        };
+        match self.stage {
+            Stage::Opening => self.open_request(alloc, plan),
+            Stage::Sending(sent) => self.part_request(alloc, plan, sent),
+            Stage::Renaming => self.rename_request(alloc, plan),
+        }
+    }
+
+    /// The look below a partition was answered.
+    fn hear_check(&mut self, alloc: Global, plan: &TaskPlan, reply: &Reply) -> NextRequest
+        requires stage { self.old.stage ≡ Stage.Opening }
+        requires end { self.old.end ≡ None }
+        requires some { is_none self.old.checks ≡ false }
+        requires keeps { Keeps plan.now self.old }
+        ensures keeps { OnOk result (Keeps plan.now self.new) }
+        ensures told { OnOk result ((b : Bool) → seen plan.now self.new ≡ task_commit_told (seen plan.now self.old) (Got reply.now b)) }
+        ensures next { IfOk result (λ request. request ≡ task_commit_wants (seen plan.now self.new)) }
+    {
+        match self.checks.hear(reply)? {
+            Some(partition) => {
+                self.finish(TaskEnd::Conflict(partition));
+                Ok(None)
+            }
+            None => self.request(alloc, plan),
+        }
+    }
+
+    /// The upload of the next file is begun.
+    fn hear_upload(&mut self, alloc: Global, plan: &mut TaskPlan, reply: &Reply) -> NextRequest
+        requires stage { self.old.stage ≡ Stage.Opening }
+        requires end { self.old.end ≡ None }
+        requires none { is_none self.old.checks ≡ true }
+        requires within { self.old.place < length plan.old.files }
+        requires keeps { Keeps plan.old self.old }
+        requires fits { commit_fits (seen plan.old self.old) reply.now false }
+        ensures keeps { OnOk result (Keeps plan.new self.new) }
+        ensures told { OnOk result ((b : Bool) → seen plan.new self.new ≡ task_commit_told (seen plan.old self.old) (Got reply.now b)) }
+        ensures next { IfOk result (λ request. request ≡ task_commit_wants (seen plan.new self.new)) }
+        ensures err { OnErr result (plan.new ≡ plan.old) }
+    {
+        let _ = job_of(plan);
+        let Some(upload) = upload_in(reply) else {
+            unreachable!();
+        };
+        match begin_upload(alloc, plan, self.place, upload) {
+            Ok(asked) => {
+                self.stage = Stage::Sending(0);
+                Ok(Some(asked))
+            }
+            Err(error) => Err(error),
+        }
+    }
+
+    /// The set is put.
+    fn hear_stored(&mut self, alloc: Global, plan: &mut TaskPlan, reply: &Reply) -> NextRequest
+        requires stage { self.old.stage ≡ Stage.Opening }
+        requires end { self.old.end ≡ None }
+        requires none { is_none self.old.checks ≡ true }
+        requires behind { length plan.old.files ≤ self.old.place }
+        requires keeps { Keeps plan.old self.old }
+        ensures keeps { OnOk result (Keeps plan.new self.new) }
+        ensures told { OnOk result ((b : Bool) → seen plan.new self.new ≡ task_commit_told (seen plan.old self.old) (Got reply.now b)) }
+        ensures next { IfOk result (λ request. request ≡ task_commit_wants (seen plan.new self.new)) }
+        ensures err { OnErr result (plan.new ≡ plan.old) }
+    {
+        let _ = reply;
+        match rename_request(alloc, plan) {
+            Ok(asked) => {
+                tell_put(plan);
+                self.stage = Stage::Renaming;
+                Ok(Some(asked))
+            }
+            Err(error) => Err(error),
+        }
+    }
+
+    /// A part came back that is not the file's last.
+    fn send_next(
+        &mut self,
+        alloc: Global,
+        plan: &mut TaskPlan,
+        sent: u64,
+        part: &DrawnPart,
+    ) -> NextRequest
+        requires end { self.old.end ≡ None }
+        requires sending { self.old.stage ≡ Stage.Sending sent }
+        requires more { sent + 1 < length (parts_in plan.old (get_or plan.old.files self.old.place ([], []))) }
+        requires size { let f = get_or plan.old.files self.old.place ([], []) in part.now.size ≡ length (part_behind plan.old f.1 sent) }
+        requires plain { is_plain_tag part.now.tag ≡ true }
+        requires keeps { Keeps plan.old self.old }
+        ensures keeps { OnOk result (Keeps plan.new self.new) }
+        ensures told { OnOk result ((b : Bool) → seen plan.new self.new ≡ task_commit_told (seen plan.old self.old) (Got (Part part.now.tag) b)) }
+        ensures next { IfOk result (λ request. request ≡ task_commit_wants (seen plan.new self.new)) }
+        ensures err { OnErr result (plan.new ≡ plan.old) }
+    {
+        let _ = job_of(plan);
+        let asked = part_request(alloc, plan, self.place, sent + 1)?;
+        match note_part(plan, asked, part.tag, part.size) {
+            Ok(asked) => {
+                self.stage = Stage::Sending(sent + 1);
+                Ok(Some(asked))
+            }
+            Err(error) => Err(error),
+        }
+    }
+
+    /// The last part of a file came back.
+    fn close(
+        &mut self,
+        alloc: Global,
+        plan: &mut TaskPlan,
+        sent: u64,
+        part: &DrawnPart,
+    ) -> NextRequest
+        requires end { self.old.end ≡ None }
+        requires sending { self.old.stage ≡ Stage.Sending sent }
+        requires last { length (parts_in plan.old (get_or plan.old.files self.old.place ([], []))) ≤ sent + 1 }
+        requires size { let f = get_or plan.old.files self.old.place ([], []) in part.now.size ≡ length (part_behind plan.old f.1 sent) }
+        requires plain { is_plain_tag part.now.tag ≡ true }
+        requires keeps { Keeps plan.old self.old }
+        ensures keeps { OnOk result (Keeps plan.new self.new) }
+        ensures told { OnOk result ((b : Bool) → seen plan.new self.new ≡ task_commit_told (seen plan.old self.old) (Got (Part part.now.tag) b)) }
+        ensures next { IfOk result (λ request. request ≡ task_commit_wants (seen plan.new self.new)) }
+        ensures err { OnErr result (plan.new ≡ plan.old) }
+    {
+        let _ = job_of(plan);
+        let record = last_record(alloc, plan, self.place, part)?;
+        self.set.commits.push(record)?;
+        let place = self.place + 1;
+        let asked = next_request(alloc, plan, &self.set, place)?;
+        match note_part(plan, asked, part.tag, part.size) {
+            Ok(asked) => {
+                self.place = place;
+                self.stage = Stage::Opening;
+                Ok(Some(asked))
+            }
+            Err(error) => Err(error),
+        }
+    }
+
+    /// A part came back.
+    fn add_part(&mut self, alloc: Global, plan: &mut TaskPlan, sent: u64, tag: Tag) -> NextRequest
+        requires end { self.old.end ≡ None }
+        requires sending { self.old.stage ≡ Stage.Sending sent }
+        requires plain { is_plain_tag tag ≡ true }
+        requires keeps { Keeps plan.old self.old }
+        ensures keeps { OnOk result (Keeps plan.new self.new) }
+        ensures told { OnOk result ((b : Bool) → seen plan.new self.new ≡ task_commit_told (seen plan.old self.old) (Got (Part tag) b)) }
+        ensures next { IfOk result (λ request. request ≡ task_commit_wants (seen plan.new self.new)) }
+        ensures err { OnErr result (plan.new ≡ plan.old) }
+    {
+        let (stage, size) = behind_at(plan, self.place, sent);
+        let part = DrawnPart { tag, size };
+        match stage {
+            WriteStage::Sending(_) => self.send_next(alloc, plan, sent, &part),
+            _ => self.close(alloc, plan, sent, &part),
+        }
+    }
+
+    /// The sending of a part was answered.
+    fn hear_part(
+        &mut self,
+        alloc: Global,
+        plan: &mut TaskPlan,
+        sent: u64,
+        reply: &Reply,
+    ) -> NextRequest
+        requires end { self.old.end ≡ None }
+        requires sending { self.old.stage ≡ Stage.Sending sent }
+        requires keeps { Keeps plan.old self.old }
+        requires fits { commit_fits (seen plan.old self.old) reply.now false }
+        ensures keeps { OnOk result (Keeps plan.new self.new) }
+        ensures told { OnOk result ((b : Bool) → seen plan.new self.new ≡ task_commit_told (seen plan.old self.old) (Got reply.now b)) }
+        ensures next { IfOk result (λ request. request ≡ task_commit_wants (seen plan.new self.new)) }
+        ensures err { OnErr result (plan.new ≡ plan.old) }
+    {
+        match tag_in(reply) {
+            Some(tag) => self.add_part(alloc, plan, sent, tag),
+            None => {
+                let end = gone_end(alloc, plan, self.place)?;
+                self.finish(end);
+                Ok(None)
+            }
+        }
+    }
+
+    /// The rename was answered.
+    fn hear_rename(
+        &mut self,
+        alloc: Global,
+        plan: &mut TaskPlan,
+        reply: &Reply,
+        repeated: bool,
+    ) -> NextRequest
+        requires stage { self.old.stage ≡ Stage.Renaming }
+        requires end { self.old.end ≡ None }
+        ensures keeps { OnOk result (Keeps plan.new self.new) }
+        ensures told { OnOk result (seen plan.new self.new ≡ task_commit_told (seen plan.old self.old) (Got reply.now repeated)) }
+        ensures next { IfOk result (λ request. request ≡ task_commit_wants (seen plan.new self.new)) }
+        ensures err { OnErr result (plan.new ≡ plan.old) }
+    {
+        let end = renamed_end(alloc, plan, reply, repeated)?;
+        tell_rename(plan);
+        self.finish(end);
+        Ok(None)
+    }
+
+    /// What was asked while no upload is begun was answered.
+    fn hear_opening(&mut self, alloc: Global, plan: &mut TaskPlan, reply: &Reply) -> NextRequest
+        requires stage { self.old.stage ≡ Stage.Opening }
+        requires end { self.old.end ≡ None }
+        requires keeps { Keeps plan.old self.old }
+        requires fits { commit_fits (seen plan.old self.old) reply.now false }
+        ensures keeps { OnOk result (Keeps plan.new self.new) }
+        ensures told { OnOk result ((b : Bool) → seen plan.new self.new ≡ task_commit_told (seen plan.old self.old) (Got reply.now b)) }
+        ensures next { IfOk result (λ request. request ≡ task_commit_wants (seen plan.new self.new)) }
+        ensures err { OnErr result (plan.new ≡ plan.old) }
+    {
+        if !self.checks.is_over() {
+            return self.hear_check(alloc, plan, reply);
+        }
+        if self.place < plan.files.len() {
+            return self.hear_upload(alloc, plan, reply);
+        }
+        self.hear_stored(alloc, plan, reply)
+    }
+
+    /// Takes the reply to its present request, and gives the next one. After want of memory the plan is as before, and
+    /// the commit is to be ended.
+    pub fn hear(
+        &mut self,
+        alloc: Global,
+        plan: &mut TaskPlan,
+        reply: &Reply,
+        repeated: bool,
+    ) -> NextRequest
+        requires keeps { Keeps plan.old self.old }
+        requires fits { commit_fits (seen plan.old self.old) reply.now repeated }
+        ensures keeps { OnOk result (Keeps plan.new self.new) }
+        ensures told { OnOk result (seen plan.new self.new ≡ task_commit_told (seen plan.old self.old) (Got reply.now repeated)) }
+        ensures next { IfOk result (λ request. request ≡ task_commit_wants (seen plan.new self.new)) }
+        ensures err { OnErr result (plan.new ≡ plan.old) }
+    {
+        let None = &self.end else {
+            return Ok(None);
+        };
+        match self.stage {
+            Stage::Opening => self.hear_opening(alloc, plan, reply),
+            Stage::Sending(sent) => self.hear_part(alloc, plan, sent, reply),
+            Stage::Renaming => self.hear_rename(alloc, plan, reply, repeated),
+        }
+    }
+
+    /// Whether its present request is the put of the set. Takes no memory.
+    fn stores(&self, plan: &TaskPlan) -> bool
+        ensures { result ≡ stores plan.now self.now }
+    {
+        if !self.checks.is_over() {
+            return false;
+        }
+        plan.files.len() <= self.place
+    }
+
+    /// Tells the plan of what was sent while no upload is begun. Takes no memory.
+    fn tell_opening(&self, plan: &mut TaskPlan)
+        requires stage { self.now.stage ≡ Stage.Opening }
+        requires end { self.now.end ≡ None }
+        ensures { plan.new ≡ with_known plan.old (worn_known (commit_of plan.old self.now) plan.old.known) }
+    {
+        if !self.stores(plan) {
+            return;
+        }
+        tell_put(plan);
+    }
+
+    /// Tells the plan of what was sent. Takes no memory.
+    fn tell_sent(&self, plan: &mut TaskPlan)
+        requires { Keeps plan.old self.now }
+        ensures { plan.new ≡ with_known plan.old (worn_known (commit_of plan.old self.now) plan.old.known) }
+    {
+        let None = &self.end else {
+            return;
+        };
+        match self.stage {
+            Stage::Opening => self.tell_opening(plan),
+            Stage::Sending(_) => {}
+            Stage::Renaming => tell_rename(plan),
+        }
+    }
+
+    /// Takes it that its present request wore out. Takes no memory.
+    pub fn wear(&mut self, plan: &mut TaskPlan)
+        requires { Keeps plan.old self.old }
+        ensures keeps { Keeps plan.new self.new }
+        ensures told { seen plan.new self.new ≡ task_commit_told (seen plan.old self.old) WornOut }
+    {
+        self.tell_sent(plan);
+        self.finish(TaskEnd::StoreFault);
+    }
+}

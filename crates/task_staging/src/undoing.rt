@@ -1,0 +1,103 @@
+ghost use Rattle.std.specs.Prelude.{◌≡◌, IfOk, Some};
+ghost use Rattle.s3_types.specs.declared.request.Request.TheVariants.{ClusterDelete};
+ghost use Rattle.job_operations.specs.AtWork.{task_script, who_of};
+ghost use Rattle.job_operations.specs.TaskCommits.{temporary_path};
+ghost use Rattle.job_operations.specs.TaskAborts.{task_abort_start, task_abort_asks, task_abort_hears};
+ghost use Rattle.s3_types.specs.declared.request.Committer.TheVariants.{Magic};
+ghost use Rattle.task_staging.specs.Undoing.{abort_of, done_at, end_at};
+
+use crate::requests::temporary;
+use job_model::{TaskEnd, TaskPlan};
+use s3_types::{Reply, Request, put};
+use std::alloc::{AllocError, Global};
+use task_requests::{abort_request, bucket_of, made};
+
+/// An abort as it goes on: how many of the uploads are aborted, and how it ended.
+#[derive(Drop)]
+pub struct Undoing {
+    pub at: usize,
+    pub end: Option<TaskEnd>,
+}
+
+/// The deletion of the attempt's temporary file.
+fn remove_request(alloc: Global, plan: &TaskPlan) -> Result<Option<Request>, AllocError>
+    ensures { IfOk result (λ request. request ≡ Some (ClusterDelete (temporary_path (task_script plan.now) (who_of plan.now)))) }
+{
+    let path = temporary(alloc, plan)?;
+    match Request::cluster_delete(&path) {
+        Ok(request) => Ok(Some(request)),
+        Err(error) => Err(error),
+    }
+}
+
+/// The end of an abort once so many uploads are aborted, where nothing is left to do. Takes no memory.
+fn done_at(plan: &TaskPlan, at: usize) -> Option<TaskEnd>
+    ensures { result ≡ done_at plan.now.known at }
+{
+    if at < made(&plan.known).len() || plan.known.put_sent() {
+        None
+    } else {
+        Some(TaskEnd::Done)
+    }
+}
+
+/// The end of an abort of which nothing was sent yet, where there is nothing to do. Takes no memory.
+fn end_at(plan: &TaskPlan) -> Option<TaskEnd>
+    ensures { result ≡ end_at plan.now.known }
+{
+    if plan.known.publish_sent() {
+        Some(TaskEnd::Kept)
+    } else {
+        done_at(plan, 0)
+    }
+}
+
+impl Undoing {
+    /// An abort of which nothing was sent yet. Takes no memory.
+    pub fn new(plan: &TaskPlan) -> Undoing
+        requires { plan.now.job.committer ≡ Magic → ⊥ }
+        ensures { abort_of plan.now result ≡ task_abort_start (task_script plan.now) plan.now.known }
+    {
+        Undoing {
+            at: 0,
+            end: end_at(plan),
+        }
+    }
+
+    /// The next request, or None where it is over.
+    pub fn request(&self, alloc: Global, plan: &TaskPlan) -> Result<Option<Request>, AllocError>
+        ensures { IfOk result (λ request. request ≡ task_abort_asks (task_script plan.now) (who_of plan.now) (abort_of plan.now self.now)) }
+    {
+        let None = &self.end else {
+            return Ok(None);
+        };
+        match made(&plan.known).get(self.at) {
+            Some(drawn) => abort_request(bucket_of(plan), drawn),
+            None => remove_request(alloc, plan),
+        }
+    }
+
+    /// Its present request was answered. Takes no memory.
+    pub fn hear(&mut self, plan: &TaskPlan, reply: &Reply)
+        requires { plan.now.job.committer ≡ Magic → ⊥ }
+        ensures { abort_of plan.now self.new ≡ task_abort_hears (task_script plan.now) (abort_of plan.now self.old) reply.now }
+    {
+        let _ = reply;
+        let None = &self.end else {
+            return;
+        };
+        if self.at < made(&plan.known).len() {
+            self.at += 1;
+            put(&mut self.end, done_at(plan, self.at));
+        } else {
+            self.finish(TaskEnd::Done);
+        }
+    }
+
+    /// Ends it. Takes no memory.
+    pub fn finish(&mut self, end: TaskEnd)
+        ensures { self.new ≡ record { at = self.old.at; end = Some end } }
+    {
+        put(&mut self.end, Some(end));
+    }
+}
