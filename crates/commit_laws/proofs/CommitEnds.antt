@@ -1,10 +1,10 @@
 -- a commit ends by its own entries
-use Rattle.std.proofs.Common.{◌≡◌, ℕ, zero, suc, ◌+◌, ◌<◌, ◌≤◌, ◌⊎◌, inl, inr, nat_lt, refl, ap, sym, subst, ◌∙◌, Bool, true, false, cond, arith, List, [], ◌∷◌, ◌++◌, map, length, slice_get, Option, Some, None, append_assoc, append-nil, length-append}
+use Rattle.std.proofs.Common.{◌≡◌, ℕ, ◌+◌, ◌<◌, ◌≤◌, ◌⊎◌, inl, inr, nat_lt, refl, ap, sym, subst, ◌∙◌, Bool, true, false, cond, arith, List, [], ◌∷◌, ◌++◌, map, length, slice_get, Option, Some, None, append_assoc, append-nil, length-append}
 use Rattle.std.proofs.lemmas.Bool.Decides.{nat_tests}
 use Rattle.s3_types.specs.declared.request.Committer.{Committer}
-use Rattle.s3_types.specs.declared.request.Committer.TheVariants.{Magic}
+use Rattle.s3_types.specs.declared.request.Committer.TheVariants.{Magic, Directory, Partitioned}
 use Rattle.s3_types.specs.declared.request.Request.{Request}
-use Rattle.s3_types.specs.declared.request.Request.TheVariants.{GetObject}
+use Rattle.s3_types.specs.declared.request.Request.TheVariants.{GetObject, ClusterGet}
 use Rattle.s3_types.specs.declared.reply.Reply.{Reply}
 use Rattle.s3_types.specs.declared.journal.Outcome.{Outcome}
 use Rattle.s3_types.specs.declared.journal.Outcome.TheVariants.{Answered, Slow, RequestLost, ReplyLost}
@@ -19,9 +19,10 @@ use Rattle.job_model.specs.Jobs.{Job}
 use Rattle.job_model.specs.declared.ends.CommitEnd.{CommitEnd}
 use Rattle.job_model.specs.declared.ends.CommitEnd.TheVariants as ends
 use Rattle.job_model.specs.declared.ends.Stage.TheVariants as stages
-use Rattle.job_operations.specs.Outputs.{Picks, same_path}
-use Rattle.job_operations.specs.Lanes.{Turn, again, follow, dealt, nth, chosen, undo, in_turn, abort, deletion, completion, revert, is_tried, is_unsent}
-use Rattle.job_operations.specs.JobCommits.{Sets, picks_of, all_commits, set_read, set_request, Commit, Fetching, Replacing, Completing, Marking, Reverting, CommitOver, completing, replaced, replacing, decided, fetching, fetched, reverting, worn_completion, commit_asks, commit_hears, commit_misses, commit_tells, commit_start, commit_over}
+use Rattle.job_operations.specs.Outputs.{same_path}
+use Rattle.job_operations.specs.Walks.{Sweep, Listing, Deleting, sweep_asks, sweep_hears}
+use Rattle.job_operations.specs.Lanes.{Turn, again, follow, dealt, chosen, undo, in_turn, abort, deletion, revert, is_tried, is_unsent}
+use Rattle.job_operations.specs.JobCommits.{Sets, picks_of, all_commits, set_read, set_request, Commit, Fetching, Replacing, Completing, Marking, Reverting, CommitOver, completing, is_no_magic, replaced, replacing, swept, decided, fetching, fetched, reverting, worn_completion, commit_asks, commit_hears, commit_misses, commit_tells, commit_over}
 use Rattle.job_operations.specs.LaneTable.{RequestsApart, Sound, AllSound}
 use Rattle.job_operations.specs.Laws.{EndIs}
 use Rattle.job_operations.specs.AtWork.{Committing, read_script, sets_in, sets_after, with_set, with_pick, picked_after, commit_wants, commit_told}
@@ -74,6 +75,7 @@ EndOk j s end = end ≡ due None None (shared_of j s)
 
 abbrev reads : Request → Bool
 reads (GetObject bucket key) = true
+reads (ClusterGet path) = true
 reads _ = false
 
 abbrev NoReads : List Request → Type 0
@@ -101,14 +103,19 @@ no_reads_revert all n xs done = (refl, (refl, no_reads_join (undo (chosen (is_tr
 
 nothing_heard : (q : Request) (o : Outcome) → reads q ≡ false → set_heard q o ≡ None
 nothing_heard (GetObject bucket key) o e = absurd (false_true e refl)
+nothing_heard (ClusterGet path) o e = absurd (false_true e refl)
 nothing_heard _ o e = refl
+
+sweep_reads : (bucket prefix : List ℕ) (s : Sweep) → reads (sweep_asks bucket prefix s) ≡ false
+sweep_reads bucket prefix (Listing keys) = refl
+sweep_reads bucket prefix (Deleting k ks) = refl
 
 -- ---- once all is read
 
 -- a commit that has read these sets
 abbrev IsLate : Job → Sets → Commit → Type 0
 IsLate j s (Fetching sets m) = ⊥
-IsLate j s (Replacing sets p ps w m) = ⊥
+IsLate j s (Replacing sets p ps w m) = (sets ≡ s) × RequestsApart s × (shared_of j s ≡ None)
 IsLate j s (Completing sets x xs done) = (sets ≡ s) × RequestsApart s × (shared_of j s ≡ None)
 IsLate j s (Marking sets m) = (sets ≡ s) × (shared_of j s ≡ None)
 IsLate j s (Reverting q qs m) = NoReads (q ∷ qs)
@@ -117,6 +124,14 @@ IsLate j s (CommitOver end) = EndOk j s end
 late_completing : (j : Job) (s sets : Sets) (xs : List Turn) (done : List ℕ) → sets ≡ s → RequestsApart s → shared_of j s ≡ None → IsLate j s (completing sets xs done)
 late_completing j s sets [] done e apart none = (e, none)
 late_completing j s sets (x ∷ xs) done e apart none = (e, apart, none)
+
+late_replacing : (j : Job) (s sets : Sets) (w : Script) (ps : List (List ℕ)) → sets ≡ s → RequestsApart s → shared_of j s ≡ None → IsLate j s (replacing w sets ps)
+late_replacing j s sets w [] e apart none = late_completing j s sets (dealt w.lanes (length (all_commits sets))) [] e apart none
+late_replacing j s sets w (p ∷ ps) e apart none = (e, apart, none)
+
+late_swept : (j : Job) (s sets : Sets) (w : Script) (p : List ℕ) (ps : List (List ℕ)) (o : Option Sweep) → sets ≡ s → RequestsApart s → shared_of j s ≡ None → IsLate j s (swept w sets p ps o)
+late_swept j s sets w p ps (Some x) e apart none = (e, apart, none)
+late_swept j s sets w p ps None e apart none = late_replacing j s sets w ps e apart none
 
 late_reverting : (j : Job) (s : Sets) (qs : List Request) → NoReads qs → IsLate j s (reverting qs)
 late_reverting j s [] n = tt
@@ -128,7 +143,7 @@ late_either j s false c d x y = y
 
 late_heard : (j : Job) (s : Sets) (w : Script) (c : Commit) (r : Reply) → IsLate j s c → IsLate j s (commit_hears w c r)
 late_heard j s w (Fetching sets m) r h = absurd h
-late_heard j s w (Replacing sets p ps x m) r h = absurd h
+late_heard j s w (Replacing sets p ps x m) r h = late_swept j s sets w p ps (sweep_hears (is_no_magic w) x r) h.0 h.1 h.2
 late_heard j s w (Completing sets x xs done) r h = late_completing j s sets (xs ++ follow w.lanes (length (all_commits sets)) x.number) (x.number ∷ done) h.0 h.1 h.2
 late_heard j s w (Marking sets m) r h = (let e : shared_of j s ≡ None = h.1 in ap (due None None) (sym e))
 late_heard j s w (Reverting q qs m) r h = late_reverting j s qs h.1
@@ -136,7 +151,7 @@ late_heard j s w (CommitOver end) r h = h
 
 late_missed : (j : Job) (s : Sets) (w : Script) (c : Commit) (lost : Bool) → IsLate j s c → IsLate j s (commit_misses w c lost)
 late_missed j s w (Fetching sets m) lost h = absurd h
-late_missed j s w (Replacing sets p ps x m) lost h = absurd h
+late_missed j s w (Replacing sets p ps x m) lost h = late_either j s (nat_lt m w.retries) (Replacing sets p ps x (m + 1)) (CommitOver (ends.StoreFault stages.Delete)) h tt
 late_missed j s w (Completing sets x xs done) lost h = late_either j s (nat_lt x.missed w.retries) (completing sets (xs ++ again x lost ∷ []) done) (worn_completion sets x xs done) (late_completing j s sets (xs ++ again x lost ∷ []) done h.0 h.1 h.2) (late_reverting j s (revert (all_commits sets) x.number xs done) (no_reads_revert (all_commits sets) x.number xs done))
 late_missed j s w (Marking sets m) lost h = late_either j s (nat_lt m w.retries) (Marking sets (m + 1)) (CommitOver (ends.StoreFault stages.Success)) h tt
 late_missed j s w (Reverting q qs m) lost h = late_either j s (nat_lt m w.retries) (Reverting q qs (m + 1)) (reverting qs) h (late_reverting j s qs h.1)
@@ -151,7 +166,7 @@ late_next j s w c ReplyLost h = late_missed j s w c true h
 -- the script of these sets tells it the same
 late_tells : (j : Job) (s : Sets) (c : Commit) (o : Outcome) → IsLate j s c → commit_tells (read_script j (sets_after c o)) c o ≡ commit_tells (read_script j s) c o
 late_tells j s (Fetching sets m) o h = absurd h
-late_tells j s (Replacing sets p ps x m) o h = absurd h
+late_tells j s (Replacing sets p ps x m) o h = ap (λ t. commit_tells (read_script j t) (Replacing sets p ps x m) o) h.0
 late_tells j s (Completing sets x xs done) o h = ap (λ t. commit_tells (read_script j t) (Completing sets x xs done) o) h.0
 late_tells j s (Marking sets m) o h = ap (λ t. commit_tells (read_script j t) (Marking sets m) o) h.0
 late_tells j s (Reverting q qs m) (Answered r) h = refl
@@ -165,7 +180,7 @@ late_tells j s (CommitOver end) ReplyLost h = refl
 
 late_asks : (j : Job) (s : Sets) (c : Commit) → IsLate j s c → commit_asks (read_script j (sets_in c)) c ≡ commit_asks (read_script j s) c
 late_asks j s (Fetching sets m) h = absurd h
-late_asks j s (Replacing sets p ps x m) h = absurd h
+late_asks j s (Replacing sets p ps x m) h = refl
 late_asks j s (Completing sets x xs done) h = refl
 late_asks j s (Marking sets m) h = ap (λ t. commit_asks (read_script j t) (Marking sets m)) h.0
 late_asks j s (Reverting q qs m) h = refl
@@ -173,7 +188,7 @@ late_asks j s (CommitOver end) h = refl
 
 late_sound : (j : Job) (s : Sets) (c : Commit) → IsLate j s c → Sound c
 late_sound j s (Fetching sets m) h = absurd h
-late_sound j s (Replacing sets p ps x m) h = absurd h
+late_sound j s (Replacing sets p ps x m) h = tt
 late_sound j s (Completing sets x xs done) h = subst RequestsApart (sym h.0) h.1
 late_sound j s (Marking sets m) h = tt
 late_sound j s (Reverting q qs m) h = tt
@@ -182,7 +197,7 @@ late_sound j s (CommitOver end) h = tt
 -- it reads no more
 late_quiet : (j : Job) (s : Sets) (p : List ℕ) (c : Commit) (e : Entry) → IsLate j s c → commit_wants (at j p c) ≡ Some e.request → reads e.request ≡ false
 late_quiet j s p (Fetching sets m) e h f = absurd h
-late_quiet j s p (Replacing sets q qs x m) e h f = absurd h
+late_quiet j s p (Replacing sets q qs x m) e h f = ap reads (sym (some_is f)) ∙ sweep_reads j.dest.bucket q x
 late_quiet j s p (Completing sets x xs done) e h f = ap reads (sym (some_is f))
 late_quiet j s p (Marking sets m) e h f = ap reads (sym (some_is f))
 late_quiet j s p (Reverting q qs m) e h f = ap reads (sym (some_is f)) ∙ h.0
@@ -209,7 +224,7 @@ ran_step j s p q c d e es asks sound tells told r =
 
 over_is : (j : Job) (s : Sets) (c : Commit) → IsLate j s c → (end : CommitEnd) → commit_over c ≡ Some end → EndOk j s end
 over_is j s (Fetching sets m) h end e = absurd h
-over_is j s (Replacing sets p ps x m) h end e = absurd h
+over_is j s (Replacing sets p ps x m) h end e = absurd (none_some refl e)
 over_is j s (Completing sets x xs done) h end e = absurd (none_some refl e)
 over_is j s (Marking sets m) h end e = absurd (none_some refl e)
 over_is j s (Reverting q qs m) h end e = absurd (none_some refl e)
@@ -238,14 +253,9 @@ less_is m n b e f = grind (arith, nat_tests)
 not_less : (m n : ℕ) → nat_lt m n ≡ false → n ≤ m
 not_less m n e = grind (arith, nat_tests)
 
-replaced_magic : (w : Script) (s : Sets) (c : Committer) → c ≡ Magic → replacing w s (replaced c w.mode w (picks_of s)) ≡ completing s (dealt w.lanes (length (all_commits s))) []
-replaced_magic w s c e = let P : Committer → Type 0 = λ v. replacing w s (replaced v w.mode w (picks_of s)) ≡ completing s (dealt w.lanes (length (all_commits s))) [] in subst P (sym e) refl
-
-decided_late : (j : Job) (s : Sets) (o : Option CommitEnd) → j.committer ≡ Magic → AreRead j s → length s ≡ j.tasks → shared_of j s ≡ o → IsLate j s (decided (read_script j s) s o)
-decided_late j s None mg each all e =
-    let L : Commit → Type 0 = λ c. IsLate j s c in
-    subst L (sym (replaced_magic (read_script j s) s j.committer mg)) (late_completing j s s (dealt j.lanes (length (all_commits s))) [] refl (sets_apart j s each all e) e)
-decided_late j s (Some x) mg each all e = decided_ok j s x (ap (due None None) (sym e))
+decided_late : (j : Job) (s : Sets) (o : Option CommitEnd) → AreRead j s → length s ≡ j.tasks → shared_of j s ≡ o → IsLate j s (decided (read_script j s) s o)
+decided_late j s None each all e = late_replacing j s s (read_script j s) (replaced j.committer j.mode (read_script j s) (picks_of s)) refl (sets_apart j s each all e) e
+decided_late j s (Some x) each all e = decided_ok j s x (ap (due None None) (sym e))
   where
     decided_ok : (j : Job) (s : Sets) (x : CommitEnd) → x ≡ due None None (shared_of j s) → EndOk j s x
     decided_ok j s (ends.StoreFault stage) h = tt
@@ -273,30 +283,50 @@ record AfterSet (j : Job) (s : Sets) (p : List ℕ) (c : Commit) (es : List Entr
 abbrev follow_set : Job → Sets → Bool → Commit
 follow_set j s b = cond b (Fetching s 0) (decided (read_script j s) s (shared_of j s))
 
-after_set : (j : Job) (es : List Entry) → j.committer ≡ Magic → ReadsOn j es → (s : Sets) (p : List ℕ) (b : Bool) → nat_lt (length s) j.tasks ≡ b → AreRead j s → length s ≤ j.tasks → Follows commit_wants commit_told (at j p (follow_set j s b)) es → AllFit (at j p (follow_set j s b)) es → AfterSet j s p (follow_set j s b) es
-after_set j es mg later s p true e each few f k =
+after_set : (j : Job) (es : List Entry) → ReadsOn j es → (s : Sets) (p : List ℕ) (b : Bool) → nat_lt (length s) j.tasks ≡ b → AreRead j s → length s ≤ j.tasks → Follows commit_wants commit_told (at j p (follow_set j s b)) es → AllFit (at j p (follow_set j s b)) es → AfterSet j s p (follow_set j s b) es
+after_set j es later s p true e each few f k =
     let r = later s 0 p each (less_is (length s) j.tasks true e refl) f k in
     record { all = r.all; ran = r.ran; heard = r.heard; tells = ap (λ v. cond v (Fetching s 0) (decided (read_script j r.all) s (same_path (read_script j r.all) (picks_of s)))) e }
-after_set j es mg later s p false e each few f k =
+after_set j es later s p false e each few f k =
     let high : j.tasks ≤ length s = not_less (length s) j.tasks e in
-    let r = late_run j s p (decided (read_script j s) s (shared_of j s)) es (decided_late j s (shared_of j s) mg each (omega arith) refl) f in
+    let r = late_run j s p (decided (read_script j s) s (shared_of j s)) es (decided_late j s (shared_of j s) each (omega arith) refl) f in
     record { all = s; ran = r.ran; heard = sym (append-nil s) ∙ ap (λ v. s ++ v) (sym r.quiet); tells = ap (λ v. cond v (Fetching s 0) (decided (read_script j s) s (shared_of j s))) e }
 
 -- the request of a read is the same by each script of the job
-asks_any : (c : Committer) (j : Job) (s t : Sets) (n : ℕ) → c ≡ Magic → set_request c (read_script j s) n ≡ set_request c (read_script j t) n
-asks_any c j s t n e = let P : Committer → Type 0 = λ v. set_request v (read_script j s) n ≡ set_request v (read_script j t) n in subst P (sym e) refl
+asks_any : (c : Committer) (j : Job) (s t : Sets) (n : ℕ) → set_request c (read_script j s) n ≡ set_request c (read_script j t) n
+asks_any Magic j s t n = refl
+asks_any Directory j s t n = refl
+asks_any Partitioned j s t n = refl
 
-heard_base : (c : Committer) (w : Script) (n : ℕ) (r : Reply) → c ≡ Magic → set_heard (set_request c w n) (Answered r) ≡ set_read r
-heard_base c w n r e = let P : Committer → Type 0 = λ v. set_heard (set_request v w n) (Answered r) ≡ set_read r in subst P (sym e) refl
+heard_base : (c : Committer) (w : Script) (n : ℕ) (r : Reply) → set_heard (set_request c w n) (Answered r) ≡ set_read r
+heard_base Magic w n r = refl
+heard_base Directory w n r = refl
+heard_base Partitioned w n r = refl
 
-unheard_base : (c : Committer) (w : Script) (n : ℕ) (o : Outcome) → c ≡ Magic → (set_heard (set_request Magic w n) o ≡ None) → set_heard (set_request c w n) o ≡ None
-unheard_base c w n o e h = let P : Committer → Type 0 = λ v. set_heard (set_request v w n) o ≡ None in subst P (sym e) h
+-- nothing is heard of a set by this outcome
+abbrev Unheard : Outcome → Type 0
+Unheard o = (c : Committer) (w : Script) (n : ℕ) → set_heard (set_request c w n) o ≡ None
+
+slow_unheard : Unheard Slow
+slow_unheard Magic w n = refl
+slow_unheard Directory w n = refl
+slow_unheard Partitioned w n = refl
+
+lost_unheard : Unheard RequestLost
+lost_unheard Magic w n = refl
+lost_unheard Directory w n = refl
+lost_unheard Partitioned w n = refl
+
+reply_unheard : Unheard ReplyLost
+reply_unheard Magic w n = refl
+reply_unheard Directory w n = refl
+reply_unheard Partitioned w n = refl
 
 record Missed (c : Commit) (o : Outcome) (lost : Bool) : Type 0 where
   pub tells : (w : Script) → commit_tells w c o ≡ commit_misses w c lost
-  pub unheard : (w : Script) (n : ℕ) → set_heard (set_request Magic w n) o ≡ None
+  pub unheard : Unheard o
 
-missed_by : (c : Commit) (o q : Outcome) (lost : Bool) → o ≡ q → ((w : Script) → commit_tells w c q ≡ commit_misses w c lost) → ((w : Script) (n : ℕ) → set_heard (set_request Magic w n) q ≡ None) → Missed c o lost
+missed_by : (c : Commit) (o q : Outcome) (lost : Bool) → o ≡ q → ((w : Script) → commit_tells w c q ≡ commit_misses w c lost) → Unheard q → Missed c o lost
 missed_by c o q lost e a b = let P : Outcome → Type 0 = λ v. Missed c v lost in subst P (sym e) (record { tells = a; unheard = b })
 
 missed_next : (j : Job) (es : List Entry) → ReadsOn j es → (sets : Sets) (m : ℕ) (p : List ℕ) (b : Bool) → AreRead j sets → length sets < j.tasks
@@ -307,30 +337,30 @@ missed_next j es later sets m p false each more f k =
     let r = late_run j sets p (CommitOver (ends.StoreFault stages.Read)) es tt f in
     record { all = sets; ran = r.ran; heard = sym (append-nil sets) ∙ ap (λ v. sets ++ v) (sym r.quiet) }
 
-missed_step : (j : Job) (e : Entry) (es : List Entry) → j.committer ≡ Magic → ReadsOn j es → (sets : Sets) (m : ℕ) (p : List ℕ) (lost : Bool) → AreRead j sets → length sets < j.tasks → Missed (Fetching sets m) e.outcome lost
+missed_step : (j : Job) (e : Entry) (es : List Entry) → ReadsOn j es → (sets : Sets) (m : ℕ) (p : List ℕ) (lost : Bool) → AreRead j sets → length sets < j.tasks → Missed (Fetching sets m) e.outcome lost
     → commit_told (at j p (Fetching sets m)) e.outcome ≡ at j p (commit_misses (read_script j sets) (Fetching sets m) lost)
     → Follows commit_wants commit_told (at j p (Fetching sets m)) (e ∷ es) → AllFit (at j p (Fetching sets m)) (e ∷ es) → Fetched j sets p (Fetching sets m) (e ∷ es)
-missed_step j e es mg later sets m p lost each more miss told f k =
+missed_step j e es later sets m p lost each more miss told f k =
     let w = read_script j sets in
     let F : Committing → Type 0 = λ v. Follows commit_wants commit_told v es in
     let K : Committing → Type 0 = λ v. AllFit v es in
     let r = missed_next j es later sets m p (nat_lt m j.retries) each more (subst F told f.1) (subst K told k.1) in
     let asked : set_request j.committer w (length sets) ≡ e.request = some_is f.0 in
     let S : Request → Type 0 = λ q. set_heard q e.outcome ≡ None in
-    let none : set_heard e.request e.outcome ≡ None = subst S asked (unheard_base j.committer w (length sets) e.outcome mg (miss.unheard w (length sets))) in
+    let none : set_heard e.request e.outcome ≡ None = subst S asked (miss.unheard j.committer w (length sets)) in
     record {
       all = r.all;
-      ran = ran_step j r.all p p (Fetching sets m) (commit_misses w (Fetching sets m) lost) e es (ap Some (asks_any j.committer j r.all sets (length sets) mg) ∙ f.0) tt (miss.tells (read_script j r.all)) told r.ran;
+      ran = ran_step j r.all p p (Fetching sets m) (commit_misses w (Fetching sets m) lost) e es (ap Some (asks_any j.committer j r.all sets (length sets)) ∙ f.0) tt (miss.tells (read_script j r.all)) told r.ran;
       heard = r.heard ∙ ap (λ o. sets ++ (listed o ++ sets_heard es)) (sym none);
     }
 
 abbrev told_set : Job → Sets → List ℕ → Option PendingSet → Committing
 told_set j sets p o = at j (with_pick p o) (fetched (read_script j (with_set sets o)) sets o)
 
-heard_step : (j : Job) (e : Entry) (es : List Entry) → j.committer ≡ Magic → ReadsOn j es → (sets : Sets) (m : ℕ) (p : List ℕ) (r : Reply) (o : Option PendingSet) → set_read r ≡ o → e.outcome ≡ Answered r → AreRead j sets → length sets < j.tasks → SpellsSet j (length sets) o
+heard_step : (j : Job) (e : Entry) (es : List Entry) → ReadsOn j es → (sets : Sets) (m : ℕ) (p : List ℕ) (r : Reply) (o : Option PendingSet) → set_read r ≡ o → e.outcome ≡ Answered r → AreRead j sets → length sets < j.tasks → SpellsSet j (length sets) o
     → Follows commit_wants commit_told (at j p (Fetching sets m)) (e ∷ es) → AllFit (at j p (Fetching sets m)) (e ∷ es) → Fetched j sets p (Fetching sets m) (e ∷ es)
-heard_step j e es mg later sets m p r None read is each more fit f k = absurd fit
-heard_step j e es mg later sets m p r (Some s) read is each more fit f k =
+heard_step j e es later sets m p r None read is each more fit f k = absurd fit
+heard_step j e es later sets m p r (Some s) read is each more fit f k =
     let w = read_script j sets in
     let one = sets ++ s ∷ [] in
     let len : length one ≡ length sets + 1 = length-append sets (s ∷ []) in
@@ -338,27 +368,27 @@ heard_step j e es mg later sets m p r (Some s) read is each more fit f k =
     let F : Committing → Type 0 = λ v. Follows commit_wants commit_told v es in
     let K : Committing → Type 0 = λ v. AllFit v es in
     let told : commit_told (at j p (Fetching sets m)) e.outcome ≡ at j (p ++ s.attempt ∷ []) (follow_set j one b) = ap (commit_told (at j p (Fetching sets m))) is ∙ ap (told_set j sets p) read in
-    let a = after_set j es mg later one (p ++ s.attempt ∷ []) b refl (read_more j sets s each fit) (omega arith) (subst F told f.1) (subst K told k.1) in
+    let a = after_set j es later one (p ++ s.attempt ∷ []) b refl (read_more j sets s each fit) (omega arith) (subst F told f.1) (subst K told k.1) in
     let asked : set_request j.committer w (length sets) ≡ e.request = some_is f.0 in
     let S : Request → Type 0 = λ q. set_heard q (Answered r) ≡ set_read r in
-    let found : set_heard e.request e.outcome ≡ Some s = ap (set_heard e.request) is ∙ subst S asked (heard_base j.committer w (length sets) r mg) ∙ read in
+    let found : set_heard e.request e.outcome ≡ Some s = ap (set_heard e.request) is ∙ subst S asked (heard_base j.committer w (length sets) r) ∙ read in
     record {
       all = a.all;
-      ran = ran_step j a.all p (p ++ s.attempt ∷ []) (Fetching sets m) (follow_set j one b) e es (ap Some (asks_any j.committer j a.all sets (length sets) mg) ∙ f.0) tt
+      ran = ran_step j a.all p (p ++ s.attempt ∷ []) (Fetching sets m) (follow_set j one b) e es (ap Some (asks_any j.committer j a.all sets (length sets)) ∙ f.0) tt
           (ap (commit_tells (read_script j a.all) (Fetching sets m)) is ∙ ap (fetched (read_script j a.all) sets) read ∙ a.tells) told a.ran;
       heard = a.heard ∙ append_assoc sets (s ∷ []) (sets_heard es) ∙ ap (λ v. sets ++ (listed v ++ sets_heard es)) (sym found);
     }
 
-fetch_step : (j : Job) (e : Entry) (es : List Entry) → j.committer ≡ Magic → ReadsOn j es → (o : Outcome) → e.outcome ≡ o → (sets : Sets) (m : ℕ) (p : List ℕ) → AreRead j sets → length sets < j.tasks
+fetch_step : (j : Job) (e : Entry) (es : List Entry) → ReadsOn j es → (o : Outcome) → e.outcome ≡ o → (sets : Sets) (m : ℕ) (p : List ℕ) → AreRead j sets → length sets < j.tasks
     → Follows commit_wants commit_told (at j p (Fetching sets m)) (e ∷ es) → AllFit (at j p (Fetching sets m)) (e ∷ es) → Fetched j sets p (Fetching sets m) (e ∷ es)
-fetch_step j e es mg later (Answered r) is sets m p each more f k = let P : Outcome → Type 0 = λ v. FitsCommit (at j p (Fetching sets m)) v in heard_step j e es mg later sets m p r (set_read r) refl is each more (subst P is k.0) f k
-fetch_step j e es mg later Slow is sets m p each more f k = missed_step j e es mg later sets m p false each more (missed_by (Fetching sets m) e.outcome Slow false is (λ w. refl) (λ w n. refl)) (ap (commit_told (at j p (Fetching sets m))) is) f k
-fetch_step j e es mg later RequestLost is sets m p each more f k = missed_step j e es mg later sets m p true each more (missed_by (Fetching sets m) e.outcome RequestLost true is (λ w. refl) (λ w n. refl)) (ap (commit_told (at j p (Fetching sets m))) is) f k
-fetch_step j e es mg later ReplyLost is sets m p each more f k = missed_step j e es mg later sets m p true each more (missed_by (Fetching sets m) e.outcome ReplyLost true is (λ w. refl) (λ w n. refl)) (ap (commit_told (at j p (Fetching sets m))) is) f k
+fetch_step j e es later (Answered r) is sets m p each more f k = let P : Outcome → Type 0 = λ v. FitsCommit (at j p (Fetching sets m)) v in heard_step j e es later sets m p r (set_read r) refl is each more (subst P is k.0) f k
+fetch_step j e es later Slow is sets m p each more f k = missed_step j e es later sets m p false each more (missed_by (Fetching sets m) e.outcome Slow false is (λ w. refl) slow_unheard) (ap (commit_told (at j p (Fetching sets m))) is) f k
+fetch_step j e es later RequestLost is sets m p each more f k = missed_step j e es later sets m p true each more (missed_by (Fetching sets m) e.outcome RequestLost true is (λ w. refl) lost_unheard) (ap (commit_told (at j p (Fetching sets m))) is) f k
+fetch_step j e es later ReplyLost is sets m p each more f k = missed_step j e es later sets m p true each more (missed_by (Fetching sets m) e.outcome ReplyLost true is (λ w. refl) reply_unheard) (ap (commit_told (at j p (Fetching sets m))) is) f k
 
-fetch_run : (j : Job) → j.committer ≡ Magic → (es : List Entry) → ReadsOn j es
-fetch_run j mg [] = λ sets m p each more f k. record { all = sets; ran = record { follows = tt; sound = tt; same = refl; ends = λ end e. absurd (none_some refl e) }; heard = sym (append-nil sets) }
-fetch_run j mg (e ∷ es) = λ sets m p each more f k. fetch_step j e es mg (fetch_run j mg es) e.outcome refl sets m p each more f k
+fetch_run : (j : Job) (es : List Entry) → ReadsOn j es
+fetch_run j [] = λ sets m p each more f k. record { all = sets; ran = record { follows = tt; sound = tt; same = refl; ends = λ end e. absurd (none_some refl e) }; heard = sym (append-nil sets) }
+fetch_run j (e ∷ es) = λ sets m p each more f k. fetch_step j e es (fetch_run j es) e.outcome refl sets m p each more f k
 
 -- ---- its end
 
@@ -373,11 +403,11 @@ due_by j s None ends.NoMemory h ok = ok
 none_read : (j : Job) → AreRead j []
 none_read j = λ n s e. absurd (none_some refl e)
 
-ends_from : (j : Job) (es : List Entry) → j.committer ≡ Magic → 0 < j.lanes → Follows commit_wants commit_told (start j None) es → AllFit (start j None) es → (end : CommitEnd) → commit_over (run commit_told (start j None) es).operation ≡ Some end
+ends_from : (j : Job) (es : List Entry) → 0 < j.lanes → Follows commit_wants commit_told (start j None) es → AllFit (start j None) es → (end : CommitEnd) → commit_over (run commit_told (start j None) es).operation ≡ Some end
     → (worn : Option Request) × WornFirst j.retries es worn × (end ≡ due None worn (shared_of j (sets_heard es)))
-ends_from j es mg some f k end e =
+ends_from j es some f k end e =
     let b = nat_lt 0 j.tasks in
-    let a = after_set j es mg (fetch_run j mg es) [] [] b refl (none_read j) (omega arith) f k in
+    let a = after_set j es (fetch_run j es) [] [] b refl (none_read j) (omega arith) f k in
     let w = read_script j a.all in
     let F : Commit → Type 0 = λ c. Follows (commit_asks w) (commit_tells w) c es in
     let S : Commit → Type 0 = λ c. AllSound w c es in
@@ -392,7 +422,7 @@ missing_ends : (j : Job) (t : ℕ) (es : List Entry) → Follows commit_wants co
 missing_ends j t [] f end e = (None, none_sent j.retries, sym (some_is e))
 missing_ends j t (x ∷ es) f end e = absurd (none_some refl f.0)
 
-pub commit_ends : (j : Job) (missing : Option ℕ) → j.committer ≡ Magic → 0 < j.lanes → (es : List Entry) → Follows commit_wants commit_told (start j missing) es → AllFit (start j missing) es → (end : CommitEnd) → commit_over (run commit_told (start j missing) es).operation ≡ Some end
+pub commit_ends : (j : Job) (missing : Option ℕ) → 0 < j.lanes → (es : List Entry) → Follows commit_wants commit_told (start j missing) es → AllFit (start j missing) es → (end : CommitEnd) → commit_over (run commit_told (start j missing) es).operation ≡ Some end
     → (worn : Option Request) × WornFirst j.retries es worn × (end ≡ due missing worn (same_path (read_script j (sets_heard es)) (picks_of (sets_heard es))))
-commit_ends j None mg some es f k end e = ends_from j es mg some f k end e
-commit_ends j (Some t) mg some es f k end e = missing_ends j t es f end e
+commit_ends j None some es f k end e = ends_from j es some f k end e
+commit_ends j (Some t) some es f k end e = missing_ends j t es f end e

@@ -1,6 +1,5 @@
 -- Which outcomes may be told to a job's commit.
-use Rattle.std.specs.Prelude.{◌≡◌, ℕ, nat_eq, not, Bool, List, length, Option, Some, None}
-use Rattle.std.specs.List.{list_any}
+use Rattle.std.specs.Prelude.{◌≡◌, ℕ, not, List, length, Option, Some, None}
 use Rattle.s3_types.specs.declared.reply.Reply.{Reply}
 use Rattle.s3_types.specs.declared.reply.Reply.TheVariants.{Refused}
 use Rattle.s3_types.specs.declared.reply.Refusal.TheVariants.{NoSuchBucket}
@@ -13,16 +12,17 @@ use Rattle.commit_parts.specs.ReadSets.{IsSetOf}
 use Rattle.job_operations.specs.Outputs.{first_where}
 use Rattle.job_operations.specs.JobCommits.{set_read, Commit, Fetching, Replacing, Completing, Marking, Reverting, CommitOver, FitsCompletion}
 use Rattle.job_operations.specs.AtWork.{Committing}
+use Rattle.sweep.specs.Fitting.{FitsSweep}
 
 -- the answer spells a task's set
 abbrev pub SpellsSet : Job → ℕ → Option PendingSet → Type 0
 SpellsSet j t None = ⊥
 SpellsSet j t (Some s) = IsSetOf j t s
 
--- the store may answer so: it is never that the bucket is not there, and a set is always there
+-- it may be answered so: it is never that the bucket is not there, a page has keys alone, and a set is always there
 abbrev pub FitsReply : Job → Commit → Reply → Type 0
 FitsReply j (Fetching sets m) r = SpellsSet j (length sets) (set_read r)
-FitsReply j (Replacing sets p ps s m) r = ⊥
+FitsReply j (Replacing sets p ps s m) r = FitsSweep s r
 FitsReply j (Completing sets x xs finished) r = FitsCompletion x r
 FitsReply j _ r = r ≡ Refused NoSuchBucket → ⊥
 

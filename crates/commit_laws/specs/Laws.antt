@@ -1,12 +1,16 @@
 -- What holds of a job's commit alone.
-use Rattle.std.specs.Prelude.{◌≡◌, ℕ, ◌+◌, ◌-◌, ◌*◌, ◌<◌, ◌≤◌, List, [], ◌∷◌, ◌++◌, length, Option, Some, None}
+use Rattle.std.specs.Prelude.{◌≡◌, ℕ, ◌+◌, ◌-◌, ◌*◌, ◌<◌, ◌≤◌, max, List, [], ◌∷◌, ◌++◌, length, Option, Some, None}
 use Rattle.s3_types.specs.Store.{Scene}
 use Rattle.s3_types.specs.declared.request.Request.{Request}
-use Rattle.s3_types.specs.declared.request.Request.TheVariants.{GetObject}
+use Rattle.s3_types.specs.declared.request.Request.TheVariants.{GetObject, ClusterGet}
 use Rattle.s3_types.specs.declared.journal.Outcome.{Outcome}
 use Rattle.s3_types.specs.declared.journal.Outcome.TheVariants.{Answered}
 use Rattle.s3_types.specs.declared.journal.Entry.{Entry}
-use Rattle.s3_types.specs.declared.request.Committer.TheVariants.{Magic}
+use Rattle.s3_types.specs.declared.reply.Reply.{Reply}
+use Rattle.s3_types.specs.declared.request.Committer.{Committer}
+use Rattle.s3_types.specs.declared.request.Committer.TheVariants.{Magic, Directory, Partitioned}
+use Rattle.s3_types.specs.Answer.{answer, apply}
+use Rattle.s3_types.specs.Moment.{effect}
 use Rattle.pending_json.specs.declared.records.PendingSet.{PendingSet}
 use Rattle.sendings.specs.Operation.{run, Follows}
 use Rattle.sendings.specs.Worn.{WornFirst}
@@ -16,7 +20,8 @@ use Rattle.job_model.specs.declared.ends.CommitEnd.TheVariants as ends
 use Rattle.job_operations.specs.Outputs.{same_path}
 use Rattle.job_operations.specs.JobCommits.{Sets, set_read, picks_of, all_commits, Commit, Fetching, Replacing, Completing, Marking, Reverting, CommitOver, commit_start, commit_over, stage_of}
 use Rattle.job_operations.specs.Lanes.{Turn}
-use Rattle.job_operations.specs.Measures.{FallsByOutcomes}
+use Rattle.job_operations.specs.Walks.{sweep_start}
+use Rattle.sweep.specs.Left.{sweep_left, adds_key, one_if}
 use Rattle.job_operations.specs.AtWork.{Committing, read_script, commit_wants, commit_told}
 use Rattle.commit_parts.specs.Tables.{listed}
 use Rattle.commit_laws.specs.Fitting.{FitsCommit}
@@ -34,6 +39,7 @@ AllFit m (e ∷ es) = FitsCommit m e.outcome × AllFit (commit_told m e.outcome)
 
 abbrev pub set_heard : Request → Outcome → Option PendingSet
 set_heard (GetObject bucket key) (Answered r) = set_read r
+set_heard (ClusterGet path) (Answered r) = set_read r
 set_heard _ _ = None
 
 -- the sets that these entries' answered reads brought
@@ -50,7 +56,7 @@ due None None None = ends.Committed
 
 -- it ends so by its own entries alone
 pub record EndsByEntries : Type 0 where
-  pub ends : (j : Job) (missing : Option ℕ) → j.committer ≡ Magic → 0 < j.lanes → (es : List Entry) → Follows commit_wants commit_told (start j missing) es → AllFit (start j missing) es
+  pub ends : (j : Job) (missing : Option ℕ) → 0 < j.lanes → (es : List Entry) → Follows commit_wants commit_told (start j missing) es → AllFit (start j missing) es
       → (end : CommitEnd) → commit_over (run commit_told (start j missing) es).operation ≡ Some end
       → (worn : Option Request) × WornFirst j.retries es worn × (end ≡ due missing worn (same_path (read_script j (sets_heard es)) (picks_of (sets_heard es))))
 
@@ -76,17 +82,52 @@ all_left retries lanes total = lanes * ((1 + total) * (2 * retries + 3) + retrie
 abbrev pub read_left : ℕ → ℕ → ℕ → ℕ
 read_left retries lanes most = most * (lanes * (2 * retries + 3) + 3 * (retries + 1)) + (retries + 2)
 
+-- the most uploads of one of these sets, but no fewer than so many
+abbrev pub widest : ℕ → Sets → ℕ
+widest most [] = most
+widest most (s ∷ ss) = max (length s.commits) (widest most ss)
+
+-- a replace mode deletes below at most so many prefixes, where no set has more uploads than that
+abbrev pub prefixes_most : Job → ℕ → ℕ
+prefixes_most j most = 1 + j.tasks * most
+
+-- a sweep below any prefix of the bucket, from its beginning: at most so many pages and batches
+abbrev pub any_sweep : Job → Scene → ℕ
+any_sweep j s = sweep_left j.dest.bucket [] sweep_start s
+
+-- the magic committer deletes nothing
+abbrev pub if_staging : Committer → ℕ → ℕ
+if_staging Magic n = 0
+if_staging Directory n = n
+if_staging Partitioned n = n
+
+-- a deletion that is to come, where no set has more uploads than so many
+abbrev pub deletion_left : Job → ℕ → Scene → ℕ
+deletion_left j most s = if_staging j.committer (prefixes_most j most * any_sweep j s * (j.retries + 1))
+
 -- at most so many sendings are to come, where each set has at most so many uploads
-abbrev pub left_of : ℕ → Job → Commit → ℕ
-left_of most j (Fetching sets m) = all_left j.retries j.lanes (length (all_commits sets)) + (1 + (j.tasks - length sets)) * read_left j.retries j.lanes most + (j.retries - m)
-left_of most j (Replacing sets p ps s m) = j.retries - m + 1
-left_of most j (Completing sets x xs done) = lanes_left j.retries (length (all_commits sets)) (x ∷ xs) (length done)
-left_of most j (Marking sets m) = j.retries - m + 1
-left_of most j (Reverting q qs m) = length qs * (j.retries + 1) + (j.retries - m + 1)
-left_of most j (CommitOver end) = 0
+abbrev pub left_of : ℕ → Job → Commit → Scene → ℕ
+left_of most j (Fetching sets m) s = all_left j.retries j.lanes (length (all_commits sets)) + (1 + (j.tasks - length sets)) * read_left j.retries j.lanes most + (j.retries - m) + deletion_left j (widest most sets) s
+left_of most j (Replacing sets p ps w m) s = (sweep_left j.dest.bucket p w s + length ps * any_sweep j s) * (j.retries + 1) + (j.retries - m) + all_left j.retries j.lanes (length (all_commits sets))
+left_of most j (Completing sets x xs done) s = lanes_left j.retries (length (all_commits sets)) (x ∷ xs) (length done)
+left_of most j (Marking sets m) s = j.retries - m + 1
+left_of most j (Reverting q qs m) s = length qs * (j.retries + 1) + (j.retries - m + 1)
+left_of most j (CommitOver end) s = 0
 
 abbrev pub left : ℕ → Committing → Scene → ℕ
-left most m s = left_of most m.plan m.operation
+left most m s = left_of most m.plan m.operation s
+
+-- by at most so many a key that another adds raises that
+abbrev pub rise_of : ℕ → Job → Commit → ℕ
+rise_of most j (Fetching sets m) = if_staging j.committer (prefixes_most j (widest most sets) * (j.retries + 1))
+rise_of most j (Replacing sets p ps w m) = (1 + length ps) * (j.retries + 1)
+rise_of most j (Completing sets x xs done) = 0
+rise_of most j (Marking sets m) = 0
+rise_of most j (Reverting q qs m) = 0
+rise_of most j (CommitOver end) = 0
+
+abbrev pub rise : ℕ → Committing → ℕ
+rise most m = rise_of most m.plan m.operation
 
 abbrev pub HasFew : ℕ → Option PendingSet → Type 0
 HasFew most None = Unit {0}
@@ -103,6 +144,9 @@ pub record FitsFew (most : ℕ) (m : Committing) (o : Outcome) : Type 0 where
   pub fits : FitsCommit m o
   pub few : ReadsFew most m.operation o
 
--- a commit sends no more than it has left, and nobody else adds to it
+-- a commit sends no more than it has left
 pub record CommitFalls : Type 0 where
-  pub falls : (most : ℕ) → FallsByOutcomes commit_wants commit_told (FitsFew most) (left most) 0
+  -- it falls with each sending, whatever becomes of it
+  pub falls : (most : ℕ) (m : Committing) (s : Scene) (r : Request) (o : Outcome) → commit_wants m ≡ Some r → FitsFew most m o → ((a : Reply) → o ≡ Answered a → a ≡ answer s r) → left most (commit_told m o) (effect s r o) < left most m s
+  -- a request of another actor raises it by at most so many, where it may add a key
+  pub others : (most : ℕ) (m : Committing) (s : Scene) (r : Request) → left most m (apply s r) ≤ left most m s + rise most m * one_if (adds_key r)

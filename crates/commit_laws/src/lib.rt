@@ -1,4 +1,4 @@
-//! How the commit of a magic job ends, by its own entries alone, and that it ends.
+//! How the commit of a job ends, by its own entries alone, and that it ends.
 #![tactic(auto)]
 
 ghost use Rattle.commit_laws.specs.Laws.{EndsByEntries, CommitFalls};

@@ -1,5 +1,5 @@
 -- what follows a key and a `/`
-use Rattle.std.proofs.Common.{◌≡◌, ℕ, ◌+◌, ◌<◌, nat_eq, refl, ap, sym, subst, ◌∙◌, Bool, true, false, cond, arith, List, [], ◌∷◌, ◌++◌, length, take, drop, Option, Some, None, append_assoc}
+use Rattle.std.proofs.Common.{◌≡◌, ℕ, ◌<◌, nat_eq, refl, ap, sym, subst, ◌∙◌, Bool, true, false, cond, arith, List, [], ◌∷◌, ◌++◌, length, take, drop, Option, Some, None, append_assoc}
 use Rattle.std.specs.Prelude.{MatchOption, option_map}
 use Rattle.std.proofs.Common.{Bor}
 use Rattle.std.specs.Str.Pattern.{StripsPrefix, FindsTextPrefix, LacksTextAt}
@@ -7,8 +7,7 @@ use Rattle.std.specs.List.{starts_with}
 use Rattle.std.specs.Cmp.Lexicographic.{bytes_decides}
 use Rattle.std.proofs.lemmas.List.{take-append-drop}
 use Rattle.std.proofs.Math.Seq.{take-append_seam, drop-append_seam}
-use Rattle.proof_base.specs.Order.{text_eq}
-use Rattle.path_keys.specs.Paths.{below, relative_in}
+use Rattle.path_keys.specs.Paths.{relative_in}
 
 cut_yes : (pre rest : List ℕ) → cond (starts_with nat_eq (pre ++ rest) pre) (Some (drop (length pre) (pre ++ rest))) None ≡ Some rest
 cut_yes pre rest =

@@ -1,6 +1,5 @@
 -- uploads of picks that write absent path twice are of different keys
-use Rattle.std.proofs.Common.{◌≡◌, ℕ, zero, suc, ◌+◌, ◌-◌, ◌<◌, ◌≤◌, ◌⊎◌, inl, inr, refl, ap, sym, subst, ◌∙◌, arith, List, [], ◌∷◌, ◌++◌, map, length, slice_get, Option, Some, None, length-append}
-use Rattle.std.proofs.lemmas.Option.{slice_get_within}
+use Rattle.std.proofs.Common.{◌≡◌, ℕ, zero, suc, ◌+◌, ◌-◌, ◌<◌, ◌≤◌, ◌⊎◌, inl, inr, refl, ap, sym, subst, ◌∙◌, arith, List, [], ◌∷◌, ◌++◌, map, length, slice_get, Some, None, length-append}
 use Rattle.pending_json.specs.Pending.{Pending}
 use Rattle.pending_json.specs.declared.records.PendingSet.{PendingSet}
 use Rattle.job_model.specs.Jobs.{Job}
@@ -15,7 +14,6 @@ use Rattle.job_operations.proofs.Shared.{shared_none}
 use Rattle.commit_parts.specs.ReadSets.{AreRead}
 use Rattle.commit_parts.specs.Clashes.{Item, items_from, NoClash}
 use Rattle.commit_parts.specs.Relatives.{relative_of}
-use Rattle.commit_parts.proofs.ReadFiles.{item_at}
 use Rattle.commit_parts.proofs.Placing.{nth_get, nth_left, nth_right}
 use Rattle.commit_parts.proofs.SamePaths.{item_writes}
 

@@ -1,5 +1,5 @@
 -- a set of numbers that grows
-use Rattle.std.proofs.Common.{◌≡◌, ℕ, zero, suc, ◌+◌, ◌<◌, ◌⊎◌, inl, inr, ◌||◌, nat_eq, refl, ap, sym, subst, ◌∙◌, Bool, true, false, cond, arith, List, [], ◌∷◌, ◌++◌, length, take, reverse, get_or}
+use Rattle.std.proofs.Common.{◌≡◌, ℕ, zero, suc, ◌<◌, ◌⊎◌, inl, inr, ◌||◌, nat_eq, refl, ap, sym, subst, ◌∙◌, Bool, true, false, cond, arith, List, [], ◌∷◌, ◌++◌, length, take, reverse, get_or}
 use Rattle.std.specs.declared.cmp.Ordering.TheVariants.{Less, Equal, Greater}
 use Rattle.std.specs.Ordering.{nat_cmp, is_eq}
 use Rattle.std.specs.Cmp.{nat_cmp_is}

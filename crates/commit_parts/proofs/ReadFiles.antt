@@ -15,18 +15,18 @@ use Rattle.path_keys.specs.Paths.{Path}
 use Rattle.pending_json.specs.Pending.{Pending}
 use Rattle.pending_json.specs.declared.records.PendingSet.{PendingSet}
 use Rattle.job_model.specs.Files.{File, has_path}
-use Rattle.job_model.specs.Attempts.{Who, Declared, same_name}
+use Rattle.job_model.specs.Attempts.{Who, same_name}
 use Rattle.job_model.specs.Placed.{placed}
 use Rattle.job_model.specs.Jobs.{Job}
-use Rattle.job_operations.specs.Outputs.{Picks, files_picked, files, wanted_below, wanted, writes, ordered}
-use Rattle.job_operations.specs.JobCommits.{Sets, picks_of, all_commits, Marking, commit_asks}
+use Rattle.job_operations.specs.Outputs.{files_picked, files, wanted_below, wanted, ordered, wanted_paths}
+use Rattle.job_operations.specs.JobCommits.{Sets, picks_of, all_commits, Marking, commit_asks, set_request}
 use Rattle.job_operations.specs.LaneTable.{In}
 use Rattle.job_operations.specs.Records.{mark_text}
 use Rattle.serde_json.specs.Written.{compact_text}
 use Rattle.pending_json.specs.Trees.{success_tree}
 use Rattle.pending_json.specs.declared.records.SuccessMark.{SuccessMark}
-use Rattle.job_operations.specs.AtWork.{declared_of, read_script}
-use Rattle.job_operations.proofs.Members.{in_left, in_right, in_append, in_map, map_in, some_is, none_some, false_true}
+use Rattle.job_operations.specs.AtWork.{declared_of, read_script, job_script}
+use Rattle.job_operations.proofs.Members.{in_left, in_right, in_append, in_map, map_in, some_is}
 use Rattle.commit_parts.specs.Relatives.{relative_of, paths_below}
 use Rattle.commit_parts.specs.Places.{places_from}
 use Rattle.commit_parts.specs.declared.places.Place.{Place}
@@ -34,9 +34,10 @@ use Rattle.commit_parts.proofs.Placing.{places_length}
 use Rattle.commit_parts.proofs.Undoing.{drop_nth}
 use Rattle.magic_paths.specs.Layout as layout
 use Rattle.s3_types.specs.declared.request.Request.{Request}
-use Rattle.s3_types.specs.declared.request.Request.TheVariants.{GetObject, PutObject}
+use Rattle.s3_types.specs.declared.request.Request.TheVariants.{GetObject, PutObject, ClusterGet}
+use Rattle.s3_types.specs.declared.request.Committer.{Committer}
+use Rattle.s3_types.specs.declared.request.Committer.TheVariants.{Magic, Directory, Partitioned}
 use Rattle.job_operations.specs.Lanes.{nth}
-use Rattle.commit_parts.specs.ReadSets.{IsSetOf}
 use Rattle.commit_parts.specs.ReadSets.{AreRead, HasAll}
 use Rattle.commit_parts.specs.Clashes.{Item, items_from}
 
@@ -203,10 +204,14 @@ at_item n (x ∷ xs) (suc i) s c e m =
     let P : ℕ → Type 0 = λ t. In (let y : Item = (c.destination, t) in y) (items_from n (x ∷ xs)) in
     subst P z (in_right (c.destination, n + 1 + i) (map (λ c. (c.destination, n)) x.commits) (items_from (n + 1) xs) (at_item (n + 1) xs i s c e m))
 
+-- the paths that are wanted, in order
+pub wanted_ordered : (j : Job) (sets : Sets) → AreRead j sets → length sets ≡ j.tasks → ordered (paths_below j.dest (all_commits sets)) ≡ wanted_paths (read_script j sets) (picks_of sets)
+wanted_ordered j sets each all = ap ordered (sym (wanted_are j sets each all))
+
 -- the marker's text, of these files
-pub mark_is : (j : Job) (sets : Sets) (files : List (List ℕ)) → AreRead j sets → length sets ≡ j.tasks → files ≡ ordered (map (λ c. relative_of j.dest c.destination) (all_commits sets))
+pub mark_is : (j : Job) (sets : Sets) (files : List (List ℕ)) → files ≡ wanted_paths (read_script j sets) (picks_of sets)
     → compact_text (success_tree (record { job = j.job; committer = j.committer; files = files; stamp = j.stamp })) ≡ mark_text (read_script j sets) (picks_of sets)
-mark_is j sets files each all e = ap (λ v. compact_text (success_tree (let m : SuccessMark = record { job = j.job; committer = j.committer; files = v; stamp = j.stamp } in m))) (e ∙ ap ordered (sym (wanted_are j sets each all)))
+mark_is j sets files e = ap (λ v. compact_text (success_tree (let m : SuccessMark = record { job = j.job; committer = j.committer; files = v; stamp = j.stamp } in m))) e
 
 -- ---- the marker's paths, from the last upload on
 
@@ -237,16 +242,31 @@ get_asked r b c k l h e f =
     let K : List ℕ → Type 0 = λ v. IfOk r (λ q. q ≡ GetObject c v) in
     subst K f (subst B e h)
 
+pub cluster_asked : {E : Type 0} (r : Result Request E) (k l : List ℕ) → IfOk r (λ q. q ≡ ClusterGet k) → k ≡ l → IfOk r (λ q. q ≡ ClusterGet l)
+cluster_asked r k l h e = let K : List ℕ → Type 0 = λ v. IfOk r (λ q. q ≡ ClusterGet v) in subst K e h
+
 if_more : {T E : Type 0} (r : Result T E) (P Q : T → Type 0) → ((x : T) → P x → Q x) → IfOk r P → IfOk r Q
 if_more (Ok x) P Q f h = f x h
 if_more (Err e) P Q f h = h
 
-pub mark_put : {E : Type 0} (r : Result Request E) (j : Job) (sets : Sets) (places : List Place) (bucket key bytes job : List ℕ) (files keys : List (List ℕ)) → IfOk r (λ q. q ≡ PutObject bucket key bytes None) → bucket ≡ j.dest.bucket → key ≡ layout.success_key j.dest.key
-    → bytes ≡ compact_text (success_tree (record { job = job; committer = j.committer; files = files; stamp = j.stamp })) → job ≡ j.job → files ≡ keys → keys ≡ ordered (paths_below j.dest (all_commits sets)) → HasAll j sets places → IfOk r (λ q. Some q ≡ commit_asks (read_script j sets) (Marking sets 0))
-mark_put r j sets places bucket key bytes job files keys h b k t o f g all =
+pub wanted_listed : {E : Type 0} (r : Result (List (List ℕ)) E) (j : Job) (sets : Sets) (places : List Place) (keys : List (List ℕ)) → IfOk r (λ l. l ≡ keys) → keys ≡ ordered (paths_below j.dest (all_commits sets)) → HasAll j sets places → IfOk r (λ l. l ≡ wanted_paths (read_script j sets) (picks_of sets))
+wanted_listed r j sets places keys h g all = if_more r (λ l. l ≡ keys) (λ l. l ≡ wanted_paths (read_script j sets) (picks_of sets)) (λ l e. e ∙ (g ∙ wanted_ordered j sets all.each all.all)) h
+
+-- the read of a set, by the committer
+pub stored_asked : {E : Type 0} (r : Result Request E) (j : Job) (t : ℕ) (c : Committer) → c ≡ Magic → c ≡ j.committer → IfOk r (λ q. q ≡ GetObject j.dest.bucket (layout.set_key j.dest.key j.job t)) → IfOk r (λ q. q ≡ set_request j.committer (job_script j) t)
+stored_asked r j t c m e h = let P : Committer → Type 0 = λ x. IfOk r (λ q. q ≡ set_request x (job_script j) t) in subst P (sym m ∙ e) h
+
+pub staged_asked : {E : Type 0} (r : Result Request E) (j : Job) (t : ℕ) (c : Committer) → (c ≡ Directory) ⊎ (c ≡ Partitioned) → c ≡ j.committer → IfOk r (λ q. q ≡ ClusterGet (layout.staged_set_path j.job t)) → IfOk r (λ q. q ≡ set_request j.committer (job_script j) t)
+staged_asked r j t c m e h =
+    let P : Committer → Type 0 = λ x. IfOk r (λ q. q ≡ set_request x (job_script j) t) in
+    elim m [ inl d ↦ subst P (sym d ∙ e) h | inr p ↦ subst P (sym p ∙ e) h ]
+
+pub mark_put : {E : Type 0} (r : Result Request E) (j : Job) (sets : Sets) (bucket key bytes job : List ℕ) (files : List (List ℕ)) → IfOk r (λ q. q ≡ PutObject bucket key bytes None) → bucket ≡ j.dest.bucket → key ≡ layout.success_key j.dest.key
+    → bytes ≡ compact_text (success_tree (record { job = job; committer = j.committer; files = files; stamp = j.stamp })) → job ≡ j.job → files ≡ wanted_paths (read_script j sets) (picks_of sets) → IfOk r (λ q. Some q ≡ commit_asks (read_script j sets) (Marking sets 0))
+mark_put r j sets bucket key bytes job files h b k t o f =
     let text : bytes ≡ mark_text (read_script j sets) (picks_of sets) =
     t
     ∙ ap (λ v. compact_text (success_tree (let m : SuccessMark = record { job = v; committer = j.committer; files = files; stamp = j.stamp } in m))) o
-    ∙ mark_is j sets files all.each all.all (f ∙ g) in
+    ∙ mark_is j sets files f in
     if_more r (λ q. q ≡ PutObject bucket key bytes None) (λ q. Some q ≡ commit_asks (read_script j sets) (Marking sets 0))
     (λ q e. ap Some (e ∙ ap (λ v. PutObject v key bytes None) b ∙ ap (λ v. PutObject j.dest.bucket v bytes None) k ∙ ap (λ v. PutObject j.dest.bucket (layout.success_key j.dest.key) v None) text)) h

@@ -1,5 +1,5 @@
 -- the path that two picks write is below the key that the search finds
-use Rattle.std.proofs.Common.{◌≡◌, ℕ, zero, suc, ◌+◌, ◌<◌, ◌≤◌, ◌⊎◌, inl, inr, refl, ap, sym, subst, ◌∙◌, Bool, true, false, cond, nat_eq, arith, List, [], ◌∷◌, ◌++◌, length, slice_get, take, drop, Option, Some, None, is_some, append_assoc}
+use Rattle.std.proofs.Common.{◌≡◌, ℕ, suc, ◌+◌, ◌<◌, ◌⊎◌, inl, inr, refl, ap, sym, subst, ◌∙◌, Bool, true, false, cond, nat_eq, arith, List, [], ◌∷◌, ◌++◌, length, slice_get, take, drop, Option, Some, None, is_some}
 use Rattle.std.specs.declared.cmp.Ordering.{Ordering}
 use Rattle.std.specs.declared.cmp.Ordering.TheVariants.{Less, Equal, Greater}
 use Rattle.std.specs.Ordering.{is_lt, nat_cmp, ordering_reverse, ordering_then}
@@ -10,7 +10,7 @@ use Rattle.std.specs.Cmp.Lexicographic.{bytes_decides}
 use Rattle.std.proofs.lemmas.Cmp.{nat_cmp_total}
 use Rattle.std.proofs.lemmas.List.{take-append-drop}
 use Rattle.std.proofs.lemmas.Option.{slice_get_within}
-use Rattle.proof_base.specs.Order.{text_cmp, text_eq, text_total}
+use Rattle.proof_base.specs.Order.{text_cmp, text_total}
 use Rattle.path_keys.specs.Paths.{Path, below, relative_in}
 use Rattle.pending_json.specs.Pending.{Pending}
 use Rattle.pending_json.specs.declared.records.PendingSet.{PendingSet}
@@ -18,19 +18,19 @@ use Rattle.job_model.specs.Files.{File, has_path}
 use Rattle.job_model.specs.Jobs.{Job}
 use Rattle.job_model.specs.declared.ends.CommitEnd.{CommitEnd}
 use Rattle.job_model.specs.declared.ends.CommitEnd.TheVariants.{SamePath}
-use Rattle.job_operations.specs.Outputs.{Picks, files_picked, writes, same_path}
+use Rattle.job_operations.specs.Outputs.{files_picked, writes, same_path}
 use Rattle.job_operations.specs.JobCommits.{Sets, picks_of}
 use Rattle.job_operations.specs.LaneTable.{In}
 use Rattle.job_operations.specs.Laws.{IsShared}
 use Rattle.job_operations.specs.AtWork.{read_script}
-use Rattle.job_operations.proofs.Members.{some_is, none_some, false_true}
+use Rattle.job_operations.proofs.Members.{false_true}
 use Rattle.job_operations.proofs.Shared.{shared_found, shared_none}
 use Rattle.commit_parts.specs.Apart.{end_of}
 use Rattle.commit_parts.specs.Relatives.{relative_of}
 use Rattle.commit_parts.specs.ReadSets.{AreRead}
-use Rattle.commit_parts.specs.Clashes.{Item, items_from, IsClash, NoClash, IsBest}
+use Rattle.commit_parts.specs.Clashes.{Item, items_from, IsClash, IsBest}
 use Rattle.commit_parts.specs.declared.sharing.Clash.{Clash}
-use Rattle.commit_parts.proofs.ReadFiles.{file_of, files_at, has_in, in_has, item_at, at_item}
+use Rattle.commit_parts.proofs.ReadFiles.{files_at, has_in, in_has, item_at, at_item}
 
 -- ---- keys below a destination
 

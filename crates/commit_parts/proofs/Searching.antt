@@ -19,7 +19,7 @@ use Rattle.proof_base.proofs.Bools.{contrary}
 use Rattle.proof_base.proofs.Less.{irrefl, lt_trans}
 use Rattle.job_operations.specs.LaneTable.{In}
 use Rattle.job_operations.proofs.Members.{in_left, in_push, in_last, in_append, in_map, false_true}
-use Rattle.commit_parts.specs.Clashes.{Item, items_from, IsClash, NoClash, IsBest, IsOwner, Finds, is_better, clash_of}
+use Rattle.commit_parts.specs.Clashes.{Item, items_from, IsBest, IsOwner, Finds, is_better, clash_of}
 use Rattle.commit_parts.specs.declared.sharing.Clash.{Clash}
 
 either : (b : Bool) → (b ≡ true) ⊎ (b ≡ false)

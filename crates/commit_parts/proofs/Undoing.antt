@@ -1,11 +1,11 @@
 -- the list of what is taken back, built from its end
-use Rattle.std.proofs.Common.{◌≡◌, ℕ, zero, suc, ◌+◌, ◌-◌, ◌<◌, ◌≤◌, ◌&&◌, ◌||◌, not, nat_eq, refl, inl, inr, ap, sym, subst, ◌∙◌, Bool, true, false, cond, arith, List, [], ◌∷◌, ◌++◌, map, reverse, length, drop, get_or, append-nil, append_assoc}
+use Rattle.std.proofs.Common.{◌≡◌, ℕ, zero, suc, ◌+◌, ◌<◌, ◌||◌, not, nat_eq, refl, inl, inr, ap, sym, subst, ◌∙◌, Bool, true, false, cond, arith, List, [], ◌∷◌, ◌++◌, map, reverse, length, drop, get_or, append-nil}
 use Rattle.std.proofs.lemmas.List.{reverse-append}
 use Rattle.std.proofs.Math.Seq.{drop-cons}
 use Rattle.std.proofs.Math.ListN.{drop_of_length-le}
 use Rattle.s3_types.specs.declared.request.Request.{Request}
 use Rattle.pending_json.specs.Pending.{Pending}
-use Rattle.job_operations.specs.Lanes.{Turn, nth, undo, chosen, is_tried, is_in, is_unsent, in_turn, abort, deletion, revert}
+use Rattle.job_operations.specs.Lanes.{Turn, nth, undo, chosen, is_tried, is_in, is_unsent, in_turn, abort, deletion}
 use Rattle.commit_parts.specs.Undos.{undo_request, number_in, NumbersWithin, Adds, IsRevert, with_tried, with_unsent}
 use Rattle.job_operations.specs.LaneTable.{In}
 use Rattle.commit_parts.proofs.Trying.{in_at}

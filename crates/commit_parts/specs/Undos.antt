@@ -1,5 +1,5 @@
 -- What is taken back after a completion that wore out, by the numbers of uploads.
-use Rattle.std.specs.Prelude.{◌≡◌, ℕ, ◌<◌, Bool, true, false, List, [], ◌∷◌, ◌++◌, map, length}
+use Rattle.std.specs.Prelude.{◌≡◌, ℕ, ◌<◌, Bool, true, false, List, ◌∷◌, ◌++◌, map, length}
 use Rattle.s3_types.specs.declared.request.Request.{Request}
 use Rattle.pending_json.specs.Pending.{Pending}
 use Rattle.job_operations.specs.Lanes.{Turn, nth, abort, deletion, revert}

@@ -13,7 +13,7 @@ mod undo;
 
 pub use lanes::{LaneTurn, Lanes, next_turn};
 pub use laws::{same_paths, sets_apart};
-pub use marker::{mark_request, relative};
+pub use marker::{mark_request, relative, wanted_paths};
 pub use places::{Place, placed, upload};
 pub use requests::{abort, completion, deletion, set_request};
 pub use reverting::revert;

@@ -1,9 +1,8 @@
 ghost use Rattle.std.specs.Prelude.{◌≡◌, ◌<◌, true, length, option_map, IfOk};
 ghost use Rattle.std.specs.Option.{unwrap_or};
 ghost use Rattle.path_keys.specs.Paths.{relative_in};
-ghost use Rattle.s3_types.specs.declared.request.Committer.TheVariants.{Magic};
-ghost use Rattle.job_operations.specs.Outputs.{ordered};
-ghost use Rattle.job_operations.specs.JobCommits.{all_commits, Marking, commit_asks};
+ghost use Rattle.job_operations.specs.Outputs.{ordered, wanted_paths};
+ghost use Rattle.job_operations.specs.JobCommits.{all_commits, Marking, commit_asks, picks_of};
 ghost use Rattle.job_operations.specs.AtWork.{read_script};
 ghost use Rattle.commit_parts.specs.Places.{places_from};
 ghost use Rattle.commit_parts.specs.ReadSets.{HasAll};
@@ -71,6 +70,20 @@ fn listed(alloc: Global, paths: &BTreeSet<Text>) -> Result<TextList, AllocError>
     Ok(list)
 }
 
+/// The paths that the tasks of these sets write, each once, in the order of their bytes.
+pub fn wanted_paths(
+    alloc: Global,
+    plan: &JobPlan,
+    sets: &[PendingSet],
+    places: &[Place],
+) -> Result<TextList, AllocError>
+    requires { HasAll plan.now sets.now places.now }
+    ensures { IfOk result (λ paths. paths ≡ wanted_paths (read_script plan.now sets.now) (picks_of sets.now)) }
+{
+    let paths = ordered_paths(alloc, &plan.dest, sets, places)?;
+    listed(alloc, &paths)
+}
+
 /// The put of the marker of a committed job: its files are the paths that were wanted.
 pub fn mark_request(
     alloc: Global,
@@ -78,15 +91,14 @@ pub fn mark_request(
     sets: &[PendingSet],
     places: &[Place],
 ) -> Result<Request, AllocError>
-    requires magic { plan.now.committer ≡ Magic }
-    requires all { HasAll plan.now sets.now places.now }
+    requires { HasAll plan.now sets.now places.now }
     ensures { IfOk result (λ request. Some request ≡ commit_asks (read_script plan.now sets.now) (Marking sets.now 0)) }
 {
-    let paths = ordered_paths(alloc, &plan.dest, sets, places)?;
+    let files = wanted_paths(alloc, plan, sets, places)?;
     let mark = SuccessMark {
         job: plan.job.clone()?,
         committer: plan.committer,
-        files: listed(alloc, &paths)?,
+        files,
         stamp: plan.stamp,
     };
     let bytes = mark.print(alloc)?;

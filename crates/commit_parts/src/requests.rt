@@ -1,22 +1,43 @@
 ghost use Rattle.std.specs.Prelude.{◌≡◌, ◌≤◌, IfOk, length};
 ghost use Rattle.s3_types.specs.Blocks.{named_from};
-ghost use Rattle.s3_types.specs.declared.request.Committer.TheVariants.{Magic};
+ghost use Rattle.s3_types.specs.declared.request.Request.TheVariants.{GetObject, ClusterGet};
+ghost use Rattle.magic_paths.specs.Layout as layout;
 ghost use Rattle.job_operations.specs.Lanes.{completion, abort, deletion};
 ghost use Rattle.job_operations.specs.JobCommits.{set_request};
 ghost use Rattle.job_operations.specs.AtWork.{job_script};
 
 use job_model::JobPlan;
-use magic_paths::set_key;
+use magic_paths::{set_key, staged_set_path};
 use pending_json::PendingUpload;
-use s3_types::{NamedPart, PartList, Request, Sequence, Tag};
+use s3_types::{Committer, NamedPart, PartList, Request, Sequence, Tag};
 use std::alloc::{AllocError, Global};
 
-/// The read of a task's set.
-pub fn set_request(alloc: Global, plan: &JobPlan, task: u32) -> Result<Request, AllocError>
-    ensures { IfOk result (λ request. request ≡ set_request Magic (job_script plan.now) task) }
+/// The read of a task's set from the store.
+fn stored_set(alloc: Global, plan: &JobPlan, task: u32) -> Result<Request, AllocError>
+    ensures { IfOk result (λ request. request ≡ GetObject plan.now.dest.bucket (layout.set_key plan.now.dest.key plan.now.job task)) }
 {
     let key = set_key(alloc, &plan.dest, &plan.job, task)?;
     Request::get_object(plan.dest.bucket(), &key)
+}
+
+/// The read of a task's set from the cluster's file system.
+fn staged_set(alloc: Global, plan: &JobPlan, task: u32) -> Result<Request, AllocError>
+    ensures { IfOk result (λ request. request ≡ ClusterGet (layout.staged_set_path plan.now.job task)) }
+{
+    let path = staged_set_path(alloc, &plan.job, task)?;
+    Request::cluster_get(&path)
+}
+
+/// The read of a task's set: the magic committer has it in the store, and the staging committers in the cluster's file
+/// system.
+pub fn set_request(alloc: Global, plan: &JobPlan, task: u32) -> Result<Request, AllocError>
+    ensures { IfOk result (λ request. request ≡ set_request plan.now.committer (job_script plan.now) task) }
+{
+    match plan.committer {
+        Committer::Magic => stored_set(alloc, plan, task),
+        Committer::Directory => staged_set(alloc, plan, task),
+        Committer::Partitioned => staged_set(alloc, plan, task),
+    }
 }
 
 /// The tags as a completion names them.

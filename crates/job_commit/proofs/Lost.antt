@@ -7,7 +7,8 @@ use Rattle.job_operations.specs.Lanes.{Turn}
 use Rattle.job_operations.specs.JobCommits.{Sets, all_commits, completing}
 use Rattle.job_operations.specs.AtWork.{Committing}
 use Rattle.commit_parts.specs.Undos.{undo_request}
-use Rattle.job_commit.specs.Stages.{operation_of, reverting_from, first_lost, lost_in}
+use Rattle.job_operations.specs.Walks.{Sweep}
+use Rattle.job_commit.specs.Stages.{operation_of, replacing_at, reverting_from, first_lost, lost_in}
 use Rattle.job_commit.specs.Turns.{lost_of}
 use Rattle.job_commit.specs.Holds.{attempts_of}
 use Rattle.job_commit.specs.declared.step.Step.{Step}
@@ -21,8 +22,13 @@ of_undo : (m : ℕ) (rs : List Request) → false ≡ lost_of (reverting_from m 
 of_undo m [] = refl
 of_undo m (r ∷ rs) = refl
 
+of_deletion : (sets : Sets) (m : ℕ) (sweep : Sweep) (ps : List (List ℕ)) → false ≡ lost_of (replacing_at sets m sweep ps)
+of_deletion sets m sweep [] = refl
+of_deletion sets m sweep (p ∷ ps) = refl
+
 of_step : (sets : Sets) (step : Step) → lost_in step ≡ lost_of (operation_of sets step)
 of_step sets (steps.Fetching m) = refl
+of_step sets (steps.Replacing d m) = of_deletion sets m d.sweep d.prefixes
 of_step sets (steps.Completing l) = of_lanes sets l.turns l.finished
 of_step sets (steps.Marking m) = refl
 of_step sets (steps.Reverting u m) = of_undo m (map (undo_request (all_commits sets)) u)

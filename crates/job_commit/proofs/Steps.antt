@@ -3,17 +3,30 @@ use Rattle.std.proofs.Common.{◌≡◌, ℕ, ◌+◌, ◌<◌, ◌≤◌, inl, 
 use Rattle.std.specs.Prelude.{⊤}
 use Rattle.std.proofs.lemmas.Result.{on_ok_weaker}
 use Rattle.s3_types.specs.declared.request.Request.{Request}
-use Rattle.s3_types.specs.declared.request.Committer.TheVariants.{Magic}
+use Rattle.s3_types.specs.declared.request.Committer.{Committer}
+use Rattle.s3_types.specs.declared.request.Committer.TheVariants.{Magic, Directory, Partitioned}
+use Rattle.s3_types.specs.declared.request.Mode.{Mode}
+use Rattle.s3_types.specs.declared.request.Mode.TheVariants.{Fail, Append, Replace}
+use Rattle.s3_types.specs.declared.reply.Reply.{Reply}
 use Rattle.path_keys.specs.Paths.{Path}
 use Rattle.job_model.specs.Jobs.{Job}
 use Rattle.job_model.specs.declared.ends.CommitEnd.{CommitEnd}
 use Rattle.job_model.specs.declared.ends.CommitEnd.TheVariants as ends
-use Rattle.job_operations.specs.Outputs.{same_path}
+use Rattle.job_operations.specs.Outputs.{Picks, same_path, wanted_paths}
+use Rattle.job_operations.specs.Conflicts.{partitions}
+use Rattle.job_operations.specs.Walks.{Sweep, sweep_start, sweep_hears}
 use Rattle.job_operations.specs.Lanes.{Turn, fresh_turn, again, follow, dealt, revert}
-use Rattle.job_operations.specs.JobCommits.{Sets, all_commits, Commit, Fetching, completing, reverting, fetching, decided, worn_completion, picks_of, set_request}
+use Rattle.job_operations.specs.JobCommits.{Sets, all_commits, Commit, Fetching, completing, reverting, fetching, decided, replaced, replacing, worn_completion, picks_of, set_request, commit_hears}
 use Rattle.job_operations.specs.LaneTable.{In, Table}
-use Rattle.job_operations.specs.AtWork.{read_script, job_script}
+use Rattle.job_operations.specs.AtWork.{read_script, job_script, sets_after, picked_after}
+use Rattle.s3_types.specs.declared.journal.Outcome.TheVariants.{Answered}
+use Rattle.job_model.specs.declared.ends.Pick.{Pick}
+use Rattle.job_model.specs.JobScript.{Script}
 use Rattle.job_operations.proofs.Members.{in_push, in_append, some_is}
+use Rattle.conflict.specs.Deletions.{Deletion, deleted, spared, asks_below, deletion_asks, swept_on, hears_below, deletion_hears, FitsDeletion}
+use Rattle.conflict.specs.Laws.{deleting_below, commit_deleting, deletion_of}
+use Rattle.conflict.proofs.Tells.{deletions_tell}
+use Rattle.commit_laws.specs.Fitting.{FitsReply}
 use Rattle.job_operations.proofs.Tables.{table_dealt}
 use Rattle.proof_base.proofs.Numbers.{below_is, below_so}
 use Rattle.commit_parts.specs.Tables.{LaneTable, first_of, listed, next_turn}
@@ -21,24 +34,25 @@ use Rattle.commit_parts.specs.Undos.{undo_request, IsRevert, NumbersWithin}
 use Rattle.commit_parts.specs.Places.{places_from}
 use Rattle.commit_parts.specs.Relatives.{relative_of}
 use Rattle.commit_parts.specs.Clashes.{items_from, IsBest}
-use Rattle.commit_parts.specs.ReadSets.{AreRead}
+use Rattle.commit_parts.specs.ReadSets.{AreRead, HasAll}
 use Rattle.commit_parts.specs.declared.places.Place.{Place}
 use Rattle.commit_parts.specs.declared.sharing.Clash.{Clash}
 use Rattle.commit_parts.specs.declared.undo.Undo.{Undo}
 use Rattle.commit_parts.proofs.Placing.{places_length}
 use Rattle.commit_parts.proofs.SamePaths.{same_path_is}
-use Rattle.job_commit.specs.Stages.{reverting_from, answered, worn_out}
-use Rattle.job_commit.specs.Holds.{Reads, LanesWithin, UndoWithin, StepHolds, IsNext}
+use Rattle.job_commit.specs.Stages.{operation_of, replacing_at, reverting_from, answered, worn_out}
+use Rattle.job_commit.specs.Holds.{attempts_of, Heard, Reads, Deletes, LanesWithin, UndoWithin, StepHolds, asks, IsNext}
+use Rattle.job_commit.specs.declared.step.Step.{Step}
 use Rattle.job_commit.specs.declared.step.Step.TheVariants as steps
 use Rattle.job_commit.specs.declared.step.Next.{Next}
 
 -- ---- what each stage keeps
 
 pub holds_fetching : (j : Job) (sets : Sets) (places : List Place) (m : ℕ) → Reads j sets → StepHolds j sets places (steps.Fetching m)
-holds_fetching j sets places m h = record { reads = λ k e. h; all = λ l e. absurd (cc); lanes = λ l e. absurd (cc); turns = λ l e. absurd (cc); placed = λ u k e. absurd (cc); undo = λ u k e. absurd (cc); some = λ u k e. absurd (cc) }
+holds_fetching j sets places m h = record { reads = λ k e. h; deletes = λ d k e. absurd (cc); all = λ l e. absurd (cc); lanes = λ l e. absurd (cc); turns = λ l e. absurd (cc); placed = λ u k e. absurd (cc); undo = λ u k e. absurd (cc); some = λ u k e. absurd (cc) }
 
 pub holds_marking : (j : Job) (sets : Sets) (places : List Place) (m : ℕ) → StepHolds j sets places (steps.Marking m)
-holds_marking j sets places m = record { reads = λ k e. absurd (cc); all = λ l e. absurd (cc); lanes = λ l e. absurd (cc); turns = λ l e. absurd (cc); placed = λ u k e. absurd (cc); undo = λ u k e. absurd (cc); some = λ u k e. absurd (cc) }
+holds_marking j sets places m = record { reads = λ k e. absurd (cc); deletes = λ d k e. absurd (cc); all = λ l e. absurd (cc); lanes = λ l e. absurd (cc); turns = λ l e. absurd (cc); placed = λ u k e. absurd (cc); undo = λ u k e. absurd (cc); some = λ u k e. absurd (cc) }
 
 undo_same : {u v : List Undo} {m n : ℕ} → steps.Reverting u m ≡ steps.Reverting v n → u ≡ v
 undo_same e = cc
@@ -47,10 +61,18 @@ pub holds_reverting : (j : Job) (sets : Sets) (places : List Place) (u : List Un
 holds_reverting j sets places u m p w some =
     let W : List Undo → Type 0 = λ v. UndoWithin sets v in
     let S : List Undo → Type 0 = λ v. v ≡ [] → ⊥ in
-    record { reads = λ k e. absurd (cc); all = λ l e. absurd (cc); lanes = λ l e. absurd (cc); turns = λ l e. absurd (cc); placed = λ v k e. p; undo = λ v k e. subst W (undo_same e) w; some = λ v k e. subst S (undo_same e) some }
+    record { reads = λ k e. absurd (cc); deletes = λ d k e. absurd (cc); all = λ l e. absurd (cc); lanes = λ l e. absurd (cc); turns = λ l e. absurd (cc); placed = λ v k e. p; undo = λ v k e. subst W (undo_same e) w; some = λ v k e. subst S (undo_same e) some }
+
+deletion_same : {d e : Deletion} {m n : ℕ} → steps.Replacing d m ≡ steps.Replacing e n → d ≡ e
+deletion_same e = cc
+
+pub holds_replacing : (j : Job) (sets : Sets) (places : List Place) (d : Deletion) (m : ℕ) → Deletes j sets places d → StepHolds j sets places (steps.Replacing d m)
+holds_replacing j sets places d m h =
+    let P : Deletion → Type 0 = λ v. Deletes j sets places v in
+    record { reads = λ k e. absurd (cc); deletes = λ v k e. subst P (deletion_same e) h; all = λ l e. absurd (cc); lanes = λ l e. absurd (cc); turns = λ l e. absurd (cc); placed = λ u k e. absurd (cc); undo = λ u k e. absurd (cc); some = λ u k e. absurd (cc) }
 
 pub holds_over : (j : Job) (sets : Sets) (places : List Place) (end : CommitEnd) → StepHolds j sets places (steps.Over end)
-holds_over j sets places end = record { reads = λ k e. absurd (cc); all = λ l e. absurd (cc); lanes = λ l e. absurd (cc); turns = λ l e. absurd (cc); placed = λ u k e. absurd (cc); undo = λ u k e. absurd (cc); some = λ u k e. absurd (cc) }
+holds_over j sets places end = record { reads = λ k e. absurd (cc); deletes = λ d k e. absurd (cc); all = λ l e. absurd (cc); lanes = λ l e. absurd (cc); turns = λ l e. absurd (cc); placed = λ u k e. absurd (cc); undo = λ u k e. absurd (cc); some = λ u k e. absurd (cc) }
 
 -- an operation that is the same
 pub next_same : {j : Job} {sets : Sets} {places : List Place} {next : Next} (c d : Commit) → c ≡ d → IsNext j sets places c next → IsNext j sets places d next
@@ -191,13 +213,150 @@ dealt_next r j sets places l lanes n next a e p is h =
 fetching_yes : (j : Job) (sets : Sets) → length sets < j.tasks → Fetching sets 0 ≡ fetching (read_script j sets) sets
 fetching_yes j sets h = let P : Bool → Type 0 = λ v. Fetching sets 0 ≡ cond v (Fetching sets 0) (decided (read_script j sets) sets (same_path (read_script j sets) (picks_of sets))) in subst P (sym (below_so (length sets) j.tasks h)) refl
 
+-- the read of a set is the same by each script of the job
+read_same : (c : Committer) (j : Job) (sets : Sets) (n : ℕ) → set_request c (job_script j) n ≡ set_request c (read_script j sets) n
+read_same Magic j sets n = refl
+read_same Directory j sets n = refl
+read_same Partitioned j sets n = refl
+
 -- a set is read
-pub fetching_is : (j : Job) (sets : Sets) (places : List Place) (count t : ℕ) (r : Request) (next : Next) → j.committer ≡ Magic → AreRead j sets → count ≡ length sets → t ≡ j.tasks → count < t → r ≡ set_request Magic (job_script j) count → next ≡ record { step = steps.Fetching 0; asked = Some r }
+pub fetching_is : (j : Job) (sets : Sets) (places : List Place) (count t : ℕ) (r : Request) (next : Next) → AreRead j sets → count ≡ length sets → t ≡ j.tasks → count < t → r ≡ set_request j.committer (job_script j) count → next ≡ record { step = steps.Fetching 0; asked = Some r }
     → IsNext j sets places (fetching (read_script j sets) sets) next
-fetching_is j sets places count t r next magic each e f h q k =
+fetching_is j sets places count t r next each e f h q k =
     let more : length sets < j.tasks = omega arith in
     next_as _ next k (next_same (Fetching sets 0) (fetching (read_script j sets) sets) (fetching_yes j sets more) (record {
       is = refl;
-      asked = ap Some (q ∙ ap (set_request Magic (read_script j sets)) e ∙ ap (λ c. set_request c (read_script j sets) (length sets)) (sym magic));
+      asked = ap Some (q ∙ (read_same j.committer j sets count ∙ ap (set_request j.committer (read_script j sets)) e));
       step = holds_fetching j sets places 0 (record { each = each; more = more });
     }))
+
+-- ---- a deletion
+
+deleting_is : (j : Job) (sets : Sets) (sweep : Sweep) (ps : List (List ℕ)) (r : Request) → Some r ≡ asks_below j.dest.bucket sweep ps → replacing_at sets 0 sweep ps ≡ deleting_below (read_script j sets) sets sweep ps
+deleting_is j sets sweep [] r e = absurd (cc)
+deleting_is j sets sweep (p ∷ ps) r e = refl
+
+deleting_asks : (j : Job) (sets : Sets) (sweep : Sweep) (ps : List (List ℕ)) (r : Request) → Some r ≡ asks_below j.dest.bucket sweep ps → Some r ≡ asks j (deleting_below (read_script j sets) sets sweep ps)
+deleting_asks j sets sweep [] r e = absurd (cc)
+deleting_asks j sets sweep (p ∷ ps) r e = e
+
+some_below : (bucket : List ℕ) (sweep : Sweep) (ps : List (List ℕ)) (r : Request) → Some r ≡ asks_below bucket sweep ps → ps ≡ [] → ⊥
+some_below bucket sweep [] r e f = absurd (cc)
+some_below bucket sweep (p ∷ ps) r e f = absurd (cc)
+
+-- it goes on
+pub deleting_next : (j : Job) (sets : Sets) (places : List Place) (d : Deletion) (bucket : List ℕ) (r : Request) (next : Next) → HasAll j sets places → d.spared ≡ spared j.dest → bucket ≡ j.dest.bucket → Some r ≡ deletion_asks bucket d → next ≡ record { step = steps.Replacing d 0; asked = Some r }
+    → IsNext j sets places (commit_deleting (read_script j sets) sets d) next
+deleting_next j sets places d bucket r next all s b e k =
+    let f : Some r ≡ asks_below j.dest.bucket d.sweep d.prefixes = e ∙ ap (λ v. asks_below v d.sweep d.prefixes) b in
+    next_as _ next k (record {
+      is = deleting_is j sets d.sweep d.prefixes r f;
+      asked = deleting_asks j sets d.sweep d.prefixes r f;
+      step = holds_replacing j sets places d 0 (record { all = all; spared = s; some = some_below j.dest.bucket d.sweep d.prefixes r f });
+    })
+
+over_below : (j : Job) (sets : Sets) (sweep : Sweep) (bucket : List ℕ) (ps : List (List ℕ)) → None ≡ asks_below bucket sweep ps → completing sets (dealt j.lanes (length (all_commits sets))) [] ≡ deleting_below (read_script j sets) sets sweep ps
+over_below j sets sweep bucket [] e = refl
+over_below j sets sweep bucket (p ∷ ps) e = absurd (cc)
+
+-- it is over
+pub deleted_next : {E : Type 0} (r : Result ⊤ E) (j : Job) (sets : Sets) (places : List Place) (d : Deletion) (bucket : List ℕ) (next : Next) → None ≡ deletion_asks bucket d
+    → OnOk r (IsNext j sets places (completing sets (dealt j.lanes (length (all_commits sets))) []) next) → OnOk r (IsNext j sets places (commit_deleting (read_script j sets) sets d) next)
+deleted_next r j sets places d bucket next e h = on_ok_weaker r (next_same _ _ (over_below j sets d.sweep bucket d.prefixes e)) h
+
+-- how it begins
+begins_deleting : (j : Job) (sets : Sets) (d : Deletion) → j.mode ≡ Replace → (let w = read_script j sets in d ≡ record { prefixes = deleted j.committer j.dest (partitions (wanted_paths w (picks_of sets))); sweep = sweep_start; spared = spared j.dest })
+    → commit_deleting (read_script j sets) sets d ≡ replacing (read_script j sets) sets (replaced j.committer j.mode (read_script j sets) (picks_of sets))
+begins_deleting j sets d m e =
+    let w = read_script j sets in
+    ap (commit_deleting w sets) e
+    ∙ (sym (deletions_tell.starts w sets (deleted j.committer j.dest (partitions (wanted_paths w (picks_of sets)))))
+    ∙ ap (replacing w sets) (sym (deletions_tell.prefixes w (picks_of sets) m)))
+
+pub spared_is : (d : Deletion) (j : Job) (ps : List (List ℕ)) (sweep : Sweep) → d ≡ record { prefixes = ps; sweep = sweep; spared = spared j.dest } → d.spared ≡ spared j.dest
+spared_is d j ps sweep e = ap (λ (v : Deletion). v.spared) e
+
+pub replaced_next : {E : Type 0} (r : Result ⊤ E) (j : Job) (sets : Sets) (places : List Place) (d : Deletion) (mode : Mode) (next : Next) → mode ≡ j.mode → mode ≡ Replace → (let w = read_script j sets in d ≡ record { prefixes = deleted j.committer j.dest (partitions (wanted_paths w (picks_of sets))); sweep = sweep_start; spared = spared j.dest })
+    → OnOk r (IsNext j sets places (commit_deleting (read_script j sets) sets d) next) → OnOk r (IsNext j sets places (replacing (read_script j sets) sets (replaced j.committer j.mode (read_script j sets) (picks_of sets))) next)
+replaced_next r j sets places d mode next a b e h = on_ok_weaker r (next_same _ _ (begins_deleting j sets d (sym a ∙ b) e)) h
+
+-- a mode that keeps all
+kept_prefixes : (c : Committer) (m : Mode) (w : Script) (picks : Picks) → (m ≡ Replace → ⊥) → [] ≡ replaced c m w picks
+kept_prefixes Magic m w picks h = refl
+kept_prefixes Directory Fail w picks h = refl
+kept_prefixes Directory Append w picks h = refl
+kept_prefixes Directory Replace w picks h = absurd (h refl)
+kept_prefixes Partitioned Fail w picks h = refl
+kept_prefixes Partitioned Append w picks h = refl
+kept_prefixes Partitioned Replace w picks h = absurd (h refl)
+
+fail_keeps : (m : Mode) → m ≡ Fail → m ≡ Replace → ⊥
+fail_keeps m e f = cc
+
+append_keeps : (m : Mode) → m ≡ Append → m ≡ Replace → ⊥
+append_keeps m e f = cc
+
+kept_next : {E : Type 0} (r : Result ⊤ E) (j : Job) (sets : Sets) (places : List Place) (mode : Mode) (next : Next) → mode ≡ j.mode → (mode ≡ Replace → ⊥)
+    → OnOk r (IsNext j sets places (completing sets (dealt j.lanes (length (all_commits sets))) []) next) → OnOk r (IsNext j sets places (replacing (read_script j sets) sets (replaced j.committer j.mode (read_script j sets) (picks_of sets))) next)
+kept_next r j sets places mode next a b h =
+    let w = read_script j sets in
+    on_ok_weaker r (next_same _ _ (ap (replacing w sets) (kept_prefixes j.committer j.mode w (picks_of sets) (λ e. b (a ∙ e))))) h
+
+pub failing_next : {E : Type 0} (r : Result ⊤ E) (j : Job) (sets : Sets) (places : List Place) (mode : Mode) (next : Next) → mode ≡ j.mode → mode ≡ Fail
+    → OnOk r (IsNext j sets places (completing sets (dealt j.lanes (length (all_commits sets))) []) next) → OnOk r (IsNext j sets places (replacing (read_script j sets) sets (replaced j.committer j.mode (read_script j sets) (picks_of sets))) next)
+failing_next r j sets places mode next a b h = kept_next r j sets places mode next a (fail_keeps mode b) h
+
+pub appending_next : {E : Type 0} (r : Result ⊤ E) (j : Job) (sets : Sets) (places : List Place) (mode : Mode) (next : Next) → mode ≡ j.mode → mode ≡ Append
+    → OnOk r (IsNext j sets places (completing sets (dealt j.lanes (length (all_commits sets))) []) next) → OnOk r (IsNext j sets places (replacing (read_script j sets) sets (replaced j.committer j.mode (read_script j sets) (picks_of sets))) next)
+appending_next r j sets places mode next a b h = kept_next r j sets places mode next a (append_keeps mode b) h
+
+-- ---- a deletion that hears
+
+still_spared : (d : Deletion) (ps : List (List ℕ)) (r : Reply) → (hears_below d ps r).spared ≡ d.spared
+still_spared d [] r = refl
+still_spared d (p ∷ ps) r = by (sweep_hears _ d.sweep r)
+  where
+    by : (o : Option Sweep) → (swept_on d.spared p ps o).spared ≡ d.spared
+    by (Some s) = refl
+    by None = refl
+
+pub spared_still : (d e : Deletion) (r : Reply) (x : List ℕ) → e ≡ deletion_hears d r → d.spared ≡ x → e.spared ≡ x
+spared_still d e r x f s = ap (λ (v : Deletion). v.spared) f ∙ (still_spared d d.prefixes r ∙ s)
+
+-- what fits the commit fits the deletion
+fits_below : (j : Job) (sets : Sets) (m : ℕ) (d : Deletion) (ps : List (List ℕ)) (r : Reply) → d.prefixes ≡ ps → FitsReply j (replacing_at sets m d.sweep ps) r → FitsDeletion d r
+fits_below j sets m d [] r e h = (let P : List (List ℕ) → Type 0 = λ v. FitsDeletion (record { prefixes = v; sweep = d.sweep; spared = d.spared }) r in subst P (sym e) tt)
+fits_below j sets m d (p ∷ ps) r e h = (let P : List (List ℕ) → Type 0 = λ v. FitsDeletion (record { prefixes = v; sweep = d.sweep; spared = d.spared }) r in subst P (sym e) h)
+
+pub fits_deletion : (j : Job) (sets : Sets) (m : ℕ) (d : Deletion) (r : Reply) → FitsReply j (replacing_at sets m d.sweep d.prefixes) r → FitsDeletion d r
+fits_deletion j sets m d r h = fits_below j sets m d d.prefixes r refl h
+
+heard_below : (j : Job) (sets : Sets) (m : ℕ) (sweep : Sweep) (ps : List (List ℕ)) (r : Reply) → (ps ≡ [] → ⊥) → (let w = read_script j sets in commit_deleting w sets (deletion_hears (deletion_of w ps sweep) r) ≡ commit_hears w (replacing_at sets m sweep ps) r)
+heard_below j sets m sweep [] r some = absurd (some refl)
+heard_below j sets m sweep (p ∷ ps) r some = sym (deletions_tell.goes (read_script j sets) sets p ps sweep m r)
+
+-- the commit goes where the deletion does
+pub deletion_heard : (j : Job) (sets : Sets) (places : List Place) (m : ℕ) (d : Deletion) (r : Reply) → Deletes j sets places d → (let w = read_script j sets in commit_deleting w sets (deletion_hears d r) ≡ commit_hears w (replacing_at sets m d.sweep d.prefixes) r)
+deletion_heard j sets places m d r h =
+    let w = read_script j sets in
+    ap (λ s. commit_deleting w sets (deletion_hears (record { prefixes = d.prefixes; sweep = d.sweep; spared = s }) r)) h.spared
+    ∙ heard_below j sets m d.sweep d.prefixes r h.some
+
+sets_kept : (sets : Sets) (m : ℕ) (sweep : Sweep) (ps : List (List ℕ)) (r : Reply) → (ps ≡ [] → ⊥) → sets_after (replacing_at sets m sweep ps) (Answered r) ≡ sets
+sets_kept sets m sweep [] r some = absurd (some refl)
+sets_kept sets m sweep (p ∷ ps) r some = refl
+
+picks_kept : (sets : Sets) (m : ℕ) (sweep : Sweep) (ps : List (List ℕ)) (picked : List ℕ) (r : Reply) → (ps ≡ [] → ⊥) → picked ≡ picked_after picked (replacing_at sets m sweep ps) (Answered r)
+picks_kept sets m sweep [] picked r some = absurd (some refl)
+picks_kept sets m sweep (p ∷ ps) picked r some = refl
+
+-- what a deletion heard is what the commit heard
+pub deletion_told : {E : Type 0} (x : Result ⊤ E) (j : Job) (sets : Sets) (places : List Place) (picks : List Pick) (step : Step) (d : Deletion) (m : ℕ) (r : Reply) (next : Next) → step ≡ steps.Replacing d m → StepHolds j sets places step
+    → OnOk x (IsNext j sets places (commit_deleting (read_script j sets) sets (deletion_hears d r)) next) → OnOk x (Heard j sets picks (operation_of sets step) r sets places picks next)
+deletion_told x j sets places picks step d m r next e s h =
+    let k = s.deletes d m e in
+    let S : Step → Type 0 = λ v. OnOk x (Heard j sets picks (operation_of sets v) r sets places picks next) in
+    subst S (sym e) (on_ok_weaker x (λ i. record {
+      next = next_same _ _ (deletion_heard j sets places m d r k ∙ ap (λ v. commit_hears (read_script j v) (replacing_at sets m d.sweep d.prefixes) r) (sym (sets_kept sets m d.sweep d.prefixes r k.some))) i;
+      picked = picks_kept sets m d.sweep d.prefixes (attempts_of picks) r k.some;
+    }) h)

@@ -10,7 +10,8 @@ use Rattle.commit_parts.specs.Undos.{undo_request}
 use Rattle.commit_parts.specs.declared.places.Place.{Place}
 use Rattle.commit_parts.specs.declared.undo.Undo.{Undo}
 use Rattle.commit_laws.specs.Fitting.{missed_of}
-use Rattle.job_commit.specs.Stages.{reverting_from, operation_of, missed_in}
+use Rattle.job_operations.specs.Walks.{Sweep}
+use Rattle.job_commit.specs.Stages.{replacing_at, reverting_from, operation_of, missed_in}
 use Rattle.job_commit.specs.Holds.{attempts_of, StepHolds, Holds}
 use Rattle.job_commit.specs.declared.step.Step.{Step}
 use Rattle.job_commit.specs.declared.step.Step.TheVariants as steps
@@ -27,12 +28,17 @@ undo_goes_on : (sets : Sets) (u : List Undo) (m : ℕ) → (u ≡ [] → ⊥) �
 undo_goes_on sets [] m some = absurd (some refl)
 undo_goes_on sets (x ∷ xs) m some = refl
 
+deletion_goes_on : (sets : Sets) (m : ℕ) (sweep : Sweep) (ps : List (List ℕ)) → commit_over (replacing_at sets m sweep ps) ≡ None
+deletion_goes_on sets m sweep [] = refl
+deletion_goes_on sets m sweep (p ∷ ps) = refl
+
 abbrev pub end_in : Step → Option CommitEnd
 end_in (steps.Over end) = Some end
 end_in _ = None
 
 pub end_is : (j : Job) (sets : Sets) (places : List Place) (step : Step) → StepHolds j sets places step → end_in step ≡ commit_over (operation_of sets step)
 end_is j sets places (steps.Fetching m) s = refl
+end_is j sets places (steps.Replacing d m) s = sym (deletion_goes_on sets m d.sweep d.prefixes)
 end_is j sets places (steps.Completing l) s = sym (lanes_go_on sets l.turns l.finished)
 end_is j sets places (steps.Marking m) s = refl
 end_is j sets places (steps.Reverting u m) s = sym (undo_goes_on sets u m (s.some u m refl))

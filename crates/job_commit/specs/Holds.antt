@@ -1,6 +1,5 @@
 -- What a job's commit keeps true of its parts.
 use Rattle.std.specs.Prelude.{◌≡◌, ℕ, ◌+◌, ◌<◌, ◌≤◌, List, [], ◌∷◌, map, length, Option, Some, None}
-use Rattle.s3_types.specs.declared.request.Committer.TheVariants.{Magic}
 use Rattle.s3_types.specs.declared.request.Request.{Request}
 use Rattle.job_model.specs.Jobs.{Job}
 use Rattle.job_model.specs.declared.ends.Pick.{Pick}
@@ -11,6 +10,7 @@ use Rattle.s3_types.specs.declared.journal.Outcome.TheVariants.{Answered}
 use Rattle.job_operations.specs.JobCommits.{Sets, all_commits, Commit, commit_asks, commit_hears}
 use Rattle.job_operations.specs.LaneTable.{In}
 use Rattle.job_operations.specs.AtWork.{read_script, sets_in, sets_after, picked_after}
+use Rattle.conflict.specs.Deletions.{Deletion, spared}
 use Rattle.commit_parts.specs.Tables.{LaneTable}
 use Rattle.commit_parts.specs.Undos.{NumbersWithin}
 use Rattle.job_commit.specs.Stages.{operation_of}
@@ -45,9 +45,16 @@ pub record LanesWithin (sets : Sets) (l : LaneTable) : Type 0 where
 abbrev pub UndoWithin : Sets → List Undo → Type 0
 UndoWithin sets u = NumbersWithin (length (all_commits sets)) u
 
--- a task is left to read; or all sets were read, and a lane or a request of the revert is in turn
+-- all sets were read, and a prefix is left to delete below
+pub record Deletes (j : Job) (sets : Sets) (places : List Place) (d : Deletion) : Type 0 where
+  pub all : HasAll j sets places
+  pub spared : d.spared ≡ spared j.dest
+  pub some : d.prefixes ≡ [] → ⊥
+
+-- a task is left to read; or all sets were read, and a deletion, a lane or a request of the revert is in turn
 pub record StepHolds (j : Job) (sets : Sets) (places : List Place) (step : Step) : Type 0 where
   pub reads : (m : ℕ) → step ≡ steps.Fetching m → Reads j sets
+  pub deletes : (d : Deletion) (m : ℕ) → step ≡ steps.Replacing d m → Deletes j sets places d
   pub all : (l : LaneTable) → step ≡ steps.Completing l → HasAll j sets places
   pub lanes : (l : LaneTable) → step ≡ steps.Completing l → LanesWithin sets l
   pub turns : (l : LaneTable) → step ≡ steps.Completing l → l.turns ≡ [] → ⊥
@@ -67,7 +74,6 @@ pub record PicksHold (j : Job) (sets : Sets) (picks : List Pick) : Type 0 where
 
 -- what the machine keeps true
 pub record Holds (j : Job) (sets : Sets) (places : List Place) (picks : List Pick) (step : Step) (asked : Option Request) : Type 0 where
-  pub magic : j.committer ≡ Magic
   pub counts : PicksHold j sets picks
   pub goes : StepHolds j sets places step
   pub wants : asked ≡ asks j (operation_of sets step)

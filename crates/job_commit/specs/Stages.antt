@@ -4,7 +4,8 @@ use Rattle.s3_types.specs.declared.request.Request.{Request}
 use Rattle.job_model.specs.declared.ends.CommitEnd.TheVariants as ends
 use Rattle.job_model.specs.declared.ends.Stage.TheVariants as stages
 use Rattle.job_operations.specs.Lanes.{Turn, follow, again}
-use Rattle.job_operations.specs.JobCommits.{Sets, all_commits, Commit, Fetching, Marking, Reverting, CommitOver, completing, worn_completion}
+use Rattle.job_operations.specs.Walks.{Sweep}
+use Rattle.job_operations.specs.JobCommits.{Sets, all_commits, Commit, Fetching, Replacing, Marking, Reverting, CommitOver, completing, worn_completion}
 use Rattle.job_model.specs.Jobs.{Job}
 use Rattle.commit_parts.specs.Tables.{first_missed}
 use Rattle.commit_parts.specs.Undos.{undo_request}
@@ -17,9 +18,15 @@ abbrev pub reverting_from : ℕ → List Request → Commit
 reverting_from m [] = CommitOver (ends.StoreFault stages.Complete)
 reverting_from m (r ∷ rs) = Reverting r rs m
 
+-- a deletion that has come so far; below no prefix there is none
+abbrev pub replacing_at : Sets → ℕ → Sweep → List (List ℕ) → Commit
+replacing_at sets m sweep [] = completing sets [] []
+replacing_at sets m sweep (p ∷ ps) = Replacing sets p ps sweep m
+
 -- the operation, by the sets that were read and what the machine is doing
 abbrev pub operation_of : Sets → Step → Commit
 operation_of sets (steps.Fetching m) = Fetching sets m
+operation_of sets (steps.Replacing d m) = replacing_at sets m d.sweep d.prefixes
 operation_of sets (steps.Completing l) = completing sets l.turns l.finished
 operation_of sets (steps.Marking m) = Marking sets m
 operation_of sets (steps.Reverting u m) = reverting_from m (map (undo_request (all_commits sets)) u)
@@ -42,6 +49,7 @@ worn_out sets (x ∷ xs) finished = worn_completion sets x xs finished
 -- one more sending of a request that stays got no answer
 abbrev pub counted : Step → Step
 counted (steps.Fetching m) = steps.Fetching (m + 1)
+counted (steps.Replacing d m) = steps.Replacing d (m + 1)
 counted (steps.Completing l) = steps.Completing l
 counted (steps.Marking m) = steps.Marking (m + 1)
 counted (steps.Reverting u m) = steps.Reverting u (m + 1)
@@ -50,6 +58,7 @@ counted (steps.Over end) = steps.Over end
 -- how many sendings of the present request got none
 abbrev pub missed_in : Step → ℕ
 missed_in (steps.Fetching m) = m
+missed_in (steps.Replacing d m) = m
 missed_in (steps.Completing l) = first_missed l.turns
 missed_in (steps.Marking m) = m
 missed_in (steps.Reverting u m) = m
@@ -62,6 +71,7 @@ first_lost (x ∷ xs) = x.lost
 
 abbrev pub lost_in : Step → Bool
 lost_in (steps.Fetching m) = false
+lost_in (steps.Replacing d m) = false
 lost_in (steps.Completing l) = first_lost l.turns
 lost_in (steps.Marking m) = false
 lost_in (steps.Reverting u m) = false

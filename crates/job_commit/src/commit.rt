@@ -1,6 +1,5 @@
 ghost use Rattle.std.specs.Prelude.{◌≡◌, ◌<◌, ◌≤◌, [], IfOk, OnOk, OnErr, IsSome};
 ghost use Rattle.std.specs.Option.{option_copied};
-ghost use Rattle.s3_types.specs.declared.request.Committer.TheVariants.{Magic};
 ghost use Rattle.job_operations.specs.JobCommits.{commit_start, commit_over};
 ghost use Rattle.job_operations.specs.AtWork.{read_script, commit_wants, commit_told};
 ghost use Rattle.commit_laws.specs.Fitting.{FitsCommit, FitsReply, missed_of, without_memory, least_missing};
@@ -19,9 +18,10 @@ use s3_types::{Outcome, Reply, Request, Sequence, let_go};
 use std::alloc::{AllocError, Global};
 use std::marker::Model;
 
-/// The commit of a magic job, which is told the outcome of each sending and counts the sendings of its
-/// requests itself. It reads the set of each task, once, from task 0 on; then it completes all uploads, in
-/// lanes, and puts the marker. Where two tasks write one path it ends before any completion. Where a
+/// The commit of a job, which is told the outcome of each sending and counts the sendings of its requests
+/// itself. It reads the set of each task, once, from task 0 on; then, for a staging committer with the mode
+/// `replace`, it deletes what the mode does not keep; then it completes all uploads, in lanes, and puts the
+/// marker. Where two tasks write one path it ends before any deletion or completion. Where a
 /// completion wears out it aborts and deletes what was or may be completed and aborts the other uploads;
 /// a request of that which wears out is passed over. (Hadoop, S3A committer architecture: job commit.)
 #[derive(Drop)]
@@ -68,8 +68,7 @@ fn begun(
     reported: &TaskSet,
     next: &mut Next,
 ) -> Result<(), AllocError>
-    requires magic { plan.now.committer ≡ Magic }
-    requires none { sets.now ≡ [] }
+    requires { sets.now ≡ [] }
     ensures { OnOk result (IsNext plan.now [] places.new (commit_start (read_script plan.now []) (least_missing plan.now.tasks reported.now)) next.new) }
 {
     match missing(plan.tasks, reported) {
@@ -86,7 +85,6 @@ impl CommitJob {
     /// some task did not, it is over, Missing with the least one, and nothing is sent. AllocError comes where
     /// memory ran out alone.
     pub fn new(alloc: Global, plan: JobPlan, reported: &TaskSet) -> Result<CommitJob, AllocError>
-        requires { plan.committer ≡ Magic }
         ensures { IfOk result (λ m. m ≡ record { plan = plan; picked = []; operation = commit_start (read_script plan []) (least_missing plan.tasks reported.now) }) }
     {
         let sets = Sequence::new(alloc);

@@ -1,19 +1,21 @@
 ghost use Rattle.std.specs.Prelude.{◌≡◌, ◌<◌, ◌≤◌, length, true, Some, IfOk, OnOk, OnErr, IsSome};
 ghost use Rattle.std.specs.Option.{option_copied};
 ghost use Rattle.pending_json.specs.Fault.{wanting as is_want};
-ghost use Rattle.s3_types.specs.declared.request.Committer.TheVariants.{Magic};
 ghost use Rattle.job_operations.specs.JobCommits.{set_read, Fetching, commit_misses};
 ghost use Rattle.job_operations.specs.AtWork.{read_script, sets_in};
 ghost use Rattle.job_commit.specs.Stages.{operation_of};
+ghost use Rattle.conflict.specs.Deletions.{FitsDeletion, deletion_hears, spared};
+ghost use Rattle.conflict.specs.Laws.{commit_deleting};
 ghost use Rattle.commit_parts.specs.Tables.{first_missed};
 ghost use Rattle.job_commit.specs.Stages.{answered, unanswered, worn_out, wanting};
 ghost use Rattle.commit_laws.specs.Fitting.{SpellsSet, FitsReply, missed_of};
 ghost use Rattle.commit_parts.specs.ReadSets.{HasAll};
 ghost use Rattle.job_commit.specs.Holds.{IsNext, asks, Heard, PicksHold, StepHolds, bytes_in, Reads, LanesWithin};
 
-use crate::stages::{completing, fetching, reverting};
+use crate::stages::{completing, deleting, fetching, reverting};
 use crate::step::{Next, Step};
 use commit_parts::{Lanes, Place, next_turn, revert};
+use conflict::DeleteKept;
 use job_model::{CommitEnd, JobPlan, Pick, PickList, Stage};
 use pending_json::{PendingSet, RecordFault};
 use s3_types::{Bytes, Reply, Sequence, let_go, put};
@@ -73,7 +75,6 @@ fn hear_set(
     next: &mut Next,
     reply: &Reply,
 ) -> Result<(), AllocError>
-    requires magic { plan.now.committer ≡ Magic }
     requires reads { Reads plan.now sets.old }
     requires picks { PicksHold plan.now sets.old picks.old }
     requires wanting { next.old ≡ wanting }
@@ -96,6 +97,32 @@ fn hear_set(
     }
 }
 
+/// A request of a deletion was answered.
+fn hear_deletion(
+    alloc: Global,
+    plan: &JobPlan,
+    sets: &Sequence<PendingSet>,
+    places: &Sequence<Place>,
+    deletion: DeleteKept,
+    next: &mut Next,
+    reply: &Reply,
+) -> Result<(), AllocError>
+    requires all { HasAll plan.now sets.now places.now }
+    requires spared { deletion.spared ≡ spared plan.now.dest }
+    requires fits { FitsDeletion deletion reply.now }
+    ensures ok { OnOk result (IsNext plan.now sets.now places.now (commit_deleting (read_script plan.now sets.now) sets.now (deletion_hears deletion reply.now)) next.new) }
+    ensures err { OnErr result (next.new ≡ next.old) }
+{
+    let mut deletion = deletion;
+    match deletion.hear(alloc, reply) {
+        Ok(()) => deleting(alloc, plan, sets, places, deletion, next),
+        Err(error) => {
+            let_go(deletion);
+            Err(error)
+        }
+    }
+}
+
 /// A completion was answered: its lane goes on with its next upload, if it has one.
 fn hear_completion(
     alloc: Global,
@@ -105,7 +132,6 @@ fn hear_completion(
     lanes: Lanes,
     next: &mut Next,
 ) -> Result<(), AllocError>
-    requires magic { plan.now.committer ≡ Magic }
     requires all { HasAll plan.now sets.now places.now }
     requires within { LanesWithin sets.now lanes }
     ensures ok { OnOk result (IsNext plan.now sets.now places.now (answered plan.now sets.now lanes.turns lanes.finished) next.new) }
@@ -132,7 +158,6 @@ fn miss_completion(
     lost: bool,
     next: &mut Next,
 ) -> Result<(), AllocError>
-    requires magic { plan.now.committer ≡ Magic }
     requires all { HasAll plan.now sets.now places.now }
     requires within { LanesWithin sets.now lanes }
     requires missed { first_missed lanes.turns < plan.now.retries }
@@ -159,7 +184,6 @@ fn wear_completion(
     lanes: Lanes,
     next: &mut Next,
 ) -> Result<(), AllocError>
-    requires magic { plan.now.committer ≡ Magic }
     requires all { HasAll plan.now sets.now places.now }
     requires within { LanesWithin sets.now lanes }
     ensures ok { OnOk result (IsNext plan.now sets.now places.now (worn_out sets.now lanes.turns lanes.finished) next.new) }
@@ -187,7 +211,6 @@ pub fn heard(
     next: &mut Next,
     reply: &Reply,
 ) -> Result<(), AllocError>
-    requires magic { plan.now.committer ≡ Magic }
     requires step { StepHolds plan.now sets.old places.old step }
     requires picks { PicksHold plan.now sets.old picks.old }
     requires wanting { next.old ≡ wanting }
@@ -198,6 +221,9 @@ pub fn heard(
 {
     match step {
         Step::Fetching(missed) => hear_set(alloc, plan, sets, places, picks, missed, next, reply),
+        Step::Replacing(deletion, _) => hear_deletion(
+            alloc, plan, sets, places, deletion, next, reply,
+        ),
         Step::Completing(lanes) => hear_completion(alloc, plan, sets, places, lanes, next),
         Step::Marking(_) => {
             next.end(CommitEnd::Committed);
@@ -224,7 +250,6 @@ pub fn again(
     next: &mut Next,
     lost: bool,
 ) -> Result<(), AllocError>
-    requires magic { plan.now.committer ≡ Magic }
     requires step { StepHolds plan.now sets.now places.now next.old.step }
     requires asked { next.old.asked ≡ asks plan.now (operation_of sets.now next.old.step) }
     requires missed { missed_of (operation_of sets.now next.old.step) < plan.now.retries }
@@ -254,7 +279,6 @@ pub fn worn(
     next: &mut Next,
     lost: bool,
 ) -> Result<(), AllocError>
-    requires magic { plan.now.committer ≡ Magic }
     requires step { StepHolds plan.now sets.now places.now step }
     requires missed { plan.now.retries ≤ missed_of (operation_of sets.now step) }
     ensures ok { OnOk result (IsNext plan.now sets.now places.now (commit_misses (read_script plan.now (sets_in (operation_of sets.now step))) (operation_of sets.now step) lost) next.new) }
@@ -263,6 +287,10 @@ pub fn worn(
     match step {
         Step::Fetching(_) => {
             next.end(CommitEnd::StoreFault(Stage::Read));
+            Ok(())
+        }
+        Step::Replacing(_, _) => {
+            next.end(CommitEnd::StoreFault(Stage::Delete));
             Ok(())
         }
         Step::Completing(lanes) => wear_completion(alloc, plan, sets, places, lanes, next),

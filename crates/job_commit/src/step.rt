@@ -2,6 +2,7 @@ ghost use Rattle.std.specs.Prelude.{◌≡◌, ◌+◌, ◌<◌, ◌^◌, Some, 
 ghost use Rattle.job_commit.specs.Stages.{missed_in, lost_in, counted, wanting};
 
 use commit_parts::{Lanes, UndoList};
+use conflict::DeleteKept;
 use job_model::CommitEnd;
 use s3_types::{Request, put};
 use std::mem;
@@ -12,6 +13,8 @@ use std::mem;
 pub enum Step {
     /// Reads the next task's set.
     Fetching(u32),
+    /// Deletes what the job's mode does not keep.
+    Replacing(DeleteKept, u32),
     /// Completes uploads.
     Completing(Lanes),
     /// Puts the marker.
@@ -72,6 +75,7 @@ impl Step {
     {
         match self {
             Step::Fetching(missed) => *missed,
+            Step::Replacing(_, missed) => *missed,
             Step::Completing(lanes) => match lanes.first() {
                 Some(turn) => turn.missed(),
                 None => 0,
@@ -103,6 +107,7 @@ impl Step {
     {
         match self {
             Step::Fetching(missed) => Step::Fetching(missed + 1),
+            Step::Replacing(deletion, missed) => Step::Replacing(deletion, missed + 1),
             Step::Completing(lanes) => Step::Completing(lanes),
             Step::Marking(missed) => Step::Marking(missed + 1),
             Step::Reverting(undo, missed) => Step::Reverting(undo, missed + 1),

@@ -2,4 +2,4 @@ use Rattle.commit_laws.proofs.Falling.{commit_falls}
 use Rattle.commit_laws.proofs.falls.Goals as goal
 
 pub returns : goal.returns
-returns c = record { falls = commit_falls }
+returns c = commit_falls

@@ -1,4 +1,3 @@
-use Rattle.std.proofs.Common.{◌≡◌}
 use Rattle.commit_parts.proofs.Behind.{behind_front, behind_none}
 use Rattle.commit_parts.proofs.marker.behind.Goals as goal
 

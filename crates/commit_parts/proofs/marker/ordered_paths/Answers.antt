@@ -1,4 +1,4 @@
-use Rattle.std.proofs.Common.{◌≡◌, ◌+◌, ◌-◌, ◌<◌, ◌≤◌, length, arith}
+use Rattle.std.proofs.Common.{◌≡◌, ◌+◌, ◌-◌, ◌≤◌, length, arith}
 use Rattle.commit_parts.proofs.ReadFiles.{paths_begin, path_within, paths_more}
 use Rattle.commit_parts.proofs.marker.ordered_paths.Goals as goal
 

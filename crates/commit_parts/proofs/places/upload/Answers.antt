@@ -1,4 +1,3 @@
-use Rattle.std.proofs.Common.{◌≡◌}
 use Rattle.commit_parts.proofs.Placing.{place_within, set_within, upload_within, upload_is}
 use Rattle.commit_parts.proofs.places.upload.Goals as goal
 

@@ -1,11 +1,13 @@
-use Rattle.std.proofs.Common.{◌≡◌, subst, IfOk}
-use Rattle.s3_types.specs.declared.request.Request.TheVariants.{GetObject}
-use Rattle.magic_paths.specs.Layout.{set_key}
+use Rattle.std.proofs.Common.{inl, inr, ap}
 use Rattle.job_model.specs.Jobs.{Job}
-use Rattle.commit_parts.proofs.ReadFiles.{get_asked}
+use Rattle.commit_parts.proofs.ReadFiles.{stored_asked, staged_asked}
 use Rattle.commit_parts.proofs.requests.set_request.Goals as goal
 
-pub returns : goal.returns
-returns c =
-    let P : Job → Type 0 = λ j. IfOk c.get_object.result (λ q. q ≡ GetObject j.dest.bucket (set_key j.dest.key j.job c.args.task)) in
-    subst P c.plan.view_is (get_asked c.get_object.result c.bucket.result.now _ c.in_ok-key.key _ c.get_object.ensures c.bucket.ensures c.in_ok-key.ensures)
+pub returns-in-Magic : goal.returns-in-Magic
+returns-in-Magic c = stored_asked c.stored_set.result c.args.plan.now c.args.task c.plan.inside.committer c.in-Magic.is (ap (λ (j : Job). j.committer) c.plan.view_is) c.stored_set.ensures
+
+pub returns-in-Directory : goal.returns-in-Directory
+returns-in-Directory c = staged_asked c.staged_set.result c.args.plan.now c.args.task c.plan.inside.committer (inl c.in-Directory.is) (ap (λ (j : Job). j.committer) c.plan.view_is) c.staged_set.ensures
+
+pub returns-in-Partitioned : goal.returns-in-Partitioned
+returns-in-Partitioned c = staged_asked c.staged_set-in-Partitioned.result c.args.plan.now c.args.task c.plan.inside.committer (inr c.in-Partitioned.is) (ap (λ (j : Job). j.committer) c.plan.view_is) c.staged_set-in-Partitioned.ensures

@@ -1,4 +1,4 @@
-use Rattle.std.proofs.Common.{◌≡◌, ◌+◌, arith}
+use Rattle.std.proofs.Common.{◌+◌, arith}
 use Rattle.commit_parts.proofs.Numbers.{number_more}
 use Rattle.commit_parts.proofs.reverting.numbers_in.Goals as goal
 

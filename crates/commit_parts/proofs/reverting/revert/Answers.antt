@@ -1,4 +1,4 @@
-use Rattle.std.proofs.Common.{◌≡◌, ◌∙◌, ap}
+use Rattle.std.proofs.Common.{◌∙◌, ap}
 use Rattle.job_operations.specs.Lanes.{is_in}
 use Rattle.commit_parts.proofs.Undoing.{all_reverted, all_within, in_front}
 use Rattle.commit_parts.proofs.reverting.revert.Goals as goal

@@ -1,4 +1,4 @@
-use Rattle.std.proofs.Common.{◌≡◌, take}
+use Rattle.std.proofs.Common.{take}
 use Rattle.std.specs.BTreeMap.{get}
 use Rattle.proof_base.specs.Order.{text_cmp}
 use Rattle.commit_parts.specs.Clashes.{items_from, Finds}

@@ -1,15 +1,12 @@
-use Rattle.std.proofs.Common.{ap, ◌∙◌}
+use Rattle.std.proofs.Common.{ap}
 use Rattle.job_model.specs.Jobs.{Job}
-use Rattle.commit_parts.specs.Places.{places_from}
 use Rattle.job_commit.proofs.Steps.{dealt_within, dealt_next}
 use Rattle.job_commit.proofs.stages.dealing.Goals as goal
 
 pub completing-requires-clause-within : goal.completing-requires-clause-within
 completing-requires-clause-within c =
-    dealt_within c.args.plan.now c.args.sets.now c.in_ok-places.field-0 c.in_ok-lanes.lanes c.plan.inside.lanes c.len.result c.plan.invariant.one_lane (ap (λ (j : Job). j.lanes) c.plan.view_is) c.len.ensures
-    (c.in_ok-places.ensures ∙ ap (places_from 0) c.as_slice.ensures) c.in_ok-lanes.ensures
+    dealt_within c.args.plan.now c.args.sets.now c.args.places.now c.in_ok-lanes.lanes c.plan.inside.lanes c.len.result c.plan.invariant.one_lane (ap (λ (j : Job). j.lanes) c.plan.view_is) c.len.ensures c.requires.placed c.in_ok-lanes.ensures
 
 pub returns-clause-ok : goal.returns-clause-ok
 returns-clause-ok c =
-    dealt_next c.completing.result c.args.plan.now c.args.sets.now c.in_ok-places.field-0 c.in_ok-lanes.lanes c.plan.inside.lanes c.len.result c.completing.new.next (ap (λ (j : Job). j.lanes) c.plan.view_is) c.len.ensures
-    (c.in_ok-places.ensures ∙ ap (places_from 0) c.as_slice.ensures) c.in_ok-lanes.ensures c.completing.ensures.ok
+    dealt_next c.completing.result c.args.plan.now c.args.sets.now c.args.places.now c.in_ok-lanes.lanes c.plan.inside.lanes c.len.result c.completing.new.next (ap (λ (j : Job). j.lanes) c.plan.view_is) c.len.ensures c.requires.placed c.in_ok-lanes.ensures c.completing.ensures.ok

@@ -1,4 +1,4 @@
-use Rattle.std.proofs.Common.{◌≡◌, ◌∙◌}
+use Rattle.std.proofs.Common.{◌∙◌}
 use Rattle.commit_parts.proofs.Trying.{tried_any}
 use Rattle.commit_parts.proofs.lanes.Lanes.is_tried.Goals as goal
 
