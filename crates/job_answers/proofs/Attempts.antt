@@ -1,11 +1,11 @@
--- The answers that are due to a magic attempt's machines.
+-- The answers that are due to an attempt's machines.
 use Rattle.std.proofs.Common.{◌≡◌, ℕ, suc, ◌+◌, ◌<◌, ◌≤◌, ◌^◌, inl, inr, nat_eq, nat_lt, Bool, true, false, cond, List, [], ◌∷◌, ◌++◌, length, take, Option, Some, None, refl, sym, ap, subst, ◌∙◌, arith}
 use Rattle.s3_types.specs.Store.{Scene, Upload}
 use Rattle.s3_types.specs.Tags.{plain_tag}
 use Rattle.s3_types.specs.Pages.{listed}
 use Rattle.s3_types.specs.Multipart.{live, is_part_number}
 use Rattle.s3_types.specs.Answer.{answer, part_answer}
-use Rattle.s3_types.specs.declared.request.Request.TheVariants.{GetObject, CreateUpload, UploadPart}
+use Rattle.s3_types.specs.declared.request.Request.TheVariants.{GetObject, ListPage, CreateUpload, UploadPart}
 use Rattle.s3_types.specs.declared.reply.Reply.TheVariants.{Page, Part, Refused}
 use Rattle.s3_types.specs.declared.reply.PageEntry.{PageEntry}
 use Rattle.s3_types.specs.declared.reply.Refusal.TheVariants.{BadPartNumber}
@@ -27,10 +27,11 @@ use Rattle.job_operations.specs.Uploading.{Creating, Sending, file_parts}
 use Rattle.job_operations.specs.Writes as writes
 use Rattle.job_operations.specs.Writes.{Write}
 use Rattle.job_operations.specs.TaskCommits as commits
-use Rattle.job_operations.specs.TaskCommits.{TaskCommit, Looking, Reading, Publishing, Checking, Storing, Renaming, TaskCommitOver, attempt_prefix}
+use Rattle.job_operations.specs.TaskCommits.{TaskCommit, Looking, Reading, Publishing, Checking, Storing, Renaming, TaskCommitOver, attempt_prefix, partition_prefix}
 use Rattle.job_operations.specs.TaskAborts.{TaskAbort, Dropping, Sweeping, Removing, TaskAbortOver}
 use Rattle.job_operations.specs.AtWork.{write_wants, task_commit_wants, task_abort_wants}
 use Rattle.job_promise.specs.Seen.{is_magic}
+use Rattle.sweep.specs.Fitting.{FitsPage}
 use Rattle.task_requests.specs.Writing.{is_new, FitsCreate, FitsPart, write_fits}
 use Rattle.task_requests.specs.Publishing.{IsPending, FitsRecord}
 use Rattle.task_laws.specs.Commits.{FitsListing, commit_fits}
@@ -42,13 +43,12 @@ use Rattle.job_facts.specs.Fits.{Begun, FitsWrite, FitsCommit}
 use Rattle.job_facts.proofs.Cut.{parts_few}
 use Rattle.job_facts.proofs.Emptying.{last_so}
 use Rattle.job_facts.proofs.Legible.{plain_so, drawn_is, legal_record}
-use Rattle.job_facts.proofs.Placed.{not_both}
 use Rattle.job_facts.proofs.Replies.{record_there}
 use Rattle.job_facts.proofs.Shapes.{answer_is}
 use Rattle.job_facts.proofs.Uploads.{drop_more, number_fits}
 use Rattle.job_answers.specs.Plans.{at_work}
 use Rattle.job_answers.specs.Due.{FitsDue, ReadsOwn}
-use Rattle.job_answers.proofs.Pages.{listed_keys, sweep_fits}
+use Rattle.job_answers.proofs.Pages.{listed_keys, listed_look, sweep_fits}
 
 -- ---- an upload
 
@@ -117,15 +117,20 @@ module _ (w : Script) (minimum : ℕ) (s : Scene) (last : ℕ → Option ℕ) (m
         subst (FitsRecord w a k g) (sym there.1) (ap (record_text w a g) (sym same), subst (λ d. IsPending d (length g.1)) (sym is) pending)
   ]
 
-  pub commit_due : is_magic w.committer ≡ true → s.content.next ≤ 2 ^ 64 → (t : TaskCommit) → FitsCommit w minimum a (known m a) t → ReadsOwn w a t → FitsDue task_commit_wants commit_fits (at_work w minimum a k t) s
-  commit_due magic few (Looking keys) fits own r e repeated = subst (λ q. FitsListing keys (answer s q)) (some_is e) (listing_fits keys fits.2)
-  commit_due magic few (Reading cs g gs) fits own r e repeated = subst (λ q. FitsRecord w a k g (answer s q)) (some_is e) (record_fits magic few cs fits.1 g (own g (inl refl)))
-  commit_due magic few (Publishing cs) fits own r e repeated = tt
-  commit_due magic few (Checking d ds) fits own r e repeated = absurd (not_both w.committer magic fits.0)
-  commit_due magic few (commits.Uploads g gs u) fits own r e repeated = absurd (not_both w.committer magic fits.0)
-  commit_due magic few Storing fits own r e repeated = absurd (not_both w.committer magic fits.0)
-  commit_due magic few Renaming fits own r e repeated = absurd (not_both w.committer magic fits.0)
-  commit_due magic few (TaskCommitOver end) fits own r e repeated = tt
+  -- a look for a key below a partition
+  look_fits : (prefix : List ℕ) → FitsPage (answer s (ListPage w.dest.bucket prefix false [] 1))
+  look_fits prefix = subst FitsPage (sym (answer_is w s f.there.0 f.there.1 (ListPage w.dest.bucket prefix false [] 1) refl)) (listed_look prefix f.there.0.objects)
+
+  pub commit_due : s.content.next ≤ 2 ^ 64 → (t : TaskCommit) → FitsCommit w minimum a (known m a) t → ReadsOwn w a t → FitsDue task_commit_wants commit_fits (at_work w minimum a k t) s
+  commit_due few (Looking keys) fits own r e repeated = subst (λ q. FitsListing keys (answer s q)) (some_is e) (listing_fits keys fits.2)
+  commit_due few (Reading cs g gs) fits own r e repeated = subst (λ q. FitsRecord w a k g (answer s q)) (some_is e) (record_fits fits.0 few cs fits.1 g (own g (inl refl)))
+  commit_due few (Publishing cs) fits own r e repeated = tt
+  commit_due few (Checking d ds) fits own r e repeated = subst (λ q. FitsPage (answer s q)) (some_is e) (look_fits (partition_prefix w d))
+  commit_due few (commits.Uploads g gs Creating) fits own r e repeated = subst (λ q. FitsCreate k.drawn (answer s q)) (some_is e) (create_fits (file_key w g))
+  commit_due few (commits.Uploads g gs (Sending p ps)) fits own r e repeated = subst (λ q. FitsPart (answer s q)) (some_is e) (sending_fits g gs p ps fits.2)
+  commit_due few Storing fits own r e repeated = tt
+  commit_due few Renaming fits own r e repeated = tt
+  commit_due few (TaskCommitOver end) fits own r e repeated = tt
 
 -- ---- an abort
 

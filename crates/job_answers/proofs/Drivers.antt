@@ -28,6 +28,7 @@ use Rattle.job_promise.specs.Seen.{Seen}
 use Rattle.magic_paths.specs.Layout.{magic_prefix}
 use Rattle.job_setup.specs.Fits as setups
 use Rattle.cleanup.specs.Fits as cleans
+use Rattle.sweep.specs.Fitting.{FitsSweep}
 use Rattle.commit_laws.specs.Fitting.{SpellsSet, FitsReply, FitsCommit}
 use Rattle.job_facts.specs.Told.{Told}
 use Rattle.job_facts.specs.Stores.{sets_at}
@@ -43,7 +44,7 @@ use Rattle.job_facts.proofs.Replies.{completed, set_reply, bytes_read}
 use Rattle.job_facts.proofs.Shapes.{id_before, answer_is}
 use Rattle.job_facts.proofs.Turning.{turn_answered}
 use Rattle.job_answers.specs.Plans.{driving, committing}
-use Rattle.job_answers.specs.Due.{FitsDue, ReplacesNone, SetStands}
+use Rattle.job_answers.specs.Due.{FitsDue, SetStands}
 use Rattle.job_answers.proofs.Pages.{page_fits, sweep_fits, uploads_fit}
 use Rattle.job_answers.proofs.HeldSets.{set_is, same_read}
 
@@ -117,20 +118,20 @@ module _ (w : Script) (minimum : ℕ) (s : Seen) (m : Told) (j : IsLegal w) (h :
 
 -- what is due to the present request fits
 module _ (w : Script) (minimum : ℕ) (s : Seen) (m : Told) (j : IsLegal w) (few : s.scene.content.next ≤ 2 ^ 64) where
-  reply_fits : (c : Commit) → Commits w minimum s m c → SetStands w s c → ReplacesNone c → (picked : List ℕ) (r : Request) → commit_wants (committing w picked c) ≡ Some r → FitsReply (job_of w) c (answer s.scene r)
-  reply_fits (Fetching sets n) v stands plain picked r e =
+  reply_fits : (c : Commit) → Commits w minimum s m c → SetStands w s c → (picked : List ℕ) (r : Request) → commit_wants (committing w picked c) ≡ Some r → FitsReply (job_of w) c (answer s.scene r)
+  reply_fits (Fetching sets n) v stands picked r e =
       let is : set_request w.committer w (length sets) ≡ r = sym (same_read w.committer w sets (length sets)) ∙ some_is e in
       subst (λ q. SpellsSet (job_of w) (length sets) (set_read (answer s.scene q))) is (set_fits w minimum s m j v.hold few (length sets) v.fits.0 stands.0 stands.1)
-  reply_fits (Replacing sets p ps t n) v stands plain picked r e = absurd plain
-  reply_fits (Completing sets x xs finished) v stands plain picked r e = subst (λ q. FitsCompletion x (answer s.scene q)) (some_is e) (completion_fits w minimum s m j v.hold v.gone sets x xs finished v.fits v.tabled v.turns)
-  reply_fits (Marking sets n) v stands plain picked r e = λ g. put_there w minimum s m j v.hold _ _ (ap (answer s.scene) (some_is e) ∙ g)
-  reply_fits (Reverting q qs n) v stands plain picked r e =
+  reply_fits (Replacing sets p ps t n) v stands picked r e = subst (λ q. FitsSweep t (answer s.scene q)) (some_is e) (sweep_fits w s.scene v.hold.there p t)
+  reply_fits (Completing sets x xs finished) v stands picked r e = subst (λ q. FitsCompletion x (answer s.scene q)) (some_is e) (completion_fits w minimum s m j v.hold v.gone sets x xs finished v.fits v.tabled v.turns)
+  reply_fits (Marking sets n) v stands picked r e = λ g. put_there w minimum s m j v.hold _ _ (ap (answer s.scene) (some_is e) ∙ g)
+  reply_fits (Reverting q qs n) v stands picked r e =
       let o = v.decides q (inl refl) in
       λ g. revert_fits w minimum s m j v.hold o.0 o.1 q o.2 (ap (answer s.scene) (some_is e) ∙ g)
-  reply_fits (CommitOver end) v stands plain picked r e = absurd (none_some refl e)
+  reply_fits (CommitOver end) v stands picked r e = absurd (none_some refl e)
 
-  pub job_due : (c : Commit) → Commits w minimum s m c → SetStands w s c → ReplacesNone c → (picked : List ℕ) (r : Request) → commit_wants (committing w picked c) ≡ Some r → (o : Outcome) → IsHonestOutcome o (answer s.scene r) → FitsCommit (committing w picked c) o
-  job_due c v stands plain picked r e (Answered x) honest = subst (FitsReply (job_of w) c) (sym honest) (reply_fits c v stands plain picked r e)
-  job_due c v stands plain picked r e Slow honest = tt
-  job_due c v stands plain picked r e RequestLost honest = tt
-  job_due c v stands plain picked r e ReplyLost honest = tt
+  pub job_due : (c : Commit) → Commits w minimum s m c → SetStands w s c → (picked : List ℕ) (r : Request) → commit_wants (committing w picked c) ≡ Some r → (o : Outcome) → IsHonestOutcome o (answer s.scene r) → FitsCommit (committing w picked c) o
+  job_due c v stands picked r e (Answered x) honest = subst (FitsReply (job_of w) c) (sym honest) (reply_fits c v stands picked r e)
+  job_due c v stands picked r e Slow honest = tt
+  job_due c v stands picked r e RequestLost honest = tt
+  job_due c v stands picked r e ReplyLost honest = tt

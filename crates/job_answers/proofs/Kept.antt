@@ -34,7 +34,7 @@ use Rattle.job_facts.specs.Driver.{FitsJobCommit}
 use Rattle.job_facts.specs.Standing.{HasPublished}
 use Rattle.job_facts.proofs.Going.{step_so}
 use Rattle.job_facts.proofs.Ordered.{order_each}
-use Rattle.job_answers.specs.Due.{ReadsOwn, ReplacesNone, SetStands, AllPublished}
+use Rattle.job_answers.specs.Due.{ReadsOwn, SetStands, AllPublished}
 
 -- ---- the records that a task's commit reads
 
@@ -97,64 +97,6 @@ reads_begin w a = by w.committer
 
 pub reads_go : (w : Script) (minimum retries : ℕ) (a : Who) (t : Retried TaskCommit) (o : Outcome) → ReadsOwn w a t.operation → ReadsOwn w a (step retries (task_commit_after w minimum a) t o).operation
 reads_go w minimum retries a t o own = step_so retries (task_commit_after w minimum a) t o (ReadsOwn w a) (λ x e. own_heard w a minimum t.operation x t.repeated own) (λ none. own) (λ none. tt)
-
--- ---- a commit without a replace mode
-
-either : (b : Bool) (c d : Commit) → ReplacesNone c → ReplacesNone d → ReplacesNone (cond b c d)
-either true c d h g = h
-either false c d h g = g
-
-none_completing : (sets : Sets) (xs : List Turn) (finished : List ℕ) → ReplacesNone (completing sets xs finished)
-none_completing sets [] finished = tt
-none_completing sets (x ∷ xs) finished = tt
-
-none_reverting : (rs : List Request) → ReplacesNone (reverting rs)
-none_reverting [] = tt
-none_reverting (r ∷ rs) = tt
-
-module _ (w : Script) (magic : is_magic w.committer ≡ true) where
-  none_replaced : (c : Committer) (mode : Mode) (picks : Picks) → is_magic c ≡ true → replaced c mode w picks ≡ []
-  none_replaced Magic mode picks h = refl
-  none_replaced Directory mode picks h = absurd (false≢true h)
-  none_replaced Partitioned mode picks h = absurd (false≢true h)
-
-  none_decided : (sets : Sets) (o : Option CommitEnd) → ReplacesNone (decided w sets o)
-  none_decided sets (Some end) = tt
-  none_decided sets None = subst (λ ps. ReplacesNone (replacing w sets ps)) (sym (none_replaced w.committer w.mode (picks_of sets) magic)) (none_completing sets (dealt w.lanes (length (all_commits sets))) [])
-
-  none_fetching : (sets : Sets) → ReplacesNone (fetching w sets)
-  none_fetching sets = either (nat_lt (length sets) w.tasks) (Fetching sets 0) (decided w sets (same_path w (picks_of sets))) tt (none_decided sets (same_path w (picks_of sets)))
-
-  none_fetched : (sets : Sets) (o : Option PendingSet) → ReplacesNone (fetched w sets o)
-  none_fetched sets (Some s) = none_fetching (sets ++ s ∷ [])
-  none_fetched sets None = tt
-
-  pub replaces_begin : (missing : Option ℕ) → ReplacesNone (commit_start w missing)
-  replaces_begin (Some t) = tt
-  replaces_begin None = none_fetching []
-
-  none_missed : (c : Commit) (lost : Bool) → ReplacesNone c → ReplacesNone (commit_misses w c lost)
-  none_missed (Fetching sets n) lost h = either (nat_lt n w.retries) _ _ tt tt
-  none_missed (Replacing sets p ps s n) lost h = absurd h
-  none_missed (Completing sets x xs finished) lost h =
-      either (nat_lt x.missed w.retries) (completing sets (xs ++ again x lost ∷ []) finished) (worn_completion sets x xs finished) (none_completing sets (xs ++ again x lost ∷ []) finished) (none_reverting (revert (all_commits sets) x.number xs finished))
-  none_missed (Marking sets n) lost h = either (nat_lt n w.retries) _ _ tt tt
-  none_missed (Reverting r rs n) lost h = either (nat_lt n w.retries) _ _ tt (none_reverting rs)
-  none_missed (CommitOver end) lost h = tt
-
-  none_heard : (c : Commit) (x : Reply) → ReplacesNone c → ReplacesNone (commit_tells w c (Answered x))
-  none_heard (Fetching sets n) x h = none_fetched sets (set_read x)
-  none_heard (Replacing sets p ps s n) x h = absurd h
-  none_heard (Completing sets y ys finished) x h = none_completing sets (ys ++ follow w.lanes (length (all_commits sets)) y.number) (y.number ∷ finished)
-  none_heard (Marking sets n) x h = tt
-  none_heard (Reverting r rs n) x h = none_reverting rs
-  none_heard (CommitOver end) x h = tt
-
-  pub replaces_go : (c : Commit) (o : Outcome) → ReplacesNone c → ReplacesNone (commit_tells w c o)
-  replaces_go c (Answered x) h = none_heard c x h
-  replaces_go c Slow h = none_missed c false h
-  replaces_go c RequestLost h = none_missed c true h
-  replaces_go c ReplyLost h = none_missed c true h
 
 -- ---- sets that stand
 

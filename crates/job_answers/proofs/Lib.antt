@@ -7,5 +7,4 @@ pub mod Committed
 pub mod Telling
 pub mod Picking
 pub mod Planned
-pub mod Knowing
 pub mod Others

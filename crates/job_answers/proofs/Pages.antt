@@ -46,11 +46,18 @@ keys_taken zero xs h = tt
 keys_taken (suc n) [] h = tt
 keys_taken (suc n) (x ∷ xs) h = (h.0, keys_taken n xs h.1)
 
-pub listed_keys : (p l : List ℕ) (m : Objects) → AreKeys (take 1000 (listed p false l m))
-listed_keys p l m =
+all_keys : (n : ℕ) (p l : List ℕ) (m : Objects) → AreKeys (take n (listed p false l m))
+all_keys n p l m =
     let behind : PageEntry → Bool = λ x. is_lt (text_cmp l (text_in x)) in
     let all : List PageEntry = map (entry_of p false) (filter (λ (e : Entry). begins p e.0) (fin.entries m)) in
-    keys_taken 1000 (listed p false l m) (keys_folded None (filter behind all) (keys_filtered behind all (keys_mapped p (filter (λ (e : Entry). begins p e.0) (fin.entries m)))))
+    keys_taken n (listed p false l m) (keys_folded None (filter behind all) (keys_filtered behind all (keys_mapped p (filter (λ (e : Entry). begins p e.0) (fin.entries m)))))
+
+pub listed_keys : (p l : List ℕ) (m : Objects) → AreKeys (take 1000 (listed p false l m))
+listed_keys = all_keys 1000
+
+-- a page of one entry at the most, from the beginning
+pub listed_look : (p : List ℕ) (m : Objects) → AreKeys (take 1 (listed p false [] m))
+listed_look p m = all_keys 1 p [] m
 
 -- ---- answers
 

@@ -31,15 +31,6 @@ ReadsOwn w a Storing = Unit {0}
 ReadsOwn w a Renaming = Unit {0}
 ReadsOwn w a (TaskCommitOver end) = Unit {0}
 
--- a job's commit deletes nothing for a replace mode
-abbrev pub ReplacesNone : Commit → Type 0
-ReplacesNone (Fetching sets n) = Unit {0}
-ReplacesNone (Replacing sets p ps s n) = ⊥
-ReplacesNone (Completing sets x xs finished) = Unit {0}
-ReplacesNone (Marking sets n) = Unit {0}
-ReplacesNone (Reverting r rs n) = Unit {0}
-ReplacesNone (CommitOver end) = Unit {0}
-
 -- the set that a job's commit reads next stands
 abbrev pub SetStands : Script → Seen → Commit → Type 0
 SetStands w s (Fetching sets n) = (bytes : List ℕ) × (sets_at w s.scene (length sets) ≡ Some bytes)

@@ -7,7 +7,7 @@ use Rattle.s3_types.specs.declared.request.Request.{Request}
 use Rattle.s3_types.specs.declared.journal.Outcome.{Outcome}
 use Rattle.s3_types.specs.declared.journal.Entry.{Entry}
 use Rattle.request_frame.specs.Held.{HasBucket}
-use Rattle.sendings.specs.Retries.{Item, Retried, fresh, step}
+use Rattle.sendings.specs.Retries.{Item, Retried, step}
 use Rattle.job_model.specs.Attempts.{Who}
 use Rattle.job_model.specs.Legal.{IsLegal}
 use Rattle.job_model.specs.JobScript.{Script}
@@ -24,7 +24,6 @@ use Rattle.job_promise.specs.Seen.{Seen, see, is_begun, is_magic}
 use Rattle.task_requests.specs.Writing.{write_fits}
 use Rattle.task_laws.specs.Commits.{commit_fits}
 use Rattle.task_laws.specs.Aborts.{abort_fits}
-use Rattle.task_magic.specs.Committing.{known_if}
 use Rattle.job_setup.specs.Fits as setups
 use Rattle.cleanup.specs.Fits as cleans
 use Rattle.commit_laws.specs.Fitting as jobs
@@ -38,18 +37,18 @@ use Rattle.job_facts.specs.Standing.{HasPublished}
 use Rattle.job_facts.specs.Turning.{NoneEnded}
 use Rattle.job_facts.specs.Filed.{Gone}
 use Rattle.job_facts.specs.FiledLaws.{Commits}
-use Rattle.job_answers.specs.Plans.{at_work, planned, driving, driven, committing, heard, known_then, is_pending}
-use Rattle.job_answers.specs.Due.{FitsDue, ReadsOwn, ReplacesNone, SetStands, AllPublished, IsSameTold}
+use Rattle.job_answers.specs.Plans.{at_work, planned, driving, driven, committing, heard, known_then}
+use Rattle.job_answers.specs.Due.{FitsDue, ReadsOwn, SetStands, AllPublished, IsSameTold}
 use Rattle.job_answers.specs.Picked.{ArePicked, IsEachPicked}
 
 -- ---- answers that are due
 
--- Where the facts hold of a job of the magic committer, the answer that is due to what a machine asks is one that it takes. An
--- attempt's plan is to know the uploads that are told of the attempt.
+-- Where the facts hold of a job, the answer that is due to what a machine asks is one that it takes, for every committer. An attempt's
+-- plan is to know the uploads that are told of the attempt.
 pub record DueFits : Type 0 where
   pub write : (w : Script) (minimum : ℕ) (s : Scene) (last : ℕ → Option ℕ) (m : Told) → IsLegal w → Facts w minimum s last m → (a : Who) (k : Known) → k.drawn ≡ m.drawn a
       → (t : Write) → FitsWrite w minimum a (known m a) t → FitsDue write_wants write_fits (at_work w minimum a k t) s
-  pub commit : (w : Script) (minimum : ℕ) (s : Scene) (last : ℕ → Option ℕ) (m : Told) → IsLegal w → is_magic w.committer ≡ true → Facts w minimum s last m → s.content.next ≤ 2 ^ 64 → (a : Who) (k : Known) → k.drawn ≡ m.drawn a
+  pub commit : (w : Script) (minimum : ℕ) (s : Scene) (last : ℕ → Option ℕ) (m : Told) → IsLegal w → Facts w minimum s last m → s.content.next ≤ 2 ^ 64 → (a : Who) (k : Known) → k.drawn ≡ m.drawn a
       → (t : TaskCommit) → FitsCommit w minimum a (known m a) t → ReadsOwn w a t → FitsDue task_commit_wants commit_fits (at_work w minimum a k t) s
   -- these need the bucket alone
   pub abort : (w : Script) (minimum : ℕ) (s : Scene) → HasBucket s.content w.dest.bucket → (a : Who) (k : Known) (t : TaskAbort) → FitsDue task_abort_wants abort_fits (at_work w minimum a k t) s
@@ -58,15 +57,13 @@ pub record DueFits : Type 0 where
   pub setup : (w : Script) (s : Scene) (t : Setup) → SetsUp w s.content t → FitsDue setup_wants setups.FitsDriving (driving w t) s
   -- of the job's commit every outcome that is honest, where the set that it reads next stands; that a sending of a completion was lost
   -- is told by the commit itself
-  pub job_commit : (w : Script) (minimum : ℕ) (s : Seen) (m : Told) (c : Commit) → IsLegal w → Commits w minimum s m c → s.scene.content.next ≤ 2 ^ 64 → SetStands w s c → ReplacesNone c
+  pub job_commit : (w : Script) (minimum : ℕ) (s : Seen) (m : Told) (c : Commit) → IsLegal w → Commits w minimum s m c → s.scene.content.next ≤ 2 ^ 64 → SetStands w s c
       → (picked : List ℕ) (r : Request) → commit_wants (committing w picked c) ≡ Some r → (o : Outcome) → IsHonestOutcome o (answer s.scene r) → jobs.FitsCommit (committing w picked c) o
 
 -- what is to be known for this beside the facts is kept, whatever becomes of a sending
 pub record PremisesKeep : Type 0 where
   pub reads_begin : (w : Script) (a : Who) → ReadsOwn w a (task_commit_start w a)
   pub reads_go : (w : Script) (minimum retries : ℕ) (a : Who) (t : Retried TaskCommit) (o : Outcome) → ReadsOwn w a t.operation → ReadsOwn w a (step retries (task_commit_after w minimum a) t o).operation
-  pub replaces_begin : (w : Script) (missing : Option ℕ) → is_magic w.committer ≡ true → ReplacesNone (commit_start w missing)
-  pub replaces_go : (w : Script) (c : Commit) (o : Outcome) → is_magic w.committer ≡ true → ReplacesNone c → ReplacesNone (commit_tells w c o)
   -- the set that is read next stands until the driver cleans up, where each task has a last publisher
   pub stands : (w : Script) (minimum : ℕ) (s : Seen) (m : Told) (c : Commit) → Hold w minimum s m → FitsJobCommit w minimum m.publish_sent m.drawn c → m.cleaned ≡ false → AllPublished w s → SetStands w s c
   -- a task that has a last publisher has one ever after, whoever sends
@@ -137,23 +134,7 @@ pub record MachinesTell : Type 0 where
   pub job_goes : (g : Setting) (s : Scene) (last : ℕ → Option ℕ) (m : Told) → IsLegal g.script → Facts g.script g.minimum s last m → s.content.next ≤ 2 ^ 64 → (picked : List ℕ) (c : Commit) → FitsJobCommit g.script g.minimum m.publish_sent m.drawn c
       → (r : Request) → commit_asks g.script c ≡ Some r → (o : Outcome) → IsHonestOutcome o (answer s r) → commit_told (committing g.script picked c) o ≡ committing g.script (picked_after picked c o) (commit_tells g.script c o)
 
--- ---- what plans know
-
--- What is told of an attempt is what its machine's plan knows, whatever becomes of a sending; but a commit is told of its publishing
--- request once that was answered or wore out. So when an operation is over, its plan knows what is told.
-pub record PlansKnow : Type 0 where
-  pub write : (g : Setting) → IsLegal g.script → (m : Told) (a : Who) (t : Retried Write) → Fits g.script g.minimum a m (TheWrite t) → (r : Request) → asks g a (known m a) (TheWrite t) ≡ Some r → (n : ℕ) (o : Outcome)
-      → known (tell g.script m (entry a n r o)) a ≡ known_then g.script a (known m a) (Some r) (heard t o)
-  pub abort : (g : Setting) (m : Told) (a : Who) (t : Retried TaskAbort) (r : Request) → asks g a (known m a) (TheTaskAbort t) ≡ Some r → (n : ℕ) (o : Outcome)
-      → known (tell g.script m (entry a n r o)) a ≡ known_then g.script a (known m a) (Some r) (heard t o)
-  -- of a commit k is what its plan knows
-  pub commit_begins : (retries : ℕ) (t : TaskCommit) → is_pending retries (fresh retries t) ≡ false
-  pub commit : (g : Setting) → is_magic g.script.committer ≡ true → (m : Told) (a : Who) (k : Known) (t : Retried TaskCommit) → Fits g.script g.minimum a m (TheTaskCommit t) → t.spare ≤ g.script.retries → known m a ≡ known_if (is_pending g.script.retries t) k
-      → (r : Request) → asks g a (known m a) (TheTaskCommit t) ≡ Some r → (n : ℕ) (o : Outcome)
-      → known (tell g.script m (entry a n r o)) a ≡ known_if (is_pending g.script.retries (step g.script.retries (task_commit_after g.script g.minimum a) t o)) (known_then g.script a k (Some r) (heard t o))
-  pub commit_spare : (w : Script) (minimum retries : ℕ) (a : Who) (t : Retried TaskCommit) (o : Outcome) → t.spare ≤ retries → (step retries (task_commit_after w minimum a) t o).spare ≤ retries
-  -- the uploads it always knows
-  pub uploads : (k l : Known) (pending : Bool) → l ≡ known_if pending k → k.drawn ≡ l.drawn
+-- ---- what others send
 
 -- What others send leaves what is told of an attempt, and so how far its operation has come.
 pub record OthersLeave : Type 0 where

@@ -1,5 +1,5 @@
 -- Where the machines of a job's actors stand, by the script that their plans are of.
-use Rattle.std.specs.Prelude.{ℕ, nat_lt, ◌&&◌, Bool, true, false, List, Option, Some, None}
+use Rattle.std.specs.Prelude.{ℕ, Bool, true, false, List, Option, Some, None}
 use Rattle.s3_types.specs.declared.request.Request.{Request}
 use Rattle.s3_types.specs.declared.journal.Outcome.{Outcome}
 use Rattle.s3_types.specs.declared.journal.Outcome.TheVariants.{Answered, Slow, RequestLost, ReplyLost}
@@ -7,10 +7,8 @@ use Rattle.sendings.specs.Retries.{Item, Got, WornOut, Retried, is_zero}
 use Rattle.job_model.specs.Attempts.{Who}
 use Rattle.job_model.specs.Known.{Known}
 use Rattle.job_model.specs.JobScript.{Script}
-use Rattle.job_operations.specs.TaskCommits.{TaskCommit}
 use Rattle.job_operations.specs.JobCommits.{Commit}
 use Rattle.job_operations.specs.AtWork.{Attempting, Driving, Committing, job_of, task_of, learned}
-use Rattle.task_magic.specs.Committing.{publishes}
 
 -- ---- operations with the plans that the script gives
 
@@ -50,7 +48,3 @@ heard t ReplyLost = worn_if (is_zero t.spare)
 abbrev pub known_then : Script → Who → Known → Option Request → Option Item → Known
 known_then w a k r (Some i) = learned w a k r i
 known_then w a k r None = k
-
--- a task's publishing request was sent, and is to be sent again: the attempt has sent it, and its plan does not know yet
-abbrev pub is_pending : ℕ → Retried TaskCommit → Bool
-is_pending retries t = publishes t.operation && nat_lt t.spare retries

@@ -2,9 +2,9 @@
 //! hold; and that machines which go by plans do what their operations do by the job's script, in `specs/`.
 #![tactic(auto)]
 
-ghost use Rattle.job_answers.specs.Laws.{CommitsKeep, DueFits, MachinesTell, OthersLeave, PicksTell, PlansKnow, PremisesKeep, ReadsTell};
+ghost use Rattle.job_answers.specs.Laws.{CommitsKeep, DueFits, MachinesTell, OthersLeave, PicksTell, PremisesKeep, ReadsTell};
 
-/// The answers that are due to what the machines of a magic job ask.
+/// The answers that are due to what the machines of a job ask.
 pub fn answers()
     ensures fit { DueFits }
     ensures keep { PremisesKeep }
@@ -17,9 +17,8 @@ pub fn sets()
     ensures picks { PicksTell }
 {}
 
-/// Machines by the plans of those who perform them, and what the plans know.
+/// Machines by the plans of those who perform them.
 pub fn machines()
     ensures tell { MachinesTell }
-    ensures know { PlansKnow }
     ensures others { OthersLeave }
 {}

@@ -1,24 +1,22 @@
 use Rattle.job_answers.proofs.Attempts.{write_due, commit_due, abort_due}
 use Rattle.job_answers.proofs.Drivers.{setup_due, clean_due, job_due}
 use Rattle.job_answers.proofs.Committed.{commits_begin, commits_go, still_unclean, commits_beside, commits_foreign}
-use Rattle.job_answers.proofs.Kept.{reads_begin, reads_go, replaces_begin, replaces_go, set_stands, published_still}
+use Rattle.job_answers.proofs.Kept.{reads_begin, reads_go, set_stands, published_still}
 use Rattle.job_answers.proofs.answers.Goals as goal
 
 pub returns : goal.returns
 returns c = record {
   fit = record {
     write = λ w minimum s last m j f a k e t fits. write_due w minimum s last m j f a k e t fits;
-    commit = λ w minimum s last m j magic f few a k e t fits own. commit_due w minimum s last m j f a k e magic few t fits own;
+    commit = λ w minimum s last m j f few a k e t fits own. commit_due w minimum s last m j f a k e few t fits own;
     abort = abort_due;
     clean = clean_due;
     setup = setup_due;
-    job_commit = λ w minimum s m c j v few stands plain picked r e o honest. job_due w minimum s m j few c v stands plain picked r e o honest;
+    job_commit = λ w minimum s m c j v few stands picked r e o honest. job_due w minimum s m j few c v stands picked r e o honest;
   };
   keep = record {
     reads_begin = reads_begin;
     reads_go = reads_go;
-    replaces_begin = λ w missing magic. replaces_begin w magic missing;
-    replaces_go = λ w c o magic plain. replaces_go w magic c o plain;
     stands = set_stands;
     published = published_still;
   };
