@@ -25,5 +25,3 @@ pub record ActLaws {A : Type 0} (wants : A → Option Request) (tells : A → Ou
   pub falls : (a : A) (s : Scene) (r : Request) (o : Outcome) → wants a ≡ Some r → fits a o → IsHonestOutcome o (answer s r) → left (tells a o) (effect s r o) < left a s
   -- by a request of another actor it rises by no more than that
   pub others : (a : A) (s : Scene) (r : Request) → left a (apply s r) ≤ left a s + rise a r
-  -- and by no more after a sending of its own
-  pub steady : (a : A) (o : Outcome) (r : Request) → rise (tells a o) r ≤ rise a r

@@ -1,12 +1,14 @@
 -- Operations as they begin.
-use Rattle.std.proofs.Common.{◌≡◌, ℕ, false, cond, List, [], Option, Some, refl, sym, ap, subst, ◌∙◌, arith}
+use Rattle.std.proofs.Common.{◌≡◌, ℕ, false, cond, List, [], Option, Some, Result, Ok, Err, IfOk, refl, sym, ap, subst, ◌∙◌, arith}
 use Rattle.s3_types.specs.declared.request.Actor.{Actor}
 use Rattle.s3_types.specs.declared.request.Actor.TheVariants.{Driver, Attempt, Shell}
 use Rattle.s3_types.specs.declared.request.Request.{Request}
 use Rattle.s3_types.specs.declared.journal.Outcome.TheVariants.{RequestLost}
 use Rattle.sendings.specs.Retries.{fresh}
 use Rattle.job_model.specs.Jobs.{Job, Task}
+use Rattle.request_frame.proofs.Members.{some_is}
 use Rattle.job_model.specs.Known.{Known}
+use Rattle.job_model.specs.Legal.{IsLegal}
 use Rattle.job_model.specs.declared.events.Op.{Op}
 use Rattle.job_model.specs.declared.events.Op.TheVariants as ops
 use Rattle.job_operations.specs.Setup.{setup_start}
@@ -19,8 +21,12 @@ use Rattle.job_operations.specs.Operations.{Setting, TheSetup, TheWrite, TheTask
 use Rattle.job_operations.specs.AtWork.{Attempting, job_of, task_of, task_script, who_of, read_script, write_wants, task_commit_wants, task_abort_wants}
 use Rattle.job_operations.proofs.Told.{tasks_tell}
 use Rattle.commit_laws.specs.Fitting.{least_missing}
+use Rattle.acting.specs.declared.plan.Plan.TheVariants as plans
+use Rattle.acting.specs.Plans.{IsPlanOf}
+use Rattle.job_works.specs.Works.{Starts}
+use Rattle.job_answers.proofs.Telling.{begins_same}
 use Rattle.job_actors.specs.declared.act.Act.{Act}
-use Rattle.job_actors.specs.Plans.{counted, known_now, running_of, IsAttempt, OfAttempt, IsOf}
+use Rattle.job_actors.specs.Plans.{counted, known_now, running_of, picks_of, IsAttempt, OfAttempt, IsOf}
 use Rattle.job_actors.specs.Laws.{Begun, StartsSo, BeginsTask, BeginsJob, BeginsCommit, BeginsClean, unsent, setup_of, write_of, commit_task_of, abort_task_of, commit_of, clean_of}
 use Rattle.job_actors.proofs.Going.{not_self}
 
@@ -148,3 +154,15 @@ commit_begun j reported act e = subst (λ x. BeginsCommit j reported x) (sym e) 
 
 pub clean_begun : (j : Job) (act : Act) → act ≡ clean_of j → BeginsClean j act
 clean_begun j act e = subst (λ x. BeginsClean j x) (sym e) (begins_clean j)
+
+-- ---- the job's commit, as the script begins it
+
+commit_starts : (j : Job) (reported : List ℕ) (g : Setting) (a : Actor) (k : Known) → IsLegal g.script → IsPlanOf g a k (plans.Job j) → Starts IsOf running_of picks_of g a ops.Commit (least_missing g.script.tasks reported) k (commit_of j reported)
+commit_starts j reported g a k legal plan =
+    let b = begins_commit j reported g a k plan (begins_same g.script legal (least_missing g.script.tasks reported)) in
+    record { goes_by = b.is_of; starts = b.starts; known = b.known; picks = λ ps e. sym (some_is e) }
+
+pub commit_starts_if : {E : Type 0} (r : Result Act E) (j : Job) (reported : List ℕ) → IfOk r (λ act. act ≡ commit_of j reported) → (g : Setting) (a : Actor) (k : Known) → IsLegal g.script → IsPlanOf g a k (plans.Job j)
+    → IfOk r (λ act. Starts IsOf running_of picks_of g a ops.Commit (least_missing g.script.tasks reported) k act)
+commit_starts_if (Ok act) j reported is g a k legal plan = subst (Starts IsOf running_of picks_of g a ops.Commit (least_missing g.script.tasks reported) k) (sym is) (commit_starts j reported g a k legal plan)
+commit_starts_if (Err e) j reported is g a k legal plan = tt

@@ -1,5 +1,5 @@
--- What a magic job's actor has left beside the requests of the others: an attempt's is not raised, and the driver's by no more than so much.
-use Rattle.std.proofs.Common.{◌≡◌, ℕ, ◌+◌, ◌≤◌, inl, inr, true, false, List, [], ◌∷◌, ◌++◌, length, codes, Option, Some, None, refl, sym, ap, subst, ◌∙◌, arith, append_assoc, append-nil, length-append}
+-- What a job's actor has left beside the requests of the others: an attempt's is not raised, and the driver's by no more than so much.
+use Rattle.std.proofs.Common.{◌≡◌, ℕ, ◌+◌, ◌*◌, ◌≤◌, inl, inr, true, false, List, [], ◌∷◌, ◌++◌, length, codes, Option, Some, None, refl, sym, ap, subst, ◌∙◌, arith, append_assoc, append-nil, length-append}
 use Rattle.std.specs.Fmt.{decimal}
 use Rattle.s3_types.specs.Store.{Content}
 use Rattle.s3_types.specs.Answer.{apply, bucket_of}
@@ -14,16 +14,17 @@ use Rattle.magic_paths.specs.Layout.{set_key}
 use Rattle.magic_paths.proofs.Tails.{begins_behind, below_is}
 use Rattle.pending_json.specs.Pending.{Pending}
 use Rattle.request_frame.proofs.Members.{some_is, none_some, false_true, true_or_false}
-use Rattle.sweep.specs.Left.{adds_key}
+use Rattle.sweep.specs.Left.{adds_key, one_if}
+use Rattle.commit_laws.specs.Laws.{widest, prefixes_most, if_staging, rise_of as commit_rise_of}
 use Rattle.job_model.specs.Attempts.{Who, actor_of}
 use Rattle.job_model.specs.Files.{File}
-use Rattle.job_model.specs.Jobs.{Task}
+use Rattle.job_model.specs.Jobs.{Job, Task}
 use Rattle.job_model.specs.Known.{Known}
 use Rattle.job_model.specs.Legal.{IsLegal}
 use Rattle.job_model.specs.JobScript.{Script}
 use Rattle.job_operations.specs.Records.{attempt_dir, marker_key, record_key}
 use Rattle.job_operations.specs.Uploading.{Uploading, Creating, Sending, upload_asks}
-use Rattle.job_operations.specs.Walks.{Listing, Deleting}
+use Rattle.job_operations.specs.Walks.{Sweep, Listing, Deleting}
 use Rattle.job_operations.specs.Setup as setups
 use Rattle.job_operations.specs.Writes as writes
 use Rattle.job_operations.specs.TaskCommits as commits
@@ -31,12 +32,13 @@ use Rattle.job_operations.specs.TaskCommits.{attempt_prefix}
 use Rattle.job_operations.specs.TaskAborts as aborts
 use Rattle.job_operations.specs.Cleanups as cleans
 use Rattle.job_operations.specs.Lanes.{nth}
-use Rattle.job_operations.specs.JobCommits.{all_commits, set_request, Commit, Fetching, Replacing, Completing, Marking, Reverting, CommitOver, commit_asks}
+use Rattle.job_operations.specs.JobCommits.{Sets, all_commits, set_request, Commit, Fetching, Replacing, Completing, Marking, Reverting, CommitOver, commit_asks}
 use Rattle.job_operations.specs.Operations.{Setting}
-use Rattle.job_operations.specs.AtWork.{task_of, write_wants, task_commit_wants}
-use Rattle.job_promise.specs.Seen.{Seen}
+use Rattle.job_operations.specs.AtWork.{Committing, task_of, write_wants, task_commit_wants}
+use Rattle.job_promise.specs.Seen.{Seen, is_magic}
 use Rattle.job_facts.specs.Told.{Told}
 use Rattle.job_facts.specs.Facts.{IsAttempt}
+use Rattle.job_facts.specs.Fits.{FitsWrite, FitsCommit}
 use Rattle.job_facts.specs.Foreign.{IsDriving}
 use Rattle.job_facts.specs.FiledLaws.{Commits}
 use Rattle.job_facts.proofs.Legal.{some_dest}
@@ -48,13 +50,13 @@ use Rattle.job_happenings.specs.Happenings.{Play, scene_of, knows_now}
 use Rattle.job_works.specs.Works.{IsAt, rise_for}
 use Rattle.job_actors.specs.declared.act.Act.{Act}
 use Rattle.job_actors.specs.declared.act.Act.TheVariants as acts
-use Rattle.job_actors.specs.Acts.{wants_of, left_of, rise_of}
+use Rattle.job_actors.specs.Acts.{most_commits, wants_of, left_of, rise_of}
 use Rattle.job_actors.specs.ActLaws.{act_laws}
 use Rattle.job_actors.specs.Plans.{known_now, running_of, IsOf}
 use Rattle.job_actors.specs.Beside.{PutsNone, below}
 use Rattle.job_actors.specs.Rising.{rise}
 use Rattle.job_actors.proofs.Beside.{attempts_stay}
-use Rattle.job_actors.proofs.WorksStand.{stand, attempt_is, late_by}
+use Rattle.job_actors.proofs.WorksStand.{stand, attempt_is, late_by, driver_is, never_replaces}
 use Rattle.job_actors.proofs.WorksGo.{commit_at, asks}
 use Rattle.job_actors.proofs.WorksDue.{by_attempt}
 
@@ -183,6 +185,53 @@ module _ (w : Script) (b : Who) where
     job_none (Reverting z zs n) v r q = subst FreeOf (some_is q) (elim (v.decides z (inl refl)).2 [ inl is ↦ free_of z (ap adds_key is) | inr is ↦ free_of z (ap adds_key is) ])
     job_none (CommitOver end) v r q = absurd (none_some refl q)
 
+-- ---- what adds a key
+
+-- of attempts only a magic one adds keys
+write_adds : (w : Script) (minimum : ℕ) (a : Who) (k l : Known) (t : writes.Write) → FitsWrite w minimum a l t → (r : Request) → writes.write_asks w a k t ≡ Some r → adds_key r ≡ true → is_magic w.committer ≡ true
+write_adds w minimum a k l (writes.Uploads f fs u) fits r q e = fits.0
+write_adds w minimum a k l (writes.Marking f fs) fits r q e = fits.0
+write_adds w minimum a k l (writes.Recording f fs) fits r q e = fits.0
+write_adds w minimum a k l (writes.WriteOver end) fits r q e = absurd (none_some refl q)
+
+commit_adds : (w : Script) (minimum : ℕ) (a : Who) (k l : Known) (t : commits.TaskCommit) → FitsCommit w minimum a l t → (r : Request) → commits.task_commit_asks w a k t ≡ Some r → adds_key r ≡ true → is_magic w.committer ≡ true
+commit_adds w minimum a k l (commits.Looking keys) fits r q e = fits.0
+commit_adds w minimum a k l (commits.Reading cs f fs) fits r q e = fits.0
+commit_adds w minimum a k l (commits.Publishing cs) fits r q e = fits.0
+commit_adds w minimum a k l (commits.Checking p ps) fits r q e = absurd (false_true refl (ap adds_key (some_is q) ∙ e))
+commit_adds w minimum a k l (commits.Uploads f fs Creating) fits r q e = absurd (false_true refl (ap adds_key (some_is q) ∙ e))
+commit_adds w minimum a k l (commits.Uploads f fs (Sending p ps)) fits r q e = absurd (false_true refl (ap adds_key (some_is q) ∙ e))
+commit_adds w minimum a k l commits.Storing fits r q e = absurd (false_true refl (ap adds_key (some_is q) ∙ e))
+commit_adds w minimum a k l commits.Renaming fits r q e = absurd (false_true refl (ap adds_key (some_is q) ∙ e))
+commit_adds w minimum a k l (commits.TaskCommitOver end) fits r q e = absurd (none_some refl q)
+
+abort_adds : (w : Script) (a : Who) (t : aborts.TaskAbort) (r : Request) → aborts.task_abort_asks w a t ≡ Some r → adds_key r ≡ true → is_magic w.committer ≡ true
+abort_adds w a (aborts.Dropping x xs sent) r q e = absurd (false_true refl (ap adds_key (some_is q) ∙ e))
+abort_adds w a (aborts.Sweeping (Listing keys)) r q e = absurd (false_true refl (ap adds_key (some_is q) ∙ e))
+abort_adds w a (aborts.Sweeping (Deleting p ps)) r q e = absurd (false_true refl (ap adds_key (some_is q) ∙ e))
+abort_adds w a aborts.Removing r q e = absurd (false_true refl (ap adds_key (some_is q) ∙ e))
+abort_adds w a (aborts.TaskAbortOver end) r q e = absurd (none_some refl q)
+
+is_magic_so : (c : Committer) → is_magic c ≡ true → c ≡ Magic
+is_magic_so Magic e = refl
+is_magic_so Directory e = absurd (false_true refl e)
+is_magic_so Partitioned e = absurd (false_true refl e)
+
+-- the commit of a magic job deletes nothing, and so nothing raises what it has left
+magic_calm : (j : Job) (c : Commit) → j.committer ≡ Magic → ((sets : Sets) (p : List ℕ) (ps : List (List ℕ)) (t : Sweep) (n : ℕ) → c ≡ Replacing sets p ps t n → ⊥) → commit_rise_of most_commits j c ≡ 0
+magic_calm j (Fetching sets n) magic never = ap (λ z. if_staging z (prefixes_most j (widest most_commits sets) * (j.retries + 1))) magic
+magic_calm j (Replacing sets p ps t n) magic never = absurd (never sets p ps t n refl)
+magic_calm j (Completing sets x xs finished) magic never = refl
+magic_calm j (Marking sets n) magic never = refl
+magic_calm j (Reverting z zs n) magic never = refl
+magic_calm j (CommitOver end) magic never = refl
+
+none_times : (a b : ℕ) → a ≡ 0 → a * b ≡ 0
+none_times a b e = let none : 0 * b ≡ 0 = omega arith in subst (λ x. x * b ≡ 0) (sym e) none
+
+times_none : (a : ℕ) → a * 0 ≡ 0
+times_none a = omega arith
+
 -- ---- any other actor's
 
 module _ (g : Setting) (opening : Content) (x : Play) where
@@ -224,6 +273,37 @@ module _ (g : Setting) (opening : Content) (x : Play) where
   below_is_own : (c : Who) (t : Task) (k : Known) → t ≡ task_of g.script g.minimum c k → (r : Request) → PutsNone (attempt_prefix g.script c) r → PutsNone (below t) r
   below_is_own c t k e r h = subst (λ v. PutsNone (below v) r) (sym e) h
 
+  -- another actor than the driver adds a key in a magic job alone
+  other_adds : (a b : Actor) (other : Act) → At b other → (b ≡ Driver → ⊥) → (r : Request) → wants_of other ≡ Some r → adds_key r ≡ true → is_magic g.script.committer ≡ true
+  other_adds a b (acts.Setup t) at ne r e adds = absurd (ne at.goes_by.actor)
+  other_adds a b (acts.Commit c) at ne r e adds = absurd (ne at.goes_by.0)
+  other_adds a b (acts.Clean t) at ne r e adds = absurd (ne at.goes_by.actor)
+  other_adds a b (acts.Write t) at ne r e adds =
+      let o = by_attempt g opening x b (acts.Write t) at.goes_by.actor at in
+      let m = running_of (knows_now g x (actor_of o.0)) (acts.Write t) in
+      let here = attempt_is g opening x at.legal at.opens at.happened o.0 m o.2.at in
+      let fits = ((late_by g opening x at.legal at.opens at.happened o.0 m.operation here).fine o.0 m.operation here).1.1 in
+      write_adds g.script g.minimum o.0 (known_now write_wants t) _ t.machine.operation fits r (sym (asks g opening x (actor_of o.0) (acts.Write t) o.2) ∙ e) adds
+  other_adds a b (acts.CommitTask t) at ne r e adds =
+      let o = by_attempt g opening x b (acts.CommitTask t) at.goes_by.actor at in
+      let m = running_of (knows_now g x (actor_of o.0)) (acts.CommitTask t) in
+      let here = attempt_is g opening x at.legal at.opens at.happened o.0 m o.2.at in
+      let fits = ((late_by g opening x at.legal at.opens at.happened o.0 m.operation here).fine o.0 m.operation here).1.1 in
+      commit_adds g.script g.minimum o.0 (known_now task_commit_wants t) _ t.machine.operation fits r (sym (asks g opening x (actor_of o.0) (acts.CommitTask t) o.2) ∙ e) adds
+  other_adds a b (acts.AbortTask t) at ne r e adds =
+      let o = by_attempt g opening x b (acts.AbortTask t) at.goes_by.actor at in
+      abort_adds g.script o.0 t.machine.operation r (sym (asks g opening x (actor_of o.0) (acts.AbortTask t) o.2) ∙ e) adds
+
+  commit_calm : (a b : Actor) (c : Committing) (other : Act) → At a (acts.Commit c) → At b other → (a ≡ b → ⊥) → (r : Request) → wants_of other ≡ Some r → rise_of (acts.Commit c) r ≡ 0
+  commit_calm a b c other at bt ne r e = elim (true_or_false (adds_key r)) [
+    | inr none ↦ ap (λ v. commit_rise_of most_commits c.plan c.operation * one_if v) none ∙ times_none (commit_rise_of most_commits c.plan c.operation)
+    | inl adds ↦
+        let magic = is_magic_so g.script.committer (other_adds a b other bt (λ s. ne (at.goes_by.0 ∙ sym s)) r e adds) in
+        let planned : c.plan.committer ≡ Magic = ap (λ (j : Job). j.committer) at.goes_by.1 ∙ magic in
+        let d = driver_is g opening x at.legal at.opens at.happened a (running_of (knows_now g x a) (acts.Commit c)) at.goes_by.0 at.at in
+        none_times (commit_rise_of most_commits c.plan c.operation) (one_if (adds_key r)) (magic_calm c.plan c.operation planned (never_replaces g opening x at.legal at.opens at.happened c.operation d magic))
+  ]
+
   by_driver : (a : Actor) (work : Act) (r : Request) → a ≡ Driver → rise_of work r ≤ rise g.script → Beside a work r
   by_driver a work r is most =
       let k = act_laws.others work (scene_of opening x) r in
@@ -233,7 +313,7 @@ module _ (g : Setting) (opening : Content) (x : Play) where
 pub beside : (g : Setting) (opening : Content) (x : Play) (a b : Actor) (work other : Act) → IsAt IsOf running_of g opening x a work → IsAt IsOf running_of g opening x b other → (a ≡ b → ⊥) → (r : Request) → wants_of other ≡ Some r
     → left_of work (apply (scene_of opening x) r) ≤ left_of work (scene_of opening x) + rise_for (rise g.script) a
 beside g opening x a b (acts.Setup t) other at bt ne r e = by_driver g opening x a (acts.Setup t) r at.goes_by.actor (let k : t.retries ≡ g.script.retries = at.goes_by.retries in omega (arith, k))
-beside g opening x a b (acts.Commit c) other at bt ne r e = by_driver g opening x a (acts.Commit c) r at.goes_by.0 (omega arith)
+beside g opening x a b (acts.Commit c) other at bt ne r e = by_driver g opening x a (acts.Commit c) r at.goes_by.0 (let calm = commit_calm g opening x a b c other at bt ne r e in omega (arith, calm))
 beside g opening x a b (acts.Clean t) other at bt ne r e = by_driver g opening x a (acts.Clean t) r at.goes_by.actor (let k : t.retries ≡ g.script.retries = at.goes_by.retries in omega (arith, k))
 beside g opening x a b (acts.Write t) other at bt ne r e =
     let o = by_attempt g opening x a (acts.Write t) at.goes_by.actor at in

@@ -1,4 +1,4 @@
--- Each outcome that is due to what a magic job's actor asks fits.
+-- Each outcome that is due to what a job's actor asks fits.
 use Rattle.std.proofs.Common.{◌≡◌, ℕ, ◌<◌, ◌≤◌, inl, inr, nat_lt, Bool, Option, Some, sym, ap, subst, ◌∙◌, arith}
 use Rattle.s3_types.specs.Store.{Content, Scene}
 use Rattle.s3_types.specs.Answer.{answer}
@@ -22,7 +22,6 @@ use Rattle.job_operations.specs.Cleanups as cleans
 use Rattle.job_operations.specs.JobCommits.{commit_asks}
 use Rattle.job_operations.specs.Operations.{Setting}
 use Rattle.job_operations.specs.AtWork.{Attempting, Driving, Committing, job_of, task_of, task_script, who_of, setup_wants, write_wants, task_commit_wants, task_abort_wants, commit_wants, clean_wants}
-use Rattle.job_promise.specs.Seen.{is_magic}
 use Rattle.request_frame.proofs.Members.{none_some}
 use Rattle.task_requests.specs.Writing.{write_fits}
 use Rattle.task_laws.specs.Commits.{commit_fits as task_commit_fits}
@@ -123,7 +122,7 @@ module _ (g : Setting) (opening : Content) (x : Play) where
         let wanted : commit_wants (record { plan = job_of g.script; picked = c.picked; operation = c.operation }) ≡ Some r = ap (λ p. commit_wants (record { plan = p; picked = c.picked; operation = c.operation })) (sym is) ∙ e in
         record {
           lanes = subst (λ (p : Job). 0 < p.lanes) (sym is) (some_lane at.legal.one_lane);
-          fits = subst (λ p. FitsCommit (record { plan = p; picked = c.picked; operation = c.operation }) o) (sym is) (job_due g.script g.minimum s committed.told at.legal few c.operation v.commits v.stands v.replaces c.picked r wanted o due);
+          fits = subst (λ p. FitsCommit (record { plan = p; picked = c.picked; operation = c.operation }) o) (sym is) (job_due g.script g.minimum s committed.told at.legal few c.operation v.commits v.stands c.picked r wanted o due);
           few = reads_few g.script g.minimum s.scene s.last committed.told at.legal v.commits.hold few c.operation v.commits.fits r asked o due;
         }
 
@@ -154,10 +153,9 @@ module _ (g : Setting) (opening : Content) (x : Play) where
         let here = attempt_is g opening x at.legal at.opens at.happened b m at.at in
         let l = late_by g opening x at.legal at.opens at.happened b m.operation here in
         let k = t.machine.plan.known in
-        let magic = ap is_magic at.magic in
-        let own = own_now g opening x at.legal at.opens at.happened magic b m.operation here in
+        let own = own_now g opening x at.legal at.opens at.happened b m.operation here in
         let drawn = drawn_is task_commit_wants t (known publishing.told b) ((run g opening x at.legal at.opens at.happened).last b m at.at) in
-        let h = commit_due g.script g.minimum publishing.seen.scene publishing.seen.last publishing.told at.legal l.hold b k drawn magic (few_now g opening x (actor_of b) (CommitTask t) at) t.machine.operation (l.fine b m.operation here).1.1 own.0 in
+        let h = commit_due g.script g.minimum publishing.seen.scene publishing.seen.last publishing.told at.legal l.hold b k drawn (few_now g opening x (actor_of b) (CommitTask t) at) t.machine.operation (l.fine b m.operation here).1.1 own.0 in
         let plan = attempting_by task_commit_wants task_commit_fits t.machine (task_of g.script g.minimum b k) publishing.seen.scene at.goes_by.plan h in
         outcome_fits task_commit_wants task_commit_fits t (scene_of opening x) (subst (FitsDue task_commit_wants task_commit_fits t.machine) (scene_is g opening x at.legal at.opens at.happened) plan) r o e honest
 

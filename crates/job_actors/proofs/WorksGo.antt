@@ -1,4 +1,4 @@
--- The operations of a magic job's actors ask and go on as the script's.
+-- The operations of a job's actors ask and go on as the script's.
 use Rattle.std.proofs.Common.{◌≡◌, ◌≤◌, ◌^◌, Some, sym, subst, ◌∙◌}
 use Rattle.s3_types.specs.Store.{Content, Scene}
 use Rattle.s3_types.specs.Answer.{answer}
@@ -27,7 +27,7 @@ few_now g opening x a work at = subst (λ (s : Scene). s.content.next ≤ 2 ^ 64
 
 -- the job's commit, with all that is asked of it
 pub commit_at : (g : Setting) (opening : Content) (x : Play) (a : Actor) (c : Committing) → (at : IsAt IsOf running_of g opening x a (Commit c)) → let s = stand g opening x at.legal at.opens at.happened in CommitNow g s.seen s.told c.operation
-commit_at g opening x a c at = commit_now g opening x at.legal at.opens at.happened at.magic c.operation (driver_is g opening x at.legal at.opens at.happened a (running_of (knows_now g x a) (Commit c)) at.goes_by.0 at.at)
+commit_at g opening x a c at = commit_now g opening x at.legal at.opens at.happened c.operation (driver_is g opening x at.legal at.opens at.happened a (running_of (knows_now g x a) (Commit c)) at.goes_by.0 at.at)
 
 asks_so : (g : Setting) (opening : Content) (x : Play) (a : Actor) (work : Act) → IsAt IsOf running_of g opening x a work → AsksSo g.script work
 asks_so g opening x a (Commit c) at = let s = stand g opening x at.legal at.opens at.happened in asks_same g.script g.minimum s.told at.legal c.operation (commit_at g opening x a c at).commits.fits

@@ -1,5 +1,5 @@
--- In a run of a magic job each task that is reported has a last publisher, and so has every one where the driver's commit reads sets.
-use Rattle.std.proofs.Common.{◌≡◌, ℕ, zero, suc, ◌+◌, ◌<◌, ◌≤◌, ◌⊎◌, inl, inr, nat_eq, nat_lt, ◌&&◌, Bool, true, false, cond, List, [], ◌∷◌, ◌++◌, length, Option, Some, None, refl, sym, ap, subst, ◌∙◌, arith}
+-- Until the driver cleans up each task that is reported has a last publisher, and so has every one where the driver's commit reads sets.
+use Rattle.std.proofs.Common.{◌≡◌, ℕ, zero, suc, ◌+◌, ◌<◌, ◌≤◌, ◌⊎◌, inl, inr, nat_eq, nat_lt, ◌&&◌, ◌||◌, Bool, true, false, cond, List, [], ◌∷◌, ◌++◌, length, Option, Some, None, refl, sym, ap, subst, ◌∙◌, arith}
 use Rattle.std.specs.Option.{option_map}
 use Rattle.std.proofs.lemmas.Bool.{and_parts, or_cases}
 use Rattle.s3_types.specs.Store.{Content}
@@ -28,29 +28,49 @@ use Rattle.job_model.specs.declared.states.Life.TheVariants.{Busy}
 use Rattle.job_model.specs.declared.states.ActorStage.{ActorStage}
 use Rattle.job_operations.specs.Walks.{Sweep, sweep_hears}
 use Rattle.job_operations.specs.Lanes.{Turn, again, follow, dealt, revert}
-use Rattle.job_operations.specs.TaskCommits.{task_commit_over}
+use Rattle.sendings.specs.Retries.{Retried}
+use Rattle.job_operations.specs.TaskCommits.{TaskCommit, TaskCommitOver, task_commit_over}
 use Rattle.job_operations.specs.JobCommits.{Sets, all_commits, set_read, is_no_magic, Commit, Fetching, Replacing, Completing, Marking, Reverting, CommitOver, completing, replacing, fetching, fetched, swept, reverting, worn_completion, commit_misses, commit_tells, commit_start}
 use Rattle.job_operations.specs.Operations.{Setting, Operation, TheSetup, TheWrite, TheTaskCommit, TheTaskAbort, TheCommit, TheClean, Running, who, tells, start_of, over}
-use Rattle.job_promise.specs.Seen.{Seen, see, see_all, nothing_seen, is_magic}
+use Rattle.job_promise.specs.Seen.{Seen, see, see_all, nothing_seen}
+use Rattle.job_promise.specs.Ends.{lists_uploads}
 use Rattle.job_promise.specs.States.{first_not, missing, report, is_done, is_committing, open_event, commit_event}
 use Rattle.job_promise.specs.Turns.{is_memory}
 use Rattle.request_frame.proofs.Members.{some_is, none_some, false_true, eq_nat}
 use Rattle.job_facts.specs.Runs.{IsOpening}
 use Rattle.job_facts.specs.Standing.{HasPublished}
-use Rattle.job_facts.proofs.Entries.{sees}
+use Rattle.job_facts.specs.Told.{Told, tell, tell_by, tell_all, nothing_told}
+use Rattle.job_facts.proofs.Entries.{sees, tells_so}
 use Rattle.job_happenings.specs.Happenings.{Play, Refuses, Opens, Sends, Finishes, Closes, knows_now, begun, open_running, hear, happen, MaySend, MayFinish, Happened, nothing_happened, happens}
 use Rattle.job_happenings.specs.Running.{Ahead, IsRun, operation_of}
 use Rattle.job_happenings.proofs.Actors.{same_or_not, put_here, put_other}
 use Rattle.job_happenings.proofs.Running.{is_run, sent_ahead, finished_ahead, opened_ahead, refused_ahead, not_refused, closed_ahead}
 use Rattle.job_answers.specs.Due.{AllPublished}
 use Rattle.job_answers.proofs.Kept.{published_still}
-use Rattle.job_actors.proofs.WorksTasks.{HasEnded, OwnTask, own_task}
+use Rattle.job_actors.proofs.WorksTasks.{done_published}
 use Rattle.job_actors.proofs.WorksStages.{IsTaskCommit, StageBy, CommitAt, over_is, commits_at}
 
 -- one more entry
 see_more : (w : Script) (k : Option ℕ) (s : Seen) (es : List Entry) (e : Entry) → see_all w k s (es ++ e ∷ []) ≡ see w k (see_all w k s es) e
 see_more w k s [] e = refl
 see_more w k s (x ∷ es) e = see_more w k (see w k s x) es e
+
+or_more : (a b : Bool) → a ≡ true → (a || b) ≡ true
+or_more true b h = refl
+or_more false b h = absurd (false_true refl h)
+
+-- who has begun to clean up has begun to ever after
+tell_keeps : (w : Script) (m : Told) (e : Entry) → m.cleaned ≡ true → (tell w m e).cleaned ≡ true
+tell_keeps w m e h = by e.actor
+  where
+    by : (a : Actor) → (tell_by w m e.request e.outcome a).cleaned ≡ true
+    by Driver = or_more m.cleaned (lists_uploads e.request) h
+    by (Attempt t n) = h
+    by Shell = h
+
+cleaned_more : (w : Script) (m : Told) (es : List Entry) (e : Entry) → (tell_all w m es).cleaned ≡ true → (tell_all w m (es ++ e ∷ [])).cleaned ≡ true
+cleaned_more w m [] e h = tell_keeps w m e h
+cleaned_more w m (x ∷ es) e h = cleaned_more w (tell w m x) es e h
 
 -- ---- the driver's commit
 
@@ -202,8 +222,14 @@ reports (Attempt u n) s e p t h = elim (or_cases (p t) (nat_eq t u && (is_commit
       inr (record { by = record { task = u; attempt = n }; task = sym (eq_nat t u x.0); actor = refl; stage = y.0; done = done_is e y.1 })
 ]
 
-published_of : (w : Script) (s : Seen) (b : Who) (op : Operation) → OwnTask w s b op → IsTaskCommit (Some op) → over op ≡ Some (ends.Task tasks.Done) → HasPublished s b.task
-published_of w s b (TheTaskCommit t) own h o = (subst (HasEnded s b) (over_is t.operation tasks.Done (done_of (task_commit_over t.operation) o)) own.1).1 refl
+-- the task's commit that is done
+record IsDoneCommit (op : Operation) : Type 0 where
+  commit : Retried TaskCommit
+  is : op ≡ TheTaskCommit commit
+  over : commit.operation ≡ TaskCommitOver tasks.Done
+
+done_commit : (op : Operation) → IsTaskCommit (Some op) → over op ≡ Some (ends.Task tasks.Done) → IsDoneCommit op
+done_commit (TheTaskCommit t) h o = record { commit = t; is = refl; over = over_is t.operation tasks.Done (done_of (task_commit_over t.operation) o) }
   where
     task_is : (end : TaskEnd) → ends.Task end ≡ ends.Task tasks.Done → end ≡ tasks.Done
     task_is end e = cc
@@ -211,15 +237,15 @@ published_of w s b (TheTaskCommit t) own h o = (subst (HasEnded s b) (over_is t.
     done_of : (x : Option TaskEnd) → option_map ends.Task x ≡ Some (ends.Task tasks.Done) → x ≡ Some tasks.Done
     done_of (Some end) e = let is : end ≡ tasks.Done = task_is end (some_is e) in ap Some is
     done_of None e = absurd (none_some refl e)
-published_of w s b (TheSetup t) own h o = absurd h
-published_of w s b (TheWrite t) own h o = absurd h
-published_of w s b (TheTaskAbort t) own h o = absurd h
-published_of w s b (TheCommit c) own h o = absurd h
-published_of w s b (TheClean t) own h o = absurd h
+done_commit (TheSetup t) h o = absurd h
+done_commit (TheWrite t) h o = absurd h
+done_commit (TheTaskAbort t) h o = absurd h
+done_commit (TheCommit c) h o = absurd h
+done_commit (TheClean t) h o = absurd h
 
 -- ---- every run
 
-module _ (g : Setting) (opening : Content) (j : IsLegal g.script) (is_opening : IsOpening g opening) (magic : is_magic g.script.committer ≡ true) (all_ends : List EventEnd) where
+module _ (g : Setting) (opening : Content) (j : IsLegal g.script) (is_opening : IsOpening g opening) (all_ends : List EventEnd) where
   abbrev w : Script
   w = g.script
 
@@ -228,6 +254,10 @@ module _ (g : Setting) (opening : Content) (j : IsLegal g.script) (is_opening : 
 
   abbrev seen_of : Play → Seen
   seen_of x = see_all w k (nothing_seen opening) x.journal
+
+  -- the driver has not begun to clean up
+  abbrev pub Unclean : Play → Type 0
+  Unclean x = (tell_all w nothing_told x.journal).cleaned ≡ false
 
   record Reported (x : Play) : Type 0 where
     live : AllReported x.live.reported (seen_of x)
@@ -277,8 +307,16 @@ module _ (g : Setting) (opening : Content) (j : IsLegal g.script) (is_opening : 
             | inr ne ↦ subst (λ r. DriverReads w (seen_of (happen g y (Sends e))) (operation_of r)) (sym (put_other y.running e.actor then Driver ne)) before
           ]
 
-  finishes : (y : Play) → Happened g opening y → Ahead y all_ends → (v : ActorEnd) → MayFinish y v → Reported y → Reported (happen g y (Finishes v))
-  finishes y past ahead v may old = record {
+  -- what is told now was not told before
+  unclean_before : (y : Play) (e : Entry) → Unclean (happen g y (Sends e)) → Unclean y
+  unclean_before y e h = before (tell_all w nothing_told y.journal).cleaned _ (cleaned_more w nothing_told y.journal e) h
+    where
+      before : (a b : Bool) → (a ≡ true → b ≡ true) → b ≡ false → a ≡ false
+      before true b h e = absurd (false_true e (h refl))
+      before false b h e = refl
+
+  finishes : (y : Play) → Happened g opening y → Ahead y all_ends → (v : ActorEnd) → MayFinish y v → Unclean y → Reported y → Reported (happen g y (Finishes v))
+  finishes y past ahead v may clean old = record {
     live = λ t h. elim (reports v.actor (y.live.state v.actor).stage v.end y.live.reported t h) [ inl before ↦ old.live t before | inr now ↦ published t now may.end ];
     past = old.past;
     driver = old.driver;
@@ -293,25 +331,27 @@ module _ (g : Setting) (opening : Content) (j : IsLegal g.script) (is_opening : 
           let b = r.by in
           let m = q.0 in
           let here : y.running (actor_of b) ≡ Some m = ap y.running (sym r.actor) ∙ q.1 in
-          let own = own_task g k opening j is_opening magic y.journal run.stand run.runs b m.operation (run.attempts b ∙ ap operation_of here) in
-          let at = commits_at g opening j is_opening magic y past b in
+          let at = commits_at g opening j is_opening y past b in
           let busy : (y.live.state (actor_of b)).life ≡ Busy = ap (λ a. (y.live.state a).life) (sym r.actor) ∙ may.busy in
           let staged : is_committing (y.live.state (actor_of b)).stage ≡ true = ap (λ a. is_committing (y.live.state a).stage) (sym r.actor) ∙ r.stage in
           let is_task : IsTaskCommit (Some m.operation) =
           subst (λ l. StageBy true l (Some m.operation)) busy (subst (λ c. StageBy c (y.live.state (actor_of b)).life (Some m.operation)) staged (subst (λ o. CommitAt (y.live.state (actor_of b)) (operation_of o)) here at)) in
-          let has = published_of w run.stand.seen b m.operation own is_task (q.2 ∙ ap (λ v. Some v) r.done) in
+          let d = done_commit m.operation is_task (q.2 ∙ ap (λ v. Some v) r.done) in
+          let told : run.stand.told.cleaned ≡ false = ap (λ (z : Told). z.cleaned) (tells_so g k opening j is_opening y.journal run.stand run.runs) ∙ clean in
+          let here_at : run.stand.attempts b ≡ Some (TheTaskCommit d.commit) = run.attempts b ∙ ap operation_of here ∙ ap (λ v. Some v) d.is in
+          let has = done_published g k opening j is_opening y.journal run.stand run.runs told b d.commit here_at d.over in
           subst (λ u. HasPublished (seen_of y) u) r.task (subst (λ s. HasPublished s b.task) (sees g k opening j is_opening y.journal run.stand run.runs) has)
 
-  reported : (x : Play) → Happened g opening x → Ahead x all_ends → Reported x
-  reported x (nothing_happened) ahead = record { live = λ t h. absurd (false_true refl h); past = λ t h. absurd (false_true refl h); driver = tt }
-  reported x (happens y (Refuses f) past may) ahead = let old = reported y past (refused_ahead g y f all_ends may.1.idle ahead) in record { live = old.past; past = old.past; driver = old.driver }
-  reported x (happens y (Opens ev) past may) ahead = let old = reported y past (opened_ahead g y ev all_ends may.idle ahead) in record { live = opened y ev old.past; past = old.past; driver = driver_opened y ev old }
-  reported x (happens y (Sends e) past may) ahead = sends y e may (reported y past (sent_ahead g y e all_ends ahead))
-  reported x (happens y (Finishes v) past may) ahead = let before = finished_ahead g y v all_ends ahead in finishes y past before v may (reported y past before)
-  reported x (happens y (Closes end) past may) ahead =
-      let old = reported y past (closed_ahead g y end all_ends (not_refused w y.past.state may.event end _ may.turns) ahead) in
+  reported : (x : Play) → Happened g opening x → Ahead x all_ends → Unclean x → Reported x
+  reported x (nothing_happened) ahead clean = record { live = λ t h. absurd (false_true refl h); past = λ t h. absurd (false_true refl h); driver = tt }
+  reported x (happens y (Refuses f) past may) ahead clean = let old = reported y past (refused_ahead g y f all_ends may.1.idle ahead) clean in record { live = old.past; past = old.past; driver = old.driver }
+  reported x (happens y (Opens ev) past may) ahead clean = let old = reported y past (opened_ahead g y ev all_ends may.idle ahead) clean in record { live = opened y ev old.past; past = old.past; driver = driver_opened y ev old }
+  reported x (happens y (Sends e) past may) ahead clean = sends y e may (reported y past (sent_ahead g y e all_ends ahead) (unclean_before y e clean))
+  reported x (happens y (Finishes v) past may) ahead clean = let before = finished_ahead g y v all_ends ahead in finishes y past before v may clean (reported y past before clean)
+  reported x (happens y (Closes end) past may) ahead clean =
+      let old = reported y past (closed_ahead g y end all_ends (not_refused w y.past.state may.event end _ may.turns) ahead) clean in
       record { live = old.live; past = old.live; driver = old.driver }
 
-  -- while the driver's commit reads sets each task has a last publisher
-  pub driver_reads : (x : Play) → Happened g opening x → Ahead x all_ends → DriverReads w (seen_of x) (operation_of (x.running Driver))
-  driver_reads x past ahead = (reported x past ahead).driver
+  -- while the driver's commit reads sets, and it has not cleaned up, each task has a last publisher
+  pub driver_reads : (x : Play) → Happened g opening x → Ahead x all_ends → Unclean x → DriverReads w (seen_of x) (operation_of (x.running Driver))
+  driver_reads x past ahead clean = (reported x past ahead clean).driver

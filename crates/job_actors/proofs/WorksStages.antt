@@ -1,4 +1,4 @@
--- In a run of a magic job an attempt at the stage of its commit is at that commit, until it ends or dies.
+-- In a run an attempt at the stage of its commit is at that commit, until it ends or dies.
 use Rattle.std.proofs.Common.{◌≡◌, ℕ, inl, inr, Bool, true, false, [], ◌∷◌, ◌++◌, Option, Some, None, refl, sym, ap, subst, ◌∙◌}
 use Rattle.s3_types.specs.Store.{Content}
 use Rattle.s3_types.specs.declared.request.Actor.{Actor}
@@ -31,7 +31,6 @@ use Rattle.job_model.specs.declared.states.ActorStage.TheVariants as stage
 use Rattle.job_model.specs.declared.states.ActorState.{ActorState}
 use Rattle.job_operations.specs.TaskCommits.{TaskCommit, Looking, Reading, Publishing, Checking, Uploads, Storing, Renaming, TaskCommitOver, task_commit_over}
 use Rattle.job_operations.specs.Operations.{Setting, Operation, TheSetup, TheWrite, TheTaskCommit, TheTaskAbort, TheCommit, TheClean, Running, tells, start_of, over}
-use Rattle.job_promise.specs.Seen.{Seen, is_magic}
 use Rattle.job_promise.specs.States.{Past, put, missing, stage_begun, stage_done, dead, setup_ended, commit_ended, clean_ended, task_ended, ended, is_committing, open_event, commit_event}
 use Rattle.request_frame.proofs.Members.{some_is, none_some, true_or_false}
 use Rattle.job_facts.specs.Runs.{IsOpening}
@@ -145,19 +144,19 @@ over_is (Uploads f fs u) e o = absurd (none_some refl o)
 over_is Storing e o = absurd (none_some refl o)
 over_is Renaming e o = absurd (none_some refl o)
 
-module _ (g : Setting) (now : Seen) (b : Who) (e : OpEnd) (s : ActorStage) where
-  commit_ends : (op : Operation) → OwnTask g.script now b op → IsTaskCommit (Some op) → over op ≡ Some e → CommitAt (ended e s) (Some op)
+module _ (g : Setting) (b : Who) (e : OpEnd) (s : ActorStage) where
+  commit_ends : (op : Operation) → OwnTask g.script b op → IsTaskCommit (Some op) → over op ≡ Some e → CommitAt (ended e s) (Some op)
   commit_ends (TheTaskCommit t) own h o =
       let m = mapped ends.Task (task_commit_over t.operation) e o in
-      let has = subst (HasEnded now b) (over_is t.operation m.0 m.1) own.1 in
-      subst (λ v. CommitAt (ended v s) (Some (TheTaskCommit t))) m.2 (task_left m.0 s (Some (TheTaskCommit t)) has.0)
+      let has = subst HasEnded (over_is t.operation m.0 m.1) own.1 in
+      subst (λ v. CommitAt (ended v s) (Some (TheTaskCommit t))) m.2 (task_left m.0 s (Some (TheTaskCommit t)) has)
   commit_ends (TheSetup t) own h o = absurd h
   commit_ends (TheWrite t) own h o = absurd h
   commit_ends (TheTaskAbort t) own h o = absurd h
   commit_ends (TheCommit c) own h o = absurd h
   commit_ends (TheClean t) own h o = absurd h
 
-  ends_at : (op : Operation) → OwnTask g.script now b op → StageBy (is_committing s) Busy (Some op) → over op ≡ Some e → CommitAt (ended e s) (Some op)
+  ends_at : (op : Operation) → OwnTask g.script b op → StageBy (is_committing s) Busy (Some op) → over op ≡ Some e → CommitAt (ended e s) (Some op)
   ends_at op own h o = elim (true_or_false (is_committing s)) [
     | inl at ↦ commit_ends op own (subst (λ c. StageBy c Busy (Some op)) at h) o
     | inr other ↦ subst (λ c. StageBy c (ended e s).life (Some op)) (sym (ended_else e s other)) tt
@@ -182,7 +181,7 @@ one_put P f c v q here old = elim (same_or_not q c) [
 pub goes_on : (x : Play) → Ahead x (x.ends ++ Done ∷ [])
 goes_on x = record { rest = Done ∷ []; is = refl; going = λ ev e. (Done, [], refl, refl) }
 
-module _ (g : Setting) (opening : Content) (j : IsLegal g.script) (is_opening : IsOpening g opening) (magic : is_magic g.script.committer ≡ true) where
+module _ (g : Setting) (opening : Content) (j : IsLegal g.script) (is_opening : IsOpening g opening) where
   abbrev pub AllCommitAt : (Actor → ActorState) → (Actor → Option Running) → Type 0
   AllCommitAt st r = (b : Who) → CommitAt (st (actor_of b)) (operation_of (r (actor_of b)))
 
@@ -236,10 +235,10 @@ module _ (g : Setting) (opening : Content) (j : IsLegal g.script) (is_opening : 
         | inr q ↦
             let m = q.0 in
             let here : y.running (actor_of b) ≡ Some m = ap y.running s ∙ q.1 in
-            let own = own_task g (commit_event g.script (y.ends ++ Done ∷ [])) opening j is_opening magic y.journal run.stand run.runs b m.operation (run.attempts b ∙ ap operation_of here) in
+            let own = own_task g (commit_event g.script (y.ends ++ Done ∷ [])) opening j is_opening y.journal run.stand run.runs b m.operation (run.attempts b ∙ ap operation_of here) in
             let busy : (y.live.state (actor_of b)).life ≡ Busy = ap (λ a. (y.live.state a).life) s ∙ may.busy in
             let before : StageBy (is_committing (y.live.state (actor_of b)).stage) Busy (Some m.operation) = subst (λ l. StageBy (is_committing (y.live.state (actor_of b)).stage) l (Some m.operation)) busy (subst (λ r. At (y.live.state (actor_of b)) r) here (old b)) in
-            subst (λ r. At (ended v.end (y.live.state v.actor).stage) r) (sym here) (subst (λ a. CommitAt (ended v.end (y.live.state a).stage) (Some m.operation)) s (ends_at g run.stand.seen b v.end (y.live.state (actor_of b)).stage m.operation own before q.2))
+            subst (λ r. At (ended v.end (y.live.state v.actor).stage) r) (sym here) (subst (λ a. CommitAt (ended v.end (y.live.state a).stage) (Some m.operation)) s (ends_at g b v.end (y.live.state (actor_of b)).stage m.operation own before q.2))
       ]
 
   -- between events what is past is how it stands

@@ -1,4 +1,4 @@
--- What the actors of a magic job are at, request by request: as far as what has happened says.
+-- What the actors of a job are at, request by request: as far as what has happened says.
 use Rattle.std.proofs.Common.{◌≡◌, ℕ, ◌⊎◌, inl, inr, true, List, [], ◌∷◌, ◌++◌, Option, Some, None, refl, sym, ap, subst, ◌∙◌}
 use Rattle.s3_types.specs.Store.{Content}
 use Rattle.s3_types.specs.declared.request.Actor.{Actor}
@@ -11,9 +11,10 @@ use Rattle.job_model.specs.JobScript.{Script}
 use Rattle.job_model.specs.declared.ends.SetupEnd.TheVariants as setups
 use Rattle.job_model.specs.declared.ends.EventEnd.TheVariants.{Done}
 use Rattle.job_operations.specs.Setup.{Setup, SetupOver}
-use Rattle.job_operations.specs.JobCommits.{picks_of, replaced, Commit, Fetching, Replacing, Completing, Marking, Reverting, CommitOver}
+use Rattle.job_operations.specs.Walks.{Sweep}
+use Rattle.job_operations.specs.JobCommits.{Sets, picks_of, replaced, Commit, Fetching, Replacing, Completing, Marking, Reverting, CommitOver}
 use Rattle.job_operations.specs.Operations.{Setting, Operation, TheSetup, TheCommit, Running}
-use Rattle.job_promise.specs.Seen.{Seen, is_magic}
+use Rattle.job_promise.specs.Seen.{Seen}
 use Rattle.job_promise.specs.States.{commit_event}
 use Rattle.request_frame.proofs.Members.{none_some}
 use Rattle.job_facts.specs.Told.{Told}
@@ -22,12 +23,12 @@ use Rattle.job_facts.specs.FiledLaws.{Commits}
 use Rattle.job_facts.specs.Runs.{Stand, IsOpening, is_set}
 use Rattle.job_facts.proofs.Running.{Empty, InCommit, At, Early, Late}
 use Rattle.job_facts.proofs.EveryRun.{good}
-use Rattle.job_facts.proofs.Entries.{sees, late_now}
+use Rattle.job_facts.proofs.Entries.{sees, tells_so, late_now}
 use Rattle.job_facts.proofs.Changes.{moment_scene}
 use Rattle.job_happenings.specs.Happenings.{Play, Happened, scene_of}
 use Rattle.job_happenings.specs.Running.{IsRun, operation_of}
 use Rattle.job_happenings.proofs.Running.{is_run}
-use Rattle.job_answers.specs.Due.{ReplacesNone, SetStands}
+use Rattle.job_answers.specs.Due.{SetStands}
 use Rattle.job_answers.proofs.Kept.{set_stands}
 use Rattle.job_actors.proofs.WorksStages.{goes_on}
 use Rattle.job_actors.proofs.WorksTasks.{OwnTask, own_task}
@@ -41,7 +42,6 @@ no_replacing (x ∷ front) p ps e = cc
 pub record CommitNow (g : Setting) (s : Seen) (m : Told) (c : Commit) : Type 0 where
   pub commits : Commits g.script g.minimum s m c
   pub stands : SetStands g.script s c
-  pub replaces : ReplacesNone c
 
 module _ (g : Setting) (opening : Content) (x : Play) (j : IsLegal g.script) (is_opening : IsOpening g opening) (past : Happened g opening x) where
   abbrev w : Script
@@ -76,8 +76,8 @@ module _ (g : Setting) (opening : Content) (x : Play) (j : IsLegal g.script) (is
   pub late_set : is_set stand.driver ≡ true → Late g opening stand
   late_set set = late_now g event opening j is_opening x.journal stand run.runs set
 
-  pub own_now : is_magic w.committer ≡ true → (b : Who) (op : Operation) → stand.attempts b ≡ Some op → OwnTask w stand.seen b op
-  own_now magic b op at = own_task g event opening j is_opening magic x.journal stand run.runs b op at
+  pub own_now : (b : Who) (op : Operation) → stand.attempts b ≡ Some op → OwnTask w b op
+  own_now b op at = own_task g event opening j is_opening x.journal stand run.runs b op at
 
   -- ---- the driver's set-up
 
@@ -96,7 +96,7 @@ module _ (g : Setting) (opening : Content) (x : Play) (j : IsLegal g.script) (is
 
   -- ---- the driver's commit
 
-  module _ (magic : w.committer ≡ Magic) (c : Commit) (d : stand.driver ≡ Some (TheCommit c)) where
+  module _ (c : Commit) (d : stand.driver ≡ Some (TheCommit c)) where
     commit_late : Late g opening stand
     commit_late = late_set (ap is_set d)
 
@@ -104,17 +104,15 @@ module _ (g : Setting) (opening : Content) (x : Play) (j : IsLegal g.script) (is
     in_commit = subst (λ v. At g opening v stand.seen stand.told stand.commit) d commit_late.driver
 
     -- a magic job has no replace mode
-    replaces : (v : Commit) → Empty g opening stand.seen.scene.content v → ReplacesNone v
-    replaces (Fetching sets n) h = tt
-    replaces (Replacing sets p ps t n) h = no_replacing h.behind p ps (h.parts ∙ ap (λ z. replaced z w.mode w (picks_of sets)) magic)
-    replaces (Completing sets y ys finished) h = tt
-    replaces (Marking sets n) h = tt
-    replaces (Reverting r rs n) h = tt
-    replaces (CommitOver end) h = tt
+    pub never_replaces : w.committer ≡ Magic → (sets : Sets) (p : List ℕ) (ps : List (List ℕ)) (t : Sweep) (n : ℕ) → c ≡ Replacing sets p ps t n → ⊥
+    never_replaces magic sets p ps t n is =
+        let h = subst (Empty g opening stand.seen.scene.content) is in_commit.empty in
+        no_replacing h.behind p ps (h.parts ∙ ap (λ z. replaced z w.mode w (picks_of sets)) magic)
 
     reads : AllRead w stand.seen c
     reads =
-        let h = driver_reads g opening j is_opening (ap is_magic magic) (x.ends ++ Done ∷ []) x past (goes_on x) in
+        let clean = sym (ap (λ (z : Told). z.cleaned) (tells_so g event opening j is_opening x.journal stand run.runs)) ∙ in_commit.uncleaned in
+        let h = driver_reads g opening j is_opening (x.ends ++ Done ∷ []) x past (goes_on x) clean in
         subst (λ v. DriverReads w stand.seen v) (sym run.driver ∙ d) (subst (λ s. DriverReads w s (operation_of (x.running Driver))) (sym (sees g event opening j is_opening x.journal stand run.runs)) h)
 
     commits : Commits w g.minimum stand.seen stand.told c
@@ -129,4 +127,4 @@ module _ (g : Setting) (opening : Content) (x : Play) (j : IsLegal g.script) (is
     stands (CommitOver end) is all = tt
 
     pub commit_now : CommitNow g stand.seen stand.told c
-    commit_now = record { commits = commits; stands = stands c refl reads; replaces = replaces c in_commit.empty }
+    commit_now = record { commits = commits; stands = stands c refl reads }

@@ -105,7 +105,7 @@ falls (Setup t) s r o w f e = sending_falls set_ups_end t s r o w f e
 falls (Write t) s r o w f e = sending_falls write_falls t s r o w f e
 falls (CommitTask t) s r o w f e = sending_falls task_commit_falls t s r o w f e
 falls (AbortTask t) s r o w f e = sending_falls task_abort_falls t s r o w f e
-falls (Commit c) s r o w f e = (commit_falls most_commits).falls c s r o w f (due_is o (answer s r) e)
+falls (Commit c) s r o w f e = commit_falls.falls most_commits c s r o w f (due_is o (answer s r) e)
 falls (Clean t) s r o w f e = sending_falls cleans_end t s r o w f e
 
 others : (a : Act) (s : Scene) (r : Request) → left_of a (apply s r) ≤ left_of a s + rise_of a r
@@ -113,16 +113,8 @@ others (Setup t) s r = sending_rises set_ups_end t s r
 others (Write t) s r = let k = sending_rises write_falls t s r in omega (arith, k)
 others (CommitTask t) s r = sending_rises task_commit_falls t s r
 others (AbortTask t) s r = sending_rises task_abort_falls t s r
-others (Commit c) s r = (commit_falls most_commits).others c s r
+others (Commit c) s r = commit_falls.others most_commits c s r
 others (Clean t) s r = sending_rises cleans_end t s r
 
-steady : (a : Act) (o : Outcome) (r : Request) → rise_of (tells_of a o) r ≤ rise_of a r
-steady (Setup t) o r = omega arith
-steady (Write t) o r = omega arith
-steady (CommitTask t) o r = omega arith
-steady (AbortTask t) o r = omega arith
-steady (Commit c) o r = omega arith
-steady (Clean t) o r = omega arith
-
 pub act_laws : ActLaws wants_of tells_of FitsAct end_of left_of rise_of
-act_laws = record { goes_on = goes_on; falls = falls; others = others; steady = steady }
+act_laws = record { goes_on = goes_on; falls = falls; others = others }

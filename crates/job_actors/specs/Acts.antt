@@ -23,7 +23,8 @@ use Rattle.job_setup.specs.Fits.{FitsDriving as setup_fits}
 use Rattle.job_setup.specs.Left.{setup_left}
 use Rattle.cleanup.specs.Fits.{FitsDriving as clean_fits}
 use Rattle.cleanup.specs.Left.{clean_left}
-use Rattle.commit_laws.specs.Laws.{FitsFew, left}
+use Rattle.commit_laws.specs.Laws.{FitsFew, left, rise as commit_rise}
+use Rattle.sweep.specs.Left.{adds_key, one_if}
 use Rattle.job_actors.specs.declared.act.Act.{Act}
 use Rattle.job_actors.specs.declared.act.Act.TheVariants.{Setup, Write, CommitTask, AbortTask, Commit, Clean}
 
@@ -97,5 +98,5 @@ rise_of (Setup t) r = 2 * (t.retries + 1)
 rise_of (Write t) r = 0
 rise_of (CommitTask t) r = 1 * (t.retries + 1)
 rise_of (AbortTask t) r = 1 * (t.retries + 1)
-rise_of (Commit c) r = 0
+rise_of (Commit c) r = commit_rise most_commits c * one_if (adds_key r)
 rise_of (Clean t) r = 3 * (t.retries + 1)

@@ -18,7 +18,7 @@ use job_setup::SetupJob;
 use machine::{Machine, Retrying};
 use s3_types::{Outcome, Request};
 use std::alloc::AllocError;
-use task_magic::{AbortTask, CommitTask, WriteFiles};
+use task_machines::{AbortTask, CommitTask, WriteFiles};
 
 /// What an actor of a job is at. A job's clean and its abort send the same.
 #[derive(Drop)]

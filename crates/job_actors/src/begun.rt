@@ -1,5 +1,4 @@
 ghost use Rattle.std.specs.Prelude.{◌≡◌, IfOk};
-ghost use Rattle.s3_types.specs.declared.request.Committer.TheVariants.{Magic};
 ghost use Rattle.job_model.specs.declared.events.Op.TheVariants as ops;
 ghost use Rattle.job_actors.specs.Laws.{unsent, setup_of, write_of, commit_task_of, abort_task_of, commit_of, clean_of, BeginsJob, BeginsTask, BeginsCommit, BeginsClean};
 
@@ -10,7 +9,7 @@ use job_model::{JobPlan, TaskPlan, TaskSet};
 use job_setup::SetupJob;
 use machine::{Machine, Retrying};
 use std::alloc::{AllocError, Global};
-use task_magic::{AbortTask, CommitTask, WriteFiles};
+use task_machines::{AbortTask, CommitTask, WriteFiles};
 
 /// A machine under its retries, of which nothing was sent yet.
 #[tactic(auto, using(crate::proofs::Telling::whole))]
@@ -20,7 +19,7 @@ fn unsent<M: Machine>(machine: M, retries: u32) -> Retrying<M>
     Retrying::new(machine, retries)
 }
 
-/// Begins a set-up of a job, for every committer. AllocError comes where memory ran out alone; the plan is lost
+/// Begins a set-up of a job. AllocError comes where memory ran out alone; the plan is lost
 /// then, with the actor.
 #[tactic(auto, using(crate::proofs::Beginnings::setup_begun))]
 pub fn begin_setup(alloc: Global, plan: JobPlan) -> Result<Act, AllocError>
@@ -37,7 +36,6 @@ pub fn begin_setup(alloc: Global, plan: JobPlan) -> Result<Act, AllocError>
 /// Begins an attempt's write of its files. AllocError comes where memory ran out alone; the plan is lost then,
 /// with the actor.
 pub fn begin_write(alloc: Global, plan: TaskPlan) -> Result<Act, AllocError>
-    requires { plan.job.committer ≡ Magic }
     ensures act { IfOk result (λ act. act ≡ write_of plan) }
     ensures begins { IfOk result (λ act. BeginsTask ops.Write plan act) }
 {
@@ -51,7 +49,6 @@ pub fn begin_write(alloc: Global, plan: TaskPlan) -> Result<Act, AllocError>
 /// Begins an attempt's commit of its task. AllocError comes where memory ran out alone; the plan is lost then,
 /// with the actor.
 pub fn begin_commit_task(alloc: Global, plan: TaskPlan) -> Result<Act, AllocError>
-    requires { plan.job.committer ≡ Magic }
     ensures act { IfOk result (λ act. act ≡ commit_task_of plan) }
     ensures begins { IfOk result (λ act. BeginsTask ops.Commit plan act) }
 {
@@ -65,7 +62,6 @@ pub fn begin_commit_task(alloc: Global, plan: TaskPlan) -> Result<Act, AllocErro
 /// Begins an attempt's abort of its task. AllocError comes where memory ran out alone; the plan is lost then,
 /// with the actor.
 pub fn begin_abort_task(alloc: Global, plan: TaskPlan) -> Result<Act, AllocError>
-    requires { plan.job.committer ≡ Magic }
     ensures act { IfOk result (λ act. act ≡ abort_task_of plan) }
     ensures begins { IfOk result (λ act. BeginsTask ops.Abort plan act) }
 {
@@ -80,7 +76,6 @@ pub fn begin_abort_task(alloc: Global, plan: TaskPlan) -> Result<Act, AllocError
 /// alone; the plan is lost then, with the actor.
 #[tactic(auto, using(crate::proofs::Beginnings::commit_begun))]
 pub fn begin_commit(alloc: Global, plan: JobPlan, reported: &TaskSet) -> Result<Act, AllocError>
-    requires { plan.committer ≡ Magic }
     ensures act { IfOk result (λ act. act ≡ commit_of plan reported.now) }
     ensures begins { IfOk result (λ act. BeginsCommit plan reported.now act) }
 {
@@ -90,8 +85,7 @@ pub fn begin_commit(alloc: Global, plan: JobPlan, reported: &TaskSet) -> Result<
     }
 }
 
-/// Begins a clean of a job, or its abort, which sends the same; for every committer. AllocError comes where
-/// memory ran out alone; the plan is lost then, with the actor.
+/// Begins a clean of a job, or its abort, which sends the same. AllocError comes where memory ran out alone; the plan is lost then, with the actor.
 #[tactic(auto, using(crate::proofs::Beginnings::clean_begun))]
 pub fn begin_clean(alloc: Global, plan: JobPlan) -> Result<Act, AllocError>
     ensures act { IfOk result (λ act. act ≡ clean_of plan) }

@@ -1,4 +1,4 @@
-//! The operations of a magic job's actors, whichever an actor is at: begun from its plan, told the outcome of
+//! The operations of a job's actors, whichever an actor is at: begun from its plan, told the outcome of
 //! each sending, and the plan back from it.
 #![tactic(auto)]
 

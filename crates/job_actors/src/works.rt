@@ -1,6 +1,5 @@
 ghost use Rattle.std.specs.Prelude.{◌≡◌, ℕ, Option, IfOk};
 ghost use Rattle.s3_types.specs.declared.request.Actor.{Actor};
-ghost use Rattle.s3_types.specs.declared.request.Committer.TheVariants.{Magic};
 ghost use Rattle.acting.specs.declared.plan.Plan.TheVariants as plans;
 ghost use Rattle.acting.specs.Plans.{IsPlanOf};
 ghost use Rattle.commit_laws.specs.Fitting.{least_missing};
@@ -23,7 +22,6 @@ use std::alloc::{AllocError, Global};
 
 /// Begins an operation of the driver, which writes nothing.
 fn begin_job(alloc: Global, plan: JobPlan, op: Op, reported: &TaskSet) -> Result<Act, AllocError>
-    requires { plan.committer ≡ Magic }
     ensures { (g : Setting) (a : Actor) (k : Known) → IsLegal g.script → IsPlanOf g a k (plans.Job plan) → HasOp a op → IfOk result (λ act. Starts IsOf running_of picks_of g a op (least_missing g.script.tasks reported.now) k act) }
 {
     match op {
@@ -36,7 +34,6 @@ fn begin_job(alloc: Global, plan: JobPlan, op: Op, reported: &TaskSet) -> Result
 
 /// Begins an operation of an attempt, which sets nothing up and cleans nothing.
 fn begin_task(alloc: Global, plan: TaskPlan, op: Op) -> Result<Act, AllocError>
-    requires { plan.job.committer ≡ Magic }
     ensures { (g : Setting) (a : Actor) (k : Known) (missing : Option ℕ) → IsPlanOf g a k (plans.Task plan) → HasOp a op → IfOk result (λ act. Starts IsOf running_of picks_of g a op missing k act) }
 {
     match op {

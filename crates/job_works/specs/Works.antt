@@ -6,7 +6,6 @@ use Rattle.s3_types.specs.Moment.{IsHonestOutcome}
 use Rattle.s3_types.specs.declared.request.Request.{Request}
 use Rattle.s3_types.specs.declared.request.Actor.{Actor}
 use Rattle.s3_types.specs.declared.request.Actor.TheVariants.{Driver, Attempt, Shell}
-use Rattle.s3_types.specs.declared.request.Committer.TheVariants.{Magic}
 use Rattle.s3_types.specs.declared.journal.Outcome.{Outcome}
 use Rattle.s3_types.specs.declared.journal.Entry.{Entry}
 use Rattle.job_model.specs.Known.{Known}
@@ -21,19 +20,12 @@ use Rattle.job_promise.specs.States.{actors}
 use Rattle.job_promise.specs.Seen.{Seen, see}
 use Rattle.job_facts.specs.Runs.{IsOpening}
 use Rattle.acting.specs.Posting.{DueFits}
-use Rattle.acting.specs.declared.plan.Plan.{Plan}
-use Rattle.acting.specs.declared.plan.Plan.TheVariants.{Job, Task}
 use Rattle.job_happenings.specs.Happenings.{Play, Happened, Sends, MaySend, happen, scene_of, knows_now}
 use Rattle.job_works.specs.Picks.{HasPicked, is_job_commit}
 
 -- the actor at a place: the driver at 0, and then the attempts in script order
 abbrev pub IsPlace : Script → ℕ → Actor → Type 0
 IsPlace w place a = slice_get (actors w) place ≡ Some a
-
--- the plan is of a job of the magic committer
-abbrev pub IsMagicPlan : Plan → Type 0
-IsMagicPlan (Job j) = j.committer ≡ Magic
-IsMagicPlan (Task t) = t.job.committer ≡ Magic
 
 -- it is this operation of the actor as the script begins it, where the actor knows k
 pub record Starts {W : Type 0} (is_of : Setting → Actor → W → Type 0) (running : Known → W → Running) (picks_of : W → Option (List Pick)) (g : Setting) (a : Actor) (op : Op) (missing : Option ℕ) (k : Known) (work : W) : Type 0 where
@@ -46,7 +38,6 @@ pub record Starts {W : Type 0} (is_of : Setting → Actor → W → Type 0) (run
 -- a run of a legal script has come so far, and this is what an actor of it is at
 pub record IsAt {W : Type 0} (is_of : Setting → Actor → W → Type 0) (running : Known → W → Running) (g : Setting) (opening : Content) (x : Play) (a : Actor) (work : W) : Type 0 where
   pub legal : IsLegal g.script
-  pub magic : g.script.committer ≡ Magic
   pub opens : IsOpening g opening
   pub happened : Happened g opening x
   -- the store has drawn fewer ids than there are

@@ -8,7 +8,7 @@ ghost use Rattle.job_model.specs.declared.ends.Pick.{Pick};
 ghost use Rattle.commit_laws.specs.Fitting.{least_missing};
 ghost use Rattle.job_operations.specs.Operations.{Setting, Running};
 ghost use Rattle.acting.specs.Plans.{IsPlanOf};
-ghost use Rattle.job_works.specs.Works.{WorkLaws, Starts, IsMagicPlan};
+ghost use Rattle.job_works.specs.Works.{WorkLaws, Starts};
 
 use acting::{Acts, Plan};
 use job_model::{Op, PickList, TaskSet};
@@ -39,7 +39,6 @@ pub trait Works: Acts {
         op: Op,
         reported: &TaskSet,
     ) -> Result<Self, AllocError>
-        requires magic { IsMagicPlan plan }
         ensures { (g : Setting) (k : Known) → IsLegal g.script → IsPlanOf g actor k plan → HasOp actor op → IfOk result (λ work. Starts is_of running picks_of g actor op (least_missing g.script.tasks reported.now) k work) };
 
     /// Gives the plan back, with what its attempt knows as the operation leaves it. Takes no memory.

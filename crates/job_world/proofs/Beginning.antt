@@ -6,7 +6,6 @@ use Rattle.request_frame.proofs.Members.{none_some, false_true}
 use Rattle.s3_types.specs.declared.request.Request.{Request}
 use Rattle.s3_types.specs.declared.request.Actor.{Actor}
 use Rattle.s3_types.specs.declared.request.Actor.TheVariants.{Driver, Attempt, Shell}
-use Rattle.s3_types.specs.declared.request.Committer.TheVariants.{Magic}
 use Rattle.job_model.specs.Attempts.{is_known}
 use Rattle.job_model.specs.Known.{Known}
 use Rattle.job_model.specs.JobScript.{Script}
@@ -198,9 +197,6 @@ module _ {W : Type 0} (wants : W → Option Request) (is_of : Setting → Actor 
     module _ (d : Body W) (opened : IsOpened ev c d) where
       then_is : d ≡ record b { hands = c.hands; picks = c.picks; states = d.states; event = Some ev }
       then_is = opened.is ∙ ap (λ (v : Body W). record v { states = d.states; event = Some ev }) emptied.is
-
-      pub magic_then : d.script.committer ≡ Magic
-      magic_then = ap (λ (v : Body W). v.script.committer) then_is ∙ q.holds.magic
 
       pub legal_then : IsLegal d.script
       legal_then = subst (λ (v : Body W). IsLegal v.script) (sym then_is) q.holds.legal

@@ -56,7 +56,6 @@ module _ {W : Type 0} (wants : W → Option Request) (is_of : Setting → Actor 
     refused_holds : Holds is_of running picks_of all_sound refused_body
     refused_holds = record {
       legal = q.holds.legal;
-      magic = q.holds.magic;
       opens = q.holds.opens;
       play = refused_play;
       happened = happens q.holds.play (Refuses fault) q.holds.happened (ev, may_open is_of running picks_of all_sound b q.holds ev (Some fault) q.idle next refused);
@@ -141,7 +140,6 @@ module _ {W : Type 0} (wants : W → Option Request) (is_of : Setting → Actor 
     closed_holds : Holds is_of running picks_of all_sound closed_body
     closed_holds = record {
       legal = q.holds.legal;
-      magic = q.holds.magic;
       opens = q.holds.opens;
       play = closed_play;
       happened = happens q.holds.play (Closes (end_of ev b.finished.items)) q.holds.happened closes;

@@ -100,7 +100,6 @@ end_others w j k l p y s t place e q ne = elim (none_or_some (slice_get (actors 
 pub sound_but : {W : Type 0} (is_of : Setting → Actor → W → Type 0) (running : Known → W → Running) (picks_of : W → Option (List Pick)) (place : ℕ) (b : Body W) → Holds is_of running picks_of all_sound b → Holds is_of running picks_of (all_but place) b
 sound_but is_of running picks_of place b h = record {
   legal = h.legal;
-  magic = h.magic;
   opens = h.opens;
   play = h.play;
   happened = h.happened;
@@ -185,7 +184,6 @@ module _ {W : Type 0} (is_of : Setting → Actor → W → Type 0) (running : Kn
         let may : MayFinish x y = record { event = ev.0; during = sym h.now ∙ ev.1; busy = life; end = end } in
         record {
           legal = h.legal;
-          magic = h.magic;
           opens = h.opens;
           play = happen g x (Finishes y);
           happened = happens x (Finishes y) h.happened may;

@@ -12,7 +12,6 @@ use Rattle.s3_types.specs.declared.request.Request.{Request}
 use Rattle.s3_types.specs.declared.journal.Entry.{Entry}
 use Rattle.s3_types.specs.declared.request.Actor.{Actor}
 use Rattle.s3_types.specs.declared.request.Actor.TheVariants.{Driver}
-use Rattle.s3_types.specs.declared.request.Committer.TheVariants.{Magic}
 use Rattle.job_model.specs.Attempts.{Declared, actor_of}
 use Rattle.job_model.specs.Jobs.{Task}
 use Rattle.job_model.specs.Known.{Known, nothing_known}
@@ -149,7 +148,7 @@ pub record IsFirst {W : Type 0} (b : Body W) : Type 0 where
 abbrev run_with : Script → Content → List Entry → List Pick → List EventEnd → Run
 run_with w c es ps xs = record { script = w; opening = c; journal = es; picks = ps; ends = xs; stuck = false }
 
-module _ {W : Type 0} (wants : W → Option Request) (is_of : Setting → Actor → W → Type 0) (running : Known → W → Running) (picks_of : W → Option (List Pick)) (b : Body W) (legal : IsLegal b.script) (magic : b.script.committer ≡ Magic) (may : MayBegin b.opening) (below : AreBelow b.opening.buckets b.opening.next) (h : IsFirst b) where
+module _ {W : Type 0} (wants : W → Option Request) (is_of : Setting → Actor → W → Type 0) (running : Known → W → Running) (picks_of : W → Option (List Pick)) (b : Body W) (legal : IsLegal b.script) (may : MayBegin b.opening) (below : AreBelow b.opening.buckets b.opening.next) (h : IsFirst b) where
   opens : IsOpening (setting_of b) b.opening
   opens = record { least = refl; fresh = below_next b.script b.opening below }
 
@@ -165,7 +164,6 @@ module _ {W : Type 0} (wants : W → Option Request) (is_of : Setting → Actor 
   first_holds : Holds is_of running picks_of all_sound b
   first_holds = record {
     legal = legal;
-    magic = magic;
     opens = opens;
     play = nothing_played;
     happened = nothing_happened;

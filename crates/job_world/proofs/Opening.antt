@@ -88,7 +88,6 @@ module _ {W : Type 0} (wants : W → Option Request) (is_of : Setting → Actor 
     abbrev pub opened_holds : (sound : ℕ → Bool) → length c.hands.items ≡ length b.hands.items → HandsAre is_of running picks_of sound g b.opening y c.hands.items → PutBy g b.opening y c.picks → Holds is_of running picks_of sound e
     opened_holds sound places hands picks = record {
       legal = h.legal;
-      magic = h.magic;
       opens = h.opens;
       play = y;
       happened = happens x (Opens ev) h.happened (may_open is_of running picks_of all_sound b h ev None q.idle next fine);

@@ -80,7 +80,6 @@ module _ {W : Type 0} (wants : W → Option Request) (tells : W → Outcome → 
         let N : ℕ → Type 0 = λ n. st.scene.content.next ≤ 2 ^ 62 + n in
         record {
           legal = holds.legal;
-          magic = holds.magic;
           opens = holds.opens;
           play = holds.play;
           happened = holds.happened;

@@ -20,7 +20,6 @@ module _ {W : Type 0} (wants : W → Option Request) (is_of : Setting → Actor 
   quiet_roomy b c q ends finished = record {
     holds = record {
       legal = q.holds.legal;
-      magic = q.holds.magic;
       opens = q.holds.opens;
       play = q.holds.play;
       happened = q.holds.happened;

@@ -98,7 +98,6 @@ module _ {W : Type 0} (wants : W → Option Request) (tells : W → Outcome → 
       let hand = h.hands q a (At m) refl e i in
       record {
         legal = h.legal;
-        magic = h.magic;
         opens = h.opens;
         happened = h.happened;
         few = subst (λ (s : Scene). s.content.next ≤ 2 ^ 64) h.scene (few_ids b h few);
@@ -210,7 +209,6 @@ module _ {W : Type 0} (wants : W → Option Request) (tells : W → Outcome → 
             let N : ℕ → Type 0 = λ n. st.scene.content.next ≤ 2 ^ 62 + n in
             record {
               legal = h.legal;
-              magic = h.magic;
               opens = h.opens;
               play = y;
               happened = happens x (Sends e) h.happened may;

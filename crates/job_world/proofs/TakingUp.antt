@@ -52,7 +52,6 @@ module _ {W : Type 0} (wants : W → Option Request) (end_of : W → Option OpEn
       filled = record {
         holds = record {
           legal = begun.holds.legal;
-          magic = begun.holds.magic;
           opens = begun.holds.opens;
           play = begun.holds.play;
           happened = begun.holds.happened;
@@ -112,7 +111,6 @@ module _ {W : Type 0} (wants : W → Option Request) (end_of : W → Option OpEn
   pub weaker : (place : ℕ) (b : Body W) → Holds is_of running picks_of all_sound b → Holds is_of running picks_of (all_but place) b
   weaker place b h = record {
     legal = h.legal;
-    magic = h.magic;
     opens = h.opens;
     play = h.play;
     happened = h.happened;

@@ -7,7 +7,6 @@ use Rattle.s3_types.specs.Fates.{fate_at}
 use Rattle.s3_types.specs.declared.request.Request.{Request}
 use Rattle.s3_types.specs.declared.request.Actor.{Actor}
 use Rattle.s3_types.specs.declared.request.Actor.TheVariants.{Driver, Shell}
-use Rattle.s3_types.specs.declared.request.Committer.TheVariants.{Magic}
 use Rattle.s3_types.specs.declared.journal.Entry.{Entry}
 use Rattle.job_model.specs.Known.{Known}
 use Rattle.job_model.specs.JobScript.{Script}
@@ -70,7 +69,6 @@ pub record PutBy (g : Setting) (opening : Content) (x : Play) (ps : List Pick) :
 -- places that are left out the hand may be anything.
 pub record Holds {W : Type 0} (is_of : Setting → Actor → W → Type 0) (running : Known → W → Running) (picks_of : W → Option (List Pick)) (sound : ℕ → Bool) (b : Body W) : Type 0 where
   pub legal : IsLegal b.script
-  pub magic : b.script.committer ≡ Magic
   pub opens : IsOpening (setting_of b) b.opening
   pub play : Play
   pub happened : Happened (setting_of b) b.opening play

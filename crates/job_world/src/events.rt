@@ -1,6 +1,5 @@
 ghost use Rattle.std.specs.Prelude.{◌≡◌, ◌⊎◌, ◌+◌, ◌<◌, ◌≤◌, ◌-◌, ◌^◌, [], ◌∷◌, ◌++◌, length, map, slice_get, Option, Some, None, IfOk, OnOk, OnErr, IsSome, true, vec_len, vec_capacity};
 ghost use Rattle.s3_types.specs.declared.request.Actor.TheVariants.{Driver};
-ghost use Rattle.s3_types.specs.declared.request.Committer.TheVariants.{Magic};
 ghost use Rattle.job_model.specs.Known.{Known};
 ghost use Rattle.job_model.specs.Attempts.{is_known};
 ghost use Rattle.job_model.specs.Legal.{IsEvent, HasOp, IsLegal};
@@ -137,7 +136,6 @@ impl<W: Works> Body<W> {
     /// The driver's operation, by the job's plan, which is made anew.
     fn driver_work(&self, op: Op) -> Result<W, AllocError>
         requires legal { IsLegal self.now.script }
-        requires magic { self.now.script.committer ≡ Magic }
         requires op { HasOp Driver op }
         ensures { IfOk result (IsWork W.is_of W.running W.picks_of self.now Driver op) }
     {
@@ -149,7 +147,6 @@ impl<W: Works> Body<W> {
     /// An attempt's operation, by its plan.
     fn attempt_work(&self, plan: Plan, actor: Actor, op: Op) -> Result<W, AllocError>
         requires legal { IsLegal self.now.script }
-        requires magic { self.now.script.committer ≡ Magic }
         requires attempt { actor ≡ Driver → ⊥ }
         requires op { HasOp actor op }
         requires plan { IsPlanOf (setting_of self.now) actor (knows_of self.now actor) plan }

@@ -1,7 +1,6 @@
 ghost use Rattle.std.specs.Prelude.{◌≡◌, ◌∷◌, ◌≤◌, ◌^◌, IfOk};
 ghost use Rattle.s3_types.specs.Store.{opening};
 ghost use Rattle.s3_types.specs.declared.limits.TheConstants.{MOST_MINIMUM};
-ghost use Rattle.s3_types.specs.declared.request.Committer.TheVariants.{Magic};
 ghost use Rattle.job_world.specs.declared.hands.Hand.TheVariants.{Empty};
 ghost use Rattle.job_world.specs.Worlds.{MayBegin, IsBegun, planned};
 
@@ -50,7 +49,6 @@ fn first_store(alloc: Global, script: &Script, service: &Service) -> Result<Loss
 impl<W: Works> Body<W> {
     /// No event has happened yet. The store's content is copied. AllocError comes where memory ran out alone.
     pub fn new(alloc: Global, script: Script, service: Service) -> Result<Body<W>, AllocError>
-        requires magic { script.committer ≡ Magic }
         requires store { MayBegin service }
         ensures { IfOk result (IsBegun W.wants W.is_of W.running W.picks_of script service) }
     {

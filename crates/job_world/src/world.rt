@@ -1,6 +1,5 @@
 ghost use Rattle.std.specs.Prelude.{◌≡◌, length, slice_get, Some, IfOk, OnOk, OnErr, IsErr, true};
 ghost use Rattle.s3_types.specs.Moment.{moment};
-ghost use Rattle.s3_types.specs.declared.request.Committer.TheVariants.{Magic};
 ghost use Rattle.job_model.specs.Attempts.{is_known};
 ghost use Rattle.job_promise.specs.States.{past, verdict};
 ghost use Rattle.job_promise.specs.Promise.{Finished};
@@ -44,7 +43,6 @@ impl<W: Works> World<W> {
     /// No event has happened yet. The store's content is copied, so that the run's opening stays known; bytes
     /// are shared. AllocError comes where memory ran out alone.
     pub fn new(alloc: Global, script: Script, service: Service) -> Result<World<W>, AllocError>
-        requires magic { script.committer ≡ Magic }
         requires store { MayBegin service }
         ensures { IfOk result (λ world. world ≡ begun script service) }
     {

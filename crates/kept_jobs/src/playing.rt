@@ -1,5 +1,4 @@
 ghost use Rattle.std.specs.Prelude.{◌≡◌, ◌⊎◌, ◌<◌, ◌^◌, ◌-◌, [], Some, IfOk, IfErr, OnOk, OnErr, IsErrOf};
-ghost use Rattle.s3_types.specs.declared.request.Committer.TheVariants.{Magic};
 ghost use Rattle.shelf.specs.Logged.{Holding, fresh, HoldsFresh, IsDurable, LeavesOnly};
 ghost use Rattle.store_image.specs.Image.{image};
 ghost use Rattle.job_promise.specs.States.{verdict};
@@ -40,7 +39,6 @@ fn prepared<W: Works>(
     script: Script,
     service: Service,
 ) -> Result<(World<W>, Vec<u8>), AllocError>
-    requires magic { script.committer ≡ Magic }
     requires store { MayBegin service }
     ensures world { IfOk result (λ made. made.0 ≡ begun script service) }
     ensures image { IfOk result (λ made. made.1.items ≡ image service) }
@@ -66,7 +64,6 @@ fn begin<W: Works, F: Shelf>(
     script: Script,
     service: Service,
 ) -> Result<World<W>, AppendFault>
-    requires magic { script.committer ≡ Magic }
     requires store { MayBegin service }
     requires count { F.faults shelf.old < 2 ^ 64 - 1 }
     ensures world { IfOk result (λ world. world ≡ begun script service) }
@@ -93,7 +90,7 @@ fn begin<W: Works, F: Shelf>(
     }
 }
 
-/// Plays a magic job's script over a store and keeps it on a shelf: the store's image in place of what the shelf holds,
+/// Plays a job's script over a store and keeps it on a shelf: the store's image in place of what the shelf holds,
 /// and then, after each event, one append for each effective request that may change the store. The run stops
 /// where an append fails or memory is wanting, and tells what was sent until then. An error comes where nothing was
 /// sent, for want of memory or because the shelf did not take the image; it holds what it held then. Bytes are shared.
@@ -103,7 +100,6 @@ pub fn play<W: Works, F: Shelf>(
     script: Script,
     service: Service,
 ) -> Result<Kept, AppendFault>
-    requires magic { script.committer ≡ Magic }
     requires store { MayBegin service }
     requires count { F.faults shelf.old < 2 ^ 64 - 1 }
     ensures played { IfOk result (λ kept. IsPlayed script service kept.played) }

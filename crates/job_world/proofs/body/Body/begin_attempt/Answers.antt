@@ -1,7 +1,7 @@
 use Rattle.job_works.proofs.Picking.{picks_go}
 use Rattle.job_world.proofs.Moments.{event_of, no_entries}
 use Rattle.job_world.proofs.Frames.{begun_entered}
-use Rattle.job_world.proofs.Beginning.{begins_op, gives_plan, event_then, few_then, legal_then, magic_then, plan_then, attempt_begun}
+use Rattle.job_world.proofs.Beginning.{begins_op, gives_plan, event_then, few_then, legal_then, plan_then, attempt_begun}
 use Rattle.job_world.proofs.body.Body.begin_attempt.Goals as goal
 
 pub take_plan-plan-requires : goal.take_plan-plan-requires
@@ -16,9 +16,6 @@ open-requires-clause-few g c = few_then _ _ _ _ _ c.requires.quiet _ c.args.even
 
 pub attempt_work-work-requires-clause-legal : goal.attempt_work-work-requires-clause-legal
 attempt_work-work-requires-clause-legal g c = legal_then _ _ _ _ _ c.requires.quiet _ c.args.event c.requires.next c.args.place c.take_plan-plan.ensures.emptied _ c.open.ensures
-
-pub attempt_work-work-requires-clause-magic : goal.attempt_work-work-requires-clause-magic
-attempt_work-work-requires-clause-magic g c = magic_then _ _ _ _ _ c.requires.quiet _ c.args.event c.requires.next c.args.place c.take_plan-plan.ensures.emptied _ c.open.ensures
 
 pub attempt_work-work-requires-clause-op : goal.attempt_work-work-requires-clause-op
 attempt_work-work-requires-clause-op g c = begins_op c.args.self.now.script c.args.event c.args.actor c.args.op c.requires.begins (event_of _ _ _ _ _ c.requires.quiet.holds c.args.event c.requires.next)

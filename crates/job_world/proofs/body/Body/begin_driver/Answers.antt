@@ -3,7 +3,7 @@ use Rattle.s3_types.specs.declared.request.Actor.TheVariants.{Driver}
 use Rattle.job_works.proofs.Picking.{picks_go}
 use Rattle.job_world.proofs.Moments.{event_of, no_entries}
 use Rattle.job_world.proofs.Frames.{begun_entered}
-use Rattle.job_world.proofs.Beginning.{begins_op, place_within, event_then, few_then, legal_then, magic_then, driver_begun}
+use Rattle.job_world.proofs.Beginning.{begins_op, place_within, event_then, few_then, legal_then, driver_begun}
 use Rattle.job_world.proofs.body.Body.begin_driver.Goals as goal
 
 pub put_by-requires : goal.put_by-requires
@@ -17,9 +17,6 @@ open-requires-clause-few g c = few_then _ _ _ _ _ c.requires.quiet _ c.args.even
 
 pub driver_work-work-requires-clause-legal : goal.driver_work-work-requires-clause-legal
 driver_work-work-requires-clause-legal g c = legal_then _ _ _ _ _ c.requires.quiet _ c.args.event c.requires.next c.args.place c.put_by.ensures.emptied _ c.open.ensures
-
-pub driver_work-work-requires-clause-magic : goal.driver_work-work-requires-clause-magic
-driver_work-work-requires-clause-magic g c = magic_then _ _ _ _ _ c.requires.quiet _ c.args.event c.requires.next c.args.place c.put_by.ensures.emptied _ c.open.ensures
 
 pub driver_work-work-requires-clause-op : goal.driver_work-work-requires-clause-op
 driver_work-work-requires-clause-op g c = begins_op c.args.self.now.script c.args.event Driver c.args.op c.requires.begins (event_of _ _ _ _ _ c.requires.quiet.holds c.args.event c.requires.next)

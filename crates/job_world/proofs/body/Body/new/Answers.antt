@@ -9,7 +9,7 @@ use Rattle.job_world.proofs.body.Body.new.Goals as goal
 
 pub returns : goal.returns
 returns g c =
-    is_begun g.W.Acts.wants g.W.Works.is_of g.W.Works.running g.W.Works.picks_of _ (subst IsLegal c.script.view_is c.script.invariant) c.requires.magic c.requires.store (subst (λ (s : Content). AreBelow s.buckets s.next) c.service.view_is c.service.invariant)
+    is_begun g.W.Acts.wants g.W.Works.is_of g.W.Works.running g.W.Works.picks_of _ (subst IsLegal c.script.view_is c.script.invariant) c.requires.store (subst (λ (s : Content). AreBelow s.buckets s.next) c.service.view_is c.service.invariant)
     (record {
       store = c.in_ok-store.ensures;
       journal = c.new-2.ensures;
