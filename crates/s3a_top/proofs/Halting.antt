@@ -20,7 +20,7 @@ use Rattle.s3a_top.specs.Workings.{IsMade, IsToldOf, IsOfWords, JobHalted, Store
 use Rattle.s3a_top.specs.declared.statuses.Status.{Status}
 use Rattle.s3a_top.specs.declared.statuses.Status.TheVariants as statuses
 use Rattle.s3a_top.specs.declared.stop.Stop.{Stop}
-use Rattle.s3a_top.specs.declared.stop.Stop.TheVariants.{Usage, ReadFault, ShelfFault, Script as BadScript, Image, NoMemory, NotBuilt}
+use Rattle.s3a_top.specs.declared.stop.Stop.TheVariants.{Usage, ReadFault, ShelfFault, Script as BadScript, Image, NoMemory}
 use Rattle.s3a_top.proofs.Crashing.{loaded_alone, loaded_first}
 use Rattle.s3a_top.proofs.Telling.{tells_none}
 
@@ -41,7 +41,6 @@ cause_of ShelfFault command told before left rest f h = h
 cause_of (BadScript e) command told before left rest f h = (sound_of told before f h.0, h.1)
 cause_of (Image number place) command told before left rest f h = (faulty_of told before number place f h.0, h.1)
 cause_of NoMemory command told before left rest f h = ⊎_elim (λ e. inl e) (λ j. inr (sound_of told before f h.0, j)) h.1
-cause_of NotBuilt command told before left rest f h = (sound_of told before f h.0, h.1)
 
 -- ---- a job
 
@@ -118,7 +117,6 @@ status_due ShelfFault = (statuses.ShelfFault, (λ e. cc, refl))
 status_due (BadScript e) = (statuses.BadScript, (λ e. cc, refl))
 status_due (Image number place) = (statuses.BadImage, (λ e. cc, refl))
 status_due NoMemory = (statuses.NoMemory, (λ e. cc, refl))
-status_due NotBuilt = (statuses.NotBuilt, (λ e. cc, refl))
 
 pub told_due : (stop : Stop) (due : Status) (text : List ℕ) → IsToldOf stop due text → IsDue (code due)
 told_due stop due text (inl told) = subst (λ (s : Status). IsDue (code s)) (sym told.0) (status_due stop)

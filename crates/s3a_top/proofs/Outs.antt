@@ -37,7 +37,6 @@ module _ (A B : List ℕ → Type 0) (f : (t : List ℕ) → A t → B t) {S : T
       script = h.script;
       opening = h.opening;
       reads = h.reads;
-      magic = h.magic;
       opens = h.opens;
       loaded = h.loaded;
       load = h.load;

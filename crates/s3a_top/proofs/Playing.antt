@@ -72,7 +72,6 @@ module _ {S : Type 0} (held : S → Option Stored) (may_leave : S → Holding �
     script = over.script;
     opening = over.opening;
     reads = over.reads;
-    magic = over.magic;
     opens = opens_so (held old) before over.script over.opening found over.opens;
     loaded = loaded;
     load = answered;

@@ -1,7 +1,6 @@
 -- What is known of a result by what its function's callee says of it.
-use Rattle.std.proofs.Common.{◌≡◌, ◌≢◌, ◌⊎◌, inr, ℕ, ◌≤◌, List, Option, Some, Result, Ok, Err, IfOk, IfErr, OnErr, refl, sym, ap, subst, ◌∙◌}
+use Rattle.std.proofs.Common.{◌≡◌, ◌⊎◌, inr, ℕ, ◌≤◌, List, Option, Some, Result, Ok, Err, IfOk, IfErr, OnErr, refl, sym, ap, subst, ◌∙◌}
 use Rattle.s3_types.specs.Store.{Content}
-use Rattle.s3_types.specs.declared.request.Committer.TheVariants.{Magic}
 use Rattle.job_model.specs.JobScript.{Script}
 use Rattle.job_script.specs.Script.{script_of}
 use Rattle.shelf.specs.Logged.{Holding, Stored, fresh, LeavesOnly}
@@ -18,7 +17,7 @@ use Rattle.s3a_top.specs.Openings.{IsFound}
 use Rattle.s3a_top.specs.Plays.{Survived, JobOver, HasCauseIn, MayHaveLeftOver, HasFailed}
 use Rattle.s3a_top.specs.Workings.{IsWritten, JobGoes}
 use Rattle.s3a_top.specs.declared.stop.Stop.{Stop}
-use Rattle.s3a_top.specs.declared.stop.Stop.TheVariants.{Script as BadScript, NoMemory, NotBuilt}
+use Rattle.s3a_top.specs.declared.stop.Stop.TheVariants.{Script as BadScript, NoMemory}
 use Rattle.s3a_top.specs.declared.work.Work.{Work}
 use Rattle.s3a_top.proofs.Readings.{script_is, no_script}
 use Rattle.s3a_top.proofs.Crashing.{image_left}
@@ -27,11 +26,6 @@ use Rattle.s3a_top.proofs.Halting.{job_halted}
 
 -- ---- the script
 
--- one whose committer is not built
-pub none_built : {A : Type 0} (result : Result A Stop) (bytes : List ℕ) (w : Script) → script_of bytes ≡ Ok w → IfErr result (λ stop. (stop ≡ NotBuilt) × (w.committer ≢ Magic)) → IfErr result (λ stop. IsNone stop bytes)
-none_built (Ok x) bytes w read h = tt
-none_built (Err stop) bytes w read h = subst (λ (s : Stop). IsNone s bytes) (sym h.0) (w, (read, h.1))
-
 pub script_read : (result : Result Script Stop) (left rest : Option (List ℕ)) (all bytes : List ℕ) → IsRead left rest all → bytes ≡ all → IfOk result (λ w. script_of bytes ≡ Ok w) → IfOk result (λ w. IsScript left rest w)
 script_read (Ok w) left rest all bytes r same h = script_is left rest all w r (ap script_of (sym same) ∙ h)
 script_read (Err stop) left rest all bytes r same h = tt
@@ -39,7 +33,6 @@ script_read (Err stop) left rest all bytes r same h = tt
 none_read : (stop : Stop) (left rest : Option (List ℕ)) (all : List ℕ) → IsRead left rest all → IsNone stop all → IsReadStop stop Job left rest
 none_read (BadScript e) left rest all r h = (refl, (no_script left rest all e r h.0, h.1))
 none_read NoMemory left rest all r h = inr refl
-none_read NotBuilt left rest all r h = (refl, (h.0, (script_is left rest all h.0 r h.1.0, h.1.1)))
 none_read _ left rest all r h = absurd h
 
 pub stop_read : {A : Type 0} (result : Result A Stop) (left rest : Option (List ℕ)) (all bytes : List ℕ) → IsRead left rest all → bytes ≡ all → IfErr result (λ stop. IsNone stop bytes) → IfErr result (λ stop. IsReadStop stop Job left rest)
@@ -50,14 +43,14 @@ stop_read (Err stop) left rest all bytes r same h = none_read stop left rest all
 
 module _ {S : Type 0} (held : S → Option Stored) (may_leave : S → Holding → Type 0) (answers fails : S → S → Type 0) (moment_of : S → ℕ) (left_since : S → ℕ → Holding → Type 0) (result : Result Work Stop) (command : Command) (before : Held) (left rest : Option (List ℕ)) where
   -- it was played over what was found
-  pub over_of : (w : Script) (c : Content) (old new : S) → IsScriptOf command left rest w → w.committer ≡ Magic → opening_in before w ≡ Some c
+  pub over_of : (w : Script) (c : Content) (old new : S) → IsScriptOf command left rest w → opening_in before w ≡ Some c
       → IfOk result (λ work. JobRan held may_leave answers fails command w c old new (code work.due) work.journal.entries work.picks work.ends (IsWritten work)) → IfOk result (λ work. Survived held may_leave moment_of left_since c work.journal.entries old new)
       → IfOk result (λ work. JobOver held may_leave answers fails moment_of left_since command before left rest old new (code work.due) work.journal.entries work.picks work.ends (IsWritten work))
-  over_of w c old new reads magic opens ran survived = by result ran survived
+  over_of w c old new reads opens ran survived = by result ran survived
     where
       by : (r : Result Work Stop) → IfOk r (λ work. JobRan held may_leave answers fails command w c old new (code work.due) work.journal.entries work.picks work.ends (IsWritten work)) → IfOk r (λ work. Survived held may_leave moment_of left_since c work.journal.entries old new)
           → IfOk r (λ work. JobOver held may_leave answers fails moment_of left_since command before left rest old new (code work.due) work.journal.entries work.picks work.ends (IsWritten work))
-      by (Ok work) r s = record { script = w; opening = c; reads = reads; magic = magic; opens = opens; ran = r; survived = s }
+      by (Ok work) r s = record { script = w; opening = c; reads = reads; opens = opens; ran = r; survived = s }
       by (Err stop) r s = tt
 
   -- or not

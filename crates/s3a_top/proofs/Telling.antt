@@ -19,7 +19,7 @@ use Rattle.s3a_top.specs.Workings.{IsOfShelf}
 use Rattle.s3a_top.specs.declared.statuses.Status.{Status}
 use Rattle.s3a_top.specs.declared.statuses.Status.TheVariants as statuses
 use Rattle.s3a_top.specs.declared.stop.Stop.{Stop}
-use Rattle.s3a_top.specs.declared.stop.Stop.TheVariants.{Usage, ReadFault, ShelfFault, Script as BadScript, Image, NoMemory, NotBuilt}
+use Rattle.s3a_top.specs.declared.stop.Stop.TheVariants.{Usage, ReadFault, ShelfFault, Script as BadScript, Image, NoMemory}
 
 -- ---- counts of faults
 
@@ -97,21 +97,18 @@ read_counts ShelfFault before after counts = tells_none 3 5 before after (λ e. 
 read_counts (BadScript e) before after counts = tells_none 3 6 before after (λ e. cc) counts
 read_counts (Image number place) before after counts = tells_none 3 7 before after (λ e. cc) counts
 read_counts NoMemory before after counts = tells_none 3 9 before after (λ e. cc) counts
-read_counts NotBuilt before after counts = tells_none 3 10 before after (λ e. cc) counts
 
 -- the shelf was not called
 pub read_calm : (stop : Stop) (command : Command) (left rest : Option (List ℕ)) (count : ℕ) → IsReadStop stop command left rest → Tells 5 (code (status_of stop)) count count
 read_calm ReadFault command left rest count h = tells_none 5 3 count count (λ e. cc) refl
 read_calm (BadScript e) command left rest count h = tells_none 5 6 count count (λ e. cc) refl
 read_calm NoMemory command left rest count h = tells_none 5 9 count count (λ e. cc) refl
-read_calm NotBuilt command left rest count h = tells_none 5 10 count count (λ e. cc) refl
 read_calm _ command left rest count h = absurd h
 
 pub read_cause : (stop : Stop) (command : Command) (before : Held) (left rest : Option (List ℕ)) → is_sound before → IsReadStop stop command left rest → HasCauseIn stop command before left rest
 read_cause ReadFault command before left rest sound h = (sound, h)
 read_cause (BadScript e) command before left rest sound h = (sound, h)
 read_cause NoMemory command before left rest sound h = (sound, h)
-read_cause NotBuilt command before left rest sound h = (sound, h)
 read_cause _ command before left rest sound h = absurd h
 
 -- what was taken from the input was the script of `job`

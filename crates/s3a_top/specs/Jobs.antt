@@ -2,7 +2,6 @@
 use Rattle.std.specs.Prelude.{◌≡◌, ◌≢◌, ◌⊎◌, ℕ, List, length, Option, Some, None, Err}
 use Rattle.s3_types.specs.Store.{Content}
 use Rattle.s3_types.specs.declared.journal.Entry.{Entry}
-use Rattle.s3_types.specs.declared.request.Committer.TheVariants.{Magic}
 use Rattle.job_model.specs.JobScript.{Script}
 use Rattle.job_model.specs.declared.ends.Pick.{Pick}
 use Rattle.job_model.specs.declared.ends.EventEnd.{EventEnd}
@@ -29,7 +28,7 @@ use Rattle.s3a_top.specs.Openings.{IsScript, IsScriptOf, StaysUnlessJob, IsSound
 use Rattle.s3a_top.specs.Statuses.{IsIdle, code, shelf_text, memory_text}
 use Rattle.s3a_top.specs.Stops.{status_of, stop_text}
 use Rattle.s3a_top.specs.declared.stop.Stop.{Stop}
-use Rattle.s3a_top.specs.declared.stop.Stop.TheVariants.{Usage, ReadFault, ShelfFault, Script as BadScript, Image, NoMemory, NotBuilt}
+use Rattle.s3a_top.specs.declared.stop.Stop.TheVariants.{Usage, ReadFault, ShelfFault, Script as BadScript, Image, NoMemory}
 
 -- ---- it stopped before its first event
 
@@ -51,7 +50,6 @@ HasCause ShelfFault command told left rest = StaysUnlessJob command left rest
 HasCause (BadScript e) command told left rest = IsSoundly told × ((command ≡ Job) × (IsNoScript left e × (e ≢ faults.NoMemory)))
 HasCause (Image number place) command told left rest = IsFaulty told number place × (rest ≡ left)
 HasCause NoMemory command told left rest = (rest ≡ left) ⊎ (IsSoundly told × (command ≡ Job))
-HasCause NotBuilt command told left rest = IsSoundly told × ((command ≡ Job) × ((w : Script) × (IsScript left rest w × (w.committer ≢ Magic))))
 
 -- the shelf was called to load at most, and once more to take an image, which failed; a load that failed was before the input
 abbrev pub AreFew : {S : Type 0} → (answers fails : S → S → Type 0) → (left rest : Option (List ℕ)) → S → S → Type 0
@@ -113,7 +111,6 @@ pub record JobPlayed {S : Type 0} (held : S → Option Stored) (may_leave : S �
   pub script : Script
   pub opening : Content
   pub reads : IsScriptOf command left rest script
-  pub magic : script.committer ≡ Magic
   pub opens : Opens (held old) script opening
   pub loaded : S
   pub load : answers old loaded

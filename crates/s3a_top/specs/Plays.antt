@@ -2,7 +2,6 @@
 use Rattle.std.specs.Prelude.{◌≡◌, ◌≢◌, ◌⊎◌, ℕ, List, length, Option, Some, None}
 use Rattle.s3_types.specs.Store.{Content}
 use Rattle.s3_types.specs.declared.journal.Entry.{Entry}
-use Rattle.s3_types.specs.declared.request.Committer.TheVariants.{Magic}
 use Rattle.job_model.specs.JobScript.{Script}
 use Rattle.job_model.specs.declared.ends.Pick.{Pick}
 use Rattle.job_model.specs.declared.ends.EventEnd.{EventEnd}
@@ -25,7 +24,7 @@ use Rattle.s3a_top.specs.Jobs.{IsNoScript, job_text, JobRan}
 use Rattle.s3a_top.specs.declared.statuses.Status.{Status}
 use Rattle.s3a_top.specs.declared.statuses.Status.TheVariants as statuses
 use Rattle.s3a_top.specs.declared.stop.Stop.{Stop}
-use Rattle.s3a_top.specs.declared.stop.Stop.TheVariants.{Usage, ReadFault, ShelfFault, Script as BadScript, Image, NoMemory, NotBuilt}
+use Rattle.s3a_top.specs.declared.stop.Stop.TheVariants.{Usage, ReadFault, ShelfFault, Script as BadScript, Image, NoMemory}
 
 -- ---- what is said of it
 
@@ -71,7 +70,6 @@ pub record JobOver {S : Type 0} (held : S → Option Stored) (may_leave : S → 
   pub script : Script
   pub opening : Content
   pub reads : IsScriptOf command left rest script
-  pub magic : script.committer ≡ Magic
   pub opens : opening_in before script ≡ Some opening
   pub ran : JobRan held may_leave answers fails command script opening old new due es ps xs Says
   pub survived : Survived held may_leave moment_of left_since opening es old new
@@ -86,7 +84,6 @@ HasCauseIn ShelfFault command before left rest = StaysUnlessJob command left res
 HasCauseIn (BadScript e) command before left rest = is_sound before × ((command ≡ Job) × (IsNoScript left e × (e ≢ faults.NoMemory)))
 HasCauseIn (Image number place) command before left rest = (before ≡ Faulty number place) × (rest ≡ left)
 HasCauseIn NoMemory command before left rest = is_sound before × StaysUnlessJob command left rest
-HasCauseIn NotBuilt command before left rest = is_sound before × ((command ≡ Job) × ((w : Script) × (IsScript left rest w × (w.committer ≢ Magic))))
 
 -- what a crash might have left: what one before it may leave, or the image of the job's opening store
 abbrev pub MayHaveLeftOver : (at_first : Holding → Type 0) → Command → Held → (left rest : Option (List ℕ)) → Holding → Type 0

@@ -1,6 +1,5 @@
 -- What comes of the reading or the making of a script.
 use Rattle.std.specs.Prelude.{◌≡◌, ◌≢◌, ℕ, ◌<◌, List, Option, Result, Ok, Err}
-use Rattle.s3_types.specs.declared.request.Committer.TheVariants.{Magic}
 use Rattle.job_model.specs.JobScript.{Script}
 use Rattle.job_script.specs.declared.fault.ScriptFault.TheVariants as faults
 use Rattle.job_script.specs.Script.{script_of}
@@ -9,14 +8,13 @@ use Rattle.s3a_words.specs.declared.command.Command.TheVariants.{Job}
 use Rattle.s3a_top.specs.Openings.{IsScript, StaysUnlessJob}
 use Rattle.s3a_top.specs.Jobs.{IsNoScript}
 use Rattle.s3a_top.specs.declared.stop.Stop.{Stop}
-use Rattle.s3a_top.specs.declared.stop.Stop.TheVariants.{Usage, ReadFault, ShelfFault, Script as BadScript, Image, NoMemory, NotBuilt}
+use Rattle.s3a_top.specs.declared.stop.Stop.TheVariants.{Usage, ReadFault, ShelfFault, Script as BadScript, Image, NoMemory}
 
 -- why there is no script
 abbrev pub IsReadStop : Stop → Command → (left rest : Option (List ℕ)) → Type 0
 IsReadStop ReadFault command left rest = command ≡ Job
 IsReadStop (BadScript e) command left rest = (command ≡ Job) × (IsNoScript left e × (e ≢ faults.NoMemory))
 IsReadStop NoMemory command left rest = StaysUnlessJob command left rest
-IsReadStop NotBuilt command left rest = (command ≡ Job) × ((w : Script) × (IsScript left rest w × (w.committer ≢ Magic)))
 IsReadStop Usage command left rest = ⊥
 IsReadStop ShelfFault command left rest = ⊥
 IsReadStop (Image number place) command left rest = ⊥
@@ -25,7 +23,6 @@ IsReadStop (Image number place) command left rest = ⊥
 abbrev pub IsNone : Stop → List ℕ → Type 0
 IsNone (BadScript e) bytes = (script_of bytes ≡ Err e) × (e ≢ faults.NoMemory)
 IsNone NoMemory bytes = Unit {0}
-IsNone NotBuilt bytes = (w : Script) × ((script_of bytes ≡ Ok w) × (w.committer ≢ Magic))
 IsNone Usage bytes = ⊥
 IsNone ReadFault bytes = ⊥
 IsNone ShelfFault bytes = ⊥

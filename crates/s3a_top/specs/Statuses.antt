@@ -10,7 +10,7 @@ use Rattle.job_model.specs.declared.ends.EventEnd.{EventEnd}
 use Rattle.s3_types.specs.declared.journal.Entry.{Entry}
 use Rattle.s3a_top.specs.Bytes.{WritesSome}
 use Rattle.s3a_top.specs.declared.statuses.Status.{Status}
-use Rattle.s3a_top.specs.declared.statuses.Status.TheVariants.{Done, Refused, Usage, ReadFault, WriteFault, ShelfFault, BadScript, BadImage, StoreFault, NoMemory, NotBuilt}
+use Rattle.s3a_top.specs.declared.statuses.Status.TheVariants.{Done, Refused, Usage, ReadFault, WriteFault, ShelfFault, BadScript, BadImage, StoreFault, NoMemory}
 
 abbrev pub code : Status → ℕ
 code Done = 0
@@ -23,19 +23,17 @@ code BadScript = 6
 code BadImage = 7
 code StoreFault = 8
 code NoMemory = 9
-code NotBuilt = 10
 
 -- what may be due: any of them but that of a failed output
 abbrev pub IsDue : ℕ → Type 0
 IsDue due = (s : Status) × ((s ≢ WriteFault) × (due ≡ code s))
 
--- what comes with work that was done: no words that are none, no failed device but the shelf, no bad script and none that is not built
+-- what comes with work that was done: no words that are none, no failed device but the shelf, and no bad script
 abbrev pub IsWorked : Status → Type 0
 IsWorked Usage = ⊥
 IsWorked ReadFault = ⊥
 IsWorked WriteFault = ⊥
 IsWorked BadScript = ⊥
-IsWorked NotBuilt = ⊥
 IsWorked _ = Unit {0}
 
 -- ---- texts
@@ -52,16 +50,12 @@ shelf_text = codes "shelf fault" ++ 10 ∷ []
 abbrev pub memory_text : List ℕ
 memory_text = codes "no memory" ++ 10 ∷ []
 
-abbrev pub not_built_text : List ℕ
-not_built_text = codes "not built" ++ 10 ∷ []
-
 -- the text of a status that always has the same
 abbrev pub own_text : Status → Option (List ℕ)
 own_text Usage = Some usage_text
 own_text ReadFault = Some read_text
 own_text ShelfFault = Some shelf_text
 own_text NoMemory = Some memory_text
-own_text NotBuilt = Some not_built_text
 own_text _ = None
 
 -- what is written with a status: this text, or else its own

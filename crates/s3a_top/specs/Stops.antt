@@ -3,11 +3,11 @@ use Rattle.std.specs.Prelude.{ℕ, List}
 use Rattle.kept_stores.specs.Stores.{fault_text}
 use Rattle.kept_stores.specs.declared.held.ShelfStop.{ShelfStop}
 use Rattle.kept_stores.specs.declared.held.ShelfStop.TheVariants as shelves
-use Rattle.s3a_top.specs.Statuses.{usage_text, read_text, shelf_text, memory_text, not_built_text, script_fault_text}
+use Rattle.s3a_top.specs.Statuses.{usage_text, read_text, shelf_text, memory_text, script_fault_text}
 use Rattle.s3a_top.specs.declared.statuses.Status.{Status}
 use Rattle.s3a_top.specs.declared.statuses.Status.TheVariants as statuses
 use Rattle.s3a_top.specs.declared.stop.Stop.{Stop}
-use Rattle.s3a_top.specs.declared.stop.Stop.TheVariants.{Usage, ReadFault, ShelfFault, Script as BadScript, Image, NoMemory, NotBuilt}
+use Rattle.s3a_top.specs.declared.stop.Stop.TheVariants.{Usage, ReadFault, ShelfFault, Script as BadScript, Image, NoMemory}
 
 abbrev pub status_of : Stop → Status
 status_of Usage = statuses.Usage
@@ -16,7 +16,6 @@ status_of ShelfFault = statuses.ShelfFault
 status_of (BadScript e) = statuses.BadScript
 status_of (Image number place) = statuses.BadImage
 status_of NoMemory = statuses.NoMemory
-status_of NotBuilt = statuses.NotBuilt
 
 abbrev pub of_shelf : ShelfStop → Stop
 of_shelf shelves.Failed = ShelfFault
@@ -29,4 +28,3 @@ stop_text ShelfFault = shelf_text
 stop_text (BadScript e) = script_fault_text e
 stop_text (Image number place) = fault_text number place
 stop_text NoMemory = memory_text
-stop_text NotBuilt = not_built_text

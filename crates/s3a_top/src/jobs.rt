@@ -1,6 +1,5 @@
 ghost use Rattle.std.specs.Prelude.{◌≡◌, ◌⊎◌, ◌<◌, ◌^◌, ◌-◌, length, true, false, Some, IfOk, IfErr, OnOk, OnErr};
 ghost use Rattle.s3_types.specs.Answer.{apply_store};
-ghost use Rattle.s3_types.specs.declared.request.Committer.TheVariants.{Magic};
 ghost use Rattle.shelf.specs.Logged.{fresh, LeavesOnly};
 ghost use Rattle.store_image.specs.Image.{image};
 ghost use Rattle.job_promise.specs.States as states;
@@ -192,7 +191,6 @@ fn play_script<F: Shelf>(
     script: Script,
     service: Service,
 ) -> Result<Work, Stop>
-    requires magic { script.committer ≡ Magic }
     requires store { MayBegin service }
     requires count { F.faults shelf.old < 2 ^ 64 - 1 }
     ensures ran { IfOk result (λ work. JobRan F.held F.may_leave F.answers F.fails command.now script service shelf.old shelf.new (code work.due) work.journal.entries work.picks work.ends (IsWritten work)) }

@@ -1,5 +1,4 @@
-ghost use Rattle.std.specs.Prelude.{◌≡◌, ◌≢◌, ◌<◌, ◌^◌, ◌-◌, true, false, Some, Ok, IfOk, IfErr};
-ghost use Rattle.s3_types.specs.declared.request.Committer.TheVariants.{Magic};
+ghost use Rattle.std.specs.Prelude.{◌≡◌, ◌<◌, ◌^◌, ◌-◌, true, false, Some, Ok, IfOk, IfErr};
 ghost use Rattle.job_script.specs.Script.{script_of};
 ghost use Rattle.s3a_words.specs.Words.{IsBounded};
 ghost use Rattle.s3a_words.specs.declared.command.Command.TheVariants as commands;
@@ -13,49 +12,31 @@ use crate::stop::Stop;
 use job_model::Script;
 use job_script::{ScriptFault, read_script};
 use made_jobs::make_script;
-use s3_types::{Committer, let_go};
 use s3a_words::Command;
 use shelf::Source;
 use std::alloc::Global;
 
-/// A script, where its committer is built.
-fn built(script: Script) -> Result<Script, Stop>
-    ensures same { IfOk result (λ built. built ≡ script) }
-    ensures magic { IfOk result (λ built. built.committer ≡ Magic) }
-    ensures stop { IfErr result (λ stop. (stop ≡ Stop.NotBuilt) × (script.committer ≢ Magic)) }
-{
-    match script.committer {
-        Committer::Magic => Ok(script),
-        _ => {
-            let_go(script);
-            Err(Stop::NotBuilt)
-        }
-    }
-}
-
-/// The script that these bytes are, where its committer is built.
-fn built_script(alloc: Global, bytes: &[u8]) -> Result<Script, Stop>
+/// The script that these bytes are.
+fn script_in(alloc: Global, bytes: &[u8]) -> Result<Script, Stop>
     ensures script { IfOk result (λ script. script_of bytes.now ≡ Ok script) }
-    ensures magic { IfOk result (λ script. script.committer ≡ Magic) }
     ensures stop { IfErr result (λ stop. IsNone stop bytes.now) }
 {
     match read_script(alloc, bytes) {
-        Ok(script) => built(script),
+        Ok(script) => Ok(script),
         Err(ScriptFault::NoMemory) => Err(Stop::NoMemory),
         Err(fault) => Err(Stop::Script(fault)),
     }
 }
 
-/// Reads the script of a magic job from the input, which is taken to its end, or to one byte over the limit.
+/// Reads the script of a job from the input, which is taken to its end, or to one byte over the limit.
 fn read_job<Q: Source>(alloc: Global, input: &mut Q) -> Result<Script, Stop>
     requires { Q.faults input.old < 2 ^ 64 - 1 }
     ensures script { IfOk result (λ script. IsScript (Q.left input.old) (Q.left input.new) script) }
-    ensures magic { IfOk result (λ script. script.committer ≡ Magic) }
     ensures stop { IfErr result (λ stop. IsReadStop stop commands.Job (Q.left input.old) (Q.left input.new)) }
     ensures counted { CountsReads result (Q.faults input.old) (Q.faults input.new) }
 {
     match read_input(alloc, input) {
-        Ok(bytes) => built_script(alloc, bytes.as_slice()),
+        Ok(bytes) => script_in(alloc, bytes.as_slice()),
         Err(InputFault::Failed) => Err(Stop::ReadFault),
         Err(InputFault::NoMemory) => Err(Stop::NoMemory),
     }
@@ -72,7 +53,6 @@ pub fn script_for<Q: Source>(
     requires one { plays command.now ≡ true }
     requires fit { IsBounded command.now }
     ensures script { IfOk result (λ script. IsScriptOf command.now (Q.left input.old) (Q.left input.new) script) }
-    ensures magic { IfOk result (λ script. script.committer ≡ Magic) }
     ensures stop { IfErr result (λ stop. IsReadStop stop command.now (Q.left input.old) (Q.left input.new)) }
     ensures unread { may_read (Some command.now) ≡ false → input.new ≡ input.old }
     ensures counted { CountsReads result (Q.faults input.old) (Q.faults input.new) }

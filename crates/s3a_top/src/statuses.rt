@@ -24,8 +24,6 @@ pub enum Status {
     StoreFault,
     /// Memory was wanting.
     NoMemory,
-    /// The script asks for a committer that is not built.
-    NotBuilt,
 }
 
 impl Status {
@@ -44,7 +42,6 @@ impl Status {
             Status::BadImage => 7,
             Status::StoreFault => 8,
             Status::NoMemory => 9,
-            Status::NotBuilt => 10,
         }
     }
 
@@ -57,7 +54,6 @@ impl Status {
             Status::ReadFault => Some("read fault\n"),
             Status::ShelfFault => Some("shelf fault\n"),
             Status::NoMemory => Some("no memory\n"),
-            Status::NotBuilt => Some("not built\n"),
             _ => None,
         }
     }

@@ -25,8 +25,6 @@ pub enum Stop {
     /// What the shelf holds is no store: the fault's number, and its place in bytes from the start.
     Image { number: u8, place: u64 },
     NoMemory,
-    /// The script's committer is not built.
-    NotBuilt,
 }
 
 /// The line that tells of bytes that are no script: `script fault NUMBER at line LINE`.
@@ -62,7 +60,6 @@ impl Stop {
             Stop::Script(_) => Status::BadScript,
             Stop::Image { .. } => Status::BadImage,
             Stop::NoMemory => Status::NoMemory,
-            Stop::NotBuilt => Status::NotBuilt,
         }
     }
 
