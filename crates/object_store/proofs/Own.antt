@@ -34,7 +34,7 @@ own_remove test (e ∷ es) own = by (test e.0) (own_remove test es own.1)
     by true ih = own.1
     by false ih = (own.0, ih)
 
-own_filter : (p : List ℕ × Held → Bool) (es : List (List ℕ × Held)) → AreOwn es → AreOwn (filter p es)
+pub own_filter : (p : List ℕ × Held → Bool) (es : List (List ℕ × Held)) → AreOwn es → AreOwn (filter p es)
 own_filter p [] own = tt
 own_filter p (e ∷ es) own = by (p e) (own_filter p es own.1)
   where

@@ -91,7 +91,7 @@ module _ (p : List ℕ) (st : List ℕ → Option (List ℕ)) (k : Stems p st) w
           same true t = both_true _ (λ f. not_Some r (sym e ∙ k.same q r a n (between (r ++ 47 ∷ []) a q f (lt_not a q t) (k.below q r n)))) ∙ sym t
 
   -- a key below p has its text after a exactly where it lies from the start on
-  from_start : (a q : List ℕ) → begins p q ≡ true → lt a (text_by (st q) q) ≡ is_from_start text_cmp (start_by (st a) p a) q
+  pub from_start : (a q : List ℕ) → begins p q ≡ true → lt a (text_by (st q) q) ≡ is_from_start text_cmp (start_by (st a) p a) q
   from_start a q h = by (st a) refl
     where
       past : (s : List ℕ) → st a ≡ Some s → (b : Bool) → lt q (s ++ 48 ∷ []) ≡ b → lt a (text_by (st q) q) ≡ not b
@@ -153,7 +153,7 @@ module _ (p : List ℕ) (d : Bool) where
   below_itself [] = refl
   below_itself (x ∷ t) = and_from _ _ (eq-eqb x x refl) (below_itself t)
 
-  start_ge : (a q : List ℕ) → is_from_start text_cmp (start p d a) q ≡ true → lt q p ≡ false
+  pub start_ge : (a q : List ℕ) → is_from_start text_cmp (start p d a) q ≡ true → lt q p ≡ false
   start_ge a q h = by (stem_if d p a) refl
     where
       plain : (b : Bool) → lt a p ≡ b → is_from_start text_cmp (cond b (Included p) (Excluded a)) q ≡ true → lt q p ≡ false
@@ -217,6 +217,11 @@ module _ (p : List ℕ) (d : Bool) where
 
     kept : walked p d a (filter in_range es) ≡ walked p d a es
     kept = skip in_range es a (λ e h. counts_from p d a e.0 (not_in e h))
+
+    -- what stands before the start is not walked
+    pub kept_between : walked p d a (entries_between text_cmp (start p d a) Unbounded es) ≡ walked p d a es
+    unfolding in_range
+    kept_between = kept
 
     with_first : (e : List ℕ × Object) (fs : List (List ℕ × Object)) → filter in_range es ≡ e ∷ fs → ComesNext p d a es (pick (Some e))
     unfolding in_range

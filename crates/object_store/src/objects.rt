@@ -152,7 +152,8 @@ impl Objects {
     /// A page of the entries whose keys begin with the prefix: the first `limit` of those that are
     /// greater than `after`, in the order of their bytes, and whether more remain. Where it is
     /// delimited, keys with a common text up to the first `/` after the prefix are one entry, that
-    /// text. A page of k entries takes O((k + 1) log n). (Amazon S3 API, ListObjectsV2.)
+    /// text, and a page of k entries takes O((k + 1) log n); else it takes O(k + log n). (Amazon S3 API,
+    /// ListObjectsV2.)
     pub fn list_page(
         &self,
         prefix: &Text,
@@ -163,7 +164,11 @@ impl Objects {
         ensures entries { IfOk result (λ page. page.entries ≡ take limit (listed prefix.now delimited after.now self.now)) }
         ensures more { IfOk result (λ page. page.more ≡ nat_lt limit (length (listed prefix.now delimited after.now self.now))) }
     {
-        self.walk(prefix, delimited, after, limit.get())
+        let limit = limit.get();
+        if delimited {
+            return self.walk(prefix, after, limit);
+        }
+        self.list_flat(prefix, after, limit)
     }
 
     /// The first entry from a bound on.

@@ -1,15 +1,19 @@
 ghost use Rattle.std.specs.Option.{option_map};
-ghost use Rattle.std.specs.Prelude.{◌≡◌, ℕ, ◌<◌, [], ◌∷◌, ◌++◌, length, take, nat_lt, slice_get, IfOk, Some, None};
+ghost use Rattle.std.specs.Prelude.{◌≡◌, ℕ, ◌<◌, [], ◌∷◌, ◌++◌, true, false, length, take, nat_lt, slice_get, IfOk, Some, None};
 ghost use Rattle.std.specs.FinMap as map;
 ghost use Rattle.std.specs.BTreeMap.Range.{entries_between};
 ghost use Rattle.std.specs.declared.ops.Bound.TheVariants.{Unbounded};
 ghost use Rattle.proof_base.specs.Order.{text_cmp};
-ghost use Rattle.s3_types.specs.Pages.{stem, stem_if, entry_of, listed};
+ghost use Rattle.std.specs.Range.Bound.{bound_map};
+ghost use Rattle.s3_types.specs.Pages.{stem, entry_of, listed};
+ghost use Rattle.object_store.specs.Held.{AreOwn};
+ghost use Rattle.object_store.specs.Flat.{single, below, Follows};
 ghost use Rattle.object_store.specs.Walk.{text_of, walked, start, ComesNext};
 
-use crate::objects::Objects;
+use crate::objects::{Held, Objects};
 use s3_types::{EntryList, Key, Object, PageEntry, Text};
 use std::alloc::{AllocError, Global};
+use std::collections::btree_map::Range;
 use std::ops::Bound;
 
 /// Some entries of a bucket, and whether more remain.
@@ -36,16 +40,6 @@ fn stem_of<'a>(prefix: &Text, text: &'a Text) -> Option<&'a str>
     None
 }
 
-fn stem_if<'a>(delimited: bool, prefix: &Text, text: &'a Text) -> Option<&'a str>
-    ensures { option_map (λ s. s.now) result ≡ stem_if delimited prefix.now text.now }
-{
-    if delimited {
-        stem_of(prefix, text)
-    } else {
-        None
-    }
-}
-
 /// The two texts joined.
 fn joined(alloc: Global, stem: &str, end: &str) -> Result<Text, AllocError>
     ensures { IfOk result (λ text. text ≡ stem.now ++ end.now) }
@@ -55,18 +49,17 @@ fn joined(alloc: Global, stem: &str, end: &str) -> Result<Text, AllocError>
     Text::new(alloc, text)
 }
 
-/// A key's entry, and the entry's text.
+/// A key's entry where keys are folded, and the entry's text.
 fn entry_at(
     alloc: Global,
     prefix: &Text,
-    delimited: bool,
     key: &Key,
     object: &Object,
 ) -> Result<(PageEntry, Text), AllocError>
-    ensures entry { IfOk result (λ r. r.0 ≡ entry_of prefix.now delimited (key.now, object.now)) }
-    ensures text { IfOk result (λ r. r.1 ≡ text_of prefix.now delimited key.now) }
+    ensures entry { IfOk result (λ r. r.0 ≡ entry_of prefix.now true (key.now, object.now)) }
+    ensures text { IfOk result (λ r. r.1 ≡ text_of prefix.now true key.now) }
 {
-    match stem_if(delimited, prefix, key.as_text()) {
+    match stem_of(prefix, key.as_text()) {
         Some(stem) => {
             let text = joined(alloc, stem, "/")?;
             Ok((PageEntry::Prefix(text.clone()?), text))
@@ -80,17 +73,82 @@ fn entry_at(
     }
 }
 
+/// The entry of a key by itself.
+fn single(held: &Held) -> Result<PageEntry, AllocError>
+    ensures { IfOk result (λ entry. entry ≡ single held.now.key held.now) }
+{
+    Ok(PageEntry::Object {
+        key: held.key.clone()?,
+        length: held.object.bytes.as_slice().len() as u64,
+    })
+}
+
+/// Where to look for the keys after a text that begin with a prefix, each by itself.
+fn flat_start<'a>(prefix: &'a Text, after: &'a Text) -> Bound<&'a Text>
+    ensures { bound_map (λ x. x.now) result ≡ start prefix.now false after.now }
+{
+    if after.cmp(prefix).is_lt() {
+        Bound::Included(prefix)
+    } else {
+        Bound::Excluded(after)
+    }
+}
+
+/// A page of what is left, each by itself, as far as the keys begin with the prefix.
+fn flat_page(
+    alloc: Global,
+    rest: Range<'_, Text, Held>,
+    prefix: &Text,
+    limit: u16,
+) -> Result<Page, AllocError>
+    requires follows { Follows prefix.now rest }
+    requires own { AreOwn rest }
+    ensures entries { IfOk result (λ page. page.entries ≡ take limit (below prefix.now rest.entry)) }
+    ensures more { IfOk result (λ page. page.more ≡ nat_lt limit (length (below prefix.now rest.entry))) }
+{
+    let mut rest = rest;
+    let mut entries = Vec::new(alloc);
+    while let Some((text, held)) = rest.next() {
+        if !text.starts_with(prefix) {
+            return Ok(Page {
+                entries: EntryList::from_vec(entries),
+                more: false,
+            });
+        }
+        if entries.len() == limit as usize {
+            return Ok(Page {
+                entries: EntryList::from_vec(entries),
+                more: true,
+            });
+        }
+        entries.push(single(held)?)?;
+    }
+    Ok(Page {
+        entries: EntryList::from_vec(entries),
+        more: false,
+    })
+}
+
 impl Objects {
-    /// The first entry from where the entries after a text may stand.
-    fn first_after(
+    /// At most so many entries after a text, each key by itself, in O(log n) and O(1) for each.
+    pub(crate) fn list_flat(
         &self,
         prefix: &Text,
-        delimited: bool,
-        last: &Text,
-    ) -> Result<Option<(&Key, &Object)>, AllocError>
-        ensures { IfOk result (λ r. option_map (λ p. (p.0.now, p.1.now)) r ≡ slice_get (entries_between text_cmp (start prefix.now delimited last.now) Unbounded (map.entries self.now)) 0) }
+        after: &Text,
+        limit: u16,
+    ) -> Result<Page, AllocError>
+        ensures entries { IfOk result (λ page. page.entries ≡ take limit (walked prefix.now false after.now (map.entries self.now))) }
+        ensures more { IfOk result (λ page. page.more ≡ nat_lt limit (length (walked prefix.now false after.now (map.entries self.now)))) }
     {
-        match stem_if(delimited, prefix, last) {
+        let range = (flat_start(prefix, after), Bound::Unbounded);
+        flat_page(self.alloc, self.held.range(range), prefix, limit)
+    }
+
+    /// The first entry from where the folded entries after a text may stand.
+    fn first_after(&self, prefix: &Text, last: &Text) -> Result<Option<(&Key, &Object)>, AllocError>
+        ensures { IfOk result (λ r. option_map (λ p. (p.0.now, p.1.now)) r ≡ slice_get (entries_between text_cmp (start prefix.now true last.now) Unbounded (map.entries self.now)) 0) }
+    {
+        match stem_of(prefix, last) {
             Some(stem) => {
                 let past = joined(self.alloc, stem, "0")?;
                 Ok(self.first_from(Bound::Included(&past)))
@@ -104,16 +162,11 @@ impl Objects {
         }
     }
 
-    /// The entry that is listed next after a text.
-    fn next_listed(
-        &self,
-        prefix: &Text,
-        delimited: bool,
-        last: &Text,
-    ) -> Result<Option<(&Key, &Object)>, AllocError>
-        ensures { IfOk result (λ r. ComesNext prefix.now delimited last.now (map.entries self.now) (option_map (λ p. (p.0.now, p.1.now)) r)) }
+    /// The folded entry that is listed next after a text.
+    fn next_listed(&self, prefix: &Text, last: &Text) -> Result<Option<(&Key, &Object)>, AllocError>
+        ensures { IfOk result (λ r. ComesNext prefix.now true last.now (map.entries self.now) (option_map (λ p. (p.0.now, p.1.now)) r)) }
     {
-        match self.first_after(prefix, delimited, last)? {
+        match self.first_after(prefix, last)? {
             Some((key, object)) => {
                 if key.as_text().starts_with(prefix) {
                     return Ok(Some((key, object)));
@@ -124,22 +177,16 @@ impl Objects {
         }
     }
 
-    /// At most so many entries after a text, found one after another.
-    pub(crate) fn walk(
-        &self,
-        prefix: &Text,
-        delimited: bool,
-        after: &Text,
-        limit: u16,
-    ) -> Result<Page, AllocError>
+    /// At most so many folded entries after a text, each of them sought.
+    pub(crate) fn walk(&self, prefix: &Text, after: &Text, limit: u16) -> Result<Page, AllocError>
         requires { 0 < limit }
-        ensures entries { IfOk result (λ page. page.entries ≡ take limit (walked prefix.now delimited after.now (map.entries self.now))) }
-        ensures more { IfOk result (λ page. page.more ≡ nat_lt limit (length (walked prefix.now delimited after.now (map.entries self.now)))) }
+        ensures entries { IfOk result (λ page. page.entries ≡ take limit (walked prefix.now true after.now (map.entries self.now))) }
+        ensures more { IfOk result (λ page. page.more ≡ nat_lt limit (length (walked prefix.now true after.now (map.entries self.now)))) }
     {
         let mut entries = Vec::new(self.alloc);
         let mut last = after.clone()?;
         loop {
-            let Some((key, object)) = self.next_listed(prefix, delimited, &last)? else {
+            let Some((key, object)) = self.next_listed(prefix, &last)? else {
                 return Ok(Page {
                     entries: EntryList::from_vec(entries),
                     more: false,
@@ -151,7 +198,7 @@ impl Objects {
                     more: true,
                 });
             }
-            let (entry, text) = entry_at(self.alloc, prefix, delimited, key, object)?;
+            let (entry, text) = entry_at(self.alloc, prefix, key, object)?;
             entries.push(entry)?;
             last = text;
         }

@@ -13,16 +13,16 @@ pub returns-then-starts_with : goal.returns-then-starts_with
 returns-then-starts_with c =
     let below : begins c.args.prefix.now c.in-Some.key.now ≡ true = cc in
     let e : List ℕ × Object = (c.in-Some.key.now, c.in-Some.object.now) in
-    subst (λ b. ComesNext c.args.prefix.now c.args.delimited c.args.last.now (map.entries c.args.self.now) (cond b (Some e) None)) below
-    (found_next c.args.prefix.now c.args.delimited (map.entries c.args.self.now) (map_sorted text_cmp c.args.self.now) c.args.last.now (Some e) (ap (option_map (λ p. (p.0.now, p.1.now))) (sym c.in-Some.is) ∙ c.in_ok-key.ensures))
+    subst (λ b. ComesNext c.args.prefix.now true c.args.last.now (map.entries c.args.self.now) (cond b (Some e) None)) below
+    (found_next c.args.prefix.now true (map.entries c.args.self.now) (map_sorted text_cmp c.args.self.now) c.args.last.now (Some e) (ap (option_map (λ p. (p.0.now, p.1.now))) (sym c.in-Some.is) ∙ c.in_ok-key.ensures))
 
 pub returns-else-starts_with : goal.returns-else-starts_with
 returns-else-starts_with c =
     let below : begins c.args.prefix.now c.in-Some.key.now ≡ false = cc in
     let e : List ℕ × Object = (c.in-Some.key.now, c.in-Some.object.now) in
-    subst (λ b. ComesNext c.args.prefix.now c.args.delimited c.args.last.now (map.entries c.args.self.now) (cond b (Some e) None)) below
-    (found_next c.args.prefix.now c.args.delimited (map.entries c.args.self.now) (map_sorted text_cmp c.args.self.now) c.args.last.now (Some e) (ap (option_map (λ p. (p.0.now, p.1.now))) (sym c.in-Some.is) ∙ c.in_ok-key.ensures))
+    subst (λ b. ComesNext c.args.prefix.now true c.args.last.now (map.entries c.args.self.now) (cond b (Some e) None)) below
+    (found_next c.args.prefix.now true (map.entries c.args.self.now) (map_sorted text_cmp c.args.self.now) c.args.last.now (Some e) (ap (option_map (λ p. (p.0.now, p.1.now))) (sym c.in-Some.is) ∙ c.in_ok-key.ensures))
 
 pub returns-in-None : goal.returns-in-None
 returns-in-None c =
-    found_next c.args.prefix.now c.args.delimited (map.entries c.args.self.now) (map_sorted text_cmp c.args.self.now) c.args.last.now None (ap (option_map (λ p. (p.0.now, p.1.now))) (sym c.in-None.is) ∙ c.in_ok-key.ensures)
+    found_next c.args.prefix.now true (map.entries c.args.self.now) (map_sorted text_cmp c.args.self.now) c.args.last.now None (ap (option_map (λ p. (p.0.now, p.1.now))) (sym c.in-None.is) ∙ c.in_ok-key.ensures)

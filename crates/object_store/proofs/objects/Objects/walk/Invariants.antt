@@ -1,4 +1,4 @@
-use Rattle.std.proofs.Common.{◌≡◌, ◌≤◌, ◌-◌, ◌++◌, length}
+use Rattle.std.proofs.Common.{◌≡◌, ◌≤◌, ◌-◌, ◌++◌, length, true}
 use Rattle.std.specs.FinMap as map
 use Rattle.object_store.specs.Walk.{walked}
 use Rattle.object_store.proofs.objects.Objects.walk.Given as goal
@@ -6,7 +6,7 @@ use Rattle.object_store.proofs.objects.Objects.walk.Given as goal
 -- the entries so far and those after the last of them are all
 abbrev pub invariant-loop-last : goal.invariant-loop-last
 invariant-loop-last l = record {
-  told : l.entries.items ++ walked l.prefix l.delimited l.last (map.entries l.self) ≡ walked l.prefix l.delimited l.after (map.entries l.self);
+  told : l.entries.items ++ walked l.prefix true l.last (map.entries l.self) ≡ walked l.prefix true l.after (map.entries l.self);
   fits : length l.entries.items ≤ l.limit;
 }
 

@@ -1,0 +1,172 @@
+-- Pages of keys that are not folded, walked from the start on.
+use Rattle.std.proofs.Common.{◌≡◌, ℕ, ◌≤◌, nat_lt, Bool, true, false, ◌&&◌, cond, List, [], ◌∷◌, ◌++◌, map, refl, sym, ap, ◌∙◌, length, take, subst, arith, append-nil}
+use Rattle.std.proofs.lemmas.Bool.{and_from, and_parts}
+use Rattle.std.proofs.lemmas.Bool.Decides.{nat_tests}
+use Rattle.std.proofs.lemmas.List.{take_all}
+use Rattle.std.proofs.lemmas.List.Kept.{IsStrictlySortedBy-filter}
+use Rattle.std.proofs.lemmas.Map.Keys.{sorted_head, sorted_tail}
+use Rattle.std.specs.FinMap as fin
+use Rattle.std.specs.List.{filter, AllByRecursion}
+use Rattle.std.specs.List.Sorted.{IsStrictlySortedBy}
+use Rattle.std.specs.Map.{keys_of}
+use Rattle.std.specs.Ordering.{is_lt}
+use Rattle.std.specs.BTreeMap.Range.{is_from_start, entries_between}
+use Rattle.std.specs.declared.cmp.Ordering.TheVariants.{Less}
+use Rattle.std.specs.declared.ops.Bound.{Bound}
+use Rattle.std.specs.declared.ops.Bound.TheVariants.{Unbounded}
+use Rattle.proof_base.specs.Order.{text_cmp, text_total}
+use Rattle.proof_base.proofs.Bools.{contrary}
+use Rattle.proof_base.proofs.Viewed.{filter_map_same, viewed_sorted, entries_viewed}
+use Rattle.s3_types.proofs.Begins.{between}
+use Rattle.s3_types.specs.Pages.{begins, stem_if, entry_of}
+use Rattle.s3_types.specs.Store.{Objects}
+use Rattle.s3_types.specs.declared.object.Object.{Object}
+use Rattle.s3_types.specs.declared.reply.PageEntry.{PageEntry}
+use Rattle.object_store.specs.declared.objects.Held.{Held}
+use Rattle.object_store.specs.Flat.{single, below, Follows}
+use Rattle.object_store.specs.Held.{contents, AreOwn}
+use Rattle.object_store.specs.Walk.{start, walked}
+use Rattle.object_store.proofs.Own.{own_filter}
+use Rattle.object_store.proofs.Prefix.{lt, le_le, lt_not}
+use Rattle.object_store.proofs.Walked.{stems, from_start, start_ge, kept_between}
+
+-- ---- the end of a page
+
+none_after : (p k : List ℕ) (es : List (List ℕ × Held)) → lt k p ≡ false → begins p k ≡ false → Follows k es → below p es ≡ []
+none_after p k [] g n h = refl
+none_after p k (e ∷ es) g n h =
+    let m : begins p e.0 ≡ false = contrary (begins p e.0) (λ t. sym n ∙ between p k e.0 g h.0 t) in
+    ap (λ b. map (λ (e : List ℕ × Held). single e.0 e.1) (cond b (e ∷ filter (λ e. begins p e.0) es) (filter (λ e. begins p e.0) es))) m
+    ∙ none_after p e.0 es (le_le p k e.0 g h.0) m h.1
+
+-- behind a key that does not begin with p there is none that does
+pub none_left : (p : List ℕ) (rest es : List (List ℕ × Held)) (e : List ℕ × Held) → rest ≡ e ∷ es → Follows p rest → begins p e.0 ≡ false → below p rest ≡ []
+none_left p rest es e is f n =
+    let h : Follows p (e ∷ es) = subst (Follows p) is f in
+    ap (below p) is
+    ∙ ap (λ b. map (λ (e : List ℕ × Held). single e.0 e.1) (cond b (e ∷ filter (λ e. begins p e.0) es) (filter (λ e. begins p e.0) es))) n
+    ∙ none_after p e.0 es h.0 n h.1
+
+pub follows_rest : (p : List ℕ) (e : List ℕ × Held) (es : List (List ℕ × Held)) → Follows p (e ∷ es) → Follows p es
+follows_rest p e [] h = tt
+follows_rest p e (f ∷ es) h = (le_le p e.0 f.0 h.0 h.1.0, h.1.1)
+
+-- the page is whole
+whole : (xs rest all : List PageEntry) → xs ++ rest ≡ all → rest ≡ [] → xs ≡ all
+whole xs rest all told none = sym (append-nil xs) ∙ ap (λ l. xs ++ l) (sym none) ∙ told
+
+pub taken : (n : ℕ) (xs rest all : List PageEntry) → xs ++ rest ≡ all → rest ≡ [] → length xs ≤ n → xs ≡ take n all
+taken n xs rest all told none l = sym (take_all n xs l) ∙ ap (take n) (whole xs rest all told none)
+
+at_most : (n k : ℕ) → k ≤ n → false ≡ nat_lt n k
+at_most n k h = grind (arith, nat_tests)
+
+pub no_more : (n : ℕ) (xs rest all : List PageEntry) → xs ++ rest ≡ all → rest ≡ [] → length xs ≤ n → false ≡ nat_lt n (length all)
+no_more n xs rest all told none l = at_most n (length xs) l ∙ ap (λ l. nat_lt n (length l)) (whole xs rest all told none)
+
+-- ---- from the start on
+
+-- those that begin with p come after a
+abbrev Later : List ℕ → List ℕ → List (List ℕ × Object) → Type 0
+Later p a es = AllByRecursion (λ e. begins p e.0 ≡ true → lt a e.0 ≡ true) es
+
+later_head : (p a : List ℕ) (es : List (List ℕ × Object)) → AllByRecursion (λ q. text_cmp a q ≡ Less) (keys_of es) → Later p a es
+later_head p a [] h = tt
+later_head p a (e ∷ es) h = (λ t. ap is_lt h.0, later_head p a es h.1)
+
+abbrev entries_below : List ℕ → List (List ℕ × Object) → List PageEntry
+entries_below p es = map (entry_of p false) (filter (λ e. begins p e.0) es)
+
+-- each of them is walked
+each : (p a : List ℕ) (es : List (List ℕ × Object)) → IsStrictlySortedBy text_cmp (keys_of es) → Later p a es → walked p false a es ≡ entries_below p es
+each p a [] s l = refl
+each p a (e ∷ es) s l =
+    by (each p a es (sorted_tail text_cmp e.0 (keys_of es) s) l.1)
+    (each p e.0 es (sorted_tail text_cmp e.0 (keys_of es) s) (later_head p e.0 es (sorted_head text_cmp e.0 (keys_of es) s)))
+    (begins p e.0) refl
+  where
+    by : walked p false a es ≡ entries_below p es → walked p false e.0 es ≡ entries_below p es → (b : Bool) → begins p e.0 ≡ b → walked p false a (e ∷ es) ≡ entries_below p (e ∷ es)
+    by past here false n =
+        ap (λ b. cond (b && lt a e.0) (entry_of p false e ∷ walked p false e.0 es) (walked p false a es)) n ∙ past
+        ∙ sym (ap (λ b. map (entry_of p false) (cond b (e ∷ filter (λ e. begins p e.0) es) (filter (λ e. begins p e.0) es))) n)
+    by past here true t =
+        ap (λ b. cond b (entry_of p false e ∷ walked p false e.0 es) (walked p false a es)) (and_from (begins p e.0) (lt a e.0) t (l.0 t))
+        ∙ ap (λ l. entry_of p false e ∷ l) here
+        ∙ sym (ap (λ b. map (entry_of p false) (cond b (e ∷ filter (λ e. begins p e.0) es) (filter (λ e. begins p e.0) es))) t)
+
+-- as the tree holds them
+seen : (p : List ℕ) (es : List (List ℕ × Held)) → entries_below p (contents es) ≡ below p es
+seen p [] = refl
+seen p (e ∷ es) = by (begins p e.0) (seen p es)
+  where
+    by : (b : Bool) → entries_below p (contents es) ≡ below p es
+        → map (entry_of p false) (cond b ((e.0, e.1.object) ∷ filter (λ e. begins p e.0) (contents es)) (filter (λ e. begins p e.0) (contents es)))
+        ≡ map (λ (e : List ℕ × Held). single e.0 e.1) (cond b (e ∷ filter (λ e. begins p e.0) es) (filter (λ e. begins p e.0) es))
+    by true ih = ap (λ l. single e.0 e.1 ∷ l) ih
+    by false ih = ih
+
+-- what is left from the start on
+from : {V : Type 0} → List ℕ → List ℕ → List (List ℕ × V) → List (List ℕ × V)
+from p a es = entries_between text_cmp (start p false a) Unbounded es
+
+all_from : {V : Type 0} (p a : List ℕ) (es : List (List ℕ × V)) → AllByRecursion (λ e. is_from_start text_cmp (start p false a) e.0 ≡ true) (from p a es)
+unfolding from
+all_from p a [] = tt
+all_from {V} p a (e ∷ es) = by (is_from_start text_cmp (start p false a) e.0 && true) refl (all_from p a es)
+  where
+    by : (b : Bool) → (is_from_start text_cmp (start p false a) e.0 && true) ≡ b → AllByRecursion (λ e. is_from_start text_cmp (start p false a) e.0 ≡ true) (from p a es)
+        → AllByRecursion (λ e. is_from_start text_cmp (start p false a) e.0 ≡ true) (cond b (e ∷ from p a es) (from p a es))
+    by true t ih = ((and_parts _ _ t).0, ih)
+    by false t ih = ih
+
+sorted_from : {V : Type 0} (p a : List ℕ) (es : List (List ℕ × V)) → IsStrictlySortedBy text_cmp (keys_of es) → IsStrictlySortedBy text_cmp (keys_of (from p a es))
+unfolding from
+sorted_from {V} p a es s =
+    subst (IsStrictlySortedBy text_cmp) (sym (keys es)) (IsStrictlySortedBy-filter text_cmp (λ k. is_from_start text_cmp (start p false a) k && true) (keys_of es) s)
+  where
+    keys : (es : List (List ℕ × V)) → keys_of (from p a es) ≡ filter (λ k. is_from_start text_cmp (start p false a) k && true) (keys_of es)
+    keys [] = refl
+    keys (e ∷ es) = by (is_from_start text_cmp (start p false a) e.0 && true) (keys es)
+      where
+        by : (b : Bool) → keys_of (from p a es) ≡ filter (λ k. is_from_start text_cmp (start p false a) k && true) (keys_of es)
+            → keys_of (cond b (e ∷ from p a es) (from p a es)) ≡ cond b (e.0 ∷ filter (λ k. is_from_start text_cmp (start p false a) k && true) (keys_of es)) (filter (λ k. is_from_start text_cmp (start p false a) k && true) (keys_of es))
+        by true ih = ap (λ l. e.0 ∷ l) ih
+        by false ih = ih
+
+later_from : (p a : List ℕ) (es : List (List ℕ × Object)) → AllByRecursion (λ e. is_from_start text_cmp (start p false a) e.0 ≡ true) es → Later p a es
+later_from p a [] h = tt
+later_from p a (e ∷ es) h = (λ t. from_start p (stem_if false p) (stems p false) a e.0 t ∙ h.0, later_from p a es h.1)
+
+follows : (p : List ℕ) (es : List (List ℕ × Held)) → AllByRecursion (λ e. lt e.0 p ≡ false) es → IsStrictlySortedBy text_cmp (keys_of es) → Follows p es
+follows p [] h s = tt
+follows p (e ∷ es) h s = (h.0, follows e.0 es (above es (sorted_head text_cmp e.0 (keys_of es) s)) (sorted_tail text_cmp e.0 (keys_of es) s))
+  where
+    above : (es : List (List ℕ × Held)) → AllByRecursion (λ q. text_cmp e.0 q ≡ Less) (keys_of es) → AllByRecursion (λ f. lt f.0 e.0 ≡ false) es
+    above [] h = tt
+    above (f ∷ es) h = (lt_not e.0 f.0 (ap is_lt h.0), above es h.1)
+
+not_before : (p a : List ℕ) (es : List (List ℕ × Held)) → AllByRecursion (λ e. is_from_start text_cmp (start p false a) e.0 ≡ true) es → AllByRecursion (λ e. lt e.0 p ≡ false) es
+not_before p a [] h = tt
+not_before p a (e ∷ es) h = (start_ge p false a e.0 h.0, not_before p a es h.1)
+
+-- what is left, where a page of what comes behind `after` begins
+pub record IsRest (p a : List ℕ) (m : Objects) (rest : List (List ℕ × Held)) : Type 0 where
+  pub follows : Follows p rest
+  pub own : AreOwn rest
+  pub all : below p rest ≡ walked p false a (fin.entries m)
+
+pub flat_rest : (p a : List ℕ) (lo : Bound (List ℕ)) (es rest : List (List ℕ × Held)) (m : Objects) → lo ≡ start p false a → rest ≡ entries_between text_cmp lo Unbounded es
+    → IsStrictlySortedBy text_cmp (keys_of es) → AreOwn es → fin.from_entries (contents es) ≡ m → IsRest p a m rest
+unfolding from
+flat_rest p a lo es rest m is e s own same =
+    let t = viewed_sorted (λ (h : Held). h.object) text_total es s in
+    subst (IsRest p a m) (sym (e ∙ ap (λ lo. entries_between text_cmp lo Unbounded es) is)) (record {
+      follows = follows p (from p a es) (not_before p a (from p a es) (all_from p a es)) (sorted_from p a es s);
+      own = own_filter _ es own;
+      all =
+          sym (seen p (from p a es))
+          ∙ ap (entries_below p) (sym (filter_map_same (λ (e : List ℕ × Held). (e.0, e.1.object)) (λ e. is_from_start text_cmp (start p false a) e.0 && true) (λ e. is_from_start text_cmp (start p false a) e.0 && true) (λ x. refl) es))
+          ∙ sym (each p a (from p a (contents es)) (sorted_from p a (contents es) t) (later_from p a (from p a (contents es)) (all_from p a (contents es))))
+          ∙ kept_between p false (contents es) t a
+          ∙ ap (walked p false a) (sym (entries_viewed (λ (h : Held). h.object) text_total es s) ∙ ap fin.entries same);
+    })

@@ -1,0 +1,22 @@
+-- Pages of keys that are not folded.
+use Rattle.std.specs.Prelude.{◌≡◌, ℕ, false, List, [], ◌∷◌, length, map}
+use Rattle.std.specs.List.{filter}
+use Rattle.std.specs.Ordering.{is_lt}
+use Rattle.proof_base.specs.Order.{text_cmp}
+use Rattle.s3_types.specs.Pages.{begins}
+use Rattle.s3_types.specs.declared.reply.PageEntry.{PageEntry}
+use Rattle.s3_types.specs.declared.reply.PageEntry.TheVariants.{Object as Single}
+use Rattle.object_store.specs.declared.objects.Held.{Held}
+
+-- a key by itself, with the length of the bytes that it holds
+abbrev pub single : List ℕ → Held → PageEntry
+single key held = Single key (length held.object.bytes)
+
+-- the entries of the keys that begin with p
+abbrev pub below : List ℕ → List (List ℕ × Held) → List PageEntry
+below p es = map (λ e. single e.0 e.1) (filter (λ e. begins p e.0) es)
+
+-- the keys never fall, from p on
+abbrev pub Follows : List ℕ → List (List ℕ × Held) → Type 0
+Follows p [] = Unit {0}
+Follows p (e ∷ es) = (is_lt (text_cmp e.0 p) ≡ false) × Follows e.0 es
