@@ -13,7 +13,7 @@ use Rattle.s3_types.specs.Pages.{listed, text_in}
 use Rattle.s3_types.specs.declared.object.Object.{Object}
 use Rattle.s3_types.specs.declared.reply.PageEntry.{PageEntry}
 use Rattle.request_frame.specs.Members.{RisesFrom}
-use Rattle.object_store.proofs.Listed.{listed_behind}
+use Rattle.request_frame.proofs.Listed.{listed_behind}
 use Rattle.operations.specs.declared.plan.Step.{Step}
 use Rattle.operations.specs.Plans.{Goes, Falls}
 use Rattle.bucket_ops.specs.Asks.{reply_in, edited}

@@ -22,7 +22,7 @@ use Rattle.s3_types.specs.declared.request.Request.{Request}
 use Rattle.s3_types.specs.declared.request.UploadRef.{UploadRef}
 use Rattle.s3_types.specs.declared.reply.PageEntry.{PageEntry}
 use Rattle.s3_types.specs.declared.reply.PageEntry.TheVariants.{Object as Single, Prefix}
-use Rattle.object_store.proofs.Listed.{listed_behind}
+use Rattle.request_frame.proofs.Listed.{listed_behind}
 use Rattle.list_walk.specs.Walks.{IsListing, page_of, Told}
 use Rattle.list_walk.specs.Kinds.{last_of, keys_in, ask_keys, read_keys, after_keys, keys_from, ask_folder, read_folder, after_folder, folder_from, ask_uploads, read_uploads, after_uploads, uploads_from}
 

@@ -1,4 +1,5 @@
 pub mod Members
 pub mod Held
 pub mod Frame
+pub mod Walk
 pub mod Laws

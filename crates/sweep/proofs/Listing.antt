@@ -21,8 +21,8 @@ use Rattle.s3_types.specs.Multipart.{ref_cmp, ref_of, refs, is_behind}
 use Rattle.s3_types.specs.declared.object.Object.{Object}
 use Rattle.s3_types.specs.declared.request.UploadRef.{UploadRef}
 use Rattle.s3_types.specs.declared.reply.PageEntry.{PageEntry}
-use Rattle.object_store.specs.Walk.{walked}
-use Rattle.object_store.proofs.Listed.{walked_listed, listed_behind}
+use Rattle.request_frame.specs.Walk.{walked}
+use Rattle.request_frame.proofs.Listed.{walked_listed, listed_behind}
 use Rattle.job_operations.specs.Walks.{keys_on, last_of}
 use Rattle.sweep.specs.Left.{one_if as one}
 use Rattle.sweep.proofs.Counting.{count, count_more, AreNew, count_made}

@@ -12,10 +12,10 @@ use Rattle.std.proofs.lemmas.Map.Keys.{sorted_head, sorted_tail}
 use Rattle.proof_base.specs.Order.{text_cmp}
 use Rattle.s3_types.specs.declared.object.Object.{Object}
 use Rattle.s3_types.specs.Pages.{begins, stem_if, entry_of}
-use Rattle.object_store.specs.Walk.{text_by, text_of, start_by, start, walked, ComesNext}
+use Rattle.request_frame.specs.Walk.{text_by, text_of, start_by, start, walked, ComesNext}
 use Rattle.s3_types.proofs.Begins.{between, from_prefix}
-use Rattle.object_store.proofs.Prefix.{lt, up_to_next, before_next, le_not, le_lt, lt_le, le_le, lt_not, irrefl, lt_trans}
-use Rattle.object_store.proofs.Stem.{stem_below, stem_prefix, stem_same}
+use Rattle.request_frame.proofs.Prefix.{lt, up_to_next, before_next, le_not, le_lt, lt_le, le_le, lt_not, irrefl, lt_trans}
+use Rattle.request_frame.proofs.Stem.{stem_below, stem_prefix, stem_same}
 
 -- ---- where a key's text stands
 

@@ -13,13 +13,13 @@ use Rattle.proof_base.specs.Order.{text_cmp}
 use Rattle.s3_types.specs.declared.object.Object.{Object}
 use Rattle.s3_types.specs.declared.reply.PageEntry.{PageEntry}
 use Rattle.s3_types.specs.Pages.{begins, stem_if, entry_by, entry_of, text_in, is_again, folded_from, listed}
-use Rattle.object_store.specs.Walk.{text_by, text_of, walked}
+use Rattle.request_frame.specs.Walk.{text_by, text_of, walked}
 use Rattle.std.specs.FinMap.{entries}
 use Rattle.proof_base.proofs.Tree.{map_sorted}
 use Rattle.s3_types.specs.Store.{Objects}
 use Rattle.s3_types.proofs.Begins.{between}
-use Rattle.object_store.proofs.Prefix.{lt, lt_back, lt_le, le_lt, le_le, lt_not, irrefl}
-use Rattle.object_store.proofs.Walked.{stems, text_le}
+use Rattle.request_frame.proofs.Prefix.{lt, lt_back, lt_le, le_lt, le_le, lt_not, irrefl}
+use Rattle.request_frame.proofs.Walked.{stems, text_le}
 
 -- each entry whose text is greater than the last
 abbrev given : List ℕ → List PageEntry → List PageEntry
