@@ -1,6 +1,6 @@
 ghost use Rattle.std.specs.Prelude.{◌≡◌, Decides};
 ghost use Rattle.std.specs.List.{list_all};
-ghost use Rattle.sweep.specs.Fitting.{is_key, FitsPage, FitsUploads};
+ghost use Rattle.sweep.specs.Fitting.{is_key, FitsPage};
 
 use s3_types::{PageEntry, Refusal, Reply};
 
@@ -27,19 +27,6 @@ pub fn fits_page(reply: &Reply) -> bool
 {
     match reply {
         Reply::Page { entries, .. } => are_keys(entries.as_slice()),
-        Reply::Refused(refusal) => match refusal {
-            Refusal::NoSuchBucket => false,
-            _ => true,
-        },
-        _ => true,
-    }
-}
-
-/// Whether a walk over uploads may be told a reply: there is a bucket. Takes no memory.
-pub fn fits_uploads(reply: &Reply) -> bool
-    ensures { Decides result (FitsUploads reply.now) }
-{
-    match reply {
         Reply::Refused(refusal) => match refusal {
             Refusal::NoSuchBucket => false,
             _ => true,

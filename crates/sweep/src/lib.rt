@@ -11,7 +11,7 @@ mod sweeping;
 mod upload_walk;
 
 pub use below::{dest_prefix, sweep_request};
-pub use fitting::{fits_page, fits_uploads};
+pub use fitting::fits_page;
 pub use key_test::{AllBut, AllKeys, KeyTest};
 pub use key_walk::KeyWalk;
 pub use laws::{growth, sweeps_end, upload_walks_end, walks_end};

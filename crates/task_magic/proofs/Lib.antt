@@ -2,5 +2,3 @@ pub mod Whole
 pub mod Undone
 pub mod Listed
 pub mod Committed
-pub mod Rising
-pub mod Taken

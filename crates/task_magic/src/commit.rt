@@ -1,4 +1,4 @@
-ghost use Rattle.std.specs.Prelude.{◌≡◌, Bool, Decides, IfOk, OnOk, OnErr};
+ghost use Rattle.std.specs.Prelude.{◌≡◌};
 ghost use Rattle.s3_types.specs.declared.request.Committer.TheVariants.{Magic};
 ghost use Rattle.job_operations.specs.AtWork.{task_script, who_of, task_commit_wants, task_commit_told};
 ghost use Rattle.job_operations.specs.TaskCommits.{TaskCommitOver, task_commit_start, task_commit_over};
@@ -29,15 +29,6 @@ impl Model for Commit {
     ghost view = { λ c. record { plan = c.plan; operation = commit_of c.plan c.committing } };
 
     ghost invariant = { λ c. Keeps c.plan c.committing };
-}
-
-impl Commit {
-    /// Whether its present request may be answered so.
-    fn takes(&self, alloc: Global, reply: &Reply) -> Result<bool, AllocError>
-        ensures { IfOk result (λ is. (repeated : Bool) → Decides is (commit_fits self.now reply.now repeated)) }
-    {
-        self.committing.takes(alloc, &self.plan, reply)
-    }
 }
 
 /// A magic attempt's commit of its task. It lists its own directory, reads the record of each of its files,
@@ -106,13 +97,4 @@ impl Asks for Commit {
     fn end(&self) -> Option<&TaskEnd> {
         self.committing.end.as_ref()
     }
-}
-
-/// Whether a commit may be told a reply: a page of keys alone, which rise behind those listed, a record as the
-/// attempt knows its upload or that the record is not there, and anything where the set is put or it is over. Takes
-/// time in the number of keys and uploads.
-pub fn commit_takes(alloc: Global, commit: &CommitTask, reply: &Reply) -> Result<bool, AllocError>
-    ensures { IfOk result (λ is. (repeated : Bool) → Decides is (commit_fits commit.now reply.now repeated)) }
-{
-    commit.operation().takes(alloc, reply)
 }

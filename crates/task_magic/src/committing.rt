@@ -1,5 +1,4 @@
-ghost use Rattle.std.specs.Prelude.{◌≡◌, ◌+◌, ◌<◌, Bool, length, drop, get_or, [], true, false, Decides, IfOk, OnOk, OnErr, Some, None, option_map, slice_get};
-ghost use Rattle.std.specs.Option.{option_copied};
+ghost use Rattle.std.specs.Prelude.{◌≡◌, ◌+◌, ◌<◌, Bool, length, drop, get_or, [], true, false, IfOk, OnOk, OnErr, Some, None, option_map, slice_get};
 ghost use Rattle.s3_types.specs.declared.request.Request.TheVariants.{GetObject};
 ghost use Rattle.s3_types.specs.declared.request.Committer.TheVariants.{Magic};
 ghost use Rattle.sendings.specs.Retries.{Got, WornOut};
@@ -11,13 +10,12 @@ ghost use Rattle.task_laws.specs.Commits.{FitsCommit};
 ghost use Rattle.task_magic.specs.Committing.{HoldsCommit, commit_of, Keeps, record_of, is_no_key, publishes, with_sent};
 
 use crate::listing::{Listed, files_of_keys, missing, record_at};
-use crate::paging::fits_listing;
 use asking::NextRequest;
 use job_model::{TaskEnd, TaskPlan};
 use s3_types::{Key, KeyList, Refusal, Reply, Request, Sequence, put};
 use std::alloc::{AllocError, Global};
 use sweep::KeyWalk;
-use task_requests::{bucket_of, directory, fits_record, prefix, publish_request};
+use task_requests::{bucket_of, directory, prefix, publish_request};
 
 /// A commit as it goes on: whether it lists, the keys so far, the places of the files that it commits, the
 /// keys of their records, how many of them were read, and how it ended.
@@ -63,13 +61,6 @@ fn read_request(plan: &TaskPlan, key: &Key) -> Result<Option<Request>, AllocErro
         Ok(request) => Ok(Some(request)),
         Err(error) => Err(error),
     }
-}
-
-/// A place behind so many. Takes no memory.
-fn place_at(places: &[usize], at: usize) -> Option<&usize>
-    ensures { option_copied result ≡ slice_get places.now at }
-{
-    places.get(at)
 }
 
 /// The key of a record behind so many. Takes no memory.
@@ -243,23 +234,6 @@ impl Committing {
                 self.finish(TaskEnd::Done);
                 Ok(())
             }
-        }
-    }
-
-    /// Whether its present request may be answered so.
-    pub fn takes(&self, alloc: Global, plan: &TaskPlan, reply: &Reply) -> Result<bool, AllocError>
-        requires { Keeps plan.now self.now }
-        ensures { IfOk result (λ is. Decides is (FitsCommit (task_script plan.now) (who_of plan.now) plan.now.known (commit_of plan.now self.now) reply.now)) }
-    {
-        let None = &self.end else {
-            return Ok(true);
-        };
-        if self.listing {
-            return fits_listing(alloc, &self.walk, reply);
-        }
-        match place_at(self.places.as_slice(), self.at) {
-            Some(place) => fits_record(alloc, plan, *place, reply),
-            None => Ok(true),
         }
     }
 

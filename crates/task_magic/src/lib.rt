@@ -6,12 +6,11 @@ mod abort;
 mod commit;
 mod committing;
 mod listing;
-mod paging;
 mod stepping;
 mod undoing;
 mod write;
 
 pub use abort::AbortTask;
-pub use commit::{CommitTask, commit_takes};
+pub use commit::CommitTask;
 pub use task_requests::WriteStage;
 pub use write::WriteFiles;
