@@ -4,6 +4,3 @@
 mod cluster;
 
 pub use cluster::Cluster;
-
-#[cfg(test)]
-mod tests;

@@ -4,8 +4,6 @@
 
 mod marker;
 mod status;
-#[cfg(test)]
-mod tests;
 
 pub use marker::{MarkerPolicy, after_create, after_delete, marker_key};
 pub use status::{Status, status_of};

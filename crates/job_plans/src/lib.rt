@@ -5,8 +5,6 @@
 mod files;
 mod names;
 mod plans;
-#[cfg(test)]
-mod tests;
 
 pub use names::unique_name;
 pub use plans::{job_plan, task_plan};

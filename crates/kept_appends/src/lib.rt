@@ -5,6 +5,3 @@ mod appends;
 mod changing;
 
 pub use appends::append_all;
-
-#[cfg(test)]
-mod tests;

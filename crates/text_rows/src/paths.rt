@@ -1,4 +1,5 @@
 use anyhow::{Context, Result};
+use job_plans::unique_name;
 use magic_paths::{MagicRefusal, final_path};
 use path_keys::{PathFault, S3Path};
 use std::alloc::{AllocError, Global};
@@ -112,8 +113,13 @@ fn show_final(rt: &impl Print, alloc: Global, text: &str) -> Result<()> {
     show_final_of(rt, &final_path(alloc, &path))
 }
 
-/// Shows what a row asks of a path: `read`, `parent` or `final` of it, what it is `join`ed with, or what
-/// of a key comes `behind` it.
+fn show_unique(rt: &impl Print, alloc: Global, path: &str, job: &str) -> Result<()> {
+    let name = unique_name(alloc, path, job)?;
+    show_key(rt, name.as_str())
+}
+
+/// Shows what a row asks of a path: `read`, `parent` or `final` of it, what it is `join`ed with, what
+/// of a key comes `behind` it, or what a file's path is once it is `unique` to a job.
 pub fn show_path(rt: &impl Print, alloc: Global, line: &str) -> Result<()> {
     let (verb, words) = line.split_once(' ').context("a verb and a path")?;
     let (text, other) = words.split_once(' ').unwrap_or((words, ""));
@@ -124,6 +130,7 @@ pub fn show_path(rt: &impl Print, alloc: Global, line: &str) -> Result<()> {
         "join" => show_joined(rt, alloc, text.as_str(), other.as_str()),
         "parent" => show_parent(rt, alloc, text.as_str()),
         "behind" => show_behind(rt, alloc, text.as_str(), other.as_str()),
+        "unique" => show_unique(rt, alloc, text.as_str(), other.as_str()),
         _ => show_final(rt, alloc, text.as_str()),
     }
 }
