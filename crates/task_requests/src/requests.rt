@@ -15,7 +15,7 @@ use crate::stage::WriteStage;
 use job_model::{DrawnPart, DrawnUpload, TaskPlan};
 use path_keys::S3Path;
 use pending_json::PendingUpload;
-use s3_types::{Bucket, Bytes, LengthHeader, Request, SizeList, TagList, Text};
+use s3_types::{Bucket, Bytes, Key, LengthHeader, Request, SizeList, TagList, Text};
 use std::alloc::{AllocError, Global};
 
 /// The size in bytes of the parts of a file. Takes no memory.
@@ -122,23 +122,23 @@ pub fn ask_upload(alloc: Global, plan: &TaskPlan, path: &Text) -> Result<Request
     Request::create_upload(bucket_of(plan), &key)
 }
 
-/// The sending of the part behind so many others.
+/// The sending to a file's key of the part behind so many others.
 pub fn ask_part(
     alloc: Global,
     plan: &TaskPlan,
-    path: &Text,
     bytes: &Bytes,
+    key: &Key,
     upload: u64,
     behind: u64,
 ) -> Result<Request, AllocError>
-    requires file { IsFile plan.now (path.now, bytes.now) }
+    requires task { IsTask plan.now }
+    requires short { length bytes.now ≤ MOST_SCRIPT_BYTES }
     requires within { behind < count_of plan.now bytes.now }
-    ensures { IfOk result (λ r. r ≡ Request.UploadPart plan.now.job.dest.bucket (below plan.now.job.dest.key path.now) upload (behind + 1) (part_behind plan.now bytes.now behind)) }
+    ensures { IfOk result (λ r. r ≡ Request.UploadPart plan.now.job.dest.bucket key.now upload (behind + 1) (part_behind plan.now bytes.now behind)) }
 {
-    let key = target(alloc, plan, path)?;
     let size = size_of(plan, bytes);
     let part = part(alloc, bytes, size, behind)?;
-    Request::upload_part(bucket_of(plan), &key, upload, behind as u32 + 1, &part)
+    Request::upload_part(bucket_of(plan), key, upload, behind as u32 + 1, &part)
 }
 
 /// The put of a file's marker, which has no bytes and the file's length as header.
@@ -226,7 +226,8 @@ pub fn ask_next(
     let Some(drawn) = last_drawn(&plan.known) else {
         unreachable!();
     };
-    ask_part(alloc, plan, path, bytes, drawn.upload, sent)
+    let key = target(alloc, plan, path)?;
+    ask_part(alloc, plan, bytes, &key, drawn.upload, sent)
 }
 
 /// What is asked behind a part of a file: the next part of the upload that was drawn last, or its marker.

@@ -47,7 +47,7 @@ pub fn begin_upload(
         unreachable!();
     };
     let key = target(alloc, plan, path)?;
-    let asked = ask_part(alloc, plan, path, bytes, upload, 0)?;
+    let asked = ask_part(alloc, plan, bytes, &key, upload, 0)?;
     match plan.known.draw(alloc, key, upload) {
         Ok(()) => Ok(asked),
         Err(error) => {
