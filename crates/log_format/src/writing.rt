@@ -271,6 +271,19 @@ fn put_change(out: &mut Vec<u8>, change: &Request) -> Result<(), AllocError>
     }
 }
 
+/// How many bytes there are mostly at most beside those of an object or of a part.
+const MOST_FIELDS: usize = 256;
+
+/// How much room to take for a change's text, so that most are one allocation. Takes no memory.
+fn room_for(change: &Request) -> usize {
+    let bytes = match change {
+        Request::PutObject { bytes, .. } => bytes.as_slice().len(),
+        Request::UploadPart { bytes, .. } => bytes.as_slice().len(),
+        _ => 0,
+    };
+    bytes.saturating_add(MOST_FIELDS)
+}
+
 /// A change with its length before it and a closed gate behind it.
 pub fn record_of(alloc: Global, change: &Request) -> Result<Vec<u8>, AllocError>
     requires changing { known.is_changing change.now ≡ true }
@@ -278,9 +291,9 @@ pub fn record_of(alloc: Global, change: &Request) -> Result<Vec<u8>, AllocError>
     ensures text { IfOk result (λ written. written.items ≡ spelled.record_of change.now ++ 0 ∷ []) }
     ensures legal { OnOk result (IsChange change.now) }
 {
-    let mut text = Vec::new(alloc);
+    let mut text = Vec::with_capacity(alloc, room_for(change))?;
     put_change(&mut text, change)?;
-    let mut record = Vec::new(alloc);
+    let mut record = Vec::with_capacity(alloc, text.len().saturating_add(9))?;
     put_block(&mut record, &text)?;
     record.push(0)?;
     Ok(record)
