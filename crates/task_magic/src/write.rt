@@ -119,6 +119,7 @@ impl Machine for WriteFiles {
             &self.dir,
             self.turned.place,
             self.turned.stage,
+            &self.turned.asked,
             reply,
         ) {
             Ok(turned) => {

@@ -1,13 +1,14 @@
+ghost use Rattle.std.specs.Option.{option_map};
 ghost use Rattle.std.specs.Prelude.{◌≡◌, ◌<◌, length, get_or, [], IfOk, OnOk, OnErr};
 ghost use Rattle.s3_types.specs.declared.request.Request.TheVariants.{UploadPart};
 ghost use Rattle.job_operations.specs.AtWork.{task_script, with_known};
 ghost use Rattle.job_operations.specs.Records.{file_key};
-ghost use Rattle.task_requests.specs.Writing.{part_behind, tag_in, upload_in, with_drawn, with_tag};
+ghost use Rattle.task_requests.specs.Writing.{begun_key, part_behind, tag_in, upload_in, with_drawn, with_tag};
 
 use crate::names::{file_at, target};
 use crate::requests::ask_part;
 use job_model::TaskPlan;
-use s3_types::{Reply, Request, Tag, let_go};
+use s3_types::{Key, Reply, Request, Tag, let_go};
 use std::alloc::{AllocError, Global};
 
 /// The id of an upload that is begun. Takes no memory.
@@ -30,6 +31,16 @@ pub fn tag_in(reply: &Reply) -> Option<Tag>
     }
 }
 
+/// The key of the upload that a request begins. Takes no memory.
+pub fn begun_key(asked: &Option<Request>) -> Option<&Key>
+    ensures { option_map (λ k. k.now) result ≡ begun_key asked.now }
+{
+    match asked {
+        Some(Request::CreateUpload { bucket: _, key }) => Some(key),
+        _ => None,
+    }
+}
+
 /// The upload of the file at a place is begun under this id: its first part is asked. After want of memory the plan
 /// is as before.
 pub fn begin_upload(
@@ -43,12 +54,33 @@ pub fn begin_upload(
     ensures drawn { OnOk result (plan.new ≡ with_known plan.old (with_drawn plan.old.known (file_key (task_script plan.old) (get_or plan.old.files place ([], []))) upload)) }
     ensures err { OnErr result (plan.new ≡ plan.old) }
 {
-    let Some((path, bytes)) = file_at(plan, place) else {
+    let Some((path, _)) = file_at(plan, place) else {
         unreachable!();
     };
     let key = target(alloc, plan, path)?;
-    let asked = ask_part(alloc, plan, bytes, &key, upload, 0)?;
-    match plan.known.draw(alloc, key, upload) {
+    begin_upload_to(alloc, plan, place, &key, upload)
+}
+
+/// The same, where the key of the upload is at hand, which is shared.
+pub fn begin_upload_to(
+    alloc: Global,
+    plan: &mut TaskPlan,
+    place: usize,
+    key: &Key,
+    upload: u64,
+) -> Result<Request, AllocError>
+    requires within { place < length plan.old.files }
+    requires key { key.now ≡ file_key (task_script plan.old) (get_or plan.old.files place ([], [])) }
+    ensures asked { let f = get_or plan.old.files place ([], []) in IfOk result (λ r. r ≡ UploadPart plan.old.job.dest.bucket (file_key (task_script plan.old) f) upload 1 (part_behind plan.old f.1 0)) }
+    ensures drawn { OnOk result (plan.new ≡ with_known plan.old (with_drawn plan.old.known (file_key (task_script plan.old) (get_or plan.old.files place ([], []))) upload)) }
+    ensures err { OnErr result (plan.new ≡ plan.old) }
+{
+    let Some((_, bytes)) = file_at(plan, place) else {
+        unreachable!();
+    };
+    let drawn = key.clone()?;
+    let asked = ask_part(alloc, plan, bytes, key, upload, 0)?;
+    match plan.known.draw(alloc, drawn, upload) {
         Ok(()) => Ok(asked),
         Err(error) => {
             let_go(asked);
