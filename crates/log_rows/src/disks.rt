@@ -1,14 +1,13 @@
 ghost use Rattle.folder_log.specs.Disk.{IsWithin};
 
 use crate::faults::{Fault, Faulty};
-use anyhow::{Result, bail};
 use folder_log::{DiskFault, FileDisk, LogDisk};
-use s3_types::Bytes;
+use s3_types::{Bytes, let_go};
 use shelf::Failed;
-use std::alloc::Global;
+use std::alloc::{AllocError, Global};
 use std::io::Read;
 use std::rt::Files;
-use std::{fmt, fs};
+use std::{fs, io};
 
 const FOLDER: &str = "log-rows-folder";
 
@@ -16,6 +15,25 @@ const IMAGE: &str = "log-rows-folder/store.img";
 
 /// Another name of the file that stands at first.
 const OTHER: &str = "log-rows-folder/first.img";
+
+/// The calls that are made where there is no folder.
+const WITHOUT_FOLDER: [Call; 3] = [Call::Sync, Call::Read, Call::Swap];
+
+/// The calls that are made where there is no file.
+const WITHOUT_FILE: [Call; 3] = [Call::Sync, Call::Read, Call::Write];
+
+const CALLS: [Call; 4] = [Call::Read, Call::Swap, Call::Write, Call::Sync];
+
+const FAULTS: [Fault; 8] = [
+    Fault::Nothing,
+    Fault::Open,
+    Fault::Read,
+    Fault::Short,
+    Fault::Full,
+    Fault::Sync,
+    Fault::FolderSync,
+    Fault::Rename,
+];
 
 /// A call of a disk.
 #[derive(Clone, Copy)]
@@ -48,148 +66,138 @@ fn fault_text(fault: Fault) -> &'static str {
     }
 }
 
-fn disk_of<R: Files + Drop>(alloc: Global, rt: R) -> Result<FileDisk<R>> {
-    Ok(FileDisk::new(alloc, rt, String::from_str(alloc, FOLDER)?))
-}
-
-/// What a call answered.
-#[derive(Drop)]
-enum Answer {
-    Done,
-    Failed,
-    NoFile,
-    Bytes(Bytes),
-    Another,
-}
-
-impl fmt::Display for Answer {
-    fn fmt<W: fmt::Write>(&self, f: &mut fmt::Formatter<W>) -> fmt::Result {
-        match self {
-            Answer::Done => write!(f, "done"),
-            Answer::Failed => write!(f, "failed"),
-            Answer::NoFile => write!(f, "no file"),
-            Answer::Bytes(bytes) => write!(f, "{}", text_of(bytes.as_slice())),
-            Answer::Another => write!(f, "another fault"),
-        }
-    }
+fn disk_of<R: Files + Drop>(alloc: Global, rt: R) -> Result<FileDisk<R>, AllocError> {
+    let folder = String::from_str(alloc, FOLDER)?;
+    Ok(FileDisk::new(alloc, rt, folder))
 }
 
 /// The bytes as text, of which these rows have no other.
 fn text_of(bytes: &[u8]) -> &str {
-    match str::from_utf8(bytes) {
-        Ok(text) => text,
-        Err(_) => "no text",
-    }
+    str::from_utf8(bytes).unwrap_or("no text")
 }
 
-fn read_answer(read: Result<Option<Bytes>, DiskFault>) -> Answer {
-    match read {
-        Ok(Some(bytes)) => Answer::Bytes(bytes),
-        Ok(None) => Answer::NoFile,
-        Err(DiskFault::Failed) => Answer::Failed,
-        Err(_) => Answer::Another,
-    }
+fn put_read(line: &mut String, read: &Result<Option<Bytes>, DiskFault>) -> Result<(), AllocError> {
+    line.push_str(match read {
+        Ok(Some(bytes)) => text_of(bytes.as_slice()),
+        Ok(None) => "no file",
+        Err(DiskFault::Failed) => "failed",
+        Err(_) => "another fault",
+    })
 }
 
-fn done_answer(done: Result<(), Failed>) -> Answer {
-    match done {
-        Ok(()) => Answer::Done,
-        Err(_) => Answer::Failed,
-    }
+fn put_done(line: &mut String, done: Result<(), Failed>) -> Result<(), AllocError> {
+    line.push_str(if done.is_ok() { "done" } else { "failed" })
 }
 
-fn answer_of<D: LogDisk>(disk: &mut D, call: Call) -> Answer
+/// What a call answers.
+fn put_answer<D: LogDisk>(line: &mut String, disk: &mut D, call: Call) -> Result<(), AllocError>
     requires { IsWithin 2 (D.seen disk.old) }
 {
     match call {
-        Call::Read => read_answer(disk.read()),
-        Call::Swap => done_answer(disk.swap(b"ne", b"we", b"st")),
-        Call::Write => done_answer(disk.write_at(2, b"LOG")),
-        Call::Sync => done_answer(disk.sync()),
+        Call::Read => {
+            let read = disk.read();
+            let put = put_read(line, &read);
+            let_go(read);
+            put
+        }
+        Call::Swap => put_done(line, disk.swap(b"ne", b"we", b"st")),
+        Call::Write => put_done(line, disk.write_at(2, b"LOG")),
+        Call::Sync => put_done(line, disk.sync()),
     }
 }
 
 /// What the call answers over a new disk of the folder, where this goes wrong.
-fn call_answer<R: Files>(rt: &R, alloc: Global, call: Call, fault: Fault) -> Result<Answer> {
+fn put_call<R: Files>(
+    rt: &R,
+    alloc: Global,
+    line: &mut String,
+    call: Call,
+    fault: Fault,
+) -> Result<(), AllocError> {
     let mut disk = disk_of(alloc, Faulty::new(rt, fault))?;
-    Ok(answer_of(&mut disk, call))
+    let put = put_answer(line, &mut disk, call);
+    let_go(disk);
+    put
+}
+
+/// A file `first` under two names, of which the second stays with it. Where it cannot be written, there is
+/// none to name.
+fn begin<R: Files>(rt: &R, alloc: Global) -> io::Result<()> {
+    let mut disk = disk_of(alloc, rt)?;
+    let _ = disk.swap(b"fi", b"rs", b"t");
+    let_go(disk);
+    fs::hard_link(rt, IMAGE, OTHER)
 }
 
 /// The bytes of a file of the folder.
-fn file_bytes<R: Files>(rt: &R, alloc: Global, path: &str) -> Result<Vec<u8>> {
+fn put_file<R: Files>(rt: &R, alloc: Global, line: &mut String, path: &str) -> io::Result<()> {
     let mut bytes = Vec::new(alloc);
     fs::open(rt, path)?.read_to_end(&mut bytes)?;
-    Ok(bytes)
+    Ok(line.push_str(text_of(&bytes))?)
 }
 
-/// A file `first` under two names, of which the second stays with it.
-fn begin<R: Files>(rt: &R, alloc: Global) -> Result<()> {
-    let mut disk = disk_of(alloc, rt)?;
-    if disk.swap(b"fi", b"rs", b"t").is_err() {
-        bail!("no file is written");
-    }
-    fs::hard_link(rt, IMAGE, OTHER)?;
-    Ok(())
-}
-
-fn show_file<R: Print + Files>(rt: &R, alloc: Global, path: &str) -> Result<()> {
-    let bytes = file_bytes(rt, alloc, path)?;
-    print!(rt; " {}", text_of(&bytes))?;
-    Ok(())
-}
-
-/// What the file has, under its name and as the old one.
-fn show_files<R: Print + Files>(rt: &R, alloc: Global) -> Result<()> {
-    print!(rt; ", then")?;
-    show_file(rt, alloc, IMAGE)?;
-    print!(rt; ", the old file")?;
-    show_file(rt, alloc, OTHER)?;
-    println!(rt)?;
-    Ok(())
-}
-
-/// What a call answers where something fails, and what the file then has.
-fn show_call<R: Print + Files>(rt: &R, alloc: Global, call: Call, fault: Fault) -> Result<()> {
+/// What a call answers where something fails, and what the file then has, under its name and as the old one.
+fn put_fault<R: Files>(
+    rt: &R,
+    alloc: Global,
+    line: &mut String,
+    call: Call,
+    fault: Fault,
+) -> io::Result<()> {
     begin(rt, alloc)?;
-    let answer = call_answer(rt, alloc, call, fault)?;
-    print!(rt; "{} where {}: {answer}", call_text(call), fault_text(fault))?;
-    show_files(rt, alloc)?;
-    fs::remove_file(rt, OTHER)?;
+    put_call(rt, alloc, line, call, fault)?;
+    line.push_str(", then ")?;
+    put_file(rt, alloc, line, IMAGE)?;
+    line.push_str(", the old file ")?;
+    put_file(rt, alloc, line, OTHER)?;
+    fs::remove_file(rt, OTHER)
+}
+
+fn show_fault<R: Print + Files>(rt: &R, alloc: Global, call: Call, fault: Fault) -> io::Result<()> {
+    let mut line = String::new(alloc);
+    put_fault(rt, alloc, &mut line, call, fault)?;
+    println!(rt; "{} where {}: {line}", call_text(call), fault_text(fault))
+}
+
+fn show_faults<R: Print + Files>(rt: &R, alloc: Global, call: Call) -> io::Result<()> {
+    for fault in &FAULTS {
+        show_fault(rt, alloc, call, *fault)?;
+    }
     Ok(())
 }
 
-fn show_calls<R: Print + Files>(rt: &R, alloc: Global, call: Call) -> Result<()> {
-    show_call(rt, alloc, call, Fault::Nothing)?;
-    show_call(rt, alloc, call, Fault::Open)?;
-    show_call(rt, alloc, call, Fault::Read)?;
-    show_call(rt, alloc, call, Fault::Short)?;
-    show_call(rt, alloc, call, Fault::Full)?;
-    show_call(rt, alloc, call, Fault::Sync)?;
-    show_call(rt, alloc, call, Fault::FolderSync)?;
-    show_call(rt, alloc, call, Fault::Rename)
+fn show_calls<R: Print + Files>(rt: &R, alloc: Global) -> io::Result<()> {
+    for call in &CALLS {
+        show_faults(rt, alloc, *call)?;
+    }
+    Ok(())
 }
 
 /// What a call answers where there is no file, or no folder.
-fn show_missing<R: Print + Files>(rt: &R, alloc: Global, call: Call, what: &str) -> Result<()> {
-    let answer = call_answer(rt, alloc, call, Fault::Nothing)?;
-    println!(rt; "{} where there is no {what}: {answer}", call_text(call))?;
+fn show_missing<R: Print + Files>(rt: &R, alloc: Global, call: Call, what: &str) -> io::Result<()> {
+    let mut line = String::new(alloc);
+    put_call(rt, alloc, &mut line, call, Fault::Nothing)?;
+    println!(rt; "{} where there is no {what}: {line}", call_text(call))
+}
+
+fn show_all_missing<R: Print + Files>(
+    rt: &R,
+    alloc: Global,
+    calls: &[Call],
+    what: &str,
+) -> io::Result<()> {
+    for call in calls {
+        show_missing(rt, alloc, *call, what)?;
+    }
     Ok(())
 }
 
 /// What a folder's file answers.
-pub fn show_disks<R: Print + Files>(rt: &R, alloc: Global) -> Result<()> {
-    show_missing(rt, alloc, Call::Sync, "folder")?;
-    show_missing(rt, alloc, Call::Read, "folder")?;
-    show_missing(rt, alloc, Call::Swap, "folder")?;
+pub fn show_disks<R: Print + Files>(rt: &R, alloc: Global) -> io::Result<()> {
+    show_all_missing(rt, alloc, &WITHOUT_FOLDER, "folder")?;
     fs::create_dir(rt, FOLDER)?;
-    show_missing(rt, alloc, Call::Sync, "file")?;
-    show_missing(rt, alloc, Call::Read, "file")?;
-    show_missing(rt, alloc, Call::Write, "file")?;
-    show_calls(rt, alloc, Call::Read)?;
-    show_calls(rt, alloc, Call::Swap)?;
-    show_calls(rt, alloc, Call::Write)?;
-    show_calls(rt, alloc, Call::Sync)?;
+    show_all_missing(rt, alloc, &WITHOUT_FILE, "file")?;
+    show_calls(rt, alloc)?;
     fs::remove_file(rt, IMAGE)?;
-    fs::remove_dir(rt, FOLDER)?;
-    Ok(())
+    fs::remove_dir(rt, FOLDER)
 }

@@ -1,7 +1,7 @@
 use crate::found::{Found, find};
-use anyhow::Result;
 use s3_types::Bytes;
 use std::alloc::{AllocError, Global};
+use std::io;
 
 /// What is done with a file's bytes, once for each number.
 #[derive(Clone, Copy)]
@@ -59,34 +59,41 @@ struct Run {
     found: Found,
 }
 
-fn show_run(rt: &impl Print, run: Option<Run>) -> Result<()> {
+fn show_run(rt: &impl Print, run: Run) -> io::Result<()> {
+    let found = run.found;
+    if run.first < run.last {
+        println!(rt; "{} to {}: {found}", run.first, run.last)
+    } else {
+        println!(rt; "{}: {found}", run.first)
+    }
+}
+
+/// The run with one number more, or a new one once the run before it is shown.
+fn next_run(rt: &impl Print, run: Option<Run>, number: usize, found: Found) -> io::Result<Run> {
+    let mut first = number;
     if let Some(run) = run {
-        if run.first < run.last {
-            println!(rt; "{} to {}: {}", run.first, run.last, run.found)?;
+        if run.found == found {
+            first = run.first;
         } else {
-            println!(rt; "{}: {}", run.first, run.found)?;
+            show_run(rt, run)?;
         }
     }
-    Ok(())
+    Ok(Run {
+        first,
+        last: number,
+        found,
+    })
 }
 
 /// What the file holds after the edit, for each number.
-pub fn show_edits(rt: &impl Print, alloc: Global, bytes: &[u8], edit: Edit) -> Result<()> {
+pub fn show_edits(rt: &impl Print, alloc: Global, bytes: &[u8], edit: Edit) -> io::Result<()> {
     let mut run: Option<Run> = None;
     for number in 0..edit.count(bytes.len()) {
         let found = find(alloc, edited(alloc, bytes, edit, number)?);
-        let first = match run {
-            Some(run) if run.found == found => run.first,
-            _ => {
-                show_run(rt, run)?;
-                number
-            }
-        };
-        run = Some(Run {
-            first,
-            last: number,
-            found,
-        });
+        run = Some(next_run(rt, run, number, found)?);
     }
-    show_run(rt, run)
+    match run {
+        Some(run) => show_run(rt, run),
+        None => Ok(()),
+    }
 }

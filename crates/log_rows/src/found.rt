@@ -46,10 +46,10 @@ pub fn fault_text(fault: LoadFault) -> &'static str {
 impl fmt::Display for Found {
     fn fmt<W: fmt::Write>(&self, f: &mut fmt::Formatter<W>) -> fmt::Result {
         match self {
-            Found::Nothing => write!(f, "nothing"),
+            Found::Nothing => f.write_str("nothing"),
             Found::Store { base, changes } => write!(f, "base {base} changes {changes}"),
             Found::Fault(LoadFault::BadLog(place)) => write!(f, "bad at {place}"),
-            Found::Fault(fault) => write!(f, "{}", fault_text(*fault)),
+            Found::Fault(fault) => f.write_str(fault_text(*fault)),
         }
     }
 }

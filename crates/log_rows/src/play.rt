@@ -1,30 +1,16 @@
 ghost use Rattle.std.specs.Prelude.{◌≤◌, length};
 
-use crate::changes::all_changes;
-use anyhow::Result;
 use log_format::is_changing;
-use s3_types::{Bytes, Request, Sequence, let_go};
+use s3_types::{Bytes, Request, let_go};
 use shelf::kept::Shelf;
-use std::alloc::Global;
 use std::fmt;
 
 /// What is played: the file that the disk has, the base that replaces it, and the changes behind that.
-#[derive(Drop)]
-pub struct Play {
-    pub file: Option<Bytes>,
-    pub base: Bytes,
-    pub changes: Sequence<Request>,
-}
-
-/// A play of a change of each kind.
-pub fn play_of(alloc: Global, file: &Option<Bytes>, base: Bytes) -> Result<Play> {
-    let file = file.clone()?;
-    let changes = all_changes(alloc)?;
-    Ok(Play {
-        file,
-        base,
-        changes,
-    })
+#[derive(Clone, Copy)]
+pub struct Play<'p> {
+    pub file: &'p Option<Bytes>,
+    pub base: &'p [u8],
+    pub changes: &'p [Request],
 }
 
 /// How far a play came.
@@ -38,8 +24,8 @@ pub enum Came {
 impl fmt::Display for Came {
     fn fmt<W: fmt::Write>(&self, f: &mut fmt::Formatter<W>) -> fmt::Result {
         match self {
-            Came::Nowhere => write!(f, "not loaded"),
-            Came::Loaded => write!(f, "not replaced"),
+            Came::Nowhere => f.write_str("not loaded"),
+            Came::Loaded => f.write_str("not replaced"),
             Came::Appended(count) => write!(f, "appended {count}"),
         }
     }
@@ -64,13 +50,13 @@ fn append_all<S: Shelf>(shelf: &mut S, changes: &[Request]) -> usize
 }
 
 /// Loads, replaces and appends, up to the first call that is not answered well.
-pub fn play_over<S: Shelf>(shelf: &mut S, play: &Play) -> Came {
+pub fn play_over<S: Shelf>(shelf: &mut S, play: Play<'_>) -> Came {
     match shelf.load() {
         Ok(held) => let_go(held),
         Err(_) => return Came::Nowhere,
     }
-    match shelf.replace(play.base.as_slice()) {
-        Ok(()) => Came::Appended(append_all(shelf, play.changes.as_slice())),
+    match shelf.replace(play.base) {
+        Ok(()) => Came::Appended(append_all(shelf, play.changes)),
         Err(_) => Came::Loaded,
     }
 }

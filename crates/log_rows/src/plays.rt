@@ -1,157 +1,155 @@
 use crate::found::load;
 use crate::left::{Left, crash_left, held_left};
-use crate::play::{Came, Play, play_of, play_over};
-use anyhow::Result;
+use crate::play::{Came, Play, play_over};
 use folder_log::{Choice, LogShelf, MemDisk};
 use s3_types::{Bytes, let_go};
 use shelf::CallList;
-use shelf::kept::MemShelf;
+use shelf::kept::{Held, MemShelf};
 use std::alloc::{AllocError, Global};
+use std::io;
 
-/// A list of one call.
-fn one_call(alloc: Global, call: u64) -> Result<CallList, AllocError> {
-    let mut fail = CallList::new(alloc);
-    fail.push(call)?;
-    Ok(fail)
-}
-
-/// A shelf over the disk as it is before the play.
-fn shelf_of(
-    alloc: Global,
-    play: &Play,
-    fail: CallList,
-    stop: Option<u64>,
-) -> Result<LogShelf<MemDisk>, AllocError> {
-    let disk = MemDisk::new(alloc, play.file.clone()?, fail, stop);
-    Ok(LogShelf::new(alloc, disk))
-}
-
-/// How far the play came, and what loads after a crash at its end.
-fn show_choices(
-    rt: &impl Print,
-    alloc: Global,
-    play: &Play,
-    came: Came,
-    disk: &MemDisk,
-) -> Result<()> {
-    let lost = crash_left(alloc, play, disk, Choice::Lost)?;
-    let kept = crash_left(alloc, play, disk, Choice::Kept)?;
-    let closed = crash_left(alloc, play, disk, Choice::Torn(0))?;
-    let open = crash_left(alloc, play, disk, Choice::Torn(1))?;
-    println!(rt; "{came}, lost {lost}, kept {kept}, torn to 0 {closed}, torn to 1 {open}")?;
-    Ok(())
-}
-
-/// How far the play comes where these calls fail, and what loads after a crash at its end.
-fn show_play(
-    rt: &impl Print,
-    alloc: Global,
-    play: &Play,
-    fail: CallList,
-    stop: Option<u64>,
-) -> Result<()> {
-    let mut shelf = shelf_of(alloc, play, fail, stop)?;
-    let came = play_over(&mut shelf, play);
-    let shown = show_choices(rt, alloc, play, came, shelf.disk());
-    let_go(shelf);
-    shown
-}
-
-fn show_file(rt: &impl Print, alloc: Global, file: &Option<Bytes>) -> Result<()> {
-    match file {
-        Some(file) => Ok(println!(rt; "file {}", hex::encode(alloc, file.as_slice())?)?),
-        None => Ok(()),
+/// A list of one call, or of none.
+fn calls_of(alloc: Global, call: Option<u64>) -> Result<CallList, AllocError> {
+    let mut calls = CallList::new(alloc);
+    if let Some(call) = call {
+        calls.push(call)?;
     }
-}
-
-/// The calls of the whole play and the file that they leave. Tells how many calls there were.
-fn show_disk(rt: &impl Print, alloc: Global, disk: &MemDisk) -> Result<u64> {
-    let calls = disk.calls_made();
-    println!(rt; "calls {calls}")?;
-    show_file(rt, alloc, &disk.crash(Choice::Lost)?)?;
     Ok(calls)
 }
 
-fn show_whole(rt: &impl Print, alloc: Global, play: &Play) -> Result<u64> {
-    let mut shelf = shelf_of(alloc, play, CallList::new(alloc), None)?;
-    let _ = play_over(&mut shelf, play);
-    let calls = show_disk(rt, alloc, shelf.disk());
+/// A shelf over the disk as it is before the play, of which a call fails, or which stops after some calls.
+fn shelf_of(
+    alloc: Global,
+    play: Play<'_>,
+    fail: Option<u64>,
+    stop: Option<u64>,
+) -> Result<LogShelf<MemDisk>, AllocError> {
+    let fail = calls_of(alloc, fail)?;
+    let file = play.file.clone()?;
+    Ok(LogShelf::new(alloc, MemDisk::new(alloc, file, fail, stop)))
+}
+
+/// How far a play came, and what loads after a crash at its end.
+#[derive(Clone, Copy)]
+struct Told {
+    came: Came,
+    lost: Left,
+    kept: Left,
+    closed: Left,
+    open: Left,
+}
+
+fn told_at(alloc: Global, play: Play<'_>, came: Came, disk: &MemDisk) -> Result<Told, AllocError> {
+    Ok(Told {
+        came,
+        lost: crash_left(alloc, play, disk, Choice::Lost)?,
+        kept: crash_left(alloc, play, disk, Choice::Kept)?,
+        closed: crash_left(alloc, play, disk, Choice::Torn(0))?,
+        open: crash_left(alloc, play, disk, Choice::Torn(1))?,
+    })
+}
+
+fn told_of(
+    alloc: Global,
+    play: Play<'_>,
+    fail: Option<u64>,
+    stop: Option<u64>,
+) -> Result<Told, AllocError> {
+    let mut shelf = shelf_of(alloc, play, fail, stop)?;
+    let came = play_over(&mut shelf, play);
+    let told = told_at(alloc, play, came, shelf.disk());
     let_go(shelf);
-    calls
+    told
 }
 
-fn show_stops(rt: &impl Print, alloc: Global, play: &Play, calls: u64) -> Result<()> {
+fn show_told(rt: &impl Print, name: &str, number: u64, told: Told) -> io::Result<()> {
+    println!(rt;
+        "{name} {number}: {}, lost {}, kept {}, torn to 0 {}, torn to 1 {}",
+        told.came, told.lost, told.kept, told.closed, told.open
+    )
+}
+
+/// Plays once for each number of calls after which the disk stops.
+fn show_stops(rt: &impl Print, alloc: Global, play: Play<'_>, calls: u64) -> io::Result<()> {
     for stop in 0..=calls {
-        print!(rt; "stop {stop}: ")?;
-        show_play(rt, alloc, play, CallList::new(alloc), Some(stop))?;
+        show_told(rt, "stop", stop, told_of(alloc, play, None, Some(stop))?)?;
     }
     Ok(())
 }
 
-fn show_fails(rt: &impl Print, alloc: Global, play: &Play, calls: u64) -> Result<()> {
+/// Plays once for each call that fails alone.
+fn show_fails(rt: &impl Print, alloc: Global, play: Play<'_>, calls: u64) -> io::Result<()> {
     for call in 1..=calls {
-        print!(rt; "fail {call}: ")?;
-        show_play(rt, alloc, play, one_call(alloc, call)?, None)?;
+        show_told(rt, "fail", call, told_of(alloc, play, Some(call), None)?)?;
     }
     Ok(())
 }
 
-fn show_all(rt: &impl Print, alloc: Global, play: &Play) -> Result<()> {
-    let calls = show_whole(rt, alloc, play)?.min(100);
+/// How many calls the whole play has, and the file that they leave.
+fn whole_play(alloc: Global, play: Play<'_>) -> Result<(u64, Option<Bytes>), AllocError> {
+    let mut shelf = shelf_of(alloc, play, None, None)?;
+    let _ = play_over(&mut shelf, play);
+    let calls = shelf.disk().calls_made();
+    let left = shelf.disk().crash(Choice::Lost);
+    let_go(shelf);
+    Ok((calls, left?))
+}
+
+fn show_whole(rt: &impl Print, alloc: Global, calls: u64, file: &Option<Bytes>) -> io::Result<()> {
+    let Some(file) = file else {
+        return println!(rt; "calls {calls}");
+    };
+    let digits = hex::encode(alloc, file.as_slice())?;
+    println!(rt; "calls {calls}\nfile {digits}")
+}
+
+/// Plays over a disk, of which nothing fails, which stops, or of which one call fails.
+pub fn show_plays(rt: &impl Print, alloc: Global, play: Play<'_>) -> io::Result<()> {
+    let (calls, file) = whole_play(alloc, play)?;
+    let shown = show_whole(rt, alloc, calls, &file);
+    let_go(file);
+    shown?;
+    let calls = calls.min(100);
     show_stops(rt, alloc, play, calls)?;
     show_fails(rt, alloc, play, calls)
 }
 
-/// Plays a base and a change of each kind over a disk with this file.
-pub fn show_plays(rt: &impl Print, alloc: Global, file: &Option<Bytes>, base: Bytes) -> Result<()> {
-    let play = play_of(alloc, file, base)?;
-    let shown = show_all(rt, alloc, &play);
-    let_go(play);
-    shown
+/// What the file holds, or nothing where that is bad.
+fn held_of(alloc: Global, file: &Option<Bytes>) -> Result<Option<Held>, AllocError> {
+    match load(alloc, file.clone()?) {
+        Ok(held) => Ok(held),
+        Err(_) => Ok(None),
+    }
 }
 
-/// A shelf in memory that holds what the file does, or nothing where that is bad.
-fn shelf_in_memory(alloc: Global, play: &Play, fail: CallList) -> Result<MemShelf, AllocError> {
-    let held = match load(alloc, play.file.clone()?) {
-        Ok(held) => held,
-        Err(_) => None,
-    };
+/// A shelf in memory that holds what the file does, of which this call fails.
+fn shelf_in_memory(alloc: Global, play: Play<'_>, call: u64) -> Result<MemShelf, AllocError> {
+    let fail = calls_of(alloc, Some(call))?;
+    let held = held_of(alloc, play.file)?;
     Ok(MemShelf::new(alloc, held, fail))
 }
 
-fn shelf_left(alloc: Global, play: &Play, shelf: &MemShelf) -> Result<Left> {
+fn shelf_left(alloc: Global, play: Play<'_>, shelf: &MemShelf) -> Result<Left, AllocError> {
     match shelf.held() {
         Some(held) => held_left(alloc, play, held),
         None => Ok(Left::Nothing),
     }
 }
 
-/// How far the play comes over a shelf in memory of which these calls fail, and what it then holds.
-fn play_in_memory(alloc: Global, play: &Play, fail: CallList) -> Result<(Came, Left)> {
-    let mut shelf = shelf_in_memory(alloc, play, fail)?;
+/// How far the play comes over a shelf in memory of which this call fails, and what it then holds.
+fn play_in_memory(alloc: Global, play: Play<'_>, call: u64) -> Result<(Came, Left), AllocError> {
+    let mut shelf = shelf_in_memory(alloc, play, call)?;
     let came = play_over(&mut shelf, play);
     let left = shelf_left(alloc, play, &shelf);
     let_go(shelf);
     Ok((came, left?))
 }
 
-fn show_memories(rt: &impl Print, alloc: Global, play: &Play) -> Result<()> {
+/// Plays over a shelf in memory of which no call fails, or one.
+pub fn show_memories(rt: &impl Print, alloc: Global, play: Play<'_>) -> io::Result<()> {
     for call in 0..12u64 {
-        let (came, left) = play_in_memory(alloc, play, one_call(alloc, call)?)?;
+        let (came, left) = play_in_memory(alloc, play, call)?;
         println!(rt; "fail {call}: {came}, holds {left}")?;
     }
     Ok(())
-}
-
-/// Plays the same over a shelf in memory of which no call fails, or one.
-pub fn show_shelves(
-    rt: &impl Print,
-    alloc: Global,
-    file: &Option<Bytes>,
-    base: Bytes,
-) -> Result<()> {
-    let play = play_of(alloc, file, base)?;
-    let shown = show_memories(rt, alloc, &play);
-    let_go(play);
-    shown
 }

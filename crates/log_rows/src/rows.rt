@@ -1,10 +1,13 @@
+use crate::changes::push_all_changes;
 use crate::disks::show_disks;
 use crate::edits::{Edit, show_edits};
-use crate::found::find;
-use crate::plays::{show_plays, show_shelves};
+use crate::found::{Found, find};
+use crate::play::Play;
+use crate::plays::{show_memories, show_plays};
 use anyhow::{Context, Result, bail};
-use s3_types::Bytes;
-use std::alloc::Global;
+use s3_types::{Bytes, Request, Sequence, let_go, put};
+use std::alloc::{AllocError, Global};
+use std::io;
 use std::rt::Files;
 
 /// The file that the rows are about.
@@ -12,6 +15,13 @@ use std::rt::Files;
 pub struct Rows {
     file: Option<Bytes>,
     alloc: Global,
+}
+
+/// What a play is over: a disk, or a shelf in memory.
+#[derive(Clone, Copy)]
+enum Medium {
+    Disk,
+    Memory,
 }
 
 /// The bytes that words of hex digits spell.
@@ -47,11 +57,12 @@ impl Rows {
 
     fn take(&mut self, words: &str) -> Result<()> {
         let bytes = spelled(self.alloc, words)?;
-        self.file = if bytes.is_empty() {
+        let file = if bytes.is_empty() {
             None
         } else {
             Some(Bytes::new(self.alloc, bytes)?)
         };
+        put(&mut self.file, file);
         Ok(())
     }
 
@@ -64,30 +75,64 @@ impl Rows {
 
     fn read(&self, rt: &impl Print) -> Result<()> {
         let bytes = Bytes::from_slice(self.alloc, self.bytes())?;
-        println!(rt; "{}", find(self.alloc, bytes))?;
-        Ok(())
+        Ok(show_found(rt, find(self.alloc, bytes))?)
     }
 
     /// `PLACE NUMBER`
     fn read_with(&self, rt: &impl Print, words: &str) -> Result<()> {
         let (place, number) = place_and_number(words)?;
         let bytes = with_number(self.alloc, self.bytes(), place, number)?;
-        println!(rt; "{}", find(self.alloc, bytes))?;
-        Ok(())
+        Ok(show_found(rt, find(self.alloc, bytes))?)
     }
 
-    fn edit(&self, rt: &impl Print, edit: Edit) -> Result<()> {
-        show_edits(rt, self.alloc, self.bytes(), edit)
+    /// Plays this base and these changes over a disk, or a shelf in memory.
+    fn play_changes(
+        &self,
+        rt: &impl Print,
+        medium: Medium,
+        base: &[u8],
+        changes: &[Request],
+    ) -> io::Result<()> {
+        let play = Play {
+            file: &self.file,
+            base,
+            changes,
+        };
+        match medium {
+            Medium::Disk => show_plays(rt, self.alloc, play),
+            Medium::Memory => show_memories(rt, self.alloc, play),
+        }
     }
 
-    fn play(&self, rt: &impl Print, words: &str) -> Result<()> {
-        let base = Bytes::new(self.alloc, spelled(self.alloc, words)?)?;
-        show_plays(rt, self.alloc, &self.file, base)
+    /// Plays this base and a change of each kind.
+    fn play_base(&self, rt: &impl Print, medium: Medium, base: &[u8]) -> Result<()> {
+        let mut changes = Sequence::new(self.alloc);
+        let shown = match push_all_changes(self.alloc, &mut changes) {
+            Ok(()) => self.play_changes(rt, medium, base, changes.as_slice()),
+            Err(_) => Err(AllocError.into()),
+        };
+        let_go(changes);
+        Ok(shown?)
     }
 
-    fn play_in_memory(&self, rt: &impl Print, words: &str) -> Result<()> {
-        let base = Bytes::new(self.alloc, spelled(self.alloc, words)?)?;
-        show_shelves(rt, self.alloc, &self.file, base)
+    fn play(&self, rt: &impl Print, medium: Medium, words: &str) -> Result<()> {
+        let base = spelled(self.alloc, words)?;
+        self.play_base(rt, medium, &base)
+    }
+}
+
+fn show_found(rt: &impl Print, found: Found) -> io::Result<()> {
+    println!(rt; "{found}")
+}
+
+/// The edit that a row asks for.
+fn edit_of(verb: &str, words: &str) -> Result<Edit> {
+    match verb {
+        "prefixes" => Ok(Edit::Prefix),
+        "set" => Ok(Edit::Set(byte_of(words)?)),
+        "turn" => Ok(Edit::Turn(byte_of(words)?)),
+        "values" => Ok(Edit::Value(place_of(words)?)),
+        _ => bail!("no such row"),
     }
 }
 
@@ -99,27 +144,26 @@ fn place_of(words: &str) -> Result<usize> {
     words.parse::<usize>().context("a place")
 }
 
+fn show_edit(rt: &impl Print, rows: &Rows, verb: &str, words: &str) -> Result<()> {
+    let edit = edit_of(verb, words)?;
+    Ok(show_edits(rt, rows.alloc, rows.bytes(), edit)?)
+}
+
 fn show_row<R: Print + Files>(rt: &R, rows: &mut Rows, verb: &str, words: &str) -> Result<()> {
     match verb {
         "log" => rows.take(words),
         "read" => rows.read(rt),
         "number" => rows.read_with(rt, words),
-        "prefixes" => rows.edit(rt, Edit::Prefix),
-        "set" => rows.edit(rt, Edit::Set(byte_of(words)?)),
-        "turn" => rows.edit(rt, Edit::Turn(byte_of(words)?)),
-        "values" => rows.edit(rt, Edit::Value(place_of(words)?)),
-        "play" => rows.play(rt, words),
-        "memory" => rows.play_in_memory(rt, words),
-        "files" => show_disks(rt, rows.alloc),
-        _ => bail!("no such row"),
+        "play" => rows.play(rt, Medium::Disk, words),
+        "memory" => rows.play(rt, Medium::Memory, words),
+        "files" => Ok(show_disks(rt, rows.alloc)?),
+        _ => show_edit(rt, rows, verb, words),
     }
 }
 
 /// Shows a line and what it asks for.
 pub fn show_line<R: Print + Files>(rt: &R, rows: &mut Rows, line: &str) -> Result<()> {
     println!(rt; "{line}")?;
-    match line.split_once(' ') {
-        Some((verb, words)) => show_row(rt, rows, verb, words),
-        None => show_row(rt, rows, line, ""),
-    }
+    let (verb, words) = line.split_once(' ').unwrap_or((line, ""));
+    show_row(rt, rows, verb, words)
 }
