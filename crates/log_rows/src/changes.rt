@@ -5,16 +5,13 @@ use s3_types::{
 };
 use std::alloc::{AllocError, Global};
 
-/// The names that the changes have: a bucket, a file, and another one.
+/// The names that the changes have: a bucket, a file, another one, and a folder.
 #[derive(Clone, Copy)]
 struct Names<'n> {
     bucket: &'n Bucket,
     file: &'n Key,
     other: &'n Key,
-}
-
-fn folder(alloc: Global) -> Result<Key, NameFault> {
-    Key::read(alloc, b"d/")
+    folder: &'n Key,
 }
 
 fn put_change(alloc: Global, names: Names<'_>) -> Result<Request, AllocError> {
@@ -22,16 +19,11 @@ fn put_change(alloc: Global, names: Names<'_>) -> Result<Request, AllocError> {
     Request::put_object(names.bucket, names.file, &bytes, Some(LengthHeader::new(6)))
 }
 
-fn drop_change(alloc: Global, names: Names<'_>) -> Result<Request, NameFault> {
+fn drop_change(alloc: Global, names: Names<'_>) -> Result<Request, AllocError> {
     let mut keys: KeyList = Sequence::new(alloc);
     keys.push(names.file.clone()?)?;
-    keys.push(folder(alloc)?)?;
-    Ok(Request::delete_objects(alloc, names.bucket, &keys)?)
-}
-
-fn create_change(alloc: Global, names: Names<'_>) -> Result<Request, NameFault> {
-    let folder = folder(alloc)?;
-    Ok(Request::create_upload(names.bucket, &folder)?)
+    keys.push(names.folder.clone()?)?;
+    Request::delete_objects(alloc, names.bucket, &keys)
 }
 
 fn part_change(alloc: Global, names: Names<'_>) -> Result<Request, AllocError> {
@@ -49,52 +41,54 @@ fn complete_change(alloc: Global, names: Names<'_>) -> Result<Request, AllocErro
 }
 
 /// A change by the number of its kind.
-fn change(alloc: Global, names: Names<'_>, kind: u8) -> Result<Request, NameFault> {
+fn change(alloc: Global, names: Names<'_>, kind: u8) -> Result<Request, AllocError> {
     match kind {
-        1 => Ok(Request::make_bucket(names.bucket.as_text())?),
-        2 => Ok(put_change(alloc, names)?),
-        3 => Ok(Request::delete_object(names.bucket, names.other)?),
+        1 => Request::make_bucket(names.bucket.as_text()),
+        2 => put_change(alloc, names),
+        3 => Request::delete_object(names.bucket, names.other),
         4 => drop_change(alloc, names),
-        5 => Ok(Request::copy_object(names.bucket, names.file, names.other)?),
-        6 => create_change(alloc, names),
-        7 => Ok(part_change(alloc, names)?),
-        8 => Ok(complete_change(alloc, names)?),
-        _ => Ok(Request::abort_upload(names.bucket, names.file, 4_294_967_297)?),
+        5 => Request::copy_object(names.bucket, names.file, names.other),
+        6 => Request::create_upload(names.bucket, names.folder),
+        7 => part_change(alloc, names),
+        8 => complete_change(alloc, names),
+        _ => Request::abort_upload(names.bucket, names.file, 4_294_967_297),
     }
-}
-
-fn push_change(
-    alloc: Global,
-    names: Names<'_>,
-    kind: u8,
-    changes: &mut Sequence<Request>,
-) -> Result<(), NameFault> {
-    let change = change(alloc, names, kind)?;
-    Ok(changes.push(change)?)
 }
 
 fn push_changes(
     alloc: Global,
     names: Names<'_>,
     changes: &mut Sequence<Request>,
-) -> Result<(), NameFault> {
+) -> Result<(), AllocError> {
     for kind in 1..=9u8 {
-        push_change(alloc, names, kind, changes)?;
+        changes.push(change(alloc, names, kind)?)?;
     }
     Ok(())
+}
+
+/// Adds the changes in a bucket, of which one is about a folder.
+fn push_changes_in(
+    alloc: Global,
+    bucket: &Bucket,
+    folder: &Key,
+    changes: &mut Sequence<Request>,
+) -> Result<(), NameFault> {
+    let file = Key::read(alloc, b"a")?;
+    let other = Key::read(alloc, b"b/c")?;
+    let names = Names {
+        bucket,
+        file: &file,
+        other: &other,
+        folder,
+    };
+    Ok(push_changes(alloc, names, changes)?)
 }
 
 /// Adds a change of each kind, in the order of their bytes in a log.
 pub fn push_all_changes(alloc: Global, changes: &mut Sequence<Request>) -> Result<(), NameFault> {
     let bucket = Bucket::read(alloc, b"lake")?;
-    let file = Key::read(alloc, b"a")?;
-    let other = Key::read(alloc, b"b/c")?;
-    let names = Names {
-        bucket: &bucket,
-        file: &file,
-        other: &other,
-    };
-    push_changes(alloc, names, changes)
+    let folder = Key::read(alloc, b"d/")?;
+    push_changes_in(alloc, &bucket, &folder, changes)
 }
 
 /// A change as a log has it.

@@ -38,6 +38,8 @@ const FAULTS: [Fault; 8] = [
 /// A call of a disk.
 #[derive(Clone, Copy)]
 enum Call {
+    /// The write of the file that stands at first.
+    First,
     Read,
     Swap,
     Write,
@@ -46,6 +48,7 @@ enum Call {
 
 fn call_text(call: Call) -> &'static str {
     match call {
+        Call::First => "first",
         Call::Read => "read",
         Call::Swap => "swap",
         Call::Write => "write",
@@ -66,9 +69,13 @@ fn fault_text(fault: Fault) -> &'static str {
     }
 }
 
-fn disk_of<R: Files + Drop>(alloc: Global, rt: R) -> Result<FileDisk<R>, AllocError> {
+fn disk_of<R: Files>(
+    rt: &R,
+    alloc: Global,
+    fault: Fault,
+) -> Result<FileDisk<Faulty<'_, R>>, AllocError> {
     let folder = String::from_str(alloc, FOLDER)?;
-    Ok(FileDisk::new(alloc, rt, folder))
+    Ok(FileDisk::new(alloc, Faulty::new(rt, fault), folder))
 }
 
 /// The bytes as text, of which these rows have no other.
@@ -100,6 +107,7 @@ fn put_answer<D: LogDisk>(line: &mut String, disk: &mut D, call: Call) -> Result
             let_go(read);
             put
         }
+        Call::First => put_done(line, disk.swap(b"fi", b"rs", b"t")),
         Call::Swap => put_done(line, disk.swap(b"ne", b"we", b"st")),
         Call::Write => put_done(line, disk.write_at(2, b"LOG")),
         Call::Sync => put_done(line, disk.sync()),
@@ -114,7 +122,7 @@ fn put_call<R: Files>(
     call: Call,
     fault: Fault,
 ) -> Result<(), AllocError> {
-    let mut disk = disk_of(alloc, Faulty::new(rt, fault))?;
+    let mut disk = disk_of(rt, alloc, fault)?;
     let put = put_answer(line, &mut disk, call);
     let_go(disk);
     put
@@ -123,9 +131,8 @@ fn put_call<R: Files>(
 /// A file `first` under two names, of which the second stays with it. Where it cannot be written, there is
 /// none to name.
 fn begin<R: Files>(rt: &R, alloc: Global) -> io::Result<()> {
-    let mut disk = disk_of(alloc, rt)?;
-    let _ = disk.swap(b"fi", b"rs", b"t");
-    let_go(disk);
+    let mut line = String::new(alloc);
+    put_call(rt, alloc, &mut line, Call::First, Fault::Nothing)?;
     fs::hard_link(rt, IMAGE, OTHER)
 }
 

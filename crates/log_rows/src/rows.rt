@@ -24,20 +24,23 @@ enum Medium {
     Memory,
 }
 
+fn push_word(alloc: Global, bytes: &mut Vec<u8>, word: &str) -> Result<()> {
+    let piece = hex::decode(alloc, word)?;
+    Ok(bytes.extend_from_slice(&piece)?)
+}
+
 /// The bytes that words of hex digits spell.
 fn spelled(alloc: Global, words: &str) -> Result<Vec<u8>> {
     let mut bytes = Vec::new(alloc);
     for word in words.split_whitespace() {
-        let piece = hex::decode(alloc, word)?;
-        bytes.extend_from_slice(&piece)?;
+        push_word(alloc, &mut bytes, word)?;
     }
     Ok(bytes)
 }
 
 fn place_and_number(words: &str) -> Result<(usize, u64)> {
     let (place, number) = words.split_once(' ').context("a place and a number")?;
-    let place = place.parse::<usize>().context("a place")?;
-    Ok((place, number.parse::<u64>().context("a number")?))
+    Ok((place.parse::<usize>()?, number.parse::<u64>()?))
 }
 
 /// The bytes with a number in the 8 bytes at a place.
@@ -129,19 +132,11 @@ fn show_found(rt: &impl Print, found: Found) -> io::Result<()> {
 fn edit_of(verb: &str, words: &str) -> Result<Edit> {
     match verb {
         "prefixes" => Ok(Edit::Prefix),
-        "set" => Ok(Edit::Set(byte_of(words)?)),
-        "turn" => Ok(Edit::Turn(byte_of(words)?)),
-        "values" => Ok(Edit::Value(place_of(words)?)),
+        "set" => Ok(Edit::Set(words.parse::<u8>()?)),
+        "turn" => Ok(Edit::Turn(words.parse::<u8>()?)),
+        "values" => Ok(Edit::Value(words.parse::<usize>()?)),
         _ => bail!("no such row"),
     }
-}
-
-fn byte_of(words: &str) -> Result<u8> {
-    words.parse::<u8>().context("a byte")
-}
-
-fn place_of(words: &str) -> Result<usize> {
-    words.parse::<usize>().context("a place")
 }
 
 fn show_edit(rt: &impl Print, rows: &Rows, verb: &str, words: &str) -> Result<()> {
