@@ -1,7 +1,9 @@
 use anyhow::{Context, Result};
+use dir_markers::{MarkerPolicy, after_create};
 use job_plans::unique_name;
 use magic_paths::{MagicRefusal, final_path};
 use path_keys::{PathFault, S3Path};
+use s3_types::Key;
 use std::alloc::{AllocError, Global};
 
 /// The most bytes of a key that is shown as a whole.
@@ -118,8 +120,23 @@ fn show_unique(rt: &impl Print, alloc: Global, path: &str, job: &str) -> Result<
     show_key(rt, name.as_str())
 }
 
+fn show_markers(rt: &impl Print, markers: &[Key]) -> Result<()> {
+    for marker in markers {
+        show_key(rt, marker.as_text().as_str())?;
+    }
+    Ok(())
+}
+
+/// Shows the markers that a file makes needless where it is made.
+fn show_above(rt: &impl Print, alloc: Global, text: &str) -> Result<()> {
+    let path = S3Path::read(alloc, text)?;
+    let markers = after_create(alloc, MarkerPolicy::Delete, &path)?;
+    show_markers(rt, markers.as_slice())
+}
+
 /// Shows what a row asks of a path: `read`, `parent` or `final` of it, what it is `join`ed with, what
-/// of a key comes `behind` it, or what a file's path is once it is `unique` to a job.
+/// of a key comes `behind` it, what a file's path is once it is `unique` to a job, or which markers are
+/// `above` a file.
 pub fn show_path(rt: &impl Print, alloc: Global, line: &str) -> Result<()> {
     let (verb, words) = line.split_once(' ').context("a verb and a path")?;
     let (text, other) = words.split_once(' ').unwrap_or((words, ""));
@@ -131,6 +148,7 @@ pub fn show_path(rt: &impl Print, alloc: Global, line: &str) -> Result<()> {
         "parent" => show_parent(rt, alloc, text.as_str()),
         "behind" => show_behind(rt, alloc, text.as_str(), other.as_str()),
         "unique" => show_unique(rt, alloc, text.as_str(), other.as_str()),
+        "above" => show_above(rt, alloc, text.as_str()),
         _ => show_final(rt, alloc, text.as_str()),
     }
 }
