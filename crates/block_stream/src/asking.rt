@@ -1,14 +1,13 @@
 ghost use Rattle.std.specs.Prelude.{◌≡◌, ℕ, List, [], ◌∷◌, ◌++◌, ◌+◌, ◌<◌, ◌≤◌, length, IfOk, Option};
 ghost use Rattle.std.specs.Option.{unwrap_or};
 ghost use Rattle.s3_types.specs.declared.limits.TheConstants.{MOST_PARTS};
-ghost use Rattle.s3_types.specs.Blocks.{named_from};
 ghost use Rattle.block_stream.specs.Stream.{asks_with, has_some};
 ghost use Rattle.block_stream.specs.Kept.{first_of, next_by, stage_by, settles};
 
 use crate::mode::{StreamEnd, StreamMode};
 use crate::queue::Queue;
 use crate::stage::Stage;
-use s3_types::{Bucket, Key, NamedPart, PartList, Request, TagList};
+use s3_types::{Bucket, Key, Request, TagList, named_parts};
 use std::alloc::{AllocError, Global};
 
 /// Where a stream's output goes, and how it is cut.
@@ -65,21 +64,6 @@ fn settle(mode: StreamMode, stage: Stage) -> (Stage, Option<StreamEnd>)
     }
 }
 
-/// The parts as a completion names them, numbered from 1 on.
-fn named(alloc: Global, tags: &TagList) -> Result<PartList, AllocError>
-    requires { length tags.now ≤ MOST_PARTS }
-    ensures { IfOk result (λ parts. parts ≡ named_from 1 tags.now) }
-{
-    let tags = tags.as_slice();
-    let mut parts = PartList::new(alloc);
-    let mut number = 1;
-    for tag in tags {
-        parts.push(NamedPart { number, tag: *tag })?;
-        number += 1;
-    }
-    Ok(parts)
-}
-
 /// The request that a stream sends at a stage.
 pub fn ask(
     alloc: Global,
@@ -107,7 +91,7 @@ pub fn ask(
             Ok(Some(Request::upload_part(bucket, key, upload, number, &bytes)?))
         }
         Stage::Completing => {
-            let parts = named(alloc, tags)?;
+            let parts = named_parts(alloc, tags.as_slice())?;
             Ok(Some(Request::complete_upload(alloc, bucket, key, upload, &parts)?))
         }
         Stage::Over => Ok(None),

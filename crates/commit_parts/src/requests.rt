@@ -1,5 +1,4 @@
-ghost use Rattle.std.specs.Prelude.{◌≡◌, ◌≤◌, IfOk, length};
-ghost use Rattle.s3_types.specs.Blocks.{named_from};
+ghost use Rattle.std.specs.Prelude.{◌≡◌, IfOk};
 ghost use Rattle.s3_types.specs.declared.request.Request.TheVariants.{GetObject, ClusterGet};
 ghost use Rattle.magic_paths.specs.Layout as layout;
 ghost use Rattle.job_operations.specs.Lanes.{completion, abort, deletion};
@@ -9,7 +8,7 @@ ghost use Rattle.job_operations.specs.AtWork.{job_script};
 use job_model::JobPlan;
 use magic_paths::{set_key, staged_set_path};
 use pending_json::PendingUpload;
-use s3_types::{Committer, NamedPart, PartList, Request, Sequence, Tag};
+use s3_types::{Committer, Request, named_parts};
 use std::alloc::{AllocError, Global};
 
 /// The read of a task's set from the store.
@@ -40,25 +39,11 @@ pub fn set_request(alloc: Global, plan: &JobPlan, task: u32) -> Result<Request, 
     }
 }
 
-/// The tags as a completion names them.
-fn named(alloc: Global, tags: &[Tag]) -> Result<PartList, AllocError>
-    requires { length tags.now ≤ 10000 }
-    ensures { IfOk result (λ parts. parts ≡ named_from 1 tags.now) }
-{
-    let mut parts = Sequence::new(alloc);
-    let mut number = 1;
-    for tag in tags {
-        parts.push(NamedPart { number, tag: *tag })?;
-        number += 1;
-    }
-    Ok(parts)
-}
-
 /// The completion of an upload.
 pub fn completion(alloc: Global, upload: &PendingUpload) -> Result<Request, AllocError>
     ensures { IfOk result (λ request. request ≡ completion upload.now) }
 {
-    let parts = named(alloc, upload.tags().as_slice())?;
+    let parts = named_parts(alloc, upload.tags().as_slice())?;
     Ok(Request::CompleteUpload {
         bucket: upload.bucket().clone()?,
         key: upload.destination().clone()?,

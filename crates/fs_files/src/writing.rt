@@ -1,10 +1,9 @@
 ghost use Rattle.std.specs.Prelude.{◌≡◌, ◌*◌, ◌≤◌, true, false, take, length, Some, None, IfOk, IsSome};
 ghost use Rattle.s3_types.specs.declared.limits.TheConstants.{MOST_PARTS};
-ghost use Rattle.s3_types.specs.Blocks.{named_from};
 ghost use Rattle.fs_files.specs.Writing.{unsent, is_short, is_due, first_stage, later_stage, asks_at, asks};
 ghost use Rattle.fs_files.specs.Hearing.{begun, parted, put_heard, begin_heard, send_heard, refused, end_heard, heard_at, heard};
 
-use s3_types::{Bucket, Bytes, Key, NamedPart, PartList, Refusal, Reply, Request, Tag, TagList};
+use s3_types::{Bucket, Bytes, Key, Refusal, Reply, Request, Tag, TagList, named_parts};
 use std::alloc::{AllocError, Global};
 use std::marker::Model;
 
@@ -43,20 +42,6 @@ pub enum Heard {
     On(FileStream),
     /// The store refused what was sent.
     Refusing,
-}
-
-/// The parts as a completion names them, numbered from 1 on.
-fn named(alloc: Global, tags: &[Tag]) -> Result<PartList, AllocError>
-    requires { length tags.now ≤ MOST_PARTS }
-    ensures { IfOk result (λ parts. parts ≡ named_from 1 tags.now) }
-{
-    let mut parts = PartList::new(alloc);
-    let mut number = 1;
-    for tag in tags {
-        parts.push(NamedPart { number, tag: *tag })?;
-        number += 1;
-    }
-    Ok(parts)
 }
 
 fn put_heard(reply: &Reply) -> Heard
@@ -162,7 +147,7 @@ impl FileStream {
         requires { self.now.upload ≡ Some upload }
         ensures { IfOk result (λ request. request ≡ asks_at (later_stage false) bucket.now self.now) }
     {
-        let parts = named(self.alloc, self.tags.as_slice())?;
+        let parts = named_parts(self.alloc, self.tags.as_slice())?;
         Request::complete_upload(self.alloc, bucket, &self.key, upload, &parts)
     }
 

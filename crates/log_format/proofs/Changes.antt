@@ -6,6 +6,7 @@ use Rattle.std.proofs.lemmas.Bool.{cases_eq, eqb-true}
 use Rattle.std.proofs.lemmas.Bool.Decides.{nat_tests}
 use Rattle.std.proofs.lemmas.List.{append-nil, nil_from_length}
 use Rattle.proof_base.proofs.Reading.{parted, passed}
+use Rattle.proof_base.proofs.Bytes.{IsBytes, IsReader}
 use Rattle.s3_types.specs.Names.{is_bucket, is_key}
 use Rattle.s3_types.specs.declared.request.Request.{Request}
 use Rattle.s3_types.specs.declared.request.Request.TheVariants.{MakeBucket, PutObject, GetObject, HeadObject, DeleteObject, DeleteObjects, CopyObject, ListPage, CreateUpload, UploadPart, CompleteUpload, AbortUpload, ListParts, ListUploads, ClusterPut, ClusterRename, ClusterGet, ClusterDelete, ClusterList}
@@ -14,7 +15,7 @@ use Rattle.log_format.specs.declared.fault.LogFault.TheVariants.{Bad}
 use Rattle.log_format.specs.Change.{header, IsAny, IsText, IsBucket, IsKey, IsBelow, IsNamed, AreBoth, AreFew, IsTarget, IsUpload, IsChange}
 use Rattle.log_format.specs.Log.{block, short, long, counted, target, upload, named, body}
 use Rattle.log_format.specs.Reading.{Read, byte_at, number_at, block_at, text_at, pair_at, counted_at, named_at, target_at, upload_at, header_in, row_of, make_bucket_in, put_object_in, delete_object_in, delete_objects_in, copy_object_in, create_upload_in, upload_part_in, complete_upload_in, abort_upload_in, kind_in, change_in}
-use Rattle.log_format.proofs.Steps.{IsBytes, IsReader, byte_takes, byte_again, short_reader, long_reader, block_reader, text_reader, pair_reader, counted_reader, named_reader}
+use Rattle.log_format.proofs.Steps.{byte_takes, byte_again, short_reader, long_reader, block_reader, text_reader, pair_reader, counted_reader, named_reader}
 
 -- ---- fields
 

@@ -8,6 +8,7 @@ use Rattle.std.proofs.lemmas.List.Concat.{flat_map-cons}
 use Rattle.std.proofs.lemmas.Slice.Eq.{bytes_eq-Decides}
 use Rattle.proof_base.specs.Reading.{◌>>=◌}
 use Rattle.proof_base.proofs.Reading.{parted, same_ok}
+use Rattle.proof_base.proofs.Bytes.{IsBytes, IsBytes-drop, Takes}
 use Rattle.s3_types.specs.declared.request.Request.{Request}
 use Rattle.log_format.specs.declared.fault.LogFault.{LogFault}
 use Rattle.log_format.specs.declared.held.Held.{Held}
@@ -15,7 +16,7 @@ use Rattle.log_format.specs.Change.{IsChange}
 use Rattle.log_format.specs.Log.{block, long, body, record_of, opened, magic, headed}
 use Rattle.log_format.specs.File.{StandsFor}
 use Rattle.log_format.specs.Reading.{place, byte_at, block_at, change_in, record_at, changes_at, logged_in, is_log, held_in}
-use Rattle.log_format.proofs.Steps.{IsBytes, IsBytes-drop, Takes, byte_takes, byte_again, block_takes, block_again}
+use Rattle.log_format.proofs.Steps.{byte_takes, byte_again, block_takes, block_again}
 use Rattle.log_format.proofs.Changes.{change_takes, change_again}
 
 -- ---- records

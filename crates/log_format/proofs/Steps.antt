@@ -1,13 +1,12 @@
 -- Steps of reading: what a step took from the front, and that it reads again what was written.
-use Rattle.std.proofs.Common.{◌≡◌, ℕ, zero, suc, ◌+◌, ◌^◌, ◌<◌, ◌≤◌, Bool, true, false, ltb, List, [], ◌∷◌, ◌++◌, length, get_or, slice_index, take, drop, Ok, refl, sym, ap, subst, ◌∙◌, append_assoc, arith, inl, inr}
+use Rattle.std.proofs.Common.{◌≡◌, ℕ, zero, suc, ◌+◌, ◌^◌, ◌<◌, ◌≤◌, Bool, true, false, List, [], ◌∷◌, ◌++◌, length, slice_index, Ok, refl, sym, ap, subst, ◌∙◌, append_assoc, arith}
 use Rattle.std.specs.Int.{Width, w32, w64, byte_len, from_be_bytes, to_be_bytes}
 use Rattle.std.specs.List.{list_all, flat_map, AllByRecursion}
-use Rattle.std.proofs.lemmas.Bool.{cases_lt, ltb-false, le-ltb}
-use Rattle.std.proofs.lemmas.List.{take_at, drop_at, take-append-drop, length-append, length-take, get_or-drop, get_or-take, get_or_past}
+use Rattle.std.proofs.lemmas.List.{length-append}
 use Rattle.std.proofs.lemmas.List.Concat.{flat_map-cons}
-use Rattle.std.proofs.lemmas.Nat.{be_bytes_4, be_bytes_8, from_be_bytes-to_be_bytes_4, from_be_bytes-to_be_bytes_8}
 use Rattle.proof_base.specs.Reading.{◌>>=◌}
-use Rattle.proof_base.proofs.Reading.{parted, same_ok, passed, not_stopped, unmade}
+use Rattle.proof_base.proofs.Bytes.{IsBytes, Takes, Takes-then, IsReader, front_takes, front_again, IsWide, wide32, wide64}
+use Rattle.proof_base.proofs.Reading.{parted, same_ok, passed, unmade}
 use Rattle.s3_types.specs.Tags.{is_hex}
 use Rattle.s3_types.specs.declared.request.NamedPart.{NamedPart}
 use Rattle.log_format.specs.declared.fault.LogFault.TheVariants.{Bad}
@@ -15,48 +14,15 @@ use Rattle.log_format.specs.Change.{IsAny, IsBelow, AreDigits, AreBoth, AreFew, 
 use Rattle.log_format.specs.Log.{block, short, long, counted, named}
 use Rattle.log_format.specs.Reading.{Read, bytes_at, byte_at, number_at, block_at, text_at, pair_at, list_at, counted_at, digits_at, named_of, named_at}
 
-abbrev pub IsBytes : List ℕ → Type 0
-IsBytes bytes = (i : ℕ) → get_or bytes i 0 < 256
-
-pub IsBytes-drop : (n : ℕ) (bytes : List ℕ) → IsBytes bytes → IsBytes (drop n bytes)
-IsBytes-drop n bytes h i = rw get_or-drop (h (n + i))
-
-IsBytes-take : (n : ℕ) (bytes : List ℕ) → IsBytes bytes → IsBytes (take n bytes)
-IsBytes-take n bytes h i =
-    elim (cases_lt i n) [
-      | inl lt ↦ rw (get_or-take n bytes i 0 lt) (h i)
-      | inr le ↦ rw (get_or_past (take n bytes) i 0 (omega (arith, length-take n bytes))) (omega arith)
-    ]
-
--- what a reader took from the front
-pub record Takes (bytes text rest : List ℕ) : Type 0 where
-  pub parts : bytes ≡ text ++ rest
-  pub rest_fits : IsBytes rest
-
-pub Takes-then : (a x b y c : List ℕ) → Takes a x b → Takes b y c → Takes a (x ++ y) c
-Takes-then a x b y c p q = record { parts = p.parts ∙ ap (λ (t : List ℕ). x ++ t) q.parts ∙ sym (append_assoc x y c); rest_fits = q.rest_fits }
-
--- a reader takes the text of a value of this kind, and reads such a text again
-pub record IsReader {A : Type 0} (read : List ℕ → Read A) (text : A → List ℕ) (IsValue : A → Type 0) : Type 0 where
-  pub takes : (bytes : List ℕ) (x : A) (rest : List ℕ) → IsBytes bytes → read bytes ≡ Ok (x, rest) → Takes bytes (text x) rest × IsValue x
-  pub again : (x : A) (rest : List ℕ) → IsValue x → length (text x ++ rest) < 2 ^ 64 → read (text x ++ rest) ≡ Ok (x, rest)
-
 -- ---- bytes
 
 pub bytes_take : (at n : ℕ) (bytes text rest : List ℕ) → IsBytes bytes → bytes_at at n bytes ≡ Ok (text, rest) → Takes bytes text rest × (length text ≡ n) × IsBytes text
 unfolding bytes_at
-bytes_take at n bytes text rest fits e =
-    let g = not_stopped (ltb (length bytes) n) (Bad at) (take n bytes, drop n bytes) (text, rest) e in
-    let long : n ≤ length bytes = ltb-false _ _ g.0 in
-    let len : length (take n bytes) ≡ n = omega (arith, length-take n bytes) in
-    let first : Takes bytes (take n bytes) (drop n bytes) = record { parts = sym (take-append-drop n bytes); rest_fits = IsBytes-drop n bytes fits } in
-    subst (λ (p : List ℕ × List ℕ). Takes bytes p.0 p.1 × (length p.0 ≡ n) × IsBytes p.0) g.1 (first, len, IsBytes-take n bytes fits)
+bytes_take at n bytes text rest fits e = front_takes (Bad at) n bytes text rest fits e
 
 pub bytes_again : (at : ℕ) (text rest : List ℕ) → bytes_at at (length text) (text ++ rest) ≡ Ok (text, rest)
 unfolding bytes_at
-bytes_again at text rest =
-    let long : ltb (length (text ++ rest)) (length text) ≡ false = le-ltb _ _ (omega (arith, length-append text rest)) in
-    rw (long, take_at text rest (length text) refl, drop_at text rest (length text) refl) refl
+bytes_again at text rest = front_again (Bad at) text rest
 
 -- the only byte
 only_byte : (text : List ℕ) → length text ≡ 1 → text ≡ slice_index text 0 ∷ []
@@ -77,28 +43,6 @@ unfolding byte_at
 byte_again at b rest = ap (λ (r : Read (List ℕ)). r >>= λ x. Ok (slice_index x.0 0, x.1)) (bytes_again at (b ∷ []) rest)
 
 -- ---- numbers
-
-pub record IsWide (w : Width) (limit : ℕ) : Type 0 where
-  pub len : (n : ℕ) → length (to_be_bytes w n) ≡ byte_len w
-  pub back : (bytes : List ℕ) → length bytes ≡ byte_len w → IsBytes bytes → to_be_bytes w (from_be_bytes w bytes) ≡ bytes
-  pub again : (n : ℕ) → n < limit → from_be_bytes w (to_be_bytes w n) ≡ n
-  pub below : (bytes : List ℕ) → IsBytes bytes → from_be_bytes w bytes < limit
-
-pub wide32 : IsWide w32 (2 ^ 32)
-wide32 = record {
-  len = λ n. refl;
-  back = λ bytes len fits. be_bytes_4 bytes _ len fits refl;
-  again = λ n lt. from_be_bytes-to_be_bytes_4 n lt;
-  below = λ bytes fits. omega (arith, fits 0, fits 1, fits 2, fits 3);
-}
-
-pub wide64 : IsWide w64 (2 ^ 64)
-wide64 = record {
-  len = λ n. refl;
-  back = λ bytes len fits. be_bytes_8 bytes _ len fits refl;
-  again = λ n lt. from_be_bytes-to_be_bytes_8 n lt;
-  below = λ bytes fits. omega (arith, fits 0, fits 1, fits 2, fits 3, fits 4, fits 5, fits 6, fits 7);
-}
 
 module _ (w : Width) (limit : ℕ) (wide : IsWide w limit) (at : ℕ) where
   number_takes : (bytes : List ℕ) (n : ℕ) (rest : List ℕ) → IsBytes bytes → number_at w at bytes ≡ Ok (n, rest) → Takes bytes (to_be_bytes w n) rest × IsBelow limit n

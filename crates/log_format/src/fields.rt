@@ -1,4 +1,4 @@
-ghost use Rattle.std.specs.Prelude.{◌≡◌, ◌<◌, ◌^◌, ◌-◌, List, length, Ok, Err, IfOk, IfSome, IsErrOf, is_some, true};
+ghost use Rattle.std.specs.Prelude.{◌≡◌, ◌<◌, ◌^◌, ◌-◌, List, length, Ok, Err, IfOk, IsErrOf, true};
 ghost use Rattle.std.specs.Int.{w32, w64};
 ghost use Rattle.std.specs.List.{list_all};
 ghost use Rattle.std.specs.Str.{is_utf8};
@@ -10,19 +10,9 @@ ghost use Rattle.log_format.specs.Reading.{place, bytes_at, byte_at, number_at, 
 use crate::fault::LogFault;
 use s3_types::{
     Bucket, Bytes, Key, KeyList, LengthHeader, NameFault, NamedPart, PartList, Sequence, Tag, Text,
+    are_hex_digits, as_utf8,
 };
 use std::alloc::Global;
-
-/// The bytes as text, where they are UTF-8.
-fn as_utf8(bytes: &[u8]) -> Option<&str>
-    ensures same { IfSome result (λ text. text.now ≡ bytes.now) }
-    ensures found { is_some result ≡ is_utf8 bytes.now }
-{
-    match str::from_utf8(bytes) {
-        Ok(text) => Some(text),
-        Err(_) => None,
-    }
-}
 
 /// The place of what is left of a whole of so many bytes.
 pub fn place_of(whole: u64, rest: &[u8]) -> u64
@@ -157,18 +147,6 @@ pub fn keys_of<'b>(alloc: Global, at: u64, bytes: &'b [u8]) -> Result<(KeyList, 
 {
     let (count, rest) = u32_of(at, bytes)?;
     keys_in(alloc, at, count, rest)
-}
-
-fn is_hex_digit(b: u8) -> bool
-    ensures { result ≡ is_hex b }
-{
-    (48 <= b && b <= 57) || (97 <= b && b <= 102)
-}
-
-fn are_hex_digits(bytes: &[u8]) -> bool
-    ensures { result ≡ list_all is_hex bytes.now }
-{
-    bytes.iter().all(|b| is_hex_digit(*b))
 }
 
 /// The 32 digits of a tag.

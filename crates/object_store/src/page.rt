@@ -23,6 +23,16 @@ pub struct Page {
     pub more: bool,
 }
 
+fn page_of(entries: Vec<PageEntry>, more: bool) -> Page
+    ensures entries { result.entries ≡ entries.items }
+    ensures more { result.more ≡ more }
+{
+    Page {
+        entries: EntryList::from_vec(entries),
+        more,
+    }
+}
+
 /// What stands before the first `/` after the prefix, in a text that begins with the prefix.
 fn stem_of<'a>(prefix: &Text, text: &'a Text) -> Option<&'a str>
     ensures { option_map (λ s. s.now) result ≡ stem prefix.now text.now }
@@ -110,23 +120,14 @@ fn flat_page(
     let mut entries = Vec::new(alloc);
     while let Some((text, held)) = rest.next() {
         if !text.starts_with(prefix) {
-            return Ok(Page {
-                entries: EntryList::from_vec(entries),
-                more: false,
-            });
+            return Ok(page_of(entries, false));
         }
         if entries.len() == limit as usize {
-            return Ok(Page {
-                entries: EntryList::from_vec(entries),
-                more: true,
-            });
+            return Ok(page_of(entries, true));
         }
         entries.push(single(held)?)?;
     }
-    Ok(Page {
-        entries: EntryList::from_vec(entries),
-        more: false,
-    })
+    Ok(page_of(entries, false))
 }
 
 impl Objects {
@@ -187,16 +188,10 @@ impl Objects {
         let mut last = after.clone()?;
         loop {
             let Some((key, object)) = self.next_listed(prefix, &last)? else {
-                return Ok(Page {
-                    entries: EntryList::from_vec(entries),
-                    more: false,
-                });
+                return Ok(page_of(entries, false));
             };
             if entries.len() == limit as usize {
-                return Ok(Page {
-                    entries: EntryList::from_vec(entries),
-                    more: true,
-                });
+                return Ok(page_of(entries, true));
             }
             let (entry, text) = entry_at(self.alloc, prefix, key, object)?;
             entries.push(entry)?;

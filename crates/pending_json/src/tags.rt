@@ -1,28 +1,14 @@
-ghost use Rattle.std.specs.Prelude.{◌≡◌, IfOk, IfSome, OnOk, is_some, true};
-ghost use Rattle.std.specs.List.{list_all};
+ghost use Rattle.std.specs.Prelude.{◌≡◌, IfOk, true};
 ghost use Rattle.serde_json.specs.View.{view, items_view};
-ghost use Rattle.s3_types.specs.Tags.{is_hex};
 ghost use Rattle.pending_json.specs.Fault.{Gives};
 ghost use Rattle.pending_json.specs.Fields.{field, all_of, as_tag, as_tags, tag_of, is_count};
 ghost use Rattle.pending_json.specs.Pending.{are_tags};
 
 use crate::fault::{RecordFault, wrong_kind};
 use crate::fields::list_field;
-use s3_types::{MOST_PARTS, Sequence, Tag, TagList};
+use s3_types::{MOST_PARTS, Sequence, Tag, TagList, are_hex_digits};
 use serde_json::Value;
 use std::alloc::{AllocError, Global};
-
-fn is_hex_digit(b: u8) -> bool
-    ensures { result ≡ is_hex b }
-{
-    (48 <= b && b <= 57) || (97 <= b && b <= 102)
-}
-
-fn are_hex_digits(bytes: &[u8]) -> bool
-    ensures { result ≡ list_all is_hex bytes.now }
-{
-    bytes.iter().all(|b| is_hex_digit(*b))
-}
 
 /// The tag of a part that a text spells.
 pub fn tag_of(bytes: &[u8]) -> Option<Tag>

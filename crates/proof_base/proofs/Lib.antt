@@ -8,3 +8,4 @@ pub mod Reading
 pub mod Rest
 pub mod Tree
 pub mod Viewed
+pub mod Bytes

@@ -29,13 +29,13 @@ pub use limits::{
 };
 pub use lists::{
     EntryList, KeyList, PartList, PartSizes, SizeList, TagList, TextList, UploadList, copied_keys,
-    copied_parts,
+    copied_parts, named_parts,
 };
-pub use names::{Bucket, Key, NameFault, are_elements, is_element, trimmed};
+pub use names::{Bucket, Key, NameFault, are_elements, as_utf8, is_element, trimmed};
 pub use object::{Head, Object};
 pub use reply::{PageEntry, PartSize, Refusal, Reply};
 pub use request::{Actor, Committer, Mode, NamedPart, Request, UploadRef};
 pub use sequence::Sequence;
 pub use store::ObjectStore;
-pub use tag::Tag;
+pub use tag::{Tag, are_hex_digits};
 pub use text::Text;

@@ -1,4 +1,6 @@
-ghost use Rattle.std.specs.Prelude.{◌≡◌, IfOk};
+ghost use Rattle.std.specs.Prelude.{◌≡◌, ◌≤◌, length, IfOk};
+ghost use Rattle.s3_types.specs.declared.limits.TheConstants.{MOST_PARTS};
+ghost use Rattle.s3_types.specs.Blocks.{named_from};
 
 use crate::names::Key;
 use crate::reply::{PageEntry, PartSize};
@@ -41,4 +43,18 @@ pub fn copied_parts(alloc: Global, parts: &PartList) -> Result<PartList, AllocEr
     ensures { IfOk result (λ copy. copy ≡ parts.now) }
 {
     Ok(Sequence::from_vec(Vec::from_slice(alloc, parts.as_slice())?))
+}
+
+/// The parts as a completion names them, numbered from 1 on.
+pub fn named_parts(alloc: Global, tags: &[Tag]) -> Result<PartList, AllocError>
+    requires { length tags.now ≤ MOST_PARTS }
+    ensures { IfOk result (λ parts. parts ≡ named_from 1 tags.now) }
+{
+    let mut parts = PartList::new(alloc);
+    let mut number = 1;
+    for tag in tags {
+        parts.push(NamedPart { number, tag: *tag })?;
+        number += 1;
+    }
+    Ok(parts)
 }

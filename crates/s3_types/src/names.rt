@@ -76,8 +76,8 @@ pub fn trimmed(path: &[u8]) -> &[u8]
     }
 }
 
-/// The bytes as text, where they are UTF-8.
-fn as_utf8(bytes: &[u8]) -> Option<&str>
+/// The bytes as text, where they are UTF-8. Takes no memory.
+pub fn as_utf8(bytes: &[u8]) -> Option<&str>
     ensures same { IfSome result (λ text. text.now ≡ bytes.now) }
     ensures found { is_some result ≡ is_utf8 bytes.now }
 {

@@ -6,6 +6,19 @@ ghost use Rattle.s3_types.specs.Spelling.{tag_text};
 use std::fmt;
 use std::marker::Model;
 
+fn is_hex_digit(b: u8) -> bool
+    ensures { result ≡ is_hex b }
+{
+    (48 <= b && b <= 57) || (97 <= b && b <= 102)
+}
+
+/// Whether all of them are lower-case hex digits, as a tag's are. Takes no memory.
+pub fn are_hex_digits(bytes: &[u8]) -> bool
+    ensures { result ≡ list_all is_hex bytes.now }
+{
+    bytes.iter().all(|b| is_hex_digit(*b))
+}
+
 /// A tag, as S3's ETag: 32 lower-case hex digits, and a count of parts, 0 for the tag of a put or of a
 /// part and else the number of parts of a completed upload. It is written as the digits, and where
 /// there are parts `-` and their count behind them.

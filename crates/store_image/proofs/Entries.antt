@@ -16,10 +16,11 @@ use Rattle.proof_base.proofs.Bools.{both_T}
 use Rattle.proof_base.proofs.Less.{less_of}
 use Rattle.proof_base.proofs.Tree.{entries_empty}
 use Rattle.proof_base.proofs.Reading.{parted, same_ok}
+use Rattle.proof_base.proofs.Bytes.{IsBytes, Takes, Takes-then, IsReader, IsWide}
 use Rattle.store_image.specs.Image.{counted}
 use Rattle.store_image.specs.Content.{IsEntry, AreEntries}
 use Rattle.store_image.specs.Reading.{Read, number_at, is_after, rising_at, with_entries, map_at, counted_at}
-use Rattle.store_image.proofs.Steps.{IsBytes, Takes, Takes-then, IsReader, IsWide, number_takes, number_again}
+use Rattle.store_image.proofs.Steps.{number_takes, number_again}
 use Rattle.store_image.proofs.Maps.{after_both}
 
 -- ---- maps

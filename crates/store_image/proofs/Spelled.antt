@@ -12,6 +12,7 @@ use Rattle.proof_base.specs.Order.{text_cmp, text_total}
 use Rattle.std.specs.Str.{is_utf8}
 use Rattle.proof_base.specs.Reading.{◌>>=◌}
 use Rattle.proof_base.proofs.Reading.{parted, same_ok, tested, tested_again}
+use Rattle.proof_base.proofs.Bytes.{IsBytes, Takes, Takes-then, IsReader, wide16, wide64}
 use Rattle.s3_types.specs.Names.{is_bucket, is_key, is_key_path, are_elements, trimmed, is_name_byte, is_letter_or_digit}
 use Rattle.s3_types.specs.Multipart.{is_part_number}
 use Rattle.s3_types.specs.Store.{Upload, BucketContent}
@@ -19,7 +20,7 @@ use Rattle.s3_types.specs.declared.object.Object.{Object}
 use Rattle.store_image.specs.Image.{name, block, counted, header, object, part, upload, bucket}
 use Rattle.store_image.specs.Content.{is_id, IsEntry, AreEntries, IsObject, IsPart, IsUpload, IsBucket}
 use Rattle.store_image.specs.Reading.{Read, is_after, number_at, block_at, name_at, id_at, part_number_at, counted_at, header_in, object_at, parts_at, upload_at, bucket_at}
-use Rattle.store_image.proofs.Steps.{IsBytes, Takes, Takes-then, IsReader, IsBelow, wide16, wide64, number_takes, number_again, number_reader, block_reader, block_again, any_block}
+use Rattle.store_image.proofs.Steps.{IsBelow, number_takes, number_again, number_reader, block_reader, block_again, any_block}
 use Rattle.store_image.proofs.Maps.{lt_from}
 use Rattle.store_image.proofs.Entries.{Rises, map_rises, IsKeyReader, counted_reader, count_fits}
 

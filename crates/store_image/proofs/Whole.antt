@@ -8,13 +8,14 @@ use Rattle.std.proofs.lemmas.Slice.Eq.{bytes_eq-Decides}
 use Rattle.proof_base.specs.Order.{text_cmp}
 use Rattle.proof_base.specs.Reading.{◌>>=◌, passing}
 use Rattle.proof_base.proofs.Reading.{parted, same_ok, passed}
+use Rattle.proof_base.proofs.Bytes.{IsBytes, Takes, Takes-then, wide64}
 use Rattle.s3_types.specs.Names.{is_bucket}
 use Rattle.s3_types.specs.Store.{Content}
 use Rattle.store_image.specs.declared.fault.ImageFault.TheVariants.{BadHead, CounterTooHigh, Trailing}
 use Rattle.store_image.specs.Image.{magic, counted, bucket, image}
 use Rattle.store_image.specs.Content.{is_minimum, is_counter, IsContent}
 use Rattle.store_image.specs.Reading.{Read, place, bytes_at, number_at, name_at, bucket_at, counted_at, head_at, store_at, content_in}
-use Rattle.store_image.proofs.Steps.{IsBytes, bytes_take, bytes_again, Takes, Takes-then, wide64, number_takes, number_again}
+use Rattle.store_image.proofs.Steps.{bytes_take, bytes_again, number_takes, number_again}
 use Rattle.store_image.proofs.Spelled.{buckets_reader}
 
 -- ---- the head

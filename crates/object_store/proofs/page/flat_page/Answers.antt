@@ -12,14 +12,15 @@ pub returns-then-not-starts_with-clause-entries : goal.returns-then-not-starts_w
 returns-then-not-starts_with-clause-entries c =
     let n : begins c.args.prefix.now c.in-Some.text.now ≡ false = cc in
     let none = none_left c.args.prefix.now c.loop-text.rest c.next.new.self (c.in-Some.text.now, c.in-Some.held.now) c.in-Some.ensures.steps c.loop-text.invariant.follows n in
-    c.from_vec.ensures
+    c.page_of.ensures.entries
     ∙ taken c.args.limit c.loop-text.entries.items _ (below c.args.prefix.now c.args.rest) c.loop-text.invariant.told none c.loop-text.invariant.fits
 
 pub returns-then-not-starts_with-clause-more : goal.returns-then-not-starts_with-clause-more
 returns-then-not-starts_with-clause-more c =
     let n : begins c.args.prefix.now c.in-Some.text.now ≡ false = cc in
     let none = none_left c.args.prefix.now c.loop-text.rest c.next.new.self (c.in-Some.text.now, c.in-Some.held.now) c.in-Some.ensures.steps c.loop-text.invariant.follows n in
-    no_more c.args.limit c.loop-text.entries.items _ (below c.args.prefix.now c.args.rest) c.loop-text.invariant.told none c.loop-text.invariant.fits
+    c.page_of.ensures.more
+    ∙ no_more c.args.limit c.loop-text.entries.items _ (below c.args.prefix.now c.args.rest) c.loop-text.invariant.told none c.loop-text.invariant.fits
 
 pub loop-text-preserved : goal.loop-text-preserved
 loop-text-preserved c =

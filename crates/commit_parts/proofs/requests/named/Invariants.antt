@@ -1,6 +1,0 @@
-use Rattle.std.proofs.Common.{◌≡◌, ◌++◌, ◌+◌, drop}
-use Rattle.s3_types.specs.Blocks.{named_from}
-use Rattle.commit_parts.proofs.requests.named.Given as goal
-
-abbrev pub invariant-loop-tag : goal.invariant-loop-tag
-invariant-loop-tag l = (l.number ≡ l.tag-index + 1) × (l.parts ++ named_from l.number (drop l.tag-index l.tags) ≡ named_from 1 l.tags)
