@@ -7,6 +7,7 @@ use Rattle.s3_types.specs.Pages.{begins, text_in}
 use Rattle.s3_types.specs.declared.reply.PageEntry.{PageEntry}
 use Rattle.s3_types.specs.declared.reply.Reply.{Reply}
 use Rattle.s3_types.specs.declared.reply.Reply.TheVariants.{Page as APage}
+use Rattle.path_keys.specs.Paths.{is_key}
 use Rattle.operations.specs.declared.plan.Step.{Step}
 use Rattle.operations.specs.declared.plan.Step.TheVariants.{Next, End}
 use Rattle.bucket_ops.specs.declared.look.Look.{Look}
@@ -18,6 +19,7 @@ use Rattle.job_operations.specs.Walks as walks
 use Rattle.fs_tree.specs.declared.answers.FsRefusal.{FsRefusal}
 use Rattle.fs_tree.specs.declared.answers.FsRefusal.TheVariants.{NotFound, NotEmpty, IsRoot}
 use Rattle.fs_tree.specs.Tree.{SomeBelow, NoneBelow, marker, HasFile, IsAbsent, IsEmpty, HasChildren}
+use Rattle.fs_tree.specs.Answers.{Deletes}
 use Rattle.fs_tree.specs.Changes.{parent, marker_if, IsMarked, IsWithoutBelow}
 use Rattle.fs_ops.specs.declared.delete.Inside.{Inside}
 use Rattle.fs_ops.specs.declared.delete.Inside.TheVariants.{Empty, MarkerAlone, Children}
@@ -29,12 +31,6 @@ use Rattle.fs_ops.specs.Sweeping.{sweep_asks, fits, IsSweeping, sweep_left}
 -- a path, and whether what is below it goes with it
 pub record Deletion : Type 0 where
   pub path : List ℕ
-  pub recursive : Bool
-
--- and its bucket
-pub record DeletionIn : Type 0 where
-  pub bucket : List ℕ
-  pub key : List ℕ
   pub recursive : Bool
 
 abbrev pub Answer : Type 0
@@ -126,12 +122,12 @@ holds o z (Parent k) m = (marker_if (parent o.path) ≡ Some k) × Removed o z m
 holds o z (PutMarker k) m = (marker_if (parent o.path) ≡ Some k) × Removed o z m × NoneBelow m k
 
 -- what is deleted, and the marker that is put
-abbrev pub gives : Deletion → Objects → Answer → Objects → Type 0
-gives o z (Ok x) m = (n : Objects) × Removed o z n × IsMarked (marker_if (parent o.path)) n m
-gives o z (Err IsRoot) m = (o.path ≡ []) × (m ≡ z)
-gives o z (Err NotFound) m = IsAbsent z o.path × (m ≡ z)
-gives o z (Err NotEmpty) m = (o.recursive ≡ false) × NoFileAt z o.path × HasChildren z o.path × (m ≡ z)
-gives o z (Err r) m = ⊥
+abbrev pub ends : Deletion → Objects → Answer → Objects → Type 0
+ends o z (Ok x) m = (n : Objects) × Removed o z n × IsMarked (marker_if (parent o.path)) n m
+ends o z (Err IsRoot) m = (o.path ≡ []) × (m ≡ z)
+ends o z (Err NotFound) m = IsAbsent z o.path × (m ≡ z)
+ends o z (Err NotEmpty) m = (o.recursive ≡ false) × NoFileAt z o.path × HasChildren z o.path × (m ≡ z)
+ends o z (Err r) m = ⊥
 
 -- at any moment a key is as it was, or it is the path or below it and is gone, or it is the marker of the directory above, which is put
 abbrev pub IsKept : Deletion → Objects → Objects → List ℕ → Type 0
@@ -139,6 +135,10 @@ IsKept o z m k = (fin.get m k ≡ fin.get z k) ⊎ (((fin.get m k ≡ None) × (
 
 abbrev pub always : Deletion → Objects → Objects → Type 0
 always o z m = (k : List ℕ) → IsKept o z m k
+
+-- what the deletion of a key answers and leaves in the tree, and that each key is then as at any moment
+abbrev pub gives : Deletion → Objects → Answer → Objects → Type 0
+gives o z a m = (is_key o.path ≡ true → Deletes o.recursive o.path z a m) × always o z m
 
 abbrev pub left : Deletion → DeleteStage → Objects → ℕ
 left o Here m = sweep_left (prefix_of o.path) sweep_start m + 4

@@ -15,6 +15,7 @@ use Rattle.request_frame.specs.Members.{IsIn, RisesFrom}
 use Rattle.request_frame.proofs.Members.{same_or_other, text_is, text_true, text_here, text_other, text_gone, text_left, in_front, true_or_false}
 use Rattle.request_frame.proofs.Flat.{listed_rises}
 use Rattle.operations.specs.declared.plan.Step.{Step}
+use Rattle.operations.specs.declared.plan.Step.TheVariants.{Next, End}
 use Rattle.operations.specs.Plans.{Goes, Falls}
 use Rattle.bucket_ops.specs.declared.look.Look.{Look}
 use Rattle.bucket_ops.specs.declared.look.Look.TheVariants.{There, Nothing, NoBucket, Other}
@@ -36,8 +37,9 @@ use Rattle.fs_ops.specs.Places.{look_asks, prefix_of}
 use Rattle.fs_ops.specs.Steps.{goes_by, IsStages}
 use Rattle.fs_ops.specs.StepLaws.{phases_of}
 use Rattle.fs_ops.specs.Looks.{IsSeen, head_tells, page_tells, none_listed}
-use Rattle.fs_ops.specs.Sweeping.{sweep_asks, fits, IsSweeping, IsSwept, sweep_begins, sweep_goes, sweep_fits, sweep_left, LessLeft, sweep_falls, sweep_stays, keys_below, below_stands, stands_below, gone_in, kept_out, without_below}
-use Rattle.fs_ops.specs.Delete.{Deletion, Answer, first, asks, up_to, up, here as here_at, on_here, inside, children, entries_in, on_inside, swept, on_sweep, on_parent, on, Removed, holds, gives, IsKept, always, left}
+use Rattle.fs_ops.specs.Sweeping.{sweep_asks, fits, IsSweeping, IsSwept, sweep_begins, sweep_goes, sweep_fits, sweep_left, LessLeft, sweep_falls, sweep_stays, is_in, keys_below, below_stands, stands_below, gone_in, kept_out, without_below}
+use Rattle.fs_ops.specs.Deleting.{deletes}
+use Rattle.fs_ops.specs.Delete.{Deletion, Answer, first, asks, up_to, up, here as here_at, on_here, inside, children, entries_in, on_inside, swept, on_sweep, on_parent, on, Removed, holds, ends, IsKept, always, gives, left}
 
 -- ---- what the first two entries below a directory tell
 
@@ -106,7 +108,7 @@ module _ (recursive : Bool) (z : Objects) where
   D p = record { path = p; recursive = recursive }
 
   abbrev On : List ℕ → Step DeleteStage Answer → Objects → Type 0
-  On p y m = Goes (holds (D p) z) (gives (D p) z) y m
+  On p y m = Goes (holds (D p) z) (ends (D p) z) y m
 
   upward : (p : List ℕ) (m : Objects) → Removed (D p) z m → On p (up (D p)) m
   upward p m h = by (marker_if (parent p)) refl
@@ -196,21 +198,8 @@ module _ (o : Deletion) (z : Objects) where
   as_kept m k (inl e) = inl e
   as_kept m k (inr h) = inr (inl h)
 
-  member : (k : List ℕ) (ks : List (List ℕ)) → IsIn k ks ⊎ (IsIn k ks → ⊥)
-  member k [] = inr (λ h. h)
-  member k (q ∷ ks) = by (same_or_other k q) (member k ks)
-    where
-      neither : (k ≡ q → ⊥) → (IsIn k ks → ⊥) → (k ≡ q) ⊎ IsIn k ks → ⊥
-      neither n g (inl e) = n e
-      neither n g (inr h) = g h
-
-      by : (k ≡ q) ⊎ (k ≡ q → ⊥) → IsIn k ks ⊎ (IsIn k ks → ⊥) → IsIn k (q ∷ ks) ⊎ (IsIn k (q ∷ ks) → ⊥)
-      by (inl e) w = inl (inl e)
-      by (inr n) (inl h) = inl (inr h)
-      by (inr n) (inr g) = inr (neither n g)
-
   gone_below : (ks : List (List ℕ)) → ((k : List ℕ) → IsIn k ks → begins (prefix_of o.path) k ≡ true) → (k : List ℕ) → Gone (without z ks) k
-  gone_below ks b k = by (member k ks)
+  gone_below ks b k = by (is_in k ks)
     where
       by : IsIn k ks ⊎ (IsIn k ks → ⊥) → Gone (without z ks) k
       by (inl h) = inr (gone_in z ks k h, inr (b k h))
@@ -259,7 +248,7 @@ module _ (o : Deletion) (z : Objects) where
   marked_end (Some q) n m e h (inl g) k = subst (λ m. IsKept o z m k) (sym g.1) (as_kept n k (gone_removed n h k))
   marked_end (Some q) n m e h (inr g) k = subst (λ m. IsKept o z m k) (sym g.1) (kept_marked q n e (gone_removed n h) k)
 
-  at_end : (a : Answer) (m : Objects) → gives o z a m → always o z m
+  at_end : (a : Answer) (m : Objects) → ends o z a m → always o z m
   at_end (Ok x) m h k = marked_end (marker_if (parent o.path)) h.0 m refl h.1 h.2 k
   at_end (Err IsRoot) m h k = inl (ap (λ m. fin.get m k) h.1)
   at_end (Err NotFound) m h k = inl (ap (λ m. fin.get m k) h.1)
@@ -334,14 +323,18 @@ stays o (Sweep w) m = ap (λ n. n + 2) (sweep_stays (prefix_of o.path) w m)
 stays o (Parent k) m = refl
 stays o (PutMarker k) m = refl
 
+goes : (o : Deletion) (z : Objects) (y : Step DeleteStage Answer) (m : Objects) → Goes (holds o z) (ends o z) y m → Goes (holds o z) (gives o z) y m
+goes o z (Next x) m h = h
+goes o z (End a) m h = (λ k. deletes o.recursive o.path z a m k h, at_end o z a m h)
+
 stages : IsStages {O = Deletion} first asks on holds gives always left
 stages = record {
   begin = λ o z. refl;
-  goes_on = λ o z x m h. step o.recursive z o.path x m h;
+  goes_on = λ o z x m h. goes o z (on o x (reply_in m (asks o x))) (edited (asks o x) m) (step o.recursive z o.path x m h);
   falls = λ o z x m h. falls o z x m;
   stays = λ o z x m h. stays o x m;
   during = λ o z x m h. during o z x m h;
-  at_end = λ o z a m h. at_end o z a m h;
+  at_end = λ o z a m h. h.1;
 }
 
 pub delete_laws : IsPhases {O = Deletion} first asks (goes_by on) holds gives always left (Err NoSuchBucket)

@@ -2,6 +2,8 @@ pub mod Places
 pub mod Steps
 pub mod StepLaws
 pub mod Looks
+pub mod AtPath
+pub mod AtPathLaws
 pub mod Stat
 pub mod StatLaws
 pub mod Read
@@ -14,4 +16,5 @@ pub mod List
 pub mod Children
 pub mod Showing
 pub mod ListLaws
+pub mod Deleting
 pub mod DeleteLaws

@@ -1,8 +1,8 @@
 -- Stages of file operations are phases of one bucket's operations.
-use Rattle.std.specs.Prelude.{◌≡◌, ℕ, Bool, true, false, cond, Result, Err, Option, Some, None, if◌then◌else◌}
+use Rattle.std.specs.Prelude.{◌≡◌, ℕ, Bool, true, false, cond, List, Result, Err, Option, Some, None, if◌then◌else◌}
 use Rattle.std.proofs.Common.{refl, sym, subst}
 use Rattle.std.specs.FinMap as fin
-use Rattle.s3_types.specs.Store.{Objects}
+use Rattle.s3_types.specs.Store.{Objects, Scene}
 use Rattle.s3_types.specs.Answer.{head, found, copy_answer}
 use Rattle.s3_types.specs.declared.object.Object.{Object}
 use Rattle.s3_types.specs.declared.reply.Reply.{Reply}
@@ -14,7 +14,7 @@ use Rattle.operations.specs.Plans.{Goes, Falls}
 use Rattle.bucket_ops.specs.declared.look.Look.TheVariants.{There, Nothing}
 use Rattle.bucket_ops.specs.Looks.{look_of}
 use Rattle.bucket_ops.specs.Asks.{Ask, Head, Get, Page, Put, Drop, DropAll, Copy, reply_in, edited}
-use Rattle.bucket_ops.specs.Phases.{IsPhases}
+use Rattle.bucket_ops.specs.Phases.{IsPhases, InScene}
 use Rattle.fs_tree.specs.declared.answers.FsRefusal.{FsRefusal}
 use Rattle.fs_tree.specs.declared.answers.FsRefusal.TheVariants.{NoSuchBucket}
 use Rattle.fs_ops.specs.Steps.{unless, goes_by, IsStages}
@@ -61,3 +61,8 @@ module _ {O X A : Type 0} {first : O → X} {asks : O → X → Ask} {on : O →
     at_end = k.at_end;
     missing = λ o x. refl;
   }
+
+-- what is so of a bucket's objects is so in a scene
+pub same_scene : (x : Option Objects) (z s : Scene) (b : List ℕ) (H G : Objects → Objects → Type 0) (N : Type 0) → ((m n : Objects) → H m n → G m n) → InScene x H N z b s → InScene x G N z b s
+same_scene None z s b H G N f h = h
+same_scene (Some m) z s b H G N f h = (h.0, h.1, f m h.0 h.2)

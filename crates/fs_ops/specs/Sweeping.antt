@@ -1,5 +1,5 @@
 -- A sweep of all keys below a prefix: what is left of the objects while it lists and deletes.
-use Rattle.std.specs.Prelude.{◌≡◌, ℕ, zero, suc, ◌+◌, ◌*◌, ◌<◌, ◌≤◌, nat_lt, Bool, true, false, cond, List, [], ◌∷◌, ◌++◌, map, take, drop, length, Option, Some, None}
+use Rattle.std.specs.Prelude.{◌≡◌, ◌⊎◌, ℕ, zero, suc, ◌+◌, ◌*◌, ◌<◌, ◌≤◌, nat_lt, Bool, true, false, cond, List, [], ◌∷◌, ◌++◌, map, take, drop, length, Option, Some, None}
 use Rattle.std.proofs.Common.{refl, sym, ap, subst, ◌∙◌, inl, inr, arith, append_assoc, length-append, length-drop}
 use Rattle.std.proofs.lemmas.Bool.{false≢true}
 use Rattle.std.proofs.lemmas.Bool.Decides.{nat_tests}
@@ -20,7 +20,7 @@ use Rattle.s3_types.specs.declared.reply.Refusal.TheVariants.{NoSuchBucket}
 use Rattle.s3_types.specs.declared.reply.PageEntry.{PageEntry}
 use Rattle.s3_types.specs.declared.reply.PageEntry.TheVariants.{Object as Single, Prefix}
 use Rattle.request_frame.specs.Members.{IsIn}
-use Rattle.request_frame.proofs.Members.{text_gone, text_left}
+use Rattle.request_frame.proofs.Members.{same_or_other, text_gone, text_left}
 use Rattle.request_frame.proofs.Flat.{listed_all, page_begins}
 use Rattle.job_operations.specs.Walks.{keys_on, last_of, Walked, More, Whole, walked, walked_by, Sweep, Listing, Deleting, sweep_start, sweep_hears, swept, deleting, all_go}
 use Rattle.sweep.specs.Fitting.{is_key}
@@ -43,6 +43,20 @@ abbrev pub fits : Reply → Bool
 fits (APage es more) = list_all is_key es
 fits (Refused r) = is_there r
 fits _ = true
+
+-- a key is one of these or not
+pub is_in : (k : List ℕ) (ks : List (List ℕ)) → IsIn k ks ⊎ (IsIn k ks → ⊥)
+is_in k [] = inr (λ h. h)
+is_in k (q ∷ ks) = by (same_or_other k q) (is_in k ks)
+  where
+    neither : (k ≡ q → ⊥) → (IsIn k ks → ⊥) → (k ≡ q) ⊎ IsIn k ks → ⊥
+    neither n g (inl e) = n e
+    neither n g (inr h) = g h
+
+    by : (k ≡ q) ⊎ (k ≡ q → ⊥) → IsIn k ks ⊎ (IsIn k ks → ⊥) → IsIn k (q ∷ ks) ⊎ (IsIn k (q ∷ ks) → ⊥)
+    by (inl e) w = inl (inl e)
+    by (inr n) (inl h) = inl (inr h)
+    by (inr n) (inr g) = inr (neither n g)
 
 -- the keys below a prefix
 abbrev pub keys_below : List ℕ → Objects → List (List ℕ)

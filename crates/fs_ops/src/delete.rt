@@ -1,28 +1,23 @@
-ghost use Rattle.std.specs.Prelude.{◌≡◌, ◌<◌, ◌≤◌, length, IfOk, IsErrOf, Err};
-ghost use Rattle.operations.specs.Performed.{Performed};
+ghost use Rattle.std.specs.Prelude.{◌≡◌, IfOk, Err};
 ghost use Rattle.s3_types.specs.Pages.{text_in};
 ghost use Rattle.proof_base.specs.Order.{text_eq};
 ghost use Rattle.job_operations.specs.Walks as walks;
 ghost use Rattle.bucket_ops.specs.Asks.{request_of};
-ghost use Rattle.bucket_ops.specs.Phases.{GivesIn, AlwaysIn};
-ghost use Rattle.fs_tree.specs.Answers.{Deletes};
 ghost use Rattle.fs_tree.specs.Changes.{parent, marker_if};
 ghost use Rattle.fs_tree.specs.declared.answers.FsRefusal.TheVariants.{NoSuchBucket};
-ghost use Rattle.fs_ops.specs.Delete.{first, asks, on, on_here, inside, on_inside, on_below, on_sweep, on_parent, up, up_to, holds, gives, always, left};
+ghost use Rattle.fs_ops.specs.Delete as delete;
+ghost use Rattle.fs_ops.specs.Delete.{on_here, inside, on_inside, on_below, on_sweep, on_parent, up, up_to};
 ghost use Rattle.fs_ops.specs.Sweeping.{fits, sweep_asks};
 ghost use Rattle.fs_ops.specs.Steps.{goes_by};
 ghost use Rattle.fs_ops.specs.DeleteLaws.{delete_laws};
 
 use crate::place::Place;
-use bucket_ops::{Look, Phases, perform_in, seen_in};
+use bucket_ops::{Look, Phases, seen_in};
 use dir_markers::after_delete;
 use fs_tree::FsRefusal;
-use machine::DriveStop;
 use operations::Step;
 use path_keys::S3Path;
-use s3_types::{
-    Actor, Bucket, Bytes, Journal, Key, ObjectStore, PageEntry, PageLimit, Reply, Request, Text,
-};
+use s3_types::{Bucket, Bytes, Key, PageEntry, PageLimit, Reply, Request, Text};
 use std::alloc::{AllocError, Global};
 use std::marker::Model;
 use sweep::{AllKeys, fits_page};
@@ -55,17 +50,20 @@ pub enum DeleteStage {
     PutMarker(Key),
 }
 
-/// The path to be deleted, whether what is below it goes with it, and the marker of the directory above,
-/// unless that is the root.
+/// Deletes a path: a file, an empty directory, or, where it is recursive, a directory with all that is below it. Then
+/// the marker of the directory above is put where that is no root and is left empty. Refused IsRoot at the root,
+/// NotFound where nothing stands at the path, and NotEmpty where something else than a directory's marker stands
+/// below it and the deletion is not recursive; and before that NoSuchBucket. Five requests at most, and for a
+/// recursive deletion one page and one batch more for each 1,000 keys. (Hadoop FileSystem specification, delete.)
 #[derive(Drop)]
-pub(crate) struct DeleteNames {
+pub struct DeletePath {
     alloc: Global,
     place: Place,
     above: Option<Key>,
     recursive: bool,
 }
 
-impl Model for DeleteNames {
+impl Model for DeletePath {
     ghost use Rattle.std.specs.Prelude.{◌≡◌};
     ghost use Rattle.fs_tree.specs.Changes.{parent, marker_if};
     ghost use Rattle.fs_ops.specs.Delete.{Deletion};
@@ -129,7 +127,21 @@ fn up_to(above: &Option<Key>) -> Result<Step<DeleteStage, Answer>, AllocError>
     }
 }
 
-impl DeleteNames {
+impl DeletePath {
+    /// The deletion of a path of a bucket, where it is recursive with all that is below it.
+    pub fn new(alloc: Global, path: &S3Path, recursive: bool) -> Result<DeletePath, AllocError>
+        ensures { IfOk result (λ deletion. deletion ≡ record { path = path.now.key; recursive = recursive }) }
+    {
+        let place = Place::of(alloc, path)?;
+        let above = marker_above(alloc, path)?;
+        Ok(DeletePath {
+            alloc,
+            place,
+            above,
+            recursive,
+        })
+    }
+
     fn up(&self) -> Result<Step<DeleteStage, Answer>, AllocError>
         ensures { IfOk result (λ step. step ≡ up self.now) }
     {
@@ -194,24 +206,24 @@ impl DeleteNames {
     }
 }
 
-impl Phases for DeleteNames {
+impl Phases for DeletePath {
     type Stage = DeleteStage;
 
     type Answer = Result<(), FsRefusal>;
 
-    ghost first = { first };
+    ghost first = { delete.first };
 
-    ghost asks = { asks };
+    ghost asks = { delete.asks };
 
-    ghost goes = { goes_by on };
+    ghost goes = { goes_by delete.on };
 
-    ghost holds = { holds };
+    ghost holds = { delete.holds };
 
-    ghost gives = { gives };
+    ghost gives = { delete.gives };
 
-    ghost always = { always };
+    ghost always = { delete.always };
 
-    ghost left = { left };
+    ghost left = { delete.left };
 
     ghost absent = { Err NoSuchBucket };
 
@@ -269,71 +281,5 @@ pub fn marker_above(alloc: Global, path: &S3Path) -> Result<Option<Key>, AllocEr
     match path.parent(alloc)? {
         Some(parent) => after_delete(alloc, &parent, false),
         None => Ok(None),
-    }
-}
-
-/// The deletion of a path.
-#[derive(Drop)]
-pub struct DeletePath {
-    bucket: Bucket,
-    names: DeleteNames,
-}
-
-impl Model for DeletePath {
-    ghost use Rattle.std.specs.Prelude.{◌≡◌, true};
-    ghost use Rattle.path_keys.specs.Paths.{is_key};
-    ghost use Rattle.fs_ops.specs.Delete.{DeletionIn};
-
-    ghost Value = { DeletionIn };
-
-    ghost view = { λ s. record { bucket = s.bucket; key = s.names.path; recursive = s.names.recursive } };
-
-    ghost invariant = { λ s. is_key s.names.path ≡ true };
-}
-
-impl DeletePath {
-    /// The deletion of a path: of a file, of an empty directory, or, where it is recursive, of a directory with all
-    /// that is below it.
-    pub fn new(alloc: Global, path: &S3Path, recursive: bool) -> Result<DeletePath, AllocError>
-        ensures { IfOk result (λ deletion. deletion ≡ record { bucket = path.now.bucket; key = path.now.key; recursive = recursive }) }
-    {
-        let bucket = path.bucket().clone()?;
-        let place = Place::of(alloc, path)?;
-        let above = marker_above(alloc, path)?;
-        Ok(DeletePath {
-            bucket,
-            names: DeleteNames {
-                alloc,
-                place,
-                above,
-                recursive,
-            },
-        })
-    }
-
-    /// Deletes the path; then the marker of the directory above is put where that is no root and is left empty.
-    /// Refused IsRoot at the root, NotFound where nothing stands at the path, and NotEmpty where something else than
-    /// a directory's marker stands below it and the deletion is not recursive; and before that NoSuchBucket. Five
-    /// requests at most, and for a recursive deletion one page and one batch more for each 1,000 keys. (Hadoop
-    /// FileSystem specification, delete.)
-    pub fn perform<S: ObjectStore>(
-        self,
-        alloc: Global,
-        retries: u32,
-        store: &mut S,
-        actor: Actor,
-        event: u32,
-        journal: &mut Journal,
-    ) -> Result<Result<(), FsRefusal>, DriveStop>
-        requires counted { S.requests store.old ≤ length journal.old.entries }
-        ensures deletes { IfOk result (λ answer. GivesIn self.bucket (Deletes self.recursive self.key) (Err NoSuchBucket) (S.scene store.old) answer (S.scene store.new)) }
-        ensures performed { Performed actor event retries (AlwaysIn self.bucket (always (record { path = self.key; recursive = self.recursive })) (S.scene store.old)) (S.scene store.old) (S.scene store.new) journal.old.entries journal.new.entries (S.requests store.old) (S.requests store.new) (S.losses store.old) (S.losses store.new) (S.foretold store.old) (S.foretold store.new) result }
-        ensures fault { IsErrOf result DriveStop.StoreFault → S.losses store.old < S.losses store.new }
-    {
-        let DeletePath { bucket, names } = self;
-        match perform_in(alloc, bucket, names, retries, store, actor, event, journal) {
-            Ok(answer) => Ok(answer),
-            Err(stop) => Err(stop),
-        }
     }
 }

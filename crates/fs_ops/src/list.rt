@@ -1,23 +1,21 @@
-ghost use Rattle.std.specs.Prelude.{◌≡◌, ◌∷◌, ◌<◌, ◌≤◌, length, [], Some, IfOk, OnOk, IsErrOf, Err, option_map};
-ghost use Rattle.operations.specs.Performed.{Performed};
+ghost use Rattle.std.specs.Prelude.{◌≡◌, ◌∷◌, [], Some, IfOk, OnOk, Err, option_map};
 ghost use Rattle.s3_types.specs.Pages.{text_in};
-ghost use Rattle.bucket_ops.specs.Phases.{GivesIn, AlwaysIn};
 ghost use Rattle.fs_tree.specs.Answers.{Lists};
 ghost use Rattle.fs_tree.specs.Changes.{own_name};
 ghost use Rattle.fs_tree.specs.declared.answers.FsRefusal.TheVariants.{NoSuchBucket};
-ghost use Rattle.fs_ops.specs.List.{first, asks, on, told, paged, rest_of, is_file, is_file_named, has_file, file_by, dir_named, shown, added, all_added, last_text, holds, left};
+ghost use Rattle.fs_ops.specs.List as list;
+ghost use Rattle.fs_ops.specs.List.{told, paged, rest_of, is_file, is_file_named, has_file, file_by, dir_named, shown, added, all_added, last_text};
 ghost use Rattle.fs_ops.specs.Stat.{length_in};
 ghost use Rattle.fs_ops.specs.Steps.{goes_by, IsStill};
 ghost use Rattle.fs_ops.specs.ListLaws.{list_laws};
 
 use crate::place::Place;
-use bucket_ops::{Look, Phases, perform_in, seen_in};
+use bucket_ops::{Look, Phases, seen_in};
 use dir_markers::Status;
 use fs_tree::{DirEntry, DirList, FsRefusal};
-use machine::DriveStop;
 use operations::Step;
 use path_keys::{S3Path, first_element};
-use s3_types::{Actor, Bucket, Journal, ObjectStore, PageEntry, PageLimit, Reply, Request, Text};
+use s3_types::{Bucket, PageEntry, PageLimit, Reply, Request, Text};
 use std::alloc::{AllocError, Global};
 use std::marker::Model;
 
@@ -30,15 +28,19 @@ pub enum ListStage {
     Pages { found: DirList, mark: Text },
 }
 
-/// The path whose children are asked for, and its last element.
+/// The children of a directory, each once, ordered by the bytes of their names with a `/` behind a
+/// directory's: a child that is a file and has something below it is the file alone, and the
+/// directory's own marker is none. Of a file its own entry. Refused NotFound where nothing stands at
+/// the path, and before that NoSuchBucket; nothing changes. One request for the path, and then one page
+/// for each 1,000 children. (Hadoop FileSystem specification, listStatus.)
 #[derive(Drop)]
-pub(crate) struct ListNames {
+pub struct ListDir {
     alloc: Global,
     place: Place,
     name: Text,
 }
 
-impl Model for ListNames {
+impl Model for ListDir {
     ghost use Rattle.std.specs.Prelude.{◌≡◌, ℕ, List};
     ghost use Rattle.fs_tree.specs.Changes.{own_name};
 
@@ -182,7 +184,16 @@ pub fn last_element(alloc: Global, key: &str) -> Result<Text, AllocError>
     }
 }
 
-impl ListNames {
+impl ListDir {
+    /// The listing of the directory at a path of a bucket.
+    pub fn new(alloc: Global, path: &S3Path) -> Result<ListDir, AllocError>
+        ensures { IfOk result (λ dir. dir ≡ path.now.key) }
+    {
+        let place = Place::of(alloc, path)?;
+        let name = last_element(alloc, path.key().as_str())?;
+        Ok(ListDir { alloc, place, name })
+    }
+
     fn all_pages(&self) -> ListStage
         ensures { result ≡ ListStage.Pages [] [] }
     {
@@ -230,7 +241,7 @@ impl ListNames {
         mark: Text,
         reply: &Reply,
     ) -> Result<Step<ListStage, Answer>, AllocError>
-        ensures { IfOk result (λ step. step ≡ on self.now (ListStage.Pages found mark) reply.now) }
+        ensures { IfOk result (λ step. step ≡ list.on self.now (ListStage.Pages found mark) reply.now) }
     {
         let mut found = found;
         match reply {
@@ -244,24 +255,24 @@ impl ListNames {
     }
 }
 
-impl Phases for ListNames {
+impl Phases for ListDir {
     type Stage = ListStage;
 
     type Answer = Result<DirList, FsRefusal>;
 
-    ghost first = { first };
+    ghost first = { list.first };
 
-    ghost asks = { asks };
+    ghost asks = { list.asks };
 
-    ghost goes = { goes_by on };
+    ghost goes = { goes_by list.on };
 
-    ghost holds = { holds };
+    ghost holds = { list.holds };
 
     ghost gives = { Lists };
 
     ghost always = { IsStill };
 
-    ghost left = { left };
+    ghost left = { list.left };
 
     ghost absent = { Err NoSuchBucket };
 
@@ -295,61 +306,6 @@ impl Phases for ListNames {
         match stage {
             ListStage::Here => self.on_here(reply),
             ListStage::Pages { found, mark } => self.on_page(found, mark, reply),
-        }
-    }
-}
-
-/// The listing of a directory.
-#[derive(Drop)]
-pub struct ListDir {
-    bucket: Bucket,
-    names: ListNames,
-}
-
-impl Model for ListDir {
-    ghost use Rattle.path_keys.specs.Paths.{Path};
-
-    ghost Value = { Path };
-
-    ghost view = { λ s. record { bucket = s.bucket; key = s.names } };
-}
-
-impl ListDir {
-    pub fn new(alloc: Global, path: &S3Path) -> Result<ListDir, AllocError>
-        ensures { IfOk result (λ dir. dir ≡ path.now) }
-    {
-        let bucket = path.bucket().clone()?;
-        let place = Place::of(alloc, path)?;
-        let name = last_element(alloc, path.key().as_str())?;
-        Ok(ListDir {
-            bucket,
-            names: ListNames { alloc, place, name },
-        })
-    }
-
-    /// The children of a directory, each once, ordered by the bytes of their names with a `/` behind a
-    /// directory's: a child that is a file and has something below it is the file alone, and the
-    /// directory's own marker is none. Of a file its own entry. Refused NotFound where nothing stands at
-    /// the path, and before that NoSuchBucket; nothing changes. One request for the path, and then one page
-    /// for each 1,000 children. (Hadoop FileSystem specification, listStatus.)
-    pub fn perform<S: ObjectStore>(
-        self,
-        alloc: Global,
-        retries: u32,
-        store: &mut S,
-        actor: Actor,
-        event: u32,
-        journal: &mut Journal,
-    ) -> Result<Result<DirList, FsRefusal>, DriveStop>
-        requires counted { S.requests store.old ≤ length journal.old.entries }
-        ensures lists { IfOk result (λ answer. GivesIn self.bucket (Lists self.key) (Err NoSuchBucket) (S.scene store.old) answer (S.scene store.new)) }
-        ensures performed { Performed actor event retries (AlwaysIn self.bucket (IsStill self.key) (S.scene store.old)) (S.scene store.old) (S.scene store.new) journal.old.entries journal.new.entries (S.requests store.old) (S.requests store.new) (S.losses store.old) (S.losses store.new) (S.foretold store.old) (S.foretold store.new) result }
-        ensures fault { IsErrOf result DriveStop.StoreFault → S.losses store.old < S.losses store.new }
-    {
-        let ListDir { bucket, names } = self;
-        match perform_in(alloc, bucket, names, retries, store, actor, event, journal) {
-            Ok(answer) => Ok(answer),
-            Err(stop) => Err(stop),
         }
     }
 }

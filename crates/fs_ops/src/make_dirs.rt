@@ -1,23 +1,18 @@
-ghost use Rattle.std.specs.Prelude.{◌≡◌, ◌<◌, ◌≤◌, length, IfOk, IsErrOf, Err};
-ghost use Rattle.operations.specs.Performed.{Performed};
-ghost use Rattle.bucket_ops.specs.Phases.{GivesIn, AlwaysIn};
+ghost use Rattle.std.specs.Prelude.{◌≡◌, IfOk, Err};
 ghost use Rattle.fs_tree.specs.Answers.{Makes};
 ghost use Rattle.fs_tree.specs.declared.answers.FsRefusal.TheVariants.{NoSuchBucket};
-ghost use Rattle.fs_ops.specs.Make.{first, asks, up_from, on, on_here, on_below, on_up, holds, always, left};
+ghost use Rattle.fs_ops.specs.Make as make;
+ghost use Rattle.fs_ops.specs.Make.{up_from, on_here, on_below, on_up};
 ghost use Rattle.fs_ops.specs.Steps.{goes_by};
 ghost use Rattle.fs_ops.specs.MakeLaws.{make_laws};
 
 use crate::above::keys_above;
 use crate::place::Place;
-use bucket_ops::{Look, Phases, perform_in, seen_in};
+use bucket_ops::{Look, Phases, seen_in};
 use fs_tree::FsRefusal;
-use machine::DriveStop;
 use operations::Step;
 use path_keys::S3Path;
-use s3_types::{
-    Actor, Bucket, Journal, Key, KeyList, ObjectStore, PageLimit, Reply, Request, Sequence,
-    copied_keys,
-};
+use s3_types::{Bucket, Key, KeyList, PageLimit, Reply, Request, Sequence, copied_keys};
 use std::alloc::{AllocError, Global};
 use std::marker::Model;
 
@@ -34,15 +29,18 @@ pub enum MakeStage {
     PutMarker,
 }
 
-/// The path that is to be a directory, and the keys of the directories above it, from the root on.
+/// Makes a directory: its marker is put where nothing stands at the path, and nothing changes where a directory
+/// stands. Refused AlreadyExists where a file stands, and NotDirectory with the key of the first directory above,
+/// from the root on, at which a file stands; and before that NoSuchBucket. One request for each directory above,
+/// and three more. (Hadoop FileSystem specification, mkdirs.)
 #[derive(Drop)]
-pub(crate) struct MakeNames {
+pub struct MakeDirs {
     alloc: Global,
     place: Place,
     above: KeyList,
 }
 
-impl Model for MakeNames {
+impl Model for MakeDirs {
     ghost use Rattle.std.specs.Prelude.{◌≡◌, ℕ, List};
     ghost use Rattle.dir_markers.specs.Markers.{keys_above};
 
@@ -78,7 +76,20 @@ fn on_up(first: Key, rest: KeyList, seen: Look) -> Result<Step<MakeStage, Answer
     }
 }
 
-impl MakeNames {
+impl MakeDirs {
+    /// The making of the directory at a path of a bucket.
+    pub fn new(alloc: Global, path: &S3Path) -> Result<MakeDirs, AllocError>
+        ensures { IfOk result (λ dirs. dirs ≡ path.now.key) }
+    {
+        let place = Place::of(alloc, path)?;
+        let above = keys_above(alloc, path.key().as_str())?;
+        Ok(MakeDirs {
+            alloc,
+            place,
+            above,
+        })
+    }
+
     fn on_here(&self, seen: Look) -> Step<MakeStage, Answer>
         ensures { result ≡ on_here self.now seen }
     {
@@ -101,24 +112,24 @@ impl MakeNames {
     }
 }
 
-impl Phases for MakeNames {
+impl Phases for MakeDirs {
     type Stage = MakeStage;
 
     type Answer = Result<(), FsRefusal>;
 
-    ghost first = { first };
+    ghost first = { make.first };
 
-    ghost asks = { asks };
+    ghost asks = { make.asks };
 
-    ghost goes = { goes_by on };
+    ghost goes = { goes_by make.on };
 
-    ghost holds = { holds };
+    ghost holds = { make.holds };
 
     ghost gives = { Makes };
 
-    ghost always = { always };
+    ghost always = { make.always };
 
-    ghost left = { left };
+    ghost left = { make.left };
 
     ghost absent = { Err NoSuchBucket };
 
@@ -147,64 +158,6 @@ impl Phases for MakeNames {
             MakeStage::Below => self.on_below(seen),
             MakeStage::Up { first, rest } => on_up(first, rest, seen),
             MakeStage::PutMarker => Ok(Step::End(Ok(()))),
-        }
-    }
-}
-
-/// The making of a directory.
-#[derive(Drop)]
-pub struct MakeDirs {
-    bucket: Bucket,
-    names: MakeNames,
-}
-
-impl Model for MakeDirs {
-    ghost use Rattle.path_keys.specs.Paths.{Path};
-
-    ghost Value = { Path };
-
-    ghost view = { λ s. record { bucket = s.bucket; key = s.names } };
-}
-
-impl MakeDirs {
-    pub fn new(alloc: Global, path: &S3Path) -> Result<MakeDirs, AllocError>
-        ensures { IfOk result (λ dirs. dirs ≡ path.now) }
-    {
-        let bucket = path.bucket().clone()?;
-        let place = Place::of(alloc, path)?;
-        let above = keys_above(alloc, path.key().as_str())?;
-        Ok(MakeDirs {
-            bucket,
-            names: MakeNames {
-                alloc,
-                place,
-                above,
-            },
-        })
-    }
-
-    /// Makes a directory: its marker is put where nothing stands at the path, and nothing changes where a directory
-    /// stands. Refused AlreadyExists where a file stands, and NotDirectory with the key of the first directory above,
-    /// from the root on, at which a file stands; and before that NoSuchBucket. One request for each directory above,
-    /// and three more. (Hadoop FileSystem specification, mkdirs.)
-    pub fn perform<S: ObjectStore>(
-        self,
-        alloc: Global,
-        retries: u32,
-        store: &mut S,
-        actor: Actor,
-        event: u32,
-        journal: &mut Journal,
-    ) -> Result<Result<(), FsRefusal>, DriveStop>
-        requires counted { S.requests store.old ≤ length journal.old.entries }
-        ensures makes { IfOk result (λ answer. GivesIn self.bucket (Makes self.key) (Err NoSuchBucket) (S.scene store.old) answer (S.scene store.new)) }
-        ensures performed { Performed actor event retries (AlwaysIn self.bucket (always self.key) (S.scene store.old)) (S.scene store.old) (S.scene store.new) journal.old.entries journal.new.entries (S.requests store.old) (S.requests store.new) (S.losses store.old) (S.losses store.new) (S.foretold store.old) (S.foretold store.new) result }
-        ensures fault { IsErrOf result DriveStop.StoreFault → S.losses store.old < S.losses store.new }
-    {
-        let MakeDirs { bucket, names } = self;
-        match perform_in(alloc, bucket, names, retries, store, actor, event, journal) {
-            Ok(answer) => Ok(answer),
-            Err(stop) => Err(stop),
         }
     }
 }

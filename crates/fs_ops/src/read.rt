@@ -1,38 +1,30 @@
-ghost use Rattle.std.specs.Prelude.{◌≡◌, ◌<◌, ◌≤◌, length, IfOk, IsErrOf, Err};
-ghost use Rattle.operations.specs.Performed.{Performed};
-ghost use Rattle.bucket_ops.specs.Phases.{GivesIn, AlwaysIn};
+ghost use Rattle.std.specs.Prelude.{◌≡◌, IfOk, Err};
 ghost use Rattle.fs_tree.specs.Answers.{Reads};
 ghost use Rattle.fs_tree.specs.declared.answers.FsRefusal.TheVariants.{NoSuchBucket};
-ghost use Rattle.fs_ops.specs.Read.{first, asks, on, on_here, on_below, holds, left};
+ghost use Rattle.fs_ops.specs.AtPath as path;
+ghost use Rattle.fs_ops.specs.Read as read;
 ghost use Rattle.fs_ops.specs.Steps.{goes_by, IsStill};
 ghost use Rattle.fs_ops.specs.ReadLaws.{read_laws};
 
+use crate::at_path::{PathStage, heard};
 use crate::place::Place;
-use bucket_ops::{Look, Phases, perform_in, seen_in};
+use bucket_ops::{Phases, seen_in};
 use fs_tree::FsRefusal;
-use machine::DriveStop;
 use operations::Step;
 use path_keys::S3Path;
-use s3_types::{Actor, Bucket, Bytes, Journal, ObjectStore, PageLimit, Reply, Request};
+use s3_types::{Bucket, Bytes, PageLimit, Reply, Request};
 use std::alloc::{AllocError, Global};
 use std::marker::Model;
 
-/// Where the reading of a file stands.
-#[derive(Clone, Copy, Debug)]
-pub enum ReadStage {
-    /// What stands at the path.
-    Here,
-    /// Whether something stands below it.
-    Below,
-}
-
-/// The path whose bytes are asked for.
+/// The bytes of a file, in at most two requests. Refused IsDirectory where a directory stands at the path, and
+/// NotFound where nothing does, and before that NoSuchBucket; nothing changes. The bytes are shared and not
+/// copied. (Hadoop FileSystem specification, open.)
 #[derive(Drop)]
-pub(crate) struct ReadNames {
+pub struct ReadFile {
     place: Place,
 }
 
-impl Model for ReadNames {
+impl Model for ReadFile {
     ghost use Rattle.std.specs.Prelude.{ℕ, List};
 
     ghost Value = { List ℕ };
@@ -42,123 +34,68 @@ impl Model for ReadNames {
 
 type Answer = Result<Bytes, FsRefusal>;
 
-fn on_below(seen: Look) -> Step<ReadStage, Answer>
-    ensures { result ≡ on_below seen }
+/// The bytes that a reply has.
+fn bytes_in(reply: &Reply) -> Result<Option<Bytes>, AllocError>
+    ensures { IfOk result (λ bytes. bytes ≡ read.bytes_in reply.now) }
 {
-    match seen {
-        Look::There => Step::End(Err(FsRefusal::IsDirectory)),
-        _ => Step::End(Err(FsRefusal::NotFound)),
+    match reply {
+        Reply::Object { bytes, .. } => Ok(Some(bytes.clone()?)),
+        _ => Ok(None),
     }
 }
 
-impl ReadNames {
-    fn on_here(&self, reply: &Reply) -> Result<Step<ReadStage, Answer>, AllocError>
-        ensures { IfOk result (λ step. step ≡ on_here self.now reply.now) }
+impl ReadFile {
+    /// The reading of the file at a path of a bucket.
+    pub fn new(alloc: Global, path: &S3Path) -> Result<ReadFile, AllocError>
+        ensures { IfOk result (λ file. file ≡ path.now.key) }
     {
-        if self.place.is_root() {
-            return Ok(Step::End(Err(FsRefusal::IsDirectory)));
-        }
-        match reply {
-            Reply::Object { bytes, .. } => Ok(Step::End(Ok(bytes.clone()?))),
-            _ => Ok(Step::Next(ReadStage::Below)),
-        }
+        let place = Place::of(alloc, path)?;
+        Ok(ReadFile { place })
     }
 }
 
-impl Phases for ReadNames {
-    type Stage = ReadStage;
+impl Phases for ReadFile {
+    type Stage = PathStage;
 
     type Answer = Result<Bytes, FsRefusal>;
 
-    ghost first = { first };
+    ghost first = { path.first };
 
-    ghost asks = { asks };
+    ghost asks = { read.asks };
 
-    ghost goes = { goes_by on };
+    ghost goes = { goes_by read.on };
 
-    ghost holds = { holds };
+    ghost holds = { path.holds };
 
     ghost gives = { Reads };
 
     ghost always = { IsStill };
 
-    ghost left = { left };
+    ghost left = { path.left };
 
     ghost absent = { Err NoSuchBucket };
 
     ghost laws = { read_laws };
 
-    fn start(&self) -> ReadStage {
-        ReadStage::Here
+    fn start(&self) -> PathStage {
+        PathStage::Here
     }
 
-    fn ask(&self, bucket: &Bucket, stage: &ReadStage) -> Result<Request, AllocError> {
+    fn ask(&self, bucket: &Bucket, stage: &PathStage) -> Result<Request, AllocError> {
         match stage {
-            ReadStage::Here => self.place.get(bucket),
-            ReadStage::Below => self.place.below(bucket, PageLimit::new(1)),
+            PathStage::Here => self.place.get(bucket),
+            PathStage::Below => self.place.below(bucket, PageLimit::new(1)),
         }
     }
 
-    fn next(&self, stage: ReadStage, reply: &Reply) -> Result<Step<ReadStage, Answer>, AllocError> {
-        let seen = seen_in(reply);
-        if let Look::NoBucket = seen {
-            return Ok(Step::End(Err(FsRefusal::NoSuchBucket)));
-        }
-        match stage {
-            ReadStage::Here => self.on_here(reply),
-            ReadStage::Below => Ok(on_below(seen)),
-        }
-    }
-}
-
-/// The reading of a file.
-#[derive(Drop)]
-pub struct ReadFile {
-    bucket: Bucket,
-    names: ReadNames,
-}
-
-impl Model for ReadFile {
-    ghost use Rattle.path_keys.specs.Paths.{Path};
-
-    ghost Value = { Path };
-
-    ghost view = { λ s. record { bucket = s.bucket; key = s.names } };
-}
-
-impl ReadFile {
-    pub fn new(alloc: Global, path: &S3Path) -> Result<ReadFile, AllocError>
-        ensures { IfOk result (λ file. file ≡ path.now) }
-    {
-        let bucket = path.bucket().clone()?;
-        let place = Place::of(alloc, path)?;
-        Ok(ReadFile {
-            bucket,
-            names: ReadNames { place },
-        })
-    }
-
-    /// The bytes of a file, in at most two requests. Refused IsDirectory where a directory stands at the path, and
-    /// NotFound where nothing does, and before that NoSuchBucket; nothing changes. The bytes are shared and not
-    /// copied. (Hadoop FileSystem specification, open.)
-    pub fn perform<S: ObjectStore>(
-        self,
-        alloc: Global,
-        retries: u32,
-        store: &mut S,
-        actor: Actor,
-        event: u32,
-        journal: &mut Journal,
-    ) -> Result<Result<Bytes, FsRefusal>, DriveStop>
-        requires counted { S.requests store.old ≤ length journal.old.entries }
-        ensures reads { IfOk result (λ answer. GivesIn self.bucket (Reads self.key) (Err NoSuchBucket) (S.scene store.old) answer (S.scene store.new)) }
-        ensures performed { Performed actor event retries (AlwaysIn self.bucket (IsStill self.key) (S.scene store.old)) (S.scene store.old) (S.scene store.new) journal.old.entries journal.new.entries (S.requests store.old) (S.requests store.new) (S.losses store.old) (S.losses store.new) (S.foretold store.old) (S.foretold store.new) result }
-        ensures fault { IsErrOf result DriveStop.StoreFault → S.losses store.old < S.losses store.new }
-    {
-        let ReadFile { bucket, names } = self;
-        match perform_in(alloc, bucket, names, retries, store, actor, event, journal) {
-            Ok(answer) => Ok(answer),
-            Err(stop) => Err(stop),
-        }
+    fn next(&self, stage: PathStage, reply: &Reply) -> Result<Step<PathStage, Answer>, AllocError> {
+        let bytes = bytes_in(reply)?;
+        Ok(heard(
+            &self.place,
+            stage,
+            seen_in(reply),
+            bytes,
+            Err(FsRefusal::IsDirectory),
+        ))
     }
 }

@@ -1,0 +1,53 @@
+-- What stands at a path, asked in two stages: first of a file there, and where there is none, of what is below it.
+use Rattle.std.specs.Prelude.{◌≡◌, ℕ, List, [], ◌∷◌, Result, Ok, Err, Option, Some, None}
+use Rattle.s3_types.specs.Store.{Objects}
+use Rattle.s3_types.specs.declared.reply.Reply.{Reply}
+use Rattle.operations.specs.declared.plan.Step.{Step}
+use Rattle.operations.specs.declared.plan.Step.TheVariants.{Next, End}
+use Rattle.bucket_ops.specs.declared.look.Look.{Look}
+use Rattle.bucket_ops.specs.declared.look.Look.TheVariants.{There}
+use Rattle.bucket_ops.specs.Looks.{look_of}
+use Rattle.bucket_ops.specs.Asks.{Ask}
+use Rattle.fs_tree.specs.declared.answers.FsRefusal.{FsRefusal}
+use Rattle.fs_tree.specs.declared.answers.FsRefusal.TheVariants.{NotFound}
+use Rattle.fs_ops.specs.declared.at_path.PathStage.{PathStage}
+use Rattle.fs_ops.specs.declared.at_path.PathStage.TheVariants.{Here, Below}
+use Rattle.fs_ops.specs.Places.{below_asks, NoFileAt}
+
+abbrev pub first : List ℕ → PathStage
+first o = Here
+
+-- by what is asked of a file
+abbrev pub asks : (List ℕ → Ask) → List ℕ → PathStage → Ask
+asks file o Here = file o
+asks file o Below = below_asks o 1
+
+-- with what is answered where a file stands, if one does
+abbrev pub told : {A : Type 0} → Option A → Step PathStage (Result A FsRefusal)
+told (Some a) = End (Ok a)
+told None = Next Below
+
+-- and with what is answered where a directory stands, as the root does
+abbrev pub on_here : {A : Type 0} → Result A FsRefusal → Option A → List ℕ → Step PathStage (Result A FsRefusal)
+on_here directory found [] = End directory
+on_here directory found (x ∷ p) = told found
+
+abbrev pub on_below : {A : Type 0} → Result A FsRefusal → Look → Step PathStage (Result A FsRefusal)
+on_below directory There = End directory
+on_below directory _ = End (Err NotFound)
+
+abbrev pub heard : {A : Type 0} → Result A FsRefusal → Option A → List ℕ → PathStage → Look → Step PathStage (Result A FsRefusal)
+heard directory found o Here l = on_here directory found o
+heard directory found o Below l = on_below directory l
+
+-- where a reply leads, by what it tells of a file
+abbrev pub on : {A : Type 0} → Result A FsRefusal → (Reply → Option A) → List ℕ → PathStage → Reply → Step PathStage (Result A FsRefusal)
+on directory file o x r = heard directory (file r) o x (look_of r)
+
+abbrev pub holds : List ℕ → Objects → PathStage → Objects → Type 0
+holds o z Here m = m ≡ z
+holds o z Below m = (m ≡ z) × NoFileAt z o
+
+abbrev pub left : List ℕ → PathStage → Objects → ℕ
+left o Here m = 1
+left o Below m = 0
