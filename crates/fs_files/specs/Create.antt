@@ -21,7 +21,7 @@ use Rattle.fs_ops.specs.Steps.{unless}
 use Rattle.fs_ops.specs.Make.{Passed}
 use Rattle.fs_files.specs.declared.create.CreateStage.{CreateStage}
 use Rattle.fs_files.specs.declared.create.CreateStage.TheVariants.{Here, Below, Up, Write, DropMarkers}
-use Rattle.fs_files.specs.declared.create.Creating.{Creating}
+use Rattle.fs_files.specs.declared.create.CreateFile.{CreateFile}
 use Rattle.fs_files.specs.Placed.{InFile, IsBeside, object_of}
 use Rattle.fs_files.specs.Writing as writing
 use Rattle.fs_files.specs.declared.writing.Heard.{Heard}
@@ -139,8 +139,8 @@ HoldsAt None o z x s repeated = (s ≡ z) × (x ≡ Here)
 HoldsAt (Some c) o z x s repeated = HoldsIn o z c x s repeated
 
 -- begun so, it may be in this stage
-abbrev pub holds : Creating → Scene → Creating → Scene → Bool → Type 0
-holds o z p s repeated = (p.names ≡ o.names) × IsCreation o.names × HoldsAt (bucket_at z o.names.path.bucket) o.names z p.stage s repeated
+abbrev pub holds : CreateFile → Scene → CreateFile → Scene → Bool → Type 0
+holds o z p s repeated = (p.file ≡ o.file) × IsCreation o.file × HoldsAt (bucket_at z o.file.path.bucket) o.file z p.stage s repeated
 
 -- a refusal leaves all as it was
 abbrev pub IsUndone : Answer → Scene → Scene → Type 0
@@ -158,24 +158,24 @@ always_in o z m = (m ≡ z) ⊎ (IsDue o z × IsMade o z m)
 abbrev pub AlwaysFile : Creation → Scene → Scene → Type 0
 AlwaysFile o z s = least o z → InFile (bucket_at z o.path.bucket) (always_in o) (Unit {0}) z o.path.bucket s
 
-abbrev pub starts : Creating → Type 0
-starts p = IsCreation p.names × (p.stage ≡ Here)
+abbrev pub starts : CreateFile → Type 0
+starts p = IsCreation p.file × (p.stage ≡ Here)
 
-abbrev pub request : Creating → Request
-request p = asks p.names p.stage
+abbrev pub request : CreateFile → Request
+request p = asks p.file p.stage
 
-abbrev pub stepped : Creation → CreateStep → Step Creating Answer
-stepped o (Next x) = Next (record { names = o; stage = x })
+abbrev pub stepped : Creation → CreateStep → Step CreateFile Answer
+stepped o (Next x) = Next (record { file = o; stage = x })
 stepped o (End a) = End a
 
-abbrev pub led : Creating → Reply → Bool → Step Creating Answer
-led p r repeated = stepped p.names (goes p.names p.stage r repeated)
+abbrev pub led : CreateFile → Reply → Bool → Step CreateFile Answer
+led p r repeated = stepped p.file (goes p.file p.stage r repeated)
 
-abbrev pub gives : Creating → Scene → Answer → Scene → Type 0
-gives o z a s = GivesFile o.names z a s
+abbrev pub gives : CreateFile → Scene → Answer → Scene → Type 0
+gives o z a s = GivesFile o.file z a s
 
-abbrev pub always : Creating → Scene → Scene → Type 0
-always o z s = AlwaysFile o.names z s
+abbrev pub always : CreateFile → Scene → Scene → Type 0
+always o z s = AlwaysFile o.file z s
 
 abbrev pub write_left : Creation → ℕ
 write_left o = length o.bytes + 4
@@ -187,5 +187,5 @@ left_at o (Up k ks) = length ks + write_left o
 left_at o (Write w) = hearing.left w + 1
 left_at o DropMarkers = 0
 
-abbrev pub left : Creating → Scene → ℕ
-left p s = left_at p.names p.stage
+abbrev pub left : CreateFile → Scene → ℕ
+left p s = left_at p.file p.stage

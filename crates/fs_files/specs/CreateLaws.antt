@@ -36,7 +36,7 @@ use Rattle.fs_ops.specs.StepLaws.{not_missing}
 use Rattle.fs_ops.specs.Make.{Passed}
 use Rattle.fs_files.specs.declared.create.CreateStage.{CreateStage}
 use Rattle.fs_files.specs.declared.create.CreateStage.TheVariants.{Here, Below, Up, Write, DropMarkers}
-use Rattle.fs_files.specs.declared.create.Creating.{Creating}
+use Rattle.fs_files.specs.declared.create.CreateFile.{CreateFile}
 use Rattle.fs_files.specs.Placed.{IsBeside, InFile, IsFileOrNot, object_of}
 use Rattle.fs_files.specs.Writing as writing
 use Rattle.fs_files.specs.declared.writing.Heard.{Heard}
@@ -321,7 +321,7 @@ module _ (o : Creation) (z : Scene) (ok : IsCreation o) where
   began None = (refl, refl)
   began (Some c) = refl
 
-  goes_so : (y : CreateStep) (s : Scene) → OnAt (bucket_at z B) y s → (n : Creating) → n.names ≡ o → Goes (λ p s. holds n z p s false) (gives n z) (stepped o y) s
+  goes_so : (y : CreateStep) (s : Scene) → OnAt (bucket_at z B) y s → (n : CreateFile) → n.file ≡ o → Goes (λ p s. holds n z p s false) (gives n z) (stepped o y) s
   goes_so (Next x) s h n e = (sym e, subst IsCreation (sym e) ok, subst (λ o. HoldsAt (bucket_at z o.path.bucket) o z x s false) (sym e) h)
   goes_so (End a) s h n e = subst (λ o. GivesFile o z a s) (sym e) h
 
@@ -418,35 +418,35 @@ has_block (Some c) o z DropMarkers s repeated h = tt
 
 -- ---- the laws
 
-abbrev Next_so : Creating → Scene → Creating → Scene → Bool → Type 0
+abbrev Next_so : CreateFile → Scene → CreateFile → Scene → Bool → Type 0
 Next_so o z p s repeated = Goes (λ p s. holds o z p s false) (gives o z) (led p (answer s (request p)) repeated) (apply s (request p))
 
-course_goes : (o : Creating) (z : Scene) (p : Creating) (s : Scene) (repeated : Bool) → holds o z p s repeated → Next_so o z p s repeated
+course_goes : (o : CreateFile) (z : Scene) (p : CreateFile) (s : Scene) (repeated : Bool) → holds o z p s repeated → Next_so o z p s repeated
 course_goes o z p s repeated h =
     subst (λ n. Goes (λ p s. holds o z p s false) (gives o z) (stepped n (goes n p.stage (answer s (asks n p.stage)) repeated)) (apply s (asks n p.stage))) (sym h.0)
-    (goes_so o.names z h.1 (goes o.names p.stage (answer s (asks o.names p.stage)) repeated) (apply s (asks o.names p.stage))
-    (all_steps o.names z h.1 (bucket_at z o.names.path.bucket) refl p.stage s repeated h.2) o refl)
+    (goes_so o.file z h.1 (goes o.file p.stage (answer s (asks o.file p.stage)) repeated) (apply s (asks o.file p.stage))
+    (all_steps o.file z h.1 (bucket_at z o.file.path.bucket) refl p.stage s repeated h.2) o refl)
 
-course_hidden : (o : Creating) (z : Scene) (p : Creating) (s : Scene) (repeated : Bool) → holds o z p s repeated → holds o z p (apply s (request p)) true
+course_hidden : (o : CreateFile) (z : Scene) (p : CreateFile) (s : Scene) (repeated : Bool) → holds o z p s repeated → holds o z p (apply s (request p)) true
 course_hidden o z p s repeated h =
-    (h.0, h.1, subst (λ n. HoldsAt (bucket_at z o.names.path.bucket) o.names z p.stage (apply s (asks n p.stage)) true) (sym h.0) (all_hide o.names z h.1 (bucket_at z o.names.path.bucket) refl p.stage s repeated h.2))
+    (h.0, h.1, subst (λ n. HoldsAt (bucket_at z o.file.path.bucket) o.file z p.stage (apply s (asks n p.stage)) true) (sym h.0) (all_hide o.file z h.1 (bucket_at z o.file.path.bucket) refl p.stage s repeated h.2))
 
-course_falls : (o : Creating) (z : Scene) (p : Creating) (s : Scene) (repeated : Bool) → holds o z p s repeated → Falls left (led p (answer s (request p)) repeated) (apply s (request p)) (left p s)
+course_falls : (o : CreateFile) (z : Scene) (p : CreateFile) (s : Scene) (repeated : Bool) → holds o z p s repeated → Falls left (led p (answer s (request p)) repeated) (apply s (request p)) (left p s)
 course_falls o z p s repeated h =
-    stepped_falls p.names (goes p.names p.stage (answer s (request p)) repeated) (apply s (request p)) (left p s)
-    (falls_to p.names p.stage (answer s (request p)) repeated (has_block (bucket_at z o.names.path.bucket) o.names z p.stage s repeated h.2))
+    stepped_falls p.file (goes p.file p.stage (answer s (request p)) repeated) (apply s (request p)) (left p s)
+    (falls_to p.file p.stage (answer s (request p)) repeated (has_block (bucket_at z o.file.path.bucket) o.file z p.stage s repeated h.2))
 
-begins_so : (p : Creating) (s : Scene) → starts p → holds p s p s false
-begins_so p s h = (refl, h.0, subst (λ x. HoldsAt (bucket_at s p.names.path.bucket) p.names s x s false) (sym h.1) (began p.names s h.0 (bucket_at s p.names.path.bucket)))
+begins_so : (p : CreateFile) (s : Scene) → starts p → holds p s p s false
+begins_so p s h = (refl, h.0, subst (λ x. HoldsAt (bucket_at s p.file.path.bucket) p.file s x s false) (sym h.1) (began p.file s h.0 (bucket_at s p.file.path.bucket)))
 
 pub create_laws : IsCourse starts request led holds gives always left
 create_laws = record {
   begin = λ p s h. begins_so p s h;
-  lost = λ o z p s repeated h. (h.0, h.1, all_lose o.names z h.1 (bucket_at z o.names.path.bucket) refl p.stage s repeated h.2);
+  lost = λ o z p s repeated h. (h.0, h.1, all_lose o.file z h.1 (bucket_at z o.file.path.bucket) refl p.stage s repeated h.2);
   hidden = λ o z p s repeated h. course_hidden o z p s repeated h;
   goes_on = λ o z p s repeated h. course_goes o z p s repeated h;
   falls = λ o z p s repeated h. course_falls o z p s repeated h;
   no_rise = λ o z p s repeated h. omega arith;
-  during = λ o z p s repeated h l. all_moments o.names z h.1 (bucket_at z o.names.path.bucket) refl p.stage s repeated h.2 l;
-  at_end = λ o z a s h. ends_always o.names z a s h;
+  during = λ o z p s repeated h l. all_moments o.file z h.1 (bucket_at z o.file.path.bucket) refl p.stage s repeated h.2 l;
+  at_end = λ o z a s h. ends_always o.file z a s h;
 }

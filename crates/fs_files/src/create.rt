@@ -1,7 +1,7 @@
-ghost use Rattle.std.specs.Prelude.{◌≡◌, ◌*◌, ◌<◌, ◌≤◌, length, IfOk, IsErrOf};
+ghost use Rattle.std.specs.Prelude.{◌≡◌, ◌*◌, ◌≤◌, length, IfOk};
 ghost use Rattle.s3_types.specs.declared.limits.TheConstants.{MOST_PARTS};
-ghost use Rattle.operations.specs.Performed.{Performed};
-ghost use Rattle.fs_files.specs.Create.{asks, write_at, up_from, replace, here, on_here, on_below, on_up, drop_from, written, goes, climb, starts, request, led, holds, gives, always, left, GivesFile, AlwaysFile};
+ghost use Rattle.fs_files.specs.Create as create;
+ghost use Rattle.fs_files.specs.Create.{write_at, up_from, on_here, on_below, on_up, written, climb};
 ghost use Rattle.fs_files.specs.CreateLaws.{create_laws};
 
 use crate::writing::{FileStream, Heard};
@@ -9,13 +9,9 @@ use bucket_ops::{Look, seen_in};
 use dir_markers::{MarkerPolicy, after_create};
 use fs_ops::{Place, keys_above};
 use fs_tree::FsRefusal;
-use machine::DriveStop;
-use operations::{Plan, Step, perform};
+use operations::{Plan, Step};
 use path_keys::S3Path;
-use s3_types::{
-    Actor, Bucket, Bytes, Journal, Key, KeyList, ObjectStore, PageLimit, Reply, Request, Sequence,
-    copied_keys,
-};
+use s3_types::{Bucket, Bytes, Key, KeyList, PageLimit, Reply, Request, Sequence, copied_keys};
 use std::alloc::{AllocError, Global};
 use std::marker::Model;
 
@@ -34,10 +30,10 @@ pub enum CreateStage {
     DropMarkers,
 }
 
-/// The file to be made: its path, the keys and the markers of the directories above it, from the root on, its
-/// bytes, and the length in bytes of its parts.
+/// A file to be made: its path, the keys and the markers of the directories above it, from the root on, its bytes,
+/// and the length in bytes of its parts.
 #[derive(Drop)]
-pub(crate) struct CreateNames {
+pub struct NewFile {
     alloc: Global,
     bucket: Bucket,
     place: Place,
@@ -49,7 +45,7 @@ pub(crate) struct CreateNames {
     policy: MarkerPolicy,
 }
 
-impl Model for CreateNames {
+impl Model for NewFile {
     ghost use Rattle.fs_files.specs.Creation.{Creation, coded_creation, created_of, IsAsked};
 
     ghost Value = { Creation };
@@ -65,7 +61,7 @@ type Answer = Result<(), FsRefusal>;
 
 type CreateStep = Step<CreateStage, Answer>;
 
-impl CreateNames {
+impl NewFile {
     fn write(&self) -> Result<CreateStep, AllocError>
         ensures { IfOk result (λ step. step ≡ write_at self.now.path.key self.now) }
     {
@@ -156,7 +152,7 @@ impl CreateNames {
     }
 
     fn ask(&self, stage: &CreateStage) -> Result<Request, AllocError>
-        ensures { IfOk result (λ request. request ≡ asks self.now stage.now) }
+        ensures { IfOk result (λ request. request ≡ create.asks self.now stage.now) }
     {
         match stage {
             CreateStage::Here => self.place.look(&self.bucket),
@@ -175,7 +171,7 @@ impl CreateNames {
         reply: &Reply,
         repeated: bool,
     ) -> Result<CreateStep, AllocError>
-        ensures { IfOk result (λ step. step ≡ goes self.now stage reply.now repeated) }
+        ensures { IfOk result (λ step. step ≡ create.goes self.now stage reply.now repeated) }
     {
         let seen = seen_in(reply);
         if let Look::NoBucket = seen {
@@ -191,65 +187,23 @@ impl CreateNames {
     }
 }
 
-/// The making of a file at a stage.
-#[derive(Drop)]
-pub(crate) struct Creating {
-    names: CreateNames,
-    stage: CreateStage,
-}
-
-impl Plan for Creating {
-    type Answer = Result<(), FsRefusal>;
-
-    ghost starts = { starts };
-
-    ghost asks = { request };
-
-    ghost goes = { led };
-
-    ghost holds = { holds };
-
-    ghost gives = { gives };
-
-    ghost always = { always };
-
-    ghost left = { left };
-
-    ghost laws = { create_laws };
-
-    fn ask(&self) -> Result<Request, AllocError> {
-        self.names.ask(&self.stage)
-    }
-
-    fn next(self, reply: &Reply, repeated: bool) -> Result<Step<Creating, Answer>, AllocError> {
-        let Creating { names, stage } = self;
-        match names.next(stage, reply, repeated)? {
-            Step::Next(stage) => Ok(Step::Next(Creating { names, stage })),
-            Step::End(answer) => Ok(Step::End(answer)),
-        }
-    }
-}
-
-/// The making of a file.
+/// Makes the file: its bytes are put at once where they are fewer than a block, and else by the parts of an upload;
+/// then the markers above it are deleted in one batch, where the policy keeps none. At any moment the file is as
+/// it was before, or stands whole. Refused IsDirectory at the root and where a directory stands at the path,
+/// AlreadyExists where a file stands that may not be replaced, and NotDirectory with the key of the first
+/// directory above, from the root on, at which a file stands; and before that NoSuchBucket. This is so on a
+/// store whose least part is not longer than the block; else the upload may be refused, and the answer is
+/// then NotFound. Two requests, one for each directory above, one for each block, and three more. It holds
+/// one block beside the bytes. (Hadoop FileSystem specification, create.)
 #[derive(Drop)]
 pub struct CreateFile {
-    names: CreateNames,
-}
-
-impl Model for CreateFile {
-    ghost use Rattle.fs_files.specs.Creation.{Creation, coded_creation, IsCreation};
-
-    ghost Value = { Creation };
-
-    ghost coded = { coded_creation };
-
-    ghost view = { λ s. s.names };
-
-    ghost invariant = { λ s. IsCreation s.names };
+    pub file: NewFile,
+    pub stage: CreateStage,
 }
 
 impl CreateFile {
-    /// The making of a file with these bytes. `block` is the length in bytes of each of its parts but the last.
+    /// The making of a file with these bytes, at its first stage. `block` is the length in bytes of each of its parts
+    /// but the last.
     pub fn new(
         alloc: Global,
         path: &S3Path,
@@ -260,14 +214,15 @@ impl CreateFile {
     ) -> Result<CreateFile, AllocError>
         requires some { 1 ≤ block }
         requires room { length bytes ≤ block * MOST_PARTS }
-        ensures { IfOk result (λ file. file ≡ record { path = path.now; bytes = bytes; block = block; overwrite = overwrite; policy = policy }) }
+        ensures file { IfOk result (λ plan. plan.file ≡ record { path = path.now; bytes = bytes; block = block; overwrite = overwrite; policy = policy }) }
+        ensures starts { IfOk result create.starts }
     {
         let bucket = path.bucket().clone()?;
         let place = Place::of(alloc, path)?;
         let above = keys_above(alloc, path.key().as_str())?;
         let markers = after_create(alloc, policy, path)?;
         Ok(CreateFile {
-            names: CreateNames {
+            file: NewFile {
                 alloc,
                 bucket,
                 place,
@@ -278,39 +233,39 @@ impl CreateFile {
                 overwrite,
                 policy,
             },
+            stage: CreateStage::Here,
         })
     }
+}
 
-    /// Makes the file: its bytes are put at once where they are fewer than a block, and else by the parts of an upload;
-    /// then the markers above it are deleted in one batch, where the policy keeps none. At any moment the file is as
-    /// it was before, or stands whole. Refused IsDirectory at the root and where a directory stands at the path,
-    /// AlreadyExists where a file stands that may not be replaced, and NotDirectory with the key of the first
-    /// directory above, from the root on, at which a file stands; and before that NoSuchBucket. This is so on a
-    /// store whose least part is not longer than the block; else the upload may be refused, and the answer is
-    /// then NotFound. Two requests, one for each directory above, one for each block, and three more. It holds
-    /// one block beside the bytes. (Hadoop FileSystem specification, create.)
-    pub fn perform<S: ObjectStore>(
-        self,
-        alloc: Global,
-        retries: u32,
-        store: &mut S,
-        actor: Actor,
-        event: u32,
-        journal: &mut Journal,
-    ) -> Result<Result<(), FsRefusal>, DriveStop>
-        requires counted { S.requests store.old ≤ length journal.old.entries }
-        ensures creates { IfOk result (λ answer. GivesFile self (S.scene store.old) answer (S.scene store.new)) }
-        ensures performed { Performed actor event retries (AlwaysFile self (S.scene store.old)) (S.scene store.old) (S.scene store.new) journal.old.entries journal.new.entries (S.requests store.old) (S.requests store.new) (S.losses store.old) (S.losses store.new) (S.foretold store.old) (S.foretold store.new) result }
-        ensures fault { IsErrOf result DriveStop.StoreFault → S.losses store.old < S.losses store.new }
-    {
-        let CreateFile { names } = self;
-        let plan = Creating {
-            names,
-            stage: CreateStage::Here,
-        };
-        match perform(alloc, plan, retries, store, actor, event, journal) {
-            Ok(answer) => Ok(answer),
-            Err(stop) => Err(stop),
+impl Plan for CreateFile {
+    type Answer = Result<(), FsRefusal>;
+
+    ghost starts = { create.starts };
+
+    ghost asks = { create.request };
+
+    ghost goes = { create.led };
+
+    ghost holds = { create.holds };
+
+    ghost gives = { create.gives };
+
+    ghost always = { create.always };
+
+    ghost left = { create.left };
+
+    ghost laws = { create_laws };
+
+    fn ask(&self) -> Result<Request, AllocError> {
+        self.file.ask(&self.stage)
+    }
+
+    fn next(self, reply: &Reply, repeated: bool) -> Result<Step<CreateFile, Answer>, AllocError> {
+        let CreateFile { file, stage } = self;
+        match file.next(stage, reply, repeated)? {
+            Step::Next(stage) => Ok(Step::Next(CreateFile { file, stage })),
+            Step::End(answer) => Ok(Step::End(answer)),
         }
     }
 }

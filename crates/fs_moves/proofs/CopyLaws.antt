@@ -10,6 +10,7 @@ use Rattle.request_frame.specs.Members.{IsIn}
 use Rattle.request_frame.proofs.Members.{same_or_other, text_here, text_other, none_some}
 use Rattle.bucket_ops.specs.Asks.{edited}
 use Rattle.fs_tree.specs.Tree.{Stands}
+use Rattle.fs_ops.specs.Sweeping.{is_in}
 use Rattle.fs_moves.specs.declared.copying.Copying.{Copying}
 use Rattle.fs_moves.specs.Copies.{Move, IsOneOf, sources, targets, copied_all, copy_of, copy_asks, has_more, copied_next, IsCopying, IsCopied, copies_left, LessCopies, AreFree}
 
@@ -88,22 +89,6 @@ pub not_target : (z : Objects) (ps : List Move) → AreFree z ps → (k l : List
 not_target z ps h k l i t =
     let w = is_target ps k t in
     none_some (h.free w.0 k w.1) (h.stands k l i).1
-
-member : (k : List ℕ) (ks : List (List ℕ)) → IsIn k ks ⊎ (IsIn k ks → ⊥)
-member k [] = inr (λ h. h)
-member k (q ∷ ks) = by (same_or_other k q) (member k ks)
-  where
-    neither : (k ≡ q → ⊥) → (IsIn k ks → ⊥) → (k ≡ q) ⊎ IsIn k ks → ⊥
-    neither n g (inl e) = n e
-    neither n g (inr h) = g h
-
-    by : (k ≡ q) ⊎ (k ≡ q → ⊥) → IsIn k ks ⊎ (IsIn k ks → ⊥) → IsIn k (q ∷ ks) ⊎ (IsIn k (q ∷ ks) → ⊥)
-    by (inl e) w = inl (inl e)
-    by (inr n) (inl h) = inl (inr h)
-    by (inr n) (inr g) = inr (neither n g)
-
-pub is_in : (k : List ℕ) (ks : List (List ℕ)) → IsIn k ks ⊎ (IsIn k ks → ⊥)
-is_in k ks = member k ks
 
 -- what is copied stands at its new key, where m has the sources as z had them
 copies_put : (z : Objects) (ps : List Move) (m : Objects) → ((k l : List ℕ) → IsOneOf k l ps → fin.get m k ≡ fin.get z k)

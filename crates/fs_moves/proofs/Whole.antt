@@ -15,9 +15,9 @@ use Rattle.fs_tree.specs.Changes.{parent, marker_if, IsMarked}
 use Rattle.fs_tree.specs.Moves.{IsMove, IsWhole}
 use Rattle.fs_tree.proofs.Begins.{begins_all}
 use Rattle.fs_tree.proofs.Dropping.{marker_key}
-use Rattle.fs_ops.specs.Sweeping.{gone_in, kept_out}
+use Rattle.fs_ops.specs.Sweeping.{is_in, gone_in, kept_out}
 use Rattle.fs_moves.specs.Copies.{Move, IsOneOf, sources, targets, copied_all, AreFree}
-use Rattle.fs_moves.proofs.CopyLaws.{map_front, in_targets, in_sources, is_target, is_source, one_in_take, is_in, copies_keep, not_target, copied_stand, all_stand}
+use Rattle.fs_moves.proofs.CopyLaws.{map_front, in_targets, in_sources, is_target, is_source, one_in_take, copies_keep, not_target, copied_stand, all_stand}
 
 -- the moves are under way, or done and a marker u is put
 pub record AreWhole (u : Option (List ℕ)) (z : Objects) (ps : List Move) (m : Objects) : Type 0 where

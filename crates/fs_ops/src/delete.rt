@@ -1,4 +1,5 @@
-ghost use Rattle.std.specs.Prelude.{◌≡◌, IfOk, Err};
+ghost use Rattle.std.specs.Prelude.{◌≡◌, true, IfOk, Err};
+ghost use Rattle.path_keys.specs.Paths.{is_key};
 ghost use Rattle.s3_types.specs.Pages.{text_in};
 ghost use Rattle.proof_base.specs.Order.{text_eq};
 ghost use Rattle.job_operations.specs.Walks as walks;
@@ -130,7 +131,8 @@ fn up_to(above: &Option<Key>) -> Result<Step<DeleteStage, Answer>, AllocError>
 impl DeletePath {
     /// The deletion of a path of a bucket, where it is recursive with all that is below it.
     pub fn new(alloc: Global, path: &S3Path, recursive: bool) -> Result<DeletePath, AllocError>
-        ensures { IfOk result (λ deletion. deletion ≡ record { path = path.now.key; recursive = recursive }) }
+        ensures deletion { IfOk result (λ deletion. deletion ≡ record { path = path.now.key; recursive = recursive }) }
+        ensures key { IfOk result (λ deletion. is_key deletion.path ≡ true) }
     {
         let place = Place::of(alloc, path)?;
         let above = marker_above(alloc, path)?;

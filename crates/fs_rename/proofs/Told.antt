@@ -18,6 +18,7 @@ use Rattle.fs_tree.specs.Renames.{RenamesFile, RenamesDir, Renames}
 use Rattle.fs_tree.proofs.Begins.{begins_trans}
 use Rattle.fs_tree.proofs.Above.{key_no_marker}
 use Rattle.fs_tree.proofs.Moving.{place_above, place_apart, moves_file, moves_dir}
+use Rattle.fs_ops.specs.StepLaws.{same_scene}
 use Rattle.fs_ops.specs.Sweeping.{IsDeleting}
 use Rattle.fs_moves.specs.Copies.{Move, sources, copied_all, AreFree, moves_of}
 use Rattle.fs_moves.proofs.Whole.{AreWhole, whole_copying, whole_emptying, whole_marked, is_whole}
@@ -137,10 +138,6 @@ stand_whole o z m k h = by o.source refl
         (may_stand x p o.target z m (key_no_marker x p (ap is_key (sym e) ∙ k)) (subst (λ p. always (record { source = p; target = o.target }) z m) e h))
 
 -- ---- in the bucket
-
-same_scene : (x : Option Objects) (z s : Scene) (b : List ℕ) (H G : Objects → Objects → Type 0) (N : Type 0) → ((m n : Objects) → H m n → G m n) → InScene x H N z b s → InScene x G N z b s
-same_scene None z s b H G N f h = h
-same_scene (Some m) z s b H G N f h = (h.0, h.1, f m h.0 h.2)
 
 pub renames_in : (b : List ℕ) (o : Renaming) (z : Scene) (a : Answer) (s : Scene) → is_key o.source ≡ true → is_key o.target ≡ true → GivesIn b (gives o) (Err NoSuchBucket) z a s → GivesIn b (Renames o.source o.target) (Err NoSuchBucket) z a s
 renames_in b o z a s k l h =
