@@ -1,5 +1,5 @@
 -- where outcomes lead
-use Rattle.std.proofs.Common.{◌≡◌, ℕ, suc, ◌+◌, ◌<◌, ◌≤◌, refl, ap, sym, subst, ◌∙◌, Bool, true, false, nat_lt, cond, arith, List, [], ◌∷◌, ◌++◌, map, length, drop, Option, Some, None, length-append, ◌^◌}
+use Rattle.std.proofs.Common.{◌≡◌, ℕ, suc, ◌+◌, ◌<◌, ◌≤◌, refl, ap, sym, subst, ◌∙◌, Bool, true, false, nat_lt, cond, arith, List, [], ◌∷◌, ◌++◌, map, length, Option, Some, None, length-append, ◌^◌}
 use Rattle.std.proofs.lemmas.Bool.Decides.{nat_tests}
 use Rattle.std.proofs.lemmas.List.{map-append}
 use Rattle.s3_types.specs.declared.request.Request.{Request}
@@ -22,11 +22,12 @@ use Rattle.commit_parts.specs.declared.undo.Undo.{Undo}
 use Rattle.commit_laws.specs.Fitting.{SpellsSet, missed_of}
 use Rattle.commit_laws.proofs.CommitEnds.{read_more}
 use Rattle.job_commit.specs.Stages.{replacing_at, reverting_from, operation_of, counted, missed_in}
-use Rattle.job_commit.specs.Holds.{picks_from, attempts_of, Reads, StepHolds, asks, PicksHold, IsNext, UndoWithin}
+use Rattle.job_commit.specs.Holds.{picks_from, attempts_of, Reads, StepHolds, asks, PicksHold, IsNext}
+use Rattle.job_commit.specs.declared.basis.Basis.{Basis}
 use Rattle.job_commit.specs.declared.step.Step.{Step}
 use Rattle.job_commit.specs.declared.step.Step.TheVariants as steps
 use Rattle.job_commit.specs.declared.step.Next.{Next}
-use Rattle.job_commit.proofs.Steps.{holds_fetching, holds_replacing, holds_marking, holds_reverting, holds_over, drop_within}
+use Rattle.job_commit.proofs.Steps.{holds_fetching, holds_replacing, holds_marking, holds_reverting, holds_over}
 
 -- ---- a set
 
@@ -66,9 +67,9 @@ pub picks_more_hold : (j : Job) (sets sets' : Sets) (picks picks' : List Pick) (
 picks_more_hold j sets sets' picks picks' s t a e f g reads held =
     picks_hold_more j sets sets' picks picks' s a e (g ∙ ap (λ v. picks ++ record { task = v; attempt = a } ∷ []) f) reads.more held
 
--- what is left to take back stays within
-pub rest_within : (j : Job) (sets : Sets) (places : List Place) (step : Step) (u v : List Undo) (m : ℕ) → step ≡ steps.Reverting u m → StepHolds j sets places step → v ≡ drop 1 u → UndoWithin sets v
-rest_within j sets places step u v m e s f = let P : List Undo → Type 0 = λ x. UndoWithin sets x in subst P (sym f) (drop_within (length (all_commits sets)) u (s.undo u m e))
+-- the same, where the places may have become known
+pub picks_of_more : (b : Basis) (sets : Sets) (b' : Basis) (picks picks' : List Pick) (s : PendingSet) (t a : ℕ) → sets ≡ b.sets ++ s ∷ [] → b' ≡ record b { sets = sets; places = b'.places } → t ≡ length picks → picks' ≡ picks ++ record { task = t; attempt = a } ∷ [] → Reads b.plan b.sets → PicksHold b.plan b.sets picks → PicksHold b'.plan b'.sets picks'
+picks_of_more b sets b' picks picks' s t a e i f g reads held = let P : Basis → Type 0 = λ v. PicksHold v.plan v.sets picks' in subst P (sym i) (picks_more_hold b.plan b.sets sets picks picks' s t a e f g reads held)
 
 -- one more sending got no answer
 abbrev pub missed_at : Job → Commit → Bool → Commit

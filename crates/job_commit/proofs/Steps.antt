@@ -30,7 +30,7 @@ use Rattle.commit_laws.specs.Fitting.{FitsReply}
 use Rattle.job_operations.proofs.Tables.{table_dealt}
 use Rattle.proof_base.proofs.Numbers.{below_is, below_so}
 use Rattle.commit_parts.specs.Tables.{LaneTable, first_of, listed, next_turn}
-use Rattle.commit_parts.specs.Undos.{undo_request, IsRevert, NumbersWithin}
+use Rattle.commit_parts.specs.Undos.{undo_request, IsRevert}
 use Rattle.commit_parts.specs.Places.{places_from}
 use Rattle.commit_parts.specs.Relatives.{relative_of}
 use Rattle.commit_parts.specs.Clashes.{items_from, IsBest}
@@ -140,10 +140,6 @@ again_within sets (y ∷ ys) done x lost l e is w =
 pub reverting_is : (rs : List Request) → reverting rs ≡ reverting_from 0 rs
 reverting_is [] = refl
 reverting_is (r ∷ rs) = refl
-
-pub drop_within : (total : ℕ) (u : List Undo) → NumbersWithin total u → NumbersWithin total (drop 1 u)
-drop_within total [] w = w
-drop_within total (x ∷ xs) w = λ y i. w y (inr i)
 
 nil_end : (xs : List Turn) → xs ++ [] ≡ xs
 nil_end [] = refl

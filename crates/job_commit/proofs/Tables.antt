@@ -79,9 +79,9 @@ pub undo_still : (sets : Sets) (places : List Place) (count : ℕ) (u : List Und
 undo_still sets places count u p c h = let P : ℕ → Type 0 = λ n. NumbersWithin n u in subst P (c ∙ ap length p ∙ places_length 0 sets) h
 
 pub worn_on : {E : Type 0} (r : Result ⊤ E) (j : Job) (sets : Sets) (places : List Place) (l l1 : LaneTable) (x : Turn) (n count : ℕ) (u : List Undo) (next : Next) → Some x ≡ first_of l.turns → n ≡ x.number → places ≡ places_from 0 sets → count ≡ length places → l1 ≡ record { turns = drop 1 l.turns ++ listed None; finished = l.finished }
-    → IsRevert count n l1.turns l1.finished u → OnOk r ((k : Job) → IsNext k sets places (reverting_from 0 (map (undo_request (all_commits sets)) u)) next) → OnOk r (IsNext j sets places (worn_out sets l.turns l.finished) next)
+    → IsRevert count n l1.turns l1.finished u → OnOk r (IsNext j sets places (reverting_from 0 (map (undo_request (all_commits sets)) u)) next) → OnOk r (IsNext j sets places (worn_out sets l.turns l.finished) next)
 worn_on r j sets places l l1 x n count u next f e p c h v k =
     let V : ℕ → ℕ → Type 0 = λ a b. IsRevert a b l1.turns l1.finished u in
     let W : ℕ → Type 0 = λ a. V a n in
     let v' : V (length places) x.number = subst (V (length places)) e (subst W c v) in
-    on_ok_weaker r (λ i. worn_next j sets places l.turns l.finished x l1 u next (sym f) p h v' (i j)) k
+    on_ok_weaker r (worn_next j sets places l.turns l.finished x l1 u next (sym f) p h v') k

@@ -1,13 +1,14 @@
 -- What a job's commit keeps true of its parts.
-use Rattle.std.specs.Prelude.{◌≡◌, ℕ, ◌+◌, ◌<◌, ◌≤◌, List, [], ◌∷◌, map, length, Option, Some, None}
+use Rattle.std.specs.Prelude.{◌≡◌, ℕ, ◌+◌, ◌<◌, ◌≤◌, Bool, List, [], ◌∷◌, map, length, Option, Some, None}
 use Rattle.s3_types.specs.declared.request.Request.{Request}
 use Rattle.job_model.specs.Jobs.{Job}
+use Rattle.job_model.specs.JobScript.{Script}
 use Rattle.job_model.specs.declared.ends.Pick.{Pick}
 use Rattle.job_operations.specs.Lanes.{Turn}
 use Rattle.s3_types.specs.declared.reply.Reply.{Reply}
 use Rattle.s3_types.specs.declared.reply.Reply.TheVariants.{Object, ClusterBytes}
 use Rattle.s3_types.specs.declared.journal.Outcome.TheVariants.{Answered}
-use Rattle.job_operations.specs.JobCommits.{Sets, all_commits, Commit, commit_asks, commit_hears}
+use Rattle.job_operations.specs.JobCommits.{Sets, all_commits, Commit, commit_asks, commit_hears, commit_misses}
 use Rattle.job_operations.specs.LaneTable.{In}
 use Rattle.job_operations.specs.AtWork.{read_script, sets_in, sets_after, picked_after}
 use Rattle.conflict.specs.Deletions.{Deletion, spared}
@@ -18,6 +19,7 @@ use Rattle.commit_parts.specs.Places.{places_from}
 use Rattle.commit_parts.specs.ReadSets.{AreRead, HasAll}
 use Rattle.commit_parts.specs.declared.places.Place.{Place}
 use Rattle.commit_parts.specs.declared.undo.Undo.{Undo}
+use Rattle.job_commit.specs.declared.basis.Basis.{Basis}
 use Rattle.job_commit.specs.declared.step.Step.{Step}
 use Rattle.job_commit.specs.declared.step.Step.TheVariants as steps
 use Rattle.job_commit.specs.declared.step.Next.{Next}
@@ -88,6 +90,36 @@ pub record IsNext (j : Job) (sets : Sets) (places : List Place) (c : Commit) (ne
 pub record Heard (j : Job) (sets : Sets) (picks : List Pick) (c : Commit) (r : Reply) (sets' : Sets) (places' : List Place) (picks' : List Pick) (after : Next) : Type 0 where
   pub next : IsNext j sets' places' (commit_hears (read_script j (sets_after c (Answered r))) c r) after
   pub picked : attempts_of picks' ≡ picked_after (attempts_of picks) c (Answered r)
+
+-- ---- the same of what a commit goes by
+
+-- the script by the sets that were read
+abbrev pub script_of : Basis → Script
+script_of b = read_script b.plan b.sets
+
+-- all sets were read, and the places of their uploads are known
+abbrev pub HasRead : Basis → Type 0
+HasRead b = HasAll b.plan b.sets b.places
+
+-- these are the places of their uploads
+abbrev pub IsPlaced : Basis → Type 0
+IsPlaced b = b.places ≡ places_from 0 b.sets
+
+-- it may be doing this
+abbrev pub IsAt : Basis → Step → Type 0
+IsAt b step = StepHolds b.plan b.sets b.places step
+
+-- this is what it does next, where its operation goes on so
+abbrev pub GoesTo : Basis → Commit → Next → Type 0
+GoesTo b c next = IsNext b.plan b.sets b.places c next
+
+-- the same after an answer, where its sets and places became these
+abbrev pub Hears : Basis → List Pick → Commit → Reply → Basis → List Pick → Next → Type 0
+Hears b picks c r b' picks' next = Heard b.plan b.sets picks c r b'.sets b'.places picks' next
+
+-- and after a sending without an answer, which was lost or slow
+abbrev pub Misses : Basis → Step → Bool → Next → Type 0
+Misses b step lost next = let c = operation_of b.sets step in GoesTo b (commit_misses (read_script b.plan (sets_in c)) c lost) next
 
 -- the bytes that an answer brings
 abbrev pub bytes_in : Reply → Option (List ℕ)

@@ -4,16 +4,13 @@ ghost use Rattle.job_operations.specs.JobCommits.{commit_start, commit_over};
 ghost use Rattle.job_operations.specs.AtWork.{read_script, commit_wants, commit_told};
 ghost use Rattle.commit_laws.specs.Fitting.{FitsCommit, FitsReply, missed_of, without_memory, least_missing};
 ghost use Rattle.job_commit.specs.Turns.{turn_of, turn_unanswered, lost_of};
-ghost use Rattle.job_commit.specs.Holds.{picks_from, IsNext};
+ghost use Rattle.job_commit.specs.Holds.{picks_from, GoesTo};
 ghost use Rattle.job_commit.specs.Missing.{missed};
 
-use crate::hearing::{again, heard, worn};
-use crate::stages::fetching;
+use crate::basis::Basis;
 use crate::step::{Next, Step};
-use commit_parts::Place;
 use job_model::{CommitEnd, JobPlan, PickList, TaskSet};
 use machine::Turn;
-use pending_json::PendingSet;
 use s3_types::{Outcome, Reply, Request, Sequence, let_go};
 use std::alloc::{AllocError, Global};
 use std::marker::Model;
@@ -26,10 +23,7 @@ use std::marker::Model;
 /// a request of that which wears out is passed over. (Hadoop, S3A committer architecture: job commit.)
 #[derive(Drop)]
 pub struct CommitJob {
-    alloc: Global,
-    plan: JobPlan,
-    sets: Sequence<PendingSet>,
-    places: Sequence<Place>,
+    basis: Basis,
     picks: PickList,
     next: Next,
 }
@@ -42,9 +36,9 @@ impl Model for CommitJob {
     ghost use Rattle.job_commit.specs.Stages.{operation_of};
     ghost use Rattle.job_commit.specs.Holds.{attempts_of, Holds};
 
-    ghost view = { λ c. record { plan = c.plan; picked = attempts_of c.picks; operation = operation_of c.sets c.next.step } };
+    ghost view = { λ c. record { plan = c.basis.plan; picked = attempts_of c.picks; operation = operation_of c.basis.sets c.next.step } };
 
-    ghost invariant = { λ c. Holds c.plan c.sets c.places c.picks c.next.step c.next.asked };
+    ghost invariant = { λ c. Holds c.basis.plan c.basis.sets c.basis.places c.picks c.next.step c.next.asked };
 }
 
 /// The least task that is not reported.
@@ -60,23 +54,17 @@ fn missing(tasks: u32, reported: &TaskSet) -> Option<u32>
 }
 
 /// What is done first.
-fn begun(
-    alloc: Global,
-    plan: &JobPlan,
-    sets: &Sequence<PendingSet>,
-    places: &mut Sequence<Place>,
-    reported: &TaskSet,
-    next: &mut Next,
-) -> Result<(), AllocError>
-    requires { sets.now ≡ [] }
-    ensures { OnOk result (IsNext plan.now [] places.new (commit_start (read_script plan.now []) (least_missing plan.now.tasks reported.now)) next.new) }
+fn begun(basis: &mut Basis, reported: &TaskSet, next: &mut Next) -> Result<(), AllocError>
+    requires { basis.old.sets ≡ [] }
+    ensures ok { OnOk result (GoesTo basis.new (commit_start (read_script basis.old.plan []) (least_missing basis.old.plan.tasks reported.now)) next.new) }
+    ensures rest { basis.new ≡ record basis.old { places = basis.new.places } }
 {
-    match missing(plan.tasks, reported) {
+    match missing(basis.plan.tasks, reported) {
         Some(task) => {
             next.end(CommitEnd::Missing(task));
             Ok(())
         }
-        None => fetching(alloc, plan, sets, places, next),
+        None => basis.fetching(next),
     }
 }
 
@@ -87,15 +75,11 @@ impl CommitJob {
     pub fn new(alloc: Global, plan: JobPlan, reported: &TaskSet) -> Result<CommitJob, AllocError>
         ensures { IfOk result (λ m. m ≡ record { plan = plan; picked = []; operation = commit_start (read_script plan []) (least_missing plan.tasks reported.now) }) }
     {
-        let sets = Sequence::new(alloc);
-        let mut places = Sequence::new(alloc);
+        let mut basis = Basis::new(alloc, plan);
         let mut next = Next::wanting();
-        match begun(alloc, &plan, &sets, &mut places, reported, &mut next) {
+        match begun(&mut basis, reported, &mut next) {
             Ok(()) => Ok(CommitJob {
-                alloc,
-                plan,
-                sets,
-                places,
+                basis,
                 picks: Sequence::new(alloc),
                 next,
             }),
@@ -136,43 +120,25 @@ impl CommitJob {
     pub fn plan(&self) -> &JobPlan
         ensures { result.now ≡ self.now.plan }
     {
-        &self.plan
+        &self.basis.plan
     }
 
     /// Gives up what it knows of the job. Takes no memory.
     pub fn into_plan(self) -> JobPlan
         ensures { result ≡ self.plan }
     {
-        let CommitJob {
-            alloc: _,
-            plan,
-            sets,
-            places,
-            picks,
-            next,
-        } = self;
-        let_go(sets);
-        let_go(places);
+        let CommitJob { basis, picks, next } = self;
         let_go(picks);
         let_go(next);
-        plan
+        basis.into_plan()
     }
 
     /// Gives up the attempts of the sets that were read, by task from 0 on. Takes no memory.
     pub fn into_picks(self) -> PickList
         ensures { result ≡ picks_from 0 self.picked }
     {
-        let CommitJob {
-            alloc: _,
-            plan,
-            sets,
-            places,
-            picks,
-            next,
-        } = self;
-        let_go(plan);
-        let_go(sets);
-        let_go(places);
+        let CommitJob { basis, picks, next } = self;
+        let_go(basis);
         let_go(next);
         picks
     }
@@ -192,16 +158,8 @@ impl CommitJob {
         ensures err { OnErr result (self.new ≡ without_memory self.old) }
     {
         let step = self.next.taken();
-        heard(
-            self.alloc,
-            &self.plan,
-            &mut self.sets,
-            &mut self.places,
-            &mut self.picks,
-            step,
-            &mut self.next,
-            reply,
-        )
+        self.basis
+            .heard(&mut self.picks, step, &mut self.next, reply)
     }
 
     /// Counts a sending that got no answer, of a request that is sent again.
@@ -210,14 +168,7 @@ impl CommitJob {
         ensures ok { OnOk result (self.new ≡ missed self.old lost) }
         ensures err { OnErr result (self.new ≡ without_memory self.old) }
     {
-        again(
-            self.alloc,
-            &self.plan,
-            &self.sets,
-            &self.places,
-            &mut self.next,
-            lost,
-        )
+        self.basis.again(&mut self.next, lost)
     }
 
     /// Counts the last sending of a request that got no answer.
@@ -227,15 +178,7 @@ impl CommitJob {
         ensures err { OnErr result (self.new ≡ without_memory self.old) }
     {
         let step = self.next.taken();
-        worn(
-            self.alloc,
-            &self.plan,
-            &self.sets,
-            &self.places,
-            step,
-            &mut self.next,
-            lost,
-        )
+        self.basis.worn(step, &mut self.next, lost)
     }
 
     /// How many sendings of the present request got no answer.
@@ -251,7 +194,7 @@ impl CommitJob {
         ensures turn { IfOk result (λ turn. turn ≡ turn_unanswered self.old) }
         ensures err { OnErr result (self.new ≡ without_memory self.old) }
     {
-        if self.missed() < self.plan.retries {
+        if self.missed() < self.basis.plan.retries {
             self.again(lost)?;
             Ok(Turn::Again)
         } else {

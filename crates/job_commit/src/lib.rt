@@ -4,6 +4,7 @@
 //! (Hadoop, S3A committer architecture: job setup, job commit.)
 #![tactic(auto)]
 
+mod basis;
 mod commit;
 mod hearing;
 mod stages;

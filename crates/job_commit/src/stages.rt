@@ -1,297 +1,242 @@
 ghost use Rattle.std.specs.Prelude.{◌≡◌, ◌<◌, ◌≤◌, [], length, map, Some, IfOk, OnOk, OnErr};
-ghost use Rattle.job_model.specs.Jobs.{Job};
 ghost use Rattle.job_operations.specs.Lanes.{nth, dealt};
 ghost use Rattle.job_operations.specs.JobCommits.{all_commits, commit_asks, Marking, fetching, decided, replaced, replacing, completing, picks_of};
 ghost use Rattle.job_operations.specs.Outputs.{same_path, wanted_paths};
 ghost use Rattle.job_operations.specs.Conflicts.{partitions};
 ghost use Rattle.job_operations.specs.Walks.{sweep_start};
-ghost use Rattle.job_operations.specs.AtWork.{read_script};
 ghost use Rattle.conflict.specs.Deletions.{deleted, deletion_asks, spared};
 ghost use Rattle.conflict.specs.Laws.{commit_deleting};
-ghost use Rattle.commit_parts.specs.Places.{places_from};
 ghost use Rattle.commit_parts.specs.Undos.{undo_request, number_in};
 ghost use Rattle.job_commit.specs.Stages.{reverting_from};
-ghost use Rattle.commit_parts.specs.ReadSets.{AreRead, HasAll};
-ghost use Rattle.job_commit.specs.Holds.{IsNext, LanesWithin, UndoWithin};
+ghost use Rattle.commit_parts.specs.ReadSets.{AreRead};
+ghost use Rattle.job_commit.specs.Holds.{script_of, HasRead, IsPlaced, GoesTo, LanesWithin, UndoWithin};
 
+use crate::basis::Basis;
 use crate::step::{Next, Step};
 use commit_parts::{
-    Lanes, Place, Undo, UndoList, abort, completion, deletion, mark_request, placed, relative,
+    Lanes, Undo, UndoList, abort, completion, deletion, mark_request, placed, relative,
     set_request, shared, upload, wanted_paths,
 };
 use conflict::{DeleteKept, partitions};
-use job_model::{CommitEnd, JobPlan, Stage};
-use pending_json::{PendingSet, PendingUpload};
-use s3_types::{Mode, Request, Sequence, let_go};
-use std::alloc::{AllocError, Global};
+use job_model::{CommitEnd, Stage};
+use pending_json::PendingUpload;
+use s3_types::{Mode, Request, let_go};
+use std::alloc::AllocError;
 
-/// The upload with this number.
-fn upload_at<'a>(
-    sets: &'a Sequence<PendingSet>,
-    places: &Sequence<Place>,
-    number: usize,
-) -> &'a PendingUpload
-    requires places { places.now ≡ places_from 0 sets.now }
-    requires within { number < length (all_commits sets.now) }
-    ensures { result.now ≡ nth (all_commits sets.now) number }
-{
-    upload(sets.as_slice(), places.as_slice(), number)
-}
+impl Basis {
+    /// The upload with this number.
+    fn upload_at(&self, number: usize) -> &PendingUpload
+        requires places { IsPlaced self.now }
+        requires within { number < length (all_commits self.now.sets) }
+        ensures { result.now ≡ nth (all_commits self.now.sets) number }
+    {
+        upload(self.sets.as_slice(), self.places.as_slice(), number)
+    }
 
-/// The put of the marker of a committed job.
-fn marking(
-    alloc: Global,
-    plan: &JobPlan,
-    sets: &Sequence<PendingSet>,
-    places: &Sequence<Place>,
-) -> Result<Request, AllocError>
-    requires { HasAll plan.now sets.now places.now }
-    ensures { IfOk result (λ request. Some request ≡ commit_asks (read_script plan.now sets.now) (Marking sets.now 0)) }
-{
-    mark_request(alloc, plan, sets.as_slice(), places.as_slice())
-}
+    /// The put of the marker of a committed job.
+    fn marking(&self) -> Result<Request, AllocError>
+        requires { HasRead self.now }
+        ensures { IfOk result (λ request. Some request ≡ commit_asks (script_of self.now) (Marking self.now.sets 0)) }
+    {
+        mark_request(
+            self.alloc,
+            &self.plan,
+            self.sets.as_slice(),
+            self.places.as_slice(),
+        )
+    }
 
-/// The next completion, or the marker where no lane has one.
-pub fn completing(
-    alloc: Global,
-    plan: &JobPlan,
-    sets: &Sequence<PendingSet>,
-    places: &Sequence<Place>,
-    lanes: Lanes,
-    next: &mut Next,
-) -> Result<(), AllocError>
-    requires all { HasAll plan.now sets.now places.now }
-    requires within { LanesWithin sets.now lanes }
-    ensures ok { OnOk result (IsNext plan.now sets.now places.now (completing sets.now lanes.turns lanes.finished) next.new) }
-    ensures err { OnErr result (next.new ≡ next.old) }
-{
-    match lanes.first() {
-        Some(turn) => {
-            let asked = completion(alloc, upload_at(sets, places, turn.number()))?;
-            next.go_on(Step::Completing(lanes), asked);
+    /// The next completion, or the marker where no lane has one.
+    pub fn completing(&self, lanes: Lanes, next: &mut Next) -> Result<(), AllocError>
+        requires all { HasRead self.now }
+        requires within { LanesWithin self.now.sets lanes }
+        ensures ok { OnOk result (GoesTo self.now (completing self.now.sets lanes.turns lanes.finished) next.new) }
+        ensures err { OnErr result (next.new ≡ next.old) }
+    {
+        match lanes.first() {
+            Some(turn) => {
+                let asked = completion(self.alloc, self.upload_at(turn.number()))?;
+                next.go_on(Step::Completing(lanes), asked);
+                Ok(())
+            }
+            None => {
+                let asked = self.marking()?;
+                next.go_on(Step::Marking(0), asked);
+                Ok(())
+            }
+        }
+    }
+
+    /// The end that a path gives which two tasks write, with the two least tasks that do: the least such path.
+    fn shared_path(&self) -> Result<Option<CommitEnd>, AllocError>
+        requires each { AreRead self.now.plan self.now.sets }
+        requires all { length self.now.sets ≡ self.now.plan.tasks }
+        ensures { IfOk result (λ end. end ≡ same_path (script_of self.now) (picks_of self.now.sets)) }
+    {
+        let plan = &self.plan;
+        let dest = &plan.dest;
+        match shared(self.alloc, self.sets.as_slice())? {
+            Some(clash) => {
+                let path = relative(self.alloc, dest, &clash.key)?;
+                Ok(Some(CommitEnd::SamePath {
+                    path,
+                    first: clash.first,
+                    second: clash.second,
+                }))
+            }
+            None => Ok(None),
+        }
+    }
+
+    /// The completions begin, in lanes.
+    fn dealing(&self, next: &mut Next) -> Result<(), AllocError>
+        requires { HasRead self.now }
+        ensures ok { OnOk result (GoesTo self.now (completing self.now.sets (dealt self.now.plan.lanes (length (all_commits self.now.sets))) []) next.new) }
+        ensures err { OnErr result (next.new ≡ next.old) }
+    {
+        let plan = &self.plan;
+        let lanes = Lanes::dealt(self.alloc, plan.lanes, self.places.len())?;
+        self.completing(lanes, next)
+    }
+
+    /// A deletion that asks this goes on, or where it asks nothing more the completions begin.
+    fn delete_on(
+        &self,
+        deletion: DeleteKept,
+        asked: Option<Request>,
+        next: &mut Next,
+    ) -> Result<(), AllocError>
+        requires all { HasRead self.now }
+        requires spared { deletion.spared ≡ spared self.now.plan.dest }
+        requires asked { asked ≡ deletion_asks self.now.plan.dest.bucket deletion }
+        ensures ok { OnOk result (GoesTo self.now (commit_deleting (script_of self.now) self.now.sets deletion) next.new) }
+        ensures err { OnErr result (next.new ≡ next.old) }
+    {
+        match asked {
+            Some(asked) => {
+                next.go_on(Step::Replacing(deletion, 0), asked);
+                Ok(())
+            }
+            None => {
+                let_go(deletion);
+                self.dealing(next)
+            }
+        }
+    }
+
+    /// A deletion goes on, or where all is deleted the completions begin.
+    pub fn deleting(&self, deletion: DeleteKept, next: &mut Next) -> Result<(), AllocError>
+        requires all { HasRead self.now }
+        requires spared { deletion.spared ≡ spared self.now.plan.dest }
+        ensures ok { OnOk result (GoesTo self.now (commit_deleting (script_of self.now) self.now.sets deletion) next.new) }
+        ensures err { OnErr result (next.new ≡ next.old) }
+    {
+        match deletion.request(self.alloc, self.plan.dest.bucket()) {
+            Ok(asked) => self.delete_on(deletion, asked, next),
+            Err(error) => {
+                let_go(deletion);
+                Err(error)
+            }
+        }
+    }
+
+    /// The deletion for the replace mode of the job's committer.
+    fn replacement(&self) -> Result<DeleteKept, AllocError>
+        requires { HasRead self.now }
+        ensures { let w = script_of self.now in IfOk result (λ d. d ≡ record { prefixes = deleted self.now.plan.committer self.now.plan.dest (partitions (wanted_paths w (picks_of self.now.sets))); sweep = sweep_start; spared = spared self.now.plan.dest }) }
+    {
+        let plan = &self.plan;
+        let sets = self.sets.as_slice();
+        let paths = wanted_paths(self.alloc, plan, sets, self.places.as_slice())?;
+        let dirs = partitions(self.alloc, paths.as_slice())?;
+        DeleteKept::new(self.alloc, &plan.dest, plan.committer, dirs.as_slice())
+    }
+
+    /// What the job's mode does not keep is deleted; where it keeps all, the completions begin.
+    fn replacing(&self, next: &mut Next) -> Result<(), AllocError>
+        requires { HasRead self.now }
+        ensures ok { let w = script_of self.now in OnOk result (GoesTo self.now (replacing w self.now.sets (replaced self.now.plan.committer self.now.plan.mode w (picks_of self.now.sets))) next.new) }
+        ensures err { OnErr result (next.new ≡ next.old) }
+    {
+        let plan = &self.plan;
+        match plan.mode {
+            Mode::Fail => self.dealing(next),
+            Mode::Append => self.dealing(next),
+            Mode::Replace => {
+                let deletion = self.replacement()?;
+                self.deleting(deletion, next)
+            }
+        }
+    }
+
+    /// After the last read: a path that two tasks write ends it, else what is not kept is deleted.
+    fn decided(&mut self, next: &mut Next) -> Result<(), AllocError>
+        requires each { AreRead self.old.plan self.old.sets }
+        requires all { length self.old.sets ≡ self.old.plan.tasks }
+        ensures ok { OnOk result (GoesTo self.new (decided (script_of self.old) self.old.sets (same_path (script_of self.old) (picks_of self.old.sets))) next.new) }
+        ensures err { OnErr result (next.new ≡ next.old) }
+        ensures rest { self.new ≡ record self.old { places = self.new.places } }
+    {
+        match self.shared_path()? {
+            Some(end) => {
+                next.end(end);
+                Ok(())
+            }
+            None => {
+                self.places = placed(self.alloc, self.sets.as_slice())?;
+                self.replacing(next)
+            }
+        }
+    }
+
+    /// The read of the next task's set, or what follows on the last one.
+    pub fn fetching(&mut self, next: &mut Next) -> Result<(), AllocError>
+        requires each { AreRead self.old.plan self.old.sets }
+        requires few { length self.old.sets ≤ self.old.plan.tasks }
+        ensures ok { OnOk result (GoesTo self.new (fetching (script_of self.old) self.old.sets) next.new) }
+        ensures err { OnErr result (next.new ≡ next.old) }
+        ensures rest { self.new ≡ record self.old { places = self.new.places } }
+    {
+        let plan = &self.plan;
+        let count = self.sets.len();
+        if count < plan.tasks as usize {
+            let asked = set_request(self.alloc, plan, count as u32)?;
+            next.go_on(Step::Fetching(0), asked);
             Ok(())
-        }
-        None => {
-            let asked = marking(alloc, plan, sets, places)?;
-            next.go_on(Step::Marking(0), asked);
-            Ok(())
+        } else {
+            self.decided(next)
         }
     }
-}
 
-/// The end that a path gives which two tasks write, with the two least tasks that do: the least such path.
-fn shared_path(
-    alloc: Global,
-    plan: &JobPlan,
-    sets: &Sequence<PendingSet>,
-) -> Result<Option<CommitEnd>, AllocError>
-    requires each { AreRead plan.now sets.now }
-    requires all { length sets.now ≡ plan.now.tasks }
-    ensures { IfOk result (λ end. end ≡ same_path (read_script plan.now sets.now) (picks_of sets.now)) }
-{
-    let dest = &plan.dest;
-    match shared(alloc, sets.as_slice())? {
-        Some(clash) => {
-            let path = relative(alloc, dest, &clash.key)?;
-            Ok(Some(CommitEnd::SamePath {
-                path,
-                first: clash.first,
-                second: clash.second,
-            }))
-        }
-        None => Ok(None),
-    }
-}
-
-/// The completions begin, in lanes.
-fn dealing(
-    alloc: Global,
-    plan: &JobPlan,
-    sets: &Sequence<PendingSet>,
-    places: &Sequence<Place>,
-    next: &mut Next,
-) -> Result<(), AllocError>
-    requires { HasAll plan.now sets.now places.now }
-    ensures ok { OnOk result (IsNext plan.now sets.now places.now (completing sets.now (dealt plan.now.lanes (length (all_commits sets.now))) []) next.new) }
-    ensures err { OnErr result (next.new ≡ next.old) }
-{
-    let lanes = Lanes::dealt(alloc, plan.lanes, places.len())?;
-    completing(alloc, plan, sets, places, lanes, next)
-}
-
-/// A deletion that asks this goes on, or where it asks nothing more the completions begin.
-fn delete_on(
-    alloc: Global,
-    plan: &JobPlan,
-    sets: &Sequence<PendingSet>,
-    places: &Sequence<Place>,
-    deletion: DeleteKept,
-    asked: Option<Request>,
-    next: &mut Next,
-) -> Result<(), AllocError>
-    requires all { HasAll plan.now sets.now places.now }
-    requires spared { deletion.spared ≡ spared plan.now.dest }
-    requires asked { asked ≡ deletion_asks plan.now.dest.bucket deletion }
-    ensures ok { OnOk result (IsNext plan.now sets.now places.now (commit_deleting (read_script plan.now sets.now) sets.now deletion) next.new) }
-    ensures err { OnErr result (next.new ≡ next.old) }
-{
-    match asked {
-        Some(asked) => {
-            next.go_on(Step::Replacing(deletion, 0), asked);
-            Ok(())
-        }
-        None => {
-            let_go(deletion);
-            dealing(alloc, plan, sets, places, next)
+    /// The request that takes something back.
+    fn undo_request(&self, undo: Undo) -> Result<Request, AllocError>
+        requires places { IsPlaced self.now }
+        requires within { number_in undo < length (all_commits self.now.sets) }
+        ensures { IfOk result (λ request. request ≡ undo_request (all_commits self.now.sets) undo) }
+    {
+        match undo {
+            Undo::Abort(number) => abort(self.upload_at(number)),
+            Undo::Delete(number) => deletion(self.upload_at(number)),
         }
     }
-}
 
-/// A deletion goes on, or where all is deleted the completions begin.
-pub fn deleting(
-    alloc: Global,
-    plan: &JobPlan,
-    sets: &Sequence<PendingSet>,
-    places: &Sequence<Place>,
-    deletion: DeleteKept,
-    next: &mut Next,
-) -> Result<(), AllocError>
-    requires all { HasAll plan.now sets.now places.now }
-    requires spared { deletion.spared ≡ spared plan.now.dest }
-    ensures ok { OnOk result (IsNext plan.now sets.now places.now (commit_deleting (read_script plan.now sets.now) sets.now deletion) next.new) }
-    ensures err { OnErr result (next.new ≡ next.old) }
-{
-    match deletion.request(alloc, plan.dest.bucket()) {
-        Ok(asked) => delete_on(alloc, plan, sets, places, deletion, asked, next),
-        Err(error) => {
-            let_go(deletion);
-            Err(error)
-        }
-    }
-}
-
-/// The deletion for the replace mode of the job's committer.
-fn replacement(
-    alloc: Global,
-    plan: &JobPlan,
-    sets: &Sequence<PendingSet>,
-    places: &Sequence<Place>,
-) -> Result<DeleteKept, AllocError>
-    requires { HasAll plan.now sets.now places.now }
-    ensures { let w = read_script plan.now sets.now in IfOk result (λ d. d ≡ record { prefixes = deleted plan.now.committer plan.now.dest (partitions (wanted_paths w (picks_of sets.now))); sweep = sweep_start; spared = spared plan.now.dest }) }
-{
-    let paths = wanted_paths(alloc, plan, sets.as_slice(), places.as_slice())?;
-    let dirs = partitions(alloc, paths.as_slice())?;
-    DeleteKept::new(alloc, &plan.dest, plan.committer, dirs.as_slice())
-}
-
-/// What the job's mode does not keep is deleted; where it keeps all, the completions begin.
-fn replacing(
-    alloc: Global,
-    plan: &JobPlan,
-    sets: &Sequence<PendingSet>,
-    places: &Sequence<Place>,
-    next: &mut Next,
-) -> Result<(), AllocError>
-    requires { HasAll plan.now sets.now places.now }
-    ensures ok { let w = read_script plan.now sets.now in OnOk result (IsNext plan.now sets.now places.now (replacing w sets.now (replaced plan.now.committer plan.now.mode w (picks_of sets.now))) next.new) }
-    ensures err { OnErr result (next.new ≡ next.old) }
-{
-    match plan.mode {
-        Mode::Fail => dealing(alloc, plan, sets, places, next),
-        Mode::Append => dealing(alloc, plan, sets, places, next),
-        Mode::Replace => {
-            let deletion = replacement(alloc, plan, sets, places)?;
-            deleting(alloc, plan, sets, places, deletion, next)
-        }
-    }
-}
-
-/// After the last read: a path that two tasks write ends it, else what is not kept is deleted.
-fn decided(
-    alloc: Global,
-    plan: &JobPlan,
-    sets: &Sequence<PendingSet>,
-    places: &mut Sequence<Place>,
-    next: &mut Next,
-) -> Result<(), AllocError>
-    requires each { AreRead plan.now sets.now }
-    requires all { length sets.now ≡ plan.now.tasks }
-    ensures ok { OnOk result (IsNext plan.now sets.now places.new (decided (read_script plan.now sets.now) sets.now (same_path (read_script plan.now sets.now) (picks_of sets.now))) next.new) }
-    ensures err { OnErr result (next.new ≡ next.old) }
-{
-    match shared_path(alloc, plan, sets)? {
-        Some(end) => {
-            next.end(end);
-            Ok(())
-        }
-        None => {
-            *places = placed(alloc, sets.as_slice())?;
-            replacing(alloc, plan, sets, places, next)
-        }
-    }
-}
-
-/// The read of the next task's set, or what follows on the last one.
-pub fn fetching(
-    alloc: Global,
-    plan: &JobPlan,
-    sets: &Sequence<PendingSet>,
-    places: &mut Sequence<Place>,
-    next: &mut Next,
-) -> Result<(), AllocError>
-    requires each { AreRead plan.now sets.now }
-    requires few { length sets.now ≤ plan.now.tasks }
-    ensures ok { OnOk result (IsNext plan.now sets.now places.new (fetching (read_script plan.now sets.now) sets.now) next.new) }
-    ensures err { OnErr result (next.new ≡ next.old) }
-{
-    let count = sets.len();
-    if count < plan.tasks as usize {
-        let asked = set_request(alloc, plan, count as u32)?;
-        next.go_on(Step::Fetching(0), asked);
-        Ok(())
-    } else {
-        decided(alloc, plan, sets, places, next)
-    }
-}
-
-/// The request that takes something back.
-fn undo_request(
-    sets: &Sequence<PendingSet>,
-    places: &Sequence<Place>,
-    undo: Undo,
-) -> Result<Request, AllocError>
-    requires places { places.now ≡ places_from 0 sets.now }
-    requires within { number_in undo < length (all_commits sets.now) }
-    ensures { IfOk result (λ request. request ≡ undo_request (all_commits sets.now) undo) }
-{
-    match undo {
-        Undo::Abort(number) => abort(upload_at(sets, places, number)),
-        Undo::Delete(number) => deletion(upload_at(sets, places, number)),
-    }
-}
-
-/// The next request that takes something back, or the end where none is left.
-pub fn reverting(
-    sets: &Sequence<PendingSet>,
-    places: &Sequence<Place>,
-    undo: UndoList,
-    next: &mut Next,
-) -> Result<(), AllocError>
-    requires places { places.now ≡ places_from 0 sets.now }
-    requires within { UndoWithin sets.now undo }
-    ensures ok { OnOk result ((j : Job) → IsNext j sets.now places.now (reverting_from 0 (map (undo_request (all_commits sets.now)) undo)) next.new) }
-    ensures err { OnErr result (next.new ≡ next.old) }
-{
-    match undo.first() {
-        Some(step) => {
-            let asked = undo_request(sets, places, step)?;
-            next.go_on(Step::Reverting(undo, 0), asked);
-            Ok(())
-        }
-        None => {
-            next.end(CommitEnd::StoreFault(Stage::Complete));
-            Ok(())
+    /// The next request that takes something back, or the end where none is left.
+    pub fn reverting(&self, undo: UndoList, next: &mut Next) -> Result<(), AllocError>
+        requires places { IsPlaced self.now }
+        requires within { UndoWithin self.now.sets undo }
+        ensures ok { OnOk result (GoesTo self.now (reverting_from 0 (map (undo_request (all_commits self.now.sets)) undo)) next.new) }
+        ensures err { OnErr result (next.new ≡ next.old) }
+    {
+        match undo.first() {
+            Some(step) => {
+                let asked = self.undo_request(step)?;
+                next.go_on(Step::Reverting(undo, 0), asked);
+                Ok(())
+            }
+            None => {
+                next.end(CommitEnd::StoreFault(Stage::Complete));
+                Ok(())
+            }
         }
     }
 }

@@ -1,7 +1,0 @@
-use Rattle.std.proofs.Common.{ap, ◌∙◌}
-use Rattle.job_model.specs.Jobs.{Job}
-use Rattle.conflict.specs.Deletions.{deletion_asks}
-use Rattle.job_commit.proofs.stages.deleting.Goals as goal
-
-pub delete_on-requires-clause-asked : goal.delete_on-requires-clause-asked
-delete_on-requires-clause-asked c = c.in-Ok.ensures ∙ ap (λ b. deletion_asks b c.args.deletion) (c.bucket.ensures ∙ ap (λ (j : Job). j.dest.bucket) c.plan.view_is)
