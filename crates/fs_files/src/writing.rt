@@ -170,24 +170,9 @@ impl FileStream {
     fn begun(self, upload: u64) -> FileStream
         ensures { result ≡ begun self upload }
     {
-        let FileStream {
-            alloc,
-            key,
-            block,
-            bytes,
-            from,
-            upload: _,
-            tags,
-        } = self;
-        FileStream {
-            alloc,
-            key,
-            block,
-            bytes,
-            from,
-            upload: Some(upload),
-            tags,
-        }
+        let mut stream = self;
+        stream.upload = Some(upload);
+        stream
     }
 
     fn parted(self, tag: Tag) -> Result<FileStream, AllocError>
