@@ -14,21 +14,24 @@ use Rattle.s3_types.specs.declared.request.Actor.TheVariants.{Shell}
 use Rattle.s3_types.specs.declared.journal.Outcome.{Outcome}
 use Rattle.s3_types.specs.declared.journal.Outcome.TheVariants.{Answered, Slow, RequestLost, ReplyLost}
 use Rattle.s3_types.specs.declared.journal.Entry.{Entry}
-use Rattle.path_keys.specs.Paths.{Path}
+use Rattle.path_keys.specs.Paths.{Path, is_key}
 use Rattle.machine.specs.Counted.{AreAnswered}
 use Rattle.machine.specs.declared.driving.DriveStop.{DriveStop}
 use Rattle.operations.specs.Performed.{Performed}
 use Rattle.bucket_ops.specs.Phases.{GivesIn}
 use Rattle.dir_markers.specs.declared.marker.MarkerPolicy.TheVariants.{Keep}
-use Rattle.fs_tree.specs.Answers.{Creates}
+use Rattle.fs_tree.specs.Answers.{Creates, Deletes}
 use Rattle.fs_tree.specs.declared.answers.FsRefusal.{FsRefusal}
 use Rattle.fs_tree.specs.declared.answers.FsRefusal.TheVariants.{NoSuchBucket}
+use Rattle.fs_ops.specs.Delete.{Deletion, gives}
+use Rattle.fs_ops.specs.Deleting.{deletes_in}
 use Rattle.fs_files.specs.Placed.{InFile}
 use Rattle.fs_files.specs.Create.{IsUndone, GivesFile}
 use Rattle.fs_files.specs.Creation.{Creation}
 use Rattle.s3a_shell.specs.declared.said.Said.{Said}
 use Rattle.s3a_shell.specs.Texts.{said, nothing, refusing}
-use Rattle.s3a_shell.specs.Sendings.{Sends, answered_by}
+use Rattle.s3a_shell.specs.declared.session.Session.{Session}
+use Rattle.s3a_shell.specs.Sendings.{Sent, IsCounted}
 use Rattle.s3a_shell.specs.Doings.{Did, most_input, Created, CreatedUnless, DidPut, refusal_word, refused_or_fine, DidMake}
 
 one : (o : Outcome) → fate_of o ≡ Answer → is_unanswered o ≡ false
@@ -42,15 +45,18 @@ answered : (n : ℕ) (es : List Entry) → AreForetold (λ m. Some Answer) n es 
 answered n [] h = tt
 answered n (e ∷ es) h = (one e.outcome h.0, answered (n + 1) es h.1)
 
-pub sends : {A : Type 0} (always : Scene → Type 0) (z s : Scene) (old new : List Entry) (first requests : ℕ) (result : Result A DriveStop)
-    → Performed Shell 0 0 always z s old new first requests 0 0 (λ n. Some Answer) (λ n. Some Answer) result → Sends old z new s
-sends always z s old new first requests result h = record {
-  part = h.part;
-  appended = h.appended;
-  by = h.by;
-  answered = answered (first + 1) h.part h.foretold;
-  honest = h.honest;
-  scene = h.scene;
+pub sent : {A : Type 0} (always : Scene → Type 0) (a b : Session) (result : Result A DriveStop) → IsCounted a
+    → Performed Shell 0 0 always a.store.scene b.store.scene a.journal.entries b.journal.entries a.store.requests b.store.requests 0 0 (λ n. Some Answer) (λ n. Some Answer) result → Sent a b
+sent always a b result counted h = record {
+  sends = record {
+    part = h.part;
+    appended = h.appended;
+    by = h.by;
+    answered = answered (a.store.requests + 1) h.part h.foretold;
+    honest = h.honest;
+    scene = h.scene;
+  };
+  counted = omega (arith, counted, h.counts.made);
 }
 
 -- what holds, holds where a call returned
@@ -63,6 +69,20 @@ pub did_if : {A E : Type 0} (path : Path) (gives : Objects → Result A FsRefusa
     → GivesIn path.bucket gives (Err NoSuchBucket) z a s → IfOk r (λ w. w ≡ said text a) → IfOk r (λ w. Did path gives text z w s)
 did_if path gives text z s a (Ok w) g e = record { answer = a; given = g; told = e }
 did_if path gives text z s a (Err x) g e = tt
+
+-- of one that names the path's key
+pub did_at : {A E : Type 0} (path : Path) (gives : List ℕ → Objects → Result A FsRefusal → Objects → Type 0) (text : A → List ℕ) (z s : Scene) (key : List ℕ) (a : Result A FsRefusal) (r : Result Said E)
+    → key ≡ path.key → GivesIn path.bucket (gives key) (Err NoSuchBucket) z a s → IfOk r (λ w. w ≡ said text a) → IfOk r (λ w. Did path (gives path.key) text z w s)
+did_at path gives text z s key a r is given told =
+    did_if path (gives path.key) text z s a r (subst (λ k. GivesIn path.bucket (gives k) (Err NoSuchBucket) z a s) is given) told
+
+-- and of a deletion
+pub deleted_at : {E : Type 0} (path : Path) (recursive : Bool) (z s : Scene) (o : Deletion) (a : Result (Unit {0}) FsRefusal) (r : Result Said E)
+    → o ≡ record { path = path.key; recursive = recursive } → is_key o.path ≡ true → GivesIn path.bucket (gives o) (Err NoSuchBucket) z a s → IfOk r (λ w. w ≡ said nothing a)
+    → IfOk r (λ w. Did path (Deletes recursive path.key) nothing z w s)
+deleted_at path recursive z s o a r is key given told =
+    did_if path (Deletes recursive path.key) nothing z s a r
+    (subst (λ (o : Deletion). GivesIn path.bucket (Deletes o.recursive o.path) (Err NoSuchBucket) z a s) is (deletes_in path.bucket o z a s key given)) told
 
 pub created_if : {E : Type 0} (path : Path) (bytes : List ℕ) (overwrite : Bool) (z s : Scene) (a : Result (Unit {0}) FsRefusal) (r : Result Said E)
     → InFile (fin.get z.content.buckets path.bucket) (λ m n. Creates path bytes overwrite Keep m a n) (a ≡ Err NoSuchBucket) z path.bucket s × IsUndone a z s
@@ -78,17 +98,6 @@ file_if path bytes copy block overwrite z s file a r same is least gives told =
     let of_copy = subst (λ (o : Creation). GivesFile o z a s) is gives least in
     created_if path bytes overwrite z s a r
     (subst (λ (b : List ℕ). InFile (fin.get z.content.buckets path.bucket) (λ m n. Creates path b overwrite Keep m a n) (a ≡ Err NoSuchBucket) z path.bucket s × IsUndone a z s) same of_copy) told
-
--- a sending that was answered as was due
-pub sends_one : (old new : List Entry) (z s : Scene) (r : Request) → s ≡ apply z r → new ≡ old ++ answered_by r (answer z r) ∷ [] → Sends old z new s
-sends_one old new z s r e f = record {
-  part = answered_by r (answer z r) ∷ [];
-  appended = f;
-  by = (refl, refl, tt);
-  answered = (refl, tt);
-  honest = (refl, tt);
-  scene = e;
-}
 
 -- ---- the making of a bucket
 

@@ -1,5 +1,5 @@
 -- What the shell sends.
-use Rattle.std.specs.Prelude.{◌≡◌, ◌&&◌, Bool, true, false, not, List, ◌++◌}
+use Rattle.std.specs.Prelude.{◌≡◌, ◌≤◌, ◌&&◌, Bool, true, false, not, List, ◌++◌, length}
 use Rattle.std.specs.List.{list_any}
 use Rattle.s3_types.specs.Store.{Scene}
 use Rattle.s3_types.specs.Moment.{AreHonest, after_all}
@@ -13,6 +13,7 @@ use Rattle.s3_types.specs.declared.journal.Entry.{Entry}
 use Rattle.machine.specs.Counted.{AreAnswered}
 use Rattle.machine.specs.Turns.{AreBy}
 use Rattle.log_format.specs.Change.{is_changing}
+use Rattle.s3a_shell.specs.declared.session.Session.{Session}
 
 -- a journal gained sendings by the shell, in event 0, each with the answer that was due, which lead from the scene z to s
 pub record Sends (old : List Entry) (z : Scene) (new : List Entry) (s : Scene) : Type 0 where
@@ -22,6 +23,15 @@ pub record Sends (old : List Entry) (z : Scene) (new : List Entry) (s : Scene) :
   pub answered : AreAnswered part
   pub honest : AreHonest z part
   pub scene : s ≡ after_all z part
+
+-- each request that the store was asked is in the journal
+abbrev pub IsCounted : Session → Type 0
+IsCounted a = a.store.requests ≤ length a.journal.entries
+
+-- a session went on by such sendings alone
+pub record Sent (a b : Session) : Type 0 where
+  pub sends : Sends a.journal.entries a.store.scene b.journal.entries b.store.scene
+  pub counted : IsCounted b
 
 -- a sending by the shell that was answered
 abbrev pub answered_by : Request → Reply → Entry

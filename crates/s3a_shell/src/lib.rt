@@ -8,7 +8,7 @@ mod moves;
 mod obeying;
 mod paths;
 mod said;
-mod sending;
+mod session;
 mod statuses;
 mod uploads;
 

@@ -1,15 +1,14 @@
-ghost use Rattle.std.specs.Prelude.{◌≡◌, ◌≤◌, length, IfOk, OnOk, option_map};
+ghost use Rattle.std.specs.Prelude.{◌≡◌, IfOk, OnOk, option_map};
 ghost use Rattle.s3a_shell.specs.Moving.{word_of_move, kept_of_move, said_of_move, DidMove};
-ghost use Rattle.s3a_shell.specs.Sendings.{Sends};
+ghost use Rattle.s3a_shell.specs.Sendings.{IsCounted, Sent};
 
 use crate::said::{Said, fine, refusing};
-use crate::sending::{EVENT, RETRIES, wanting};
+use crate::session::{EVENT, RETRIES, Session, wanting};
 use fs_rename::Rename;
 use fs_tree::RenameRefusal;
 use path_keys::S3Path;
-use s3_types::{Actor, Bytes, Journal};
+use s3_types::{Actor, Bytes};
 use std::alloc::{AllocError, Global};
-use store_link::MemStore;
 
 fn word_of_move(refusal: &RenameRefusal) -> &'static str
     ensures { result.now ≡ word_of_move refusal.now }
@@ -47,21 +46,20 @@ fn move_said(alloc: Global, answer: Result<(), RenameRefusal>) -> Result<Said, A
     }
 }
 
-/// Renames a path to another one.
-pub fn rename(
-    alloc: Global,
-    from: &S3Path,
-    to: &S3Path,
-    store: &mut MemStore,
-    journal: &mut Journal,
-) -> Result<Said, AllocError>
-    requires counted { store.old.requests ≤ length journal.old.entries }
-    ensures did { IfOk result (λ what. DidMove from.now to.now store.old.scene what store.new.scene) }
-    ensures sent { OnOk result (Sends journal.old.entries store.old.scene journal.new.entries store.new.scene) }
-{
-    let rename = Rename::new(alloc, from, to)?;
-    match rename.perform(alloc, RETRIES, store, Actor::Shell, EVENT, journal) {
-        Ok(answer) => move_said(alloc, answer),
-        Err(stop) => Err(wanting(stop)),
+impl Session {
+    /// Renames a path to another one.
+    pub(crate) fn rename(&mut self, from: &S3Path, to: &S3Path) -> Result<Said, AllocError>
+        requires { IsCounted self.old }
+        ensures did { IfOk result (λ what. DidMove from.now to.now self.old.store.scene what self.new.store.scene) }
+        ensures sent { OnOk result (Sent self.old self.new) }
+    {
+        let alloc = self.alloc;
+        let rename = Rename::new(alloc, from, to)?;
+        let store = &mut self.store;
+        let journal = &mut self.journal;
+        match rename.perform(alloc, RETRIES, store, Actor::Shell, EVENT, journal) {
+            Ok(answer) => move_said(alloc, answer),
+            Err(stop) => Err(wanting(stop)),
+        }
     }
 }

@@ -4,22 +4,17 @@ ghost use Rattle.s3_types.specs.Moment.{moment, IsHonest};
 ghost use Rattle.s3_types.specs.declared.request.Actor.TheVariants as actors;
 ghost use Rattle.machine.specs.Counted.{AreAnswered};
 ghost use Rattle.machine.specs.Turns.{AreBy};
-ghost use Rattle.s3a_shell.specs.Sendings.{Sends, is_refusal, is_taken, is_change, has_changed};
+ghost use Rattle.s3a_shell.specs.Sendings.{IsCounted, Sent, is_refusal, is_taken, is_change, has_changed};
 ghost use Rattle.s3a_shell.specs.Doings.{is_of_shell, Does};
 ghost use Rattle.s3a_shell.specs.Stays.{OnlyIn, bucket_in, ended_by};
 
-use crate::buckets::make_bucket;
-use crate::files::put;
-use crate::moves::rename;
-use crate::paths::{cat, ls, mkdir, remove, stat};
 use crate::said::Said;
-use crate::uploads::{abort_uploads, uploads};
+use crate::session::Session;
 use log_format::is_changing;
 use s3_service::Service;
 use s3_types::{Bytes, Entry, Journal, Outcome, Reply, let_go};
 use s3a_words::Command;
 use std::alloc::{AllocError, Global};
-use store_link::MemStore;
 
 /// What a command of the shell leaves: the store; whether that is to be kept; whether the command was refused; what is
 /// to be written; and what was sent.
@@ -64,50 +59,51 @@ fn has_changed(entries: &[Entry]) -> bool
     entries.iter().any(|entry| is_change(entry))
 }
 
-/// Does a command on a store.
-fn obey(
-    alloc: Global,
-    command: &Command,
-    bytes: &Bytes,
-    store: &mut MemStore,
-    journal: &mut Journal,
-) -> Result<Said, AllocError>
-    requires one { is_of_shell command.now ≡ true }
-    requires counted { store.old.requests ≤ length journal.old.entries }
-    ensures did { IfOk result (λ what. Does command.now bytes.now store.old.scene what store.new.scene) }
-    ensures sent { OnOk result (Sends journal.old.entries store.old.scene journal.new.entries store.new.scene) }
-{
-    match command {
-        Command::Mb { name } => make_bucket(alloc, name, store, journal),
-        Command::Ls { path } => ls(alloc, path, store, journal),
-        Command::Stat { path } => stat(alloc, path, store, journal),
-        Command::Cat { path } => cat(alloc, path, store, journal),
-        Command::Put { path } => put(alloc, path, bytes, false, store, journal),
-        Command::PutForce { path } => put(alloc, path, bytes, true, store, journal),
-        Command::Mkdir { path } => mkdir(alloc, path, store, journal),
-        Command::Mv { from, to } => rename(alloc, from, to, store, journal),
-        Command::Rm { path } => remove(alloc, path, false, store, journal),
-        Command::Rmr { path } => remove(alloc, path, true, store, journal),
-        Command::Uploads { path } => uploads(alloc, path, store, journal),
-        Command::AbortUploads { path } => abort_uploads(alloc, path, store, journal),
-        Command::Init { .. } => unreachable!(),
-        Command::Job => unreachable!(),
-        Command::Gen { .. } => unreachable!(),
+impl Session {
+    /// Does a command.
+    fn obey(&mut self, command: &Command, bytes: &Bytes) -> Result<Said, AllocError>
+        requires one { is_of_shell command.now ≡ true }
+        requires counted { IsCounted self.old }
+        ensures did { IfOk result (λ what. Does command.now bytes.now self.old.store.scene what self.new.store.scene) }
+        ensures sent { OnOk result (Sent self.old self.new) }
+    {
+        match command {
+            Command::Mb { name } => self.make_bucket(name),
+            Command::Ls { path } => self.ls(path),
+            Command::Stat { path } => self.stat(path),
+            Command::Cat { path } => self.cat(path),
+            Command::Put { path } => self.put(path, bytes, false),
+            Command::PutForce { path } => self.put(path, bytes, true),
+            Command::Mkdir { path } => self.mkdir(path),
+            Command::Mv { from, to } => self.rename(from, to),
+            Command::Rm { path } => self.remove(path, false),
+            Command::Rmr { path } => self.remove(path, true),
+            Command::Uploads { path } => self.uploads(path),
+            Command::AbortUploads { path } => self.abort_uploads(path),
+            Command::Init { .. } => unreachable!(),
+            Command::Job => unreachable!(),
+            Command::Gen { .. } => unreachable!(),
+        }
     }
-}
 
-/// The end of a command.
-fn ended(store: MemStore, journal: Journal, said: Said) -> ShellEnd
-    ensures { result ≡ record { service = store.scene.content; changed = has_changed journal.entries; refused = said.refused; text = said.text; journal = journal } }
-{
-    let changed = has_changed(journal.as_slice());
-    let Said { refused, text } = said;
-    ShellEnd {
-        service: store.into_service(),
-        changed,
-        refused,
-        text,
-        journal,
+    /// The end of a command.
+    fn ended(self, said: Said) -> ShellEnd
+        ensures { result ≡ record { service = self.store.scene.content; changed = has_changed self.journal.entries; refused = said.refused; text = said.text; journal = self.journal } }
+    {
+        let Session {
+            alloc: _,
+            store,
+            journal,
+        } = self;
+        let changed = has_changed(journal.as_slice());
+        let Said { refused, text } = said;
+        ShellEnd {
+            service: store.into_service(),
+            changed,
+            refused,
+            text,
+            journal,
+        }
     }
 }
 
@@ -133,13 +129,11 @@ pub fn shell(
     ensures refused { IfOk result (λ end. end.refused ≡ true → end.service ≡ service) }
     ensures stays { IfOk result (λ end. OnlyIn (bucket_in command.now) (ended_by command.now service) service end.service) }
 {
-    let mut store = MemStore::new(alloc, service);
-    let mut journal = Journal::new(alloc);
-    match obey(alloc, command, &bytes, &mut store, &mut journal) {
-        Ok(said) => Ok(ended(store, journal, said)),
+    let mut session = Session::new(alloc, service);
+    match session.obey(command, &bytes) {
+        Ok(said) => Ok(session.ended(said)),
         Err(error) => {
-            let_go(store);
-            let_go(journal);
+            let_go(session);
             Err(error)
         }
     }

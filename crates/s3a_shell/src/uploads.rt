@@ -1,19 +1,18 @@
-ghost use Rattle.std.specs.Prelude.{◌≡◌, ◌≤◌, ◌++◌, [], None, length, IfOk, OnOk, string_bytes};
+ghost use Rattle.std.specs.Prelude.{◌≡◌, ◌++◌, [], None, IfOk, OnOk, string_bytes};
 ghost use Rattle.s3_types.specs.Answer.{apply};
 ghost use Rattle.path_keys.specs.Paths.{below};
 ghost use Rattle.list_walk.specs.Kinds.{uploads_from};
-ghost use Rattle.s3a_shell.specs.Sendings.{Sends};
+ghost use Rattle.s3a_shell.specs.Sendings.{IsCounted, Sent};
 ghost use Rattle.s3a_shell.specs.Uploading.{bytes_in, upload_line, aborted_line, sizes_in, asked_line, asked_lines, after_aborts, DidList, DidAbort};
 
 use crate::said::{Said, fine, refusing};
-use crate::sending::{EVENT, RETRIES, answered, wanting, write_down};
+use crate::session::{EVENT, RETRIES, Session, wanting};
 use list_walk::{Uploads, list};
 use path_keys::S3Path;
 use s3_types::{
-    Actor, Bucket, Bytes, Journal, PartSize, Reply, Request, Text, UploadList, UploadRef, let_go,
+    Actor, Bucket, Bytes, PartSize, Reply, Request, Text, UploadList, UploadRef, let_go,
 };
 use std::alloc::{AllocError, Global};
-use store_link::MemStore;
 
 /// What the keys of the uploads below a path begin with.
 fn prefix_of(alloc: Global, path: &S3Path) -> Result<Text, AllocError>
@@ -21,37 +20,6 @@ fn prefix_of(alloc: Global, path: &S3Path) -> Result<Text, AllocError>
 {
     let text = path.text_below(alloc, "")?;
     Text::new(alloc, text)
-}
-
-/// The live uploads below a path, or None where there is no bucket.
-fn live_uploads(
-    alloc: Global,
-    path: &S3Path,
-    store: &mut MemStore,
-    journal: &mut Journal,
-) -> Result<Option<UploadList>, AllocError>
-    requires counted { store.old.requests ≤ length journal.old.entries }
-    ensures found { IfOk result (λ found. found ≡ uploads_from store.old.scene path.now.bucket (below path.now.key []) None) }
-    ensures same { OnOk result (store.new.scene ≡ store.old.scene) }
-    ensures sent { OnOk result (Sends journal.old.entries store.old.scene journal.new.entries store.new.scene) }
-    ensures counted { OnOk result (store.new.requests ≤ length journal.new.entries) }
-{
-    let bucket = path.bucket().clone()?;
-    let prefix = prefix_of(alloc, path)?;
-    match list(
-        alloc,
-        Uploads,
-        bucket,
-        prefix,
-        RETRIES,
-        store,
-        Actor::Shell,
-        EVENT,
-        journal,
-    ) {
-        Ok(found) => Ok(found),
-        Err(stop) => Err(wanting(stop)),
-    }
 }
 
 /// The bytes of parts together.
@@ -86,119 +54,6 @@ fn put_reply(lines: &mut String, upload: &UploadRef, reply: &Reply) -> Result<()
     }
 }
 
-/// Asks for the parts of an upload, and adds its line.
-fn put_upload(
-    lines: &mut String,
-    bucket: &Bucket,
-    upload: &UploadRef,
-    store: &mut MemStore,
-    journal: &mut Journal,
-) -> Result<(), AllocError>
-    requires counted { store.old.requests ≤ length journal.old.entries }
-    ensures line { OnOk result (string_bytes lines.new ≡ string_bytes lines.old ++ asked_line store.old.scene bucket.now upload.now) }
-    ensures same { OnOk result (store.new.scene ≡ store.old.scene) }
-    ensures sent { OnOk result (Sends journal.old.entries store.old.scene journal.new.entries store.new.scene) }
-    ensures counted { OnOk result (store.new.requests ≤ length journal.new.entries) }
-{
-    let request = Request::list_parts(bucket, &upload.key, upload.upload)?;
-    match answered(&request, store, journal) {
-        Ok(reply) => {
-            let put = put_reply(lines, upload, &reply);
-            write_down(journal, request, reply);
-            put
-        }
-        Err(error) => {
-            let_go(request);
-            Err(error)
-        }
-    }
-}
-
-/// A line for each upload.
-fn upload_lines(
-    alloc: Global,
-    bucket: &Bucket,
-    uploads: &[UploadRef],
-    store: &mut MemStore,
-    journal: &mut Journal,
-) -> Result<Bytes, AllocError>
-    requires counted { store.old.requests ≤ length journal.old.entries }
-    ensures lines { IfOk result (λ lines. lines ≡ asked_lines store.old.scene bucket.now uploads.now) }
-    ensures same { OnOk result (store.new.scene ≡ store.old.scene) }
-    ensures sent { OnOk result (Sends journal.old.entries store.old.scene journal.new.entries store.new.scene) }
-{
-    let mut lines = String::new(alloc);
-    for upload in uploads {
-        put_upload(&mut lines, bucket, upload, store, journal)?;
-    }
-    Bytes::new(alloc, lines.into_bytes())
-}
-
-/// Lists the live uploads below a path.
-pub fn uploads(
-    alloc: Global,
-    path: &S3Path,
-    store: &mut MemStore,
-    journal: &mut Journal,
-) -> Result<Said, AllocError>
-    requires counted { store.old.requests ≤ length journal.old.entries }
-    ensures did { IfOk result (λ what. DidList path.now store.old.scene what store.new.scene) }
-    ensures sent { OnOk result (Sends journal.old.entries store.old.scene journal.new.entries store.new.scene) }
-{
-    match live_uploads(alloc, path, store, journal)? {
-        None => refusing(alloc, "no-such-bucket", None),
-        Some(found) => Ok(fine(upload_lines(
-            alloc,
-            path.bucket(),
-            found.as_slice(),
-            store,
-            journal,
-        )?)),
-    }
-}
-
-/// Aborts an upload.
-fn abort(
-    bucket: &Bucket,
-    upload: &UploadRef,
-    store: &mut MemStore,
-    journal: &mut Journal,
-) -> Result<(), AllocError>
-    requires counted { store.old.requests ≤ length journal.old.entries }
-    ensures scene { OnOk result (store.new.scene ≡ apply store.old.scene (Request.AbortUpload bucket.now upload.now.key upload.now.upload)) }
-    ensures sent { OnOk result (Sends journal.old.entries store.old.scene journal.new.entries store.new.scene) }
-    ensures counted { OnOk result (store.new.requests ≤ length journal.new.entries) }
-{
-    let request = Request::abort_upload(bucket, &upload.key, upload.upload)?;
-    match answered(&request, store, journal) {
-        Ok(reply) => {
-            write_down(journal, request, reply);
-            Ok(())
-        }
-        Err(error) => {
-            let_go(request);
-            Err(error)
-        }
-    }
-}
-
-/// Aborts uploads one by one.
-fn abort_all(
-    bucket: &Bucket,
-    uploads: &[UploadRef],
-    store: &mut MemStore,
-    journal: &mut Journal,
-) -> Result<(), AllocError>
-    requires counted { store.old.requests ≤ length journal.old.entries }
-    ensures scene { OnOk result (store.new.scene ≡ after_aborts store.old.scene bucket.now uploads.now) }
-    ensures sent { OnOk result (Sends journal.old.entries store.old.scene journal.new.entries store.new.scene) }
-{
-    for upload in uploads {
-        abort(bucket, upload, store, journal)?;
-    }
-    Ok(())
-}
-
 /// `aborted N`.
 fn aborted_line(alloc: Global, count: usize) -> Result<Bytes, AllocError>
     ensures { IfOk result (λ line. line ≡ aborted_line count) }
@@ -207,22 +62,127 @@ fn aborted_line(alloc: Global, count: usize) -> Result<Bytes, AllocError>
     Bytes::new(alloc, line.into_bytes())
 }
 
-/// Aborts the live uploads below a path.
-pub fn abort_uploads(
-    alloc: Global,
-    path: &S3Path,
-    store: &mut MemStore,
-    journal: &mut Journal,
-) -> Result<Said, AllocError>
-    requires counted { store.old.requests ≤ length journal.old.entries }
-    ensures did { IfOk result (λ what. DidAbort path.now store.old.scene what store.new.scene) }
-    ensures sent { OnOk result (Sends journal.old.entries store.old.scene journal.new.entries store.new.scene) }
-{
-    match live_uploads(alloc, path, store, journal)? {
-        None => refusing(alloc, "no-such-bucket", None),
-        Some(found) => {
-            abort_all(path.bucket(), found.as_slice(), store, journal)?;
-            Ok(fine(aborted_line(alloc, found.len())?))
+impl Session {
+    /// The live uploads below a path, or None where there is no bucket.
+    fn live_uploads(&mut self, path: &S3Path) -> Result<Option<UploadList>, AllocError>
+        requires { IsCounted self.old }
+        ensures found { IfOk result (λ found. found ≡ uploads_from self.old.store.scene path.now.bucket (below path.now.key []) None) }
+        ensures same { OnOk result (self.new.store.scene ≡ self.old.store.scene) }
+        ensures sent { OnOk result (Sent self.old self.new) }
+    {
+        let bucket = path.bucket().clone()?;
+        let prefix = prefix_of(self.alloc, path)?;
+        match list(
+            self.alloc,
+            Uploads,
+            bucket,
+            prefix,
+            RETRIES,
+            &mut self.store,
+            Actor::Shell,
+            EVENT,
+            &mut self.journal,
+        ) {
+            Ok(found) => Ok(found),
+            Err(stop) => Err(wanting(stop)),
+        }
+    }
+
+    /// Asks for the parts of an upload, and adds its line.
+    fn put_upload(
+        &mut self,
+        lines: &mut String,
+        bucket: &Bucket,
+        upload: &UploadRef,
+    ) -> Result<(), AllocError>
+        requires { IsCounted self.old }
+        ensures line { OnOk result (string_bytes lines.new ≡ string_bytes lines.old ++ asked_line self.old.store.scene bucket.now upload.now) }
+        ensures same { OnOk result (self.new.store.scene ≡ self.old.store.scene) }
+        ensures sent { OnOk result (Sent self.old self.new) }
+    {
+        let request = Request::list_parts(bucket, &upload.key, upload.upload)?;
+        match self.answered(&request) {
+            Ok(reply) => {
+                let put = put_reply(lines, upload, &reply);
+                self.write_down(request, reply);
+                put
+            }
+            Err(error) => {
+                let_go(request);
+                Err(error)
+            }
+        }
+    }
+
+    /// A line for each upload.
+    fn upload_lines(&mut self, bucket: &Bucket, uploads: &[UploadRef]) -> Result<Bytes, AllocError>
+        requires { IsCounted self.old }
+        ensures lines { IfOk result (λ lines. lines ≡ asked_lines self.old.store.scene bucket.now uploads.now) }
+        ensures same { OnOk result (self.new.store.scene ≡ self.old.store.scene) }
+        ensures sent { OnOk result (Sent self.old self.new) }
+    {
+        let mut lines = String::new(self.alloc);
+        for upload in uploads {
+            self.put_upload(&mut lines, bucket, upload)?;
+        }
+        Bytes::new(self.alloc, lines.into_bytes())
+    }
+
+    /// Lists the live uploads below a path.
+    pub(crate) fn uploads(&mut self, path: &S3Path) -> Result<Said, AllocError>
+        requires { IsCounted self.old }
+        ensures did { IfOk result (λ what. DidList path.now self.old.store.scene what self.new.store.scene) }
+        ensures sent { OnOk result (Sent self.old self.new) }
+    {
+        match self.live_uploads(path)? {
+            None => refusing(self.alloc, "no-such-bucket", None),
+            Some(found) => Ok(fine(self.upload_lines(path.bucket(), found.as_slice())?)),
+        }
+    }
+
+    /// Aborts an upload.
+    fn abort(&mut self, bucket: &Bucket, upload: &UploadRef) -> Result<(), AllocError>
+        requires { IsCounted self.old }
+        ensures scene { OnOk result (self.new.store.scene ≡ apply self.old.store.scene (Request.AbortUpload bucket.now upload.now.key upload.now.upload)) }
+        ensures sent { OnOk result (Sent self.old self.new) }
+    {
+        let request = Request::abort_upload(bucket, &upload.key, upload.upload)?;
+        match self.answered(&request) {
+            Ok(reply) => {
+                self.write_down(request, reply);
+                Ok(())
+            }
+            Err(error) => {
+                let_go(request);
+                Err(error)
+            }
+        }
+    }
+
+    /// Aborts uploads one by one.
+    fn abort_all(&mut self, bucket: &Bucket, uploads: &[UploadRef]) -> Result<(), AllocError>
+        requires { IsCounted self.old }
+        ensures scene { OnOk result (self.new.store.scene ≡ after_aborts self.old.store.scene bucket.now uploads.now) }
+        ensures sent { OnOk result (Sent self.old self.new) }
+    {
+        for upload in uploads {
+            self.abort(bucket, upload)?;
+        }
+        Ok(())
+    }
+
+    /// Aborts the live uploads below a path.
+    pub(crate) fn abort_uploads(&mut self, path: &S3Path) -> Result<Said, AllocError>
+        requires { IsCounted self.old }
+        ensures did { IfOk result (λ what. DidAbort path.now self.old.store.scene what self.new.store.scene) }
+        ensures sent { OnOk result (Sent self.old self.new) }
+    {
+        match self.live_uploads(path)? {
+            None => refusing(self.alloc, "no-such-bucket", None),
+            Some(found) => {
+                self.abort_all(path.bucket(), found.as_slice())?;
+                Ok(fine(aborted_line(self.alloc, found.len())?))
+            }
         }
     }
 }

@@ -1,4 +1,4 @@
-use Rattle.std.proofs.Common.{◌≡◌, true, false, length, sym, ap, subst}
+use Rattle.std.proofs.Common.{◌≡◌, true, false, length, sym, subst}
 use Rattle.s3_types.specs.Store.{opening}
 use Rattle.s3_types.specs.Moment.{moment, IsHonest}
 use Rattle.s3_types.specs.declared.request.Actor.TheVariants.{Shell}
@@ -12,48 +12,40 @@ use Rattle.s3a_shell.proofs.obeying.shell.Goals as goal
 
 pub returns-in-Ok-clause-did : goal.returns-in-Ok-clause-did
 returns-in-Ok-clause-did c =
-    let begun : c.new-store.result.scene ≡ opening c.args.service = ap (λ x. x.scene) c.new-store.ensures in
     subst (λ (end : ShellEnd). Does c.args.command.now c.args.bytes (opening c.args.service) (record { refused = end.refused; text = end.text }) (moment c.args.service end.journal.entries (length end.journal.entries))) (sym c.ended.ensures)
-    (did_at c.args.service c.new-journal.result.entries c.obey.new.journal.entries c.new-store.result.scene c.obey.new.store.scene c.new-journal.ensures begun c.in-Ok.ensures.sent c.args.command.now c.args.bytes c.in-Ok.said c.in-Ok.ensures.did)
+    (did_at c.args.service _ _ _ _ c.new-session.ensures.entries c.new-session.ensures.scene c.in-Ok.ensures.sent.sends c.args.command.now c.args.bytes c.in-Ok.said c.in-Ok.ensures.did)
 
 pub returns-in-Ok-clause-content : goal.returns-in-Ok-clause-content
 returns-in-Ok-clause-content c =
-    let begun : c.new-store.result.scene ≡ opening c.args.service = ap (λ x. x.scene) c.new-store.ensures in
     subst (λ (end : ShellEnd). end.service ≡ (moment c.args.service end.journal.entries (length end.journal.entries)).content) (sym c.ended.ensures)
-    (content_at c.args.service c.new-journal.result.entries c.obey.new.journal.entries c.new-store.result.scene c.obey.new.store.scene c.new-journal.ensures begun c.in-Ok.ensures.sent)
+    (content_at c.args.service _ _ _ _ c.new-session.ensures.entries c.new-session.ensures.scene c.in-Ok.ensures.sent.sends)
 
 pub returns-in-Ok-clause-by : goal.returns-in-Ok-clause-by
 returns-in-Ok-clause-by c =
-    let begun : c.new-store.result.scene ≡ opening c.args.service = ap (λ x. x.scene) c.new-store.ensures in
     subst (λ (end : ShellEnd). AreBy Shell 0 end.journal.entries) (sym c.ended.ensures)
-    (all_by c.args.service c.new-journal.result.entries c.obey.new.journal.entries c.new-store.result.scene c.obey.new.store.scene c.new-journal.ensures begun c.in-Ok.ensures.sent)
+    (all_by c.args.service _ _ _ _ c.new-session.ensures.entries c.new-session.ensures.scene c.in-Ok.ensures.sent.sends)
 
 pub returns-in-Ok-clause-answered : goal.returns-in-Ok-clause-answered
 returns-in-Ok-clause-answered c =
-    let begun : c.new-store.result.scene ≡ opening c.args.service = ap (λ x. x.scene) c.new-store.ensures in
     subst (λ (end : ShellEnd). AreAnswered end.journal.entries) (sym c.ended.ensures)
-    (all_answered c.args.service c.new-journal.result.entries c.obey.new.journal.entries c.new-store.result.scene c.obey.new.store.scene c.new-journal.ensures begun c.in-Ok.ensures.sent)
+    (all_answered c.args.service _ _ _ _ c.new-session.ensures.entries c.new-session.ensures.scene c.in-Ok.ensures.sent.sends)
 
 pub returns-in-Ok-clause-honest : goal.returns-in-Ok-clause-honest
 returns-in-Ok-clause-honest c =
-    let begun : c.new-store.result.scene ≡ opening c.args.service = ap (λ x. x.scene) c.new-store.ensures in
     subst (λ (end : ShellEnd). IsHonest c.args.service end.journal.entries) (sym c.ended.ensures)
-    (all_honest c.args.service c.new-journal.result.entries c.obey.new.journal.entries c.new-store.result.scene c.obey.new.store.scene c.new-journal.ensures begun c.in-Ok.ensures.sent)
+    (all_honest c.args.service _ _ _ _ c.new-session.ensures.entries c.new-session.ensures.scene c.in-Ok.ensures.sent.sends)
 
 pub returns-in-Ok-clause-same : goal.returns-in-Ok-clause-same
 returns-in-Ok-clause-same c =
-    let begun : c.new-store.result.scene ≡ opening c.args.service = ap (λ x. x.scene) c.new-store.ensures in
     subst (λ (end : ShellEnd). end.changed ≡ false → end.service ≡ c.args.service) (sym c.ended.ensures)
-    (same_at c.args.service c.new-journal.result.entries c.obey.new.journal.entries c.new-store.result.scene c.obey.new.store.scene c.new-journal.ensures begun c.in-Ok.ensures.sent)
+    (same_at c.args.service _ _ _ _ c.new-session.ensures.entries c.new-session.ensures.scene c.in-Ok.ensures.sent.sends)
 
 pub returns-in-Ok-clause-stays : goal.returns-in-Ok-clause-stays
 returns-in-Ok-clause-stays c =
-    let begun : c.new-store.result.scene ≡ opening c.args.service = ap (λ x. x.scene) c.new-store.ensures in
     subst (λ (end : ShellEnd). OnlyIn (bucket_in c.args.command.now) (ended_by c.args.command.now c.args.service) c.args.service end.service) (sym c.ended.ensures)
-    (only_at c.args.service c.new-journal.result.entries c.obey.new.journal.entries c.new-store.result.scene c.obey.new.store.scene c.new-journal.ensures begun c.in-Ok.ensures.sent c.args.command.now c.args.bytes c.in-Ok.said c.in-Ok.ensures.did)
+    (only_at c.args.service _ _ _ _ c.new-session.ensures.entries c.new-session.ensures.scene c.in-Ok.ensures.sent.sends c.args.command.now c.args.bytes c.in-Ok.said c.in-Ok.ensures.did)
 
 pub returns-in-Ok-clause-refused : goal.returns-in-Ok-clause-refused
 returns-in-Ok-clause-refused c =
-    let begun : c.new-store.result.scene ≡ opening c.args.service = ap (λ x. x.scene) c.new-store.ensures in
     subst (λ (end : ShellEnd). end.refused ≡ true → end.service ≡ c.args.service) (sym c.ended.ensures)
-    (undone_at c.args.service c.new-journal.result.entries c.obey.new.journal.entries c.new-store.result.scene c.obey.new.store.scene c.new-journal.ensures begun c.in-Ok.ensures.sent c.args.command.now c.args.bytes c.in-Ok.said c.in-Ok.ensures.did)
+    (undone_at c.args.service _ _ _ _ c.new-session.ensures.entries c.new-session.ensures.scene c.in-Ok.ensures.sent.sends c.args.command.now c.args.bytes c.in-Ok.said c.in-Ok.ensures.did)

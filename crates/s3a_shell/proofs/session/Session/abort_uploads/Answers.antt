@@ -1,0 +1,14 @@
+use Rattle.s3a_shell.proofs.Aborting.{did_abort}
+use Rattle.s3a_shell.proofs.Joining.{sent_both}
+use Rattle.s3a_shell.proofs.session.Session.abort_uploads.Goals as goal
+
+pub returns-in_ok-aborted_line-in-Some-clause-did :
+    goal.returns-in_ok-aborted_line-in-Some-clause-did
+returns-in_ok-aborted_line-in-Some-clause-did c =
+    let e = c.in_ok-live_uploads.ensures in
+    did_abort c.args.path.now c.args.self.now.store.scene c.live_uploads.new.self.store.scene c.abort_all.new.self.store.scene c.in_ok-live_uploads.field-0 c.in-Some.found c.as_slice.result.now c.bucket.result.now c.in_ok-aborted_line-in-Some.field-0 c.len.result
+    c.fine.result e.found c.in-Some.is c.as_slice.ensures c.bucket.ensures e.same c.in_ok-abort_all-in-Some.ensures.scene c.len.ensures c.in_ok-aborted_line-in-Some.ensures c.fine.ensures
+
+pub returns-in_ok-aborted_line-in-Some-clause-sent :
+    goal.returns-in_ok-aborted_line-in-Some-clause-sent
+returns-in_ok-aborted_line-in-Some-clause-sent c = sent_both _ _ _ c.in_ok-live_uploads.ensures.sent c.in_ok-abort_all-in-Some.ensures.sent

@@ -1,0 +1,7 @@
+use Rattle.fs_tree.specs.Answers.{Reads}
+use Rattle.s3a_shell.specs.Texts.{bytes_alone}
+use Rattle.s3a_shell.proofs.Performing.{did_at}
+use Rattle.s3a_shell.proofs.session.Session.cat.Goals as goal
+
+pub returns-clause-did : goal.returns-clause-did
+returns-clause-did c = did_at c.args.path.now Reads bytes_alone _ _ _ c.in_ok-answer.answer c.bytes_said.result c.in_ok-file.ensures c.in_ok-answer.ensures.given c.bytes_said.ensures

@@ -1,0 +1,21 @@
+use Rattle.std.proofs.Common.{◌≤◌, ◌*◌, ◌∙◌, ℕ, List, length, sym, ap, subst}
+use Rattle.s3_types.specs.Store.{Content}
+use Rattle.s3a_shell.proofs.Blocks.{some_block, least_block, has_room}
+use Rattle.s3a_shell.proofs.Performing.{sent, on_ok, file_if}
+use Rattle.s3a_shell.proofs.session.Session.create.Goals as goal
+
+pub new-requires-clause-some : goal.new-requires-clause-some
+new-requires-clause-some c = some_block _ _ _ c.block_of-block.ensures
+
+pub new-requires-clause-room : goal.new-requires-clause-room
+new-requires-clause-room c =
+    subst (λ (l : List ℕ). length l ≤ c.block_of-block.result * 10000) (c.as_slice.ensures ∙ sym c.in_ok-bytes.ensures.cases) (has_room _ _ _ c.block_of-block.ensures)
+
+pub returns-in-Ok-clause-did : goal.returns-in-Ok-clause-did
+returns-in-Ok-clause-did c =
+    let least = subst (λ (n : ℕ). n ≤ c.block_of-block.result) (c.minimum-minimum.ensures ∙ ap (λ (d : Content). d.minimum) c.service.ensures) (least_block _ _ _ c.block_of-block.ensures) in
+    file_if c.args.path.now c.args.bytes.now c.in_ok-bytes.bytes c.block_of-block.result c.args.overwrite _ _ c.in_ok-file.file.file c.in-Ok.answer c.nothing_said.result c.in_ok-bytes.ensures.cases
+    c.in_ok-file.ensures.file least c.in-Ok.ensures.given c.nothing_said.ensures
+
+pub returns-in-Ok-clause-sent : goal.returns-in-Ok-clause-sent
+returns-in-Ok-clause-sent c = on_ok c.nothing_said.result (sent _ _ _ _ c.requires.counted c.in-Ok.ensures.performed)

@@ -1,0 +1,7 @@
+use Rattle.fs_tree.specs.Answers.{Lists}
+use Rattle.s3a_shell.specs.Texts.{entry_lines}
+use Rattle.s3a_shell.proofs.Performing.{did_at}
+use Rattle.s3a_shell.proofs.session.Session.ls.Goals as goal
+
+pub returns-clause-did : goal.returns-clause-did
+returns-clause-did c = did_at c.args.path.now Lists entry_lines _ _ _ c.in_ok-answer.answer c.list_said.result c.in_ok-dir.ensures c.in_ok-answer.ensures.given c.list_said.ensures

@@ -1,0 +1,5 @@
+use Rattle.s3a_shell.proofs.Performing.{deleted_at}
+use Rattle.s3a_shell.proofs.session.Session.remove.Goals as goal
+
+pub returns-clause-did : goal.returns-clause-did
+returns-clause-did c = deleted_at c.args.path.now c.args.recursive _ _ _ c.in_ok-answer.answer c.nothing_said.result c.in_ok-deletion.ensures.deletion c.in_ok-deletion.ensures.key c.in_ok-answer.ensures.given c.nothing_said.ensures

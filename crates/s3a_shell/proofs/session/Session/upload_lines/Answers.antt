@@ -1,0 +1,20 @@
+use Rattle.std.proofs.Common.{◌+◌, ◌∷◌, ◌∙◌, drop, ap, sym, string_bytes}
+use Rattle.std.proofs.lemmas.List.{drop_more}
+use Rattle.s3_types.specs.declared.request.UploadRef.{UploadRef}
+use Rattle.s3a_shell.proofs.Joining.{sent_both}
+use Rattle.s3a_shell.proofs.Listing.{more_lines}
+use Rattle.s3a_shell.proofs.session.Session.upload_lines.Goals as goal
+
+pub loop-upload-preserved : goal.loop-upload-preserved
+loop-upload-preserved c =
+    let us = c.args.uploads.now in
+    let i = c.loop-upload.upload-index in
+    let x = c.upload-item.result in
+    let front = drop_more us i x c.loop-upload-test.true ∙ ap (λ (y : UploadRef). y ∷ drop (i + 1) us) (sym c.upload-item.is) in
+    let e = c.in_ok-put_upload.ensures in
+    let v = c.loop-upload.invariant in
+    record {
+      same = e.same ∙ v.same;
+      sent = sent_both _ _ _ v.sent e.sent;
+      text = more_lines c.args.self.now.store.scene c.loop-upload.self.store.scene c.args.bucket.now (string_bytes c.loop-upload.lines) (string_bytes c.put_upload.new.lines) us i x front v.same e.line v.text;
+    }

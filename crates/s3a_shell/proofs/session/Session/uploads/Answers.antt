@@ -1,0 +1,15 @@
+use Rattle.s3a_shell.proofs.Joining.{sent_both}
+use Rattle.s3a_shell.proofs.Listing.{did_list}
+use Rattle.s3a_shell.proofs.session.Session.uploads.Goals as goal
+
+pub returns-in_ok-upload_lines-in-Some-clause-did :
+    goal.returns-in_ok-upload_lines-in-Some-clause-did
+returns-in_ok-upload_lines-in-Some-clause-did c =
+    let e = c.in_ok-live_uploads.ensures in
+    let f = c.in_ok-upload_lines-in-Some.ensures in
+    did_list c.args.path.now c.args.self.now.store.scene c.live_uploads.new.self.store.scene c.upload_lines.new.self.store.scene c.in_ok-live_uploads.field-0 c.in-Some.found c.as_slice.result.now c.bucket.result.now c.in_ok-upload_lines-in-Some.field-0 c.fine.result
+    e.found c.in-Some.is c.as_slice.ensures c.bucket.ensures e.same f.same f.lines c.fine.ensures
+
+pub returns-in_ok-upload_lines-in-Some-clause-sent :
+    goal.returns-in_ok-upload_lines-in-Some-clause-sent
+returns-in_ok-upload_lines-in-Some-clause-sent c = sent_both _ _ _ c.in_ok-live_uploads.ensures.sent c.in_ok-upload_lines-in-Some.ensures.sent

@@ -1,0 +1,106 @@
+ghost use Rattle.std.specs.Prelude.{◌≡◌, ◌≢◌, ◌≤◌, ◌<◌, ◌+◌, ◌^◌, ◌++◌, ◌∷◌, [], length, IfOk, OnOk};
+ghost use Rattle.s3_types.specs.Store.{opening};
+ghost use Rattle.s3_types.specs.Answer.{answer, apply};
+ghost use Rattle.bucket_ops.specs.Phases.{GivesIn};
+ghost use Rattle.s3a_shell.specs.Sendings.{IsCounted, Sent, answered_by};
+
+use bucket_ops::{Phases, perform_in};
+use machine::DriveStop;
+use path_keys::S3Path;
+use s3_service::Service;
+use s3_types::{Actor, Entry, Journal, Outcome, Reply, Request};
+use std::alloc::{AllocError, Global};
+use store_link::MemStore;
+
+/// The event of all sendings.
+pub(crate) const EVENT: u32 = 0;
+
+/// A request that gets no answer is not sent again; a store in memory answers each.
+pub(crate) const RETRIES: u32 = 0;
+
+/// A store on which a command is done, and what was sent to it.
+#[derive(Drop)]
+pub(crate) struct Session {
+    pub(crate) alloc: Global,
+    pub(crate) store: MemStore,
+    pub(crate) journal: Journal,
+}
+
+/// Want of memory: nothing else stops an operation whose requests are all answered.
+pub(crate) fn wanting(stop: DriveStop) -> AllocError
+    requires { stop ≢ DriveStop.StoreFault }
+{
+    let _ = stop;
+    AllocError
+}
+
+impl Session {
+    /// A session in which nothing was sent yet. Takes no memory.
+    pub(crate) fn new(alloc: Global, service: Service) -> Session
+        requires few { service.next ≤ 2 ^ 62 }
+        ensures scene { result.store.scene ≡ opening service }
+        ensures entries { result.journal.entries ≡ [] }
+        ensures counted { IsCounted result }
+    {
+        Session {
+            alloc,
+            store: MemStore::new(alloc, service),
+            journal: Journal::new(alloc),
+        }
+    }
+
+    /// Performs an operation on the bucket of a path.
+    pub(crate) fn perform_at<O: Phases>(
+        &mut self,
+        path: &S3Path,
+        operation: O,
+    ) -> Result<O::Answer, AllocError>
+        requires counted { IsCounted self.old }
+        ensures given { IfOk result (λ answer. GivesIn path.now.bucket (O.gives operation) O.absent self.old.store.scene answer self.new.store.scene) }
+        ensures sent { OnOk result (Sent self.old self.new) }
+    {
+        let bucket = path.bucket().clone()?;
+        match perform_in(
+            self.alloc,
+            bucket,
+            operation,
+            RETRIES,
+            &mut self.store,
+            Actor::Shell,
+            EVENT,
+            &mut self.journal,
+        ) {
+            Ok(answer) => Ok(answer),
+            Err(stop) => Err(wanting(stop)),
+        }
+    }
+
+    /// Does a request, once there is room for its entry.
+    pub(crate) fn answered(&mut self, request: &Request) -> Result<Reply, AllocError>
+        requires counted { IsCounted self.old }
+        ensures reply { IfOk result (λ reply. reply ≡ answer self.old.store.scene request.now) }
+        ensures scene { OnOk result (self.new.store.scene ≡ apply self.old.store.scene request.now) }
+        ensures requests { OnOk result (self.new.store.requests ≡ self.old.store.requests + 1) }
+        ensures entries { self.new.journal.entries ≡ self.old.journal.entries }
+        ensures room { OnOk result (0 < self.new.journal.room) }
+        ensures few { OnOk result (length self.new.journal.entries + 1 < 2 ^ 62) }
+    {
+        self.journal.reserve()?;
+        self.store.apply(request)
+    }
+
+    /// Writes down a sending that was answered. Takes no memory.
+    pub(crate) fn write_down(&mut self, request: Request, reply: Reply)
+        requires room { 0 < self.old.journal.room }
+        requires few { length self.old.journal.entries + 1 < 2 ^ 62 }
+        ensures entries { self.new.journal.entries ≡ self.old.journal.entries ++ answered_by request reply ∷ [] }
+        ensures store { self.new.store ≡ self.old.store }
+    {
+        self.journal.push(Entry {
+            event: EVENT,
+            actor: Actor::Shell,
+            request,
+            outcome: Outcome::Answered(reply),
+        });
+    }
+}
