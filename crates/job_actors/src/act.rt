@@ -18,7 +18,22 @@ use job_setup::SetupJob;
 use machine::{Machine, Retrying};
 use s3_types::{Outcome, Request};
 use std::alloc::AllocError;
-use task_machines::{AbortTask, CommitTask, WriteFiles};
+use task_machines::{ByCommitter, TaskMachine, TheAbort, TheCommit, TheWrite};
+
+/// An attempt's write of its files, by the committer of its job.
+pub type WriteFiles = TaskMachine<
+    TheWrite,
+    ByCommitter<task_magic::Writing, task_staging::Keeping>,
+>;
+
+/// An attempt's commit of its task, by the committer of its job.
+pub type CommitTask = TaskMachine<
+    TheCommit,
+    ByCommitter<task_magic::Committing, task_staging::Staging>,
+>;
+
+/// An attempt's abort of its task, by the committer of its job.
+pub type AbortTask = TaskMachine<TheAbort, ByCommitter<task_magic::Undoing, task_staging::Undoing>>;
 
 /// What an actor of a job is at. A job's clean and its abort send the same.
 #[derive(Drop)]

@@ -2,14 +2,13 @@ ghost use Rattle.std.specs.Prelude.{◌≡◌, IfOk};
 ghost use Rattle.job_model.specs.declared.events.Op.TheVariants as ops;
 ghost use Rattle.job_actors.specs.Laws.{unsent, setup_of, write_of, commit_task_of, abort_task_of, commit_of, clean_of, BeginsJob, BeginsTask, BeginsCommit, BeginsClean};
 
-use crate::act::Act;
+use crate::act::{AbortTask, Act, CommitTask, WriteFiles};
 use cleanup::CleanJob;
 use job_commit::CommitJob;
 use job_model::{JobPlan, TaskPlan, TaskSet};
 use job_setup::SetupJob;
 use machine::{Machine, Retrying};
 use std::alloc::{AllocError, Global};
-use task_machines::{AbortTask, CommitTask, WriteFiles};
 
 /// A machine under its retries, of which nothing was sent yet.
 #[tactic(auto, using(crate::proofs::Telling::whole))]

@@ -1,10 +1,13 @@
-//! The operations of an attempt as machines, of whichever committer its job has.
+//! The operations of an attempt as machines, of whichever committer its job has: what holds of each operation is said
+//! once here, and a committer gives what it keeps of one beside the attempt's plan.
 #![tactic(auto)]
 
-mod abort;
-mod commit;
-mod write;
+mod at_work;
+mod by_committer;
+mod holds;
+mod operation;
 
-pub use abort::AbortTask;
-pub use commit::CommitTask;
-pub use write::WriteFiles;
+pub use at_work::{AtWork, TaskMachine};
+pub use by_committer::ByCommitter;
+pub use holds::Holds;
+pub use operation::{TaskOperation, TheAbort, TheCommit, TheWrite};

@@ -1,2 +1,23 @@
--- A write of a magic attempt's files as a machine: where it stands, what fits and what is left.
-pub use Rattle.task_requests.specs.Writing.{at_parts, at_stage, write_by, seen_write, next_stage, is_new, with_drawn, HasSent, HoldsAt, Holds, dir_of, IsOpen, IsWrite, FitsCreate, FitsPart, FitsUpload, FitsWrite, write_fits, file_left, files_left, upload_left, left_of, write_left, IsNamed, IsFile, size_of, part_behind, count_of, parts_in, upload_in, tag_in, IsBehind, asks_behind, ended_by}
+-- A write of a magic attempt's files, by the place and the stage of the next one.
+use Rattle.std.specs.Prelude.{List, [], ◌∷◌, Option, Some, None}
+use Rattle.job_model.specs.Files.{File}
+use Rattle.job_model.specs.Jobs.{Task}
+use Rattle.job_model.specs.declared.ends.TaskEnd.{TaskEnd}
+use Rattle.job_model.specs.declared.ends.TaskEnd.TheVariants as ends
+use Rattle.job_operations.specs.AtWork.{write_wants}
+use Rattle.job_operations.specs.Writes.{Write}
+use Rattle.task_requests.specs.Writing.{write_by, seen_write, IsWrite}
+use Rattle.task_magic.specs.declared.write.Writing.{Writing}
+
+-- where it stands
+abbrev pub operation_of : Task → Writing → Write
+operation_of t w = write_by t w.place w.stage w.end
+
+-- what is kept: the attempt's directory, what is known of its upload, and that it is about a file until it ends
+abbrev pub Keeps : Task → Writing → Type 0
+Keeps t w = IsWrite t w.dir w.place w.stage w.end (write_wants (seen_write t w.place w.stage w.end))
+
+-- without files it is done as it begins
+abbrev pub done_if_none : List File → Option TaskEnd
+done_if_none [] = Some ends.Done
+done_if_none (f ∷ fs) = None

@@ -1,10 +1,9 @@
 ghost use Rattle.std.specs.Prelude.{◌≡◌, ◌+◌, ◌<◌, Bool, length, drop, get_or, [], true, false, IfOk, OnOk, OnErr, Some, None, option_map, slice_get};
 ghost use Rattle.s3_types.specs.declared.request.Request.TheVariants.{GetObject};
 ghost use Rattle.s3_types.specs.declared.request.Committer.TheVariants.{Magic};
-ghost use Rattle.sendings.specs.Retries.{Got, WornOut};
-ghost use Rattle.job_operations.specs.AtWork.{task_script, who_of, task_commit_told};
+ghost use Rattle.job_operations.specs.AtWork.{task_script, who_of};
 ghost use Rattle.job_operations.specs.Walks.{page_after};
-ghost use Rattle.job_operations.specs.TaskCommits.{attempt_prefix, Looking, reading, task_commit_start, task_commit_asks, task_commit_hears};
+ghost use Rattle.job_operations.specs.TaskCommits.{attempt_prefix, Looking, reading, task_commit_asks, task_commit_hears};
 ghost use Rattle.task_requests.specs.Publishing.{picked};
 ghost use Rattle.task_laws.specs.Commits.{FitsCommit};
 ghost use Rattle.task_magic.specs.Committing.{HoldsCommit, commit_of, Keeps, record_of, is_no_key, publishes, with_sent};
@@ -15,6 +14,7 @@ use job_model::{TaskEnd, TaskPlan};
 use s3_types::{Key, KeyList, Refusal, Reply, Request, Sequence, put};
 use std::alloc::{AllocError, Global};
 use sweep::KeyWalk;
+use task_machines::{Holds, TaskMachine, TheCommit};
 use task_requests::{bucket_of, directory, prefix, publish_request};
 
 /// A commit as it goes on: whether it lists, the keys so far, the places of the files that it commits, the
@@ -29,12 +29,14 @@ pub struct Committing {
     pub end: Option<TaskEnd>,
 }
 
+/// A magic attempt's commit of its task. It lists its own directory, reads the record of each of its files,
+/// in the order of the listing, and puts the set of them, which publishes. Gone comes with the key of the
+/// least record that is not listed, or of one that is not there when it is read. (Hadoop, S3A committer
+/// architecture: task commit.)
+pub type CommitTask = TaskMachine<TheCommit, Committing>;
+
 /// The request for the next page of the attempt's directory.
-fn page_request(
-    alloc: Global,
-    plan: &TaskPlan,
-    walk: &KeyWalk,
-) -> Result<Option<Request>, AllocError>
+fn page_request(alloc: Global, plan: &TaskPlan, walk: &KeyWalk) -> NextRequest
     ensures { IfOk result (λ request. request ≡ Some (page_after plan.now.job.dest.bucket (attempt_prefix (task_script plan.now) (who_of plan.now)) walk.now)) }
 {
     let prefix = prefix(alloc, plan)?;
@@ -54,7 +56,7 @@ fn record_key_at(alloc: Global, plan: &TaskPlan, place: usize) -> Result<Key, Al
 }
 
 /// The read of the record at a key.
-fn read_request(plan: &TaskPlan, key: &Key) -> Result<Option<Request>, AllocError>
+fn read_request(plan: &TaskPlan, key: &Key) -> NextRequest
     ensures { IfOk result (λ request. request ≡ Some (GetObject plan.now.job.dest.bucket key.now)) }
 {
     match Request::get_object(bucket_of(plan), key) {
@@ -77,7 +79,7 @@ fn record_or_set(
     places: &[usize],
     records: &[Key],
     at: usize,
-) -> Result<Option<Request>, AllocError>
+) -> NextRequest
     requires { HoldsCommit plan.now places.now records.now at }
     ensures { let cs = picked plan.now.files places.now in IfOk result (λ request. request ≡ task_commit_asks (task_script plan.now) (who_of plan.now) plan.now.known (reading cs (drop at cs))) }
 {
@@ -114,38 +116,6 @@ fn tell_sent(plan: &mut TaskPlan, publishes: bool)
 }
 
 impl Committing {
-    /// A commit of which nothing was sent yet. Takes no memory.
-    pub fn new(alloc: Global, plan: &TaskPlan) -> Committing
-        requires { plan.now.job.committer ≡ Magic }
-        ensures start { commit_of plan.now result ≡ task_commit_start (task_script plan.now) (who_of plan.now) }
-        ensures keeps { Keeps plan.now result }
-    {
-        let _ = plan;
-        Committing {
-            listing: true,
-            walk: KeyWalk::new(alloc),
-            places: Sequence::new(alloc),
-            records: KeyList::new(alloc),
-            at: 0,
-            end: None,
-        }
-    }
-
-    /// The next request, or None where it is over.
-    pub fn request(&self, alloc: Global, plan: &TaskPlan) -> Result<Option<Request>, AllocError>
-        requires { Keeps plan.now self.now }
-        ensures { IfOk result (λ request. request ≡ task_commit_asks (task_script plan.now) (who_of plan.now) plan.now.known (commit_of plan.now self.now)) }
-    {
-        let None = &self.end else {
-            return Ok(None);
-        };
-        if self.listing {
-            return page_request(alloc, plan, &self.walk);
-        }
-        let places = self.places.as_slice();
-        record_or_set(alloc, plan, places, self.records.as_slice(), self.at)
-    }
-
     /// Whether its present request publishes. Takes no memory.
     fn publishes(&self, plan: &TaskPlan) -> bool
         ensures { result ≡ publishes (commit_of plan.now self.now) }
@@ -236,20 +206,49 @@ impl Committing {
             }
         }
     }
+}
 
-    /// Takes the reply to its present request, and gives the next one. After want of memory the plan is as
-    /// before.
-    pub fn hear(&mut self, alloc: Global, plan: &mut TaskPlan, reply: &Reply) -> NextRequest
-        requires keeps { Keeps plan.old self.old }
-        requires fits { FitsCommit (task_script plan.old) (who_of plan.old) plan.old.known (commit_of plan.old self.old) reply.now }
-        ensures keeps { Keeps plan.new self.new }
-        ensures told { OnOk result ((b : Bool) → record { plan = plan.new; operation = commit_of plan.new self.new } ≡ task_commit_told (record { plan = plan.old; operation = commit_of plan.old self.old }) (Got reply.now b)) }
-        ensures next { IfOk result (λ request. request ≡ task_commit_asks (task_script plan.new) (who_of plan.new) plan.new.known (commit_of plan.new self.new)) }
-        ensures err { OnErr result (plan.new ≡ plan.old) }
-    {
+impl Holds<TheCommit> for Committing {
+    ghost goes_by = { λ plan. plan.job.committer ≡ Magic };
+
+    ghost keeps = { Keeps };
+
+    ghost operation = { commit_of };
+
+    fn begin(alloc: Global, plan: &TaskPlan) -> Result<Committing, AllocError> {
+        let _ = plan;
+        Ok(Committing {
+            listing: true,
+            walk: KeyWalk::new(alloc),
+            places: Sequence::new(alloc),
+            records: KeyList::new(alloc),
+            at: 0,
+            end: None,
+        })
+    }
+
+    fn ask(&self, alloc: Global, plan: &TaskPlan) -> NextRequest {
+        let None = &self.end else {
+            return Ok(None);
+        };
+        if self.listing {
+            return page_request(alloc, plan, &self.walk);
+        }
+        let places = self.places.as_slice();
+        record_or_set(alloc, plan, places, self.records.as_slice(), self.at)
+    }
+
+    fn hear(
+        &mut self,
+        alloc: Global,
+        plan: &mut TaskPlan,
+        reply: &Reply,
+        repeated: bool,
+    ) -> NextRequest {
+        let _ = repeated;
         let publishes = self.publishes(plan);
         self.go_on(alloc, plan, reply)?;
-        match self.request(alloc, plan) {
+        match self.ask(alloc, plan) {
             Ok(next) => {
                 tell_sent(plan, publishes);
                 Ok(next)
@@ -258,20 +257,19 @@ impl Committing {
         }
     }
 
-    /// Takes it that its present request wore out. Takes no memory.
-    pub fn wear(&mut self, plan: &mut TaskPlan)
-        requires { Keeps plan.old self.old }
-        ensures keeps { Keeps plan.new self.new }
-        ensures told { record { plan = plan.new; operation = commit_of plan.new self.new } ≡ task_commit_told (record { plan = plan.old; operation = commit_of plan.old self.old }) WornOut }
-    {
+    fn wear(&mut self, plan: &mut TaskPlan) {
         tell_sent(plan, self.publishes(plan));
         self.finish(TaskEnd::StoreFault);
     }
 
-    /// Ends it. Takes no memory.
-    pub fn finish(&mut self, end: TaskEnd)
+    fn finish(&mut self, end: TaskEnd)
         ensures { self.new ≡ record { listing = self.old.listing; walk = self.old.walk; places = self.old.places; records = self.old.records; at = self.old.at; end = Some end } }
     {
         put(&mut self.end, Some(end));
+    }
+
+    fn end(&self, plan: &TaskPlan) -> Option<&TaskEnd> {
+        let _ = plan;
+        self.end.as_ref()
     }
 }

@@ -2,15 +2,13 @@
 //! abort of its task. (Hadoop, S3A committer architecture.)
 #![tactic(auto)]
 
-mod abort;
-mod commit;
 mod committing;
 mod listing;
 mod stepping;
 mod undoing;
 mod write;
 
-pub use abort::AbortTask;
-pub use commit::CommitTask;
+pub use committing::{CommitTask, Committing};
 pub use task_requests::WriteStage;
-pub use write::WriteFiles;
+pub use undoing::{AbortTask, Undoing};
+pub use write::{WriteFiles, Writing};

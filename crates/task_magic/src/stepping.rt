@@ -1,19 +1,18 @@
-ghost use Rattle.std.specs.Prelude.{◌≡◌, ℕ, ◌+◌, ◌<◌, Bool, [], length, true, false, Some, None, IfOk, OnErr, IsSome, get_or, slice_get};
+ghost use Rattle.std.specs.Prelude.{◌≡◌, ℕ, ◌+◌, ◌<◌, Bool, length, true, false, Some, None, IfOk, OnErr};
 ghost use Rattle.s3_types.specs.declared.reply.Reply.TheVariants.{Upload, Part, Refused};
 ghost use Rattle.s3_types.specs.declared.reply.Refusal.TheVariants.{NoSuchUpload};
 ghost use Rattle.s3_types.specs.Tags.{is_plain_tag};
 ghost use Rattle.sendings.specs.Retries.{Got};
-ghost use Rattle.job_operations.specs.AtWork.{task_script, write_wants, write_told};
-ghost use Rattle.job_operations.specs.Records.{file_key};
+ghost use Rattle.job_operations.specs.AtWork.{write_told};
 ghost use Rattle.task_requests.specs.Writing.{dir_of, is_new, Holds, IsWrite, seen_write, write_fits, ended_by};
 
 use job_model::{TaskEnd, TaskPlan};
 use path_keys::S3Path;
-use s3_types::{Key, Reply, Request, Tag};
+use s3_types::{Reply, Request, Tag};
 use std::alloc::{AllocError, Global};
 use task_requests::{
-    WriteStage, ask, ask_behind, begin_upload_to, begun_key, behind, file_at, note_part, tag_in,
-    target, upload_in,
+    WriteStage, ask, ask_behind, begin_upload, behind, file_at, note_part, tag_in, target,
+    upload_in,
 };
 
 /// Where a write stands after a step, with what it asks next.
@@ -64,18 +63,16 @@ fn begin(
     plan: &mut TaskPlan,
     dir: &S3Path,
     place: usize,
-    key: &Key,
     upload: u64,
 ) -> Result<Turned, AllocError>
     requires dir { dir.now ≡ dir_of plan.old }
     requires within { place < length plan.old.files }
-    requires key { key.now ≡ file_key (task_script plan.old) (get_or plan.old.files place ([], [])) }
     requires new { is_new upload plan.old.known.drawn ≡ true }
     ensures told { IfOk result (λ x. (b : Bool) → seen_write plan.new x.place x.stage x.end ≡ write_told (seen_write plan.old place WriteStage.Creating None) (Got (Upload upload) b)) }
     ensures kept { IfOk result (λ x. IsWrite plan.new dir.now x.place x.stage x.end x.asked) }
     ensures err { OnErr result (plan.new ≡ plan.old) }
 {
-    match begin_upload_to(alloc, plan, place, key, upload) {
+    match begin_upload(alloc, plan, place, upload) {
         Ok(asked) => Ok(Turned {
             place,
             stage: WriteStage::Sending(0),
@@ -162,13 +159,11 @@ pub fn advance(
     dir: &S3Path,
     place: usize,
     stage: WriteStage,
-    asked: &Option<Request>,
     reply: &Reply,
 ) -> Result<Turned, AllocError>
     requires dir { dir.now ≡ dir_of plan.old }
     requires within { place < length plan.old.files }
     requires holds { Holds plan.old place stage }
-    requires asked { asked.now ≡ write_wants (seen_write plan.old place stage None) }
     requires fits { write_fits (seen_write plan.old place stage None) reply.now false }
     ensures told { IfOk result (λ x. (b : Bool) → seen_write plan.new x.place x.stage x.end ≡ write_told (seen_write plan.old place stage None) (Got reply.now b)) }
     ensures kept { IfOk result (λ x. IsWrite plan.new dir.now x.place x.stage x.end x.asked) }
@@ -176,10 +171,7 @@ pub fn advance(
 {
     match stage {
         WriteStage::Creating => match upload_in(reply) {
-            Some(upload) => match begun_key(asked) {
-                Some(key) => begin(alloc, plan, dir, place, key, upload),
-                None => unreachable!(),
-            },
+            Some(upload) => begin(alloc, plan, dir, place, upload),
             None => unreachable!(),
         },
         WriteStage::Sending(sent) => match tag_in(reply) {

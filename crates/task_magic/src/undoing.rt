@@ -3,14 +3,16 @@ ghost use Rattle.s3_types.specs.declared.request.Committer.TheVariants.{Magic};
 ghost use Rattle.job_operations.specs.AtWork.{task_script, who_of};
 ghost use Rattle.job_operations.specs.Walks.{sweep_asks};
 ghost use Rattle.job_operations.specs.TaskCommits.{attempt_prefix};
-ghost use Rattle.job_operations.specs.TaskAborts.{task_abort_start, task_abort_asks, task_abort_hears};
+ghost use Rattle.job_operations.specs.TaskAborts.{task_abort_hears};
 ghost use Rattle.task_laws.specs.Aborts.{FitsAbort};
 ghost use Rattle.task_magic.specs.Undoing.{abort_of, kept_if};
 
+use asking::NextRequest;
 use job_model::{TaskEnd, TaskPlan};
-use s3_types::{Reply, Request, put};
+use s3_types::{Reply, put};
 use std::alloc::{AllocError, Global};
 use sweep::{AllKeys, Sweep};
+use task_machines::{Holds, TaskMachine, TheAbort};
 use task_requests::{abort_request, bucket_of, made, prefix};
 
 /// An abort as it goes on: how many of the uploads are aborted, the sweep of the attempt's directory, and
@@ -22,6 +24,11 @@ pub struct Undoing {
     pub end: Option<TaskEnd>,
 }
 
+/// A magic attempt's abort of its task. An attempt that has sent its publishing request ends Kept and sends
+/// nothing. Any other aborts its uploads, in the order of their making, and then empties its own directory.
+/// (Hadoop, S3A committer architecture: task abort.)
+pub type AbortTask = TaskMachine<TheAbort, Undoing>;
+
 /// The end of an attempt that has sent its publishing request, or none.
 fn kept_if(sent: bool) -> Option<TaskEnd>
     ensures { result ≡ kept_if sent }
@@ -30,11 +37,7 @@ fn kept_if(sent: bool) -> Option<TaskEnd>
 }
 
 /// The next request of the sweep of the attempt's directory.
-fn sweep_request(
-    alloc: Global,
-    plan: &TaskPlan,
-    sweep: &Sweep,
-) -> Result<Option<Request>, AllocError>
+fn sweep_request(alloc: Global, plan: &TaskPlan, sweep: &Sweep) -> NextRequest
     ensures { IfOk result (λ request. request ≡ Some (sweep_asks plan.now.job.dest.bucket (attempt_prefix (task_script plan.now) (who_of plan.now)) sweep.now)) }
 {
     let prefix = prefix(alloc, plan)?;
@@ -45,33 +48,8 @@ fn sweep_request(
 }
 
 impl Undoing {
-    /// An abort of which nothing was sent yet. Takes no memory.
-    pub fn new(alloc: Global, plan: &TaskPlan) -> Undoing
-        requires { plan.now.job.committer ≡ Magic }
-        ensures { abort_of plan.now result ≡ task_abort_start (task_script plan.now) plan.now.known }
-    {
-        Undoing {
-            at: 0,
-            sweep: Sweep::new(alloc),
-            end: kept_if(plan.known.publish_sent()),
-        }
-    }
-
-    /// The next request, or None where it is over.
-    pub fn request(&self, alloc: Global, plan: &TaskPlan) -> Result<Option<Request>, AllocError>
-        ensures { IfOk result (λ request. request ≡ task_abort_asks (task_script plan.now) (who_of plan.now) (abort_of plan.now self.now)) }
-    {
-        let None = &self.end else {
-            return Ok(None);
-        };
-        match made(&plan.known).get(self.at) {
-            Some(drawn) => abort_request(bucket_of(plan), drawn),
-            None => sweep_request(alloc, plan, &self.sweep),
-        }
-    }
-
-    /// Takes the reply to its present request.
-    pub fn hear(&mut self, alloc: Global, plan: &TaskPlan, reply: &Reply) -> Result<(), AllocError>
+    /// Goes where the reply to its present request leads.
+    fn go_on(&mut self, alloc: Global, plan: &TaskPlan, reply: &Reply) -> Result<(), AllocError>
         requires magic { plan.now.job.committer ≡ Magic }
         requires fits { FitsAbort (abort_of plan.now self.old) reply.now }
         ensures { OnOk result (abort_of plan.now self.new ≡ task_abort_hears (task_script plan.now) (abort_of plan.now self.old) reply.now) }
@@ -90,11 +68,58 @@ impl Undoing {
         self.finish(TaskEnd::Done);
         Ok(())
     }
+}
 
-    /// Ends it. Takes no memory.
-    pub fn finish(&mut self, end: TaskEnd)
+impl Holds<TheAbort> for Undoing {
+    ghost goes_by = { λ plan. plan.job.committer ≡ Magic };
+
+    ghost keeps = { λ plan _. plan.job.committer ≡ Magic };
+
+    ghost operation = { abort_of };
+
+    fn begin(alloc: Global, plan: &TaskPlan) -> Result<Undoing, AllocError> {
+        Ok(Undoing {
+            at: 0,
+            sweep: Sweep::new(alloc),
+            end: kept_if(plan.known.publish_sent()),
+        })
+    }
+
+    fn ask(&self, alloc: Global, plan: &TaskPlan) -> NextRequest {
+        let None = &self.end else {
+            return Ok(None);
+        };
+        match made(&plan.known).get(self.at) {
+            Some(drawn) => abort_request(bucket_of(plan), drawn),
+            None => sweep_request(alloc, plan, &self.sweep),
+        }
+    }
+
+    fn hear(
+        &mut self,
+        alloc: Global,
+        plan: &mut TaskPlan,
+        reply: &Reply,
+        repeated: bool,
+    ) -> NextRequest {
+        let _ = repeated;
+        self.go_on(alloc, plan, reply)?;
+        self.ask(alloc, plan)
+    }
+
+    fn wear(&mut self, plan: &mut TaskPlan) {
+        let _ = plan;
+        self.finish(TaskEnd::StoreFault);
+    }
+
+    fn finish(&mut self, end: TaskEnd)
         ensures end { self.new.end ≡ Some end }
     {
         put(&mut self.end, Some(end));
+    }
+
+    fn end(&self, plan: &TaskPlan) -> Option<&TaskEnd> {
+        let _ = plan;
+        self.end.as_ref()
     }
 }

@@ -1,141 +1,111 @@
-ghost use Rattle.std.specs.Prelude.{◌≡◌, IfOk};
-ghost use Rattle.std.specs.Option.{option_copied};
+ghost use Rattle.std.specs.Prelude.{◌≡◌, Some};
 ghost use Rattle.s3_types.specs.declared.request.Committer.TheVariants.{Magic};
-ghost use Rattle.job_operations.specs.AtWork.{task_script, who_of, write_wants, write_told};
-ghost use Rattle.job_operations.specs.Writes.{WriteOver, write_start, write_over};
-ghost use Rattle.task_requests.specs.Writing.{write_fits, write_left};
-ghost use Rattle.asking.specs.MachineLaws.{never};
-ghost use Rattle.task_laws.specs.Writes.{write_standing, write_laws};
+ghost use Rattle.task_magic.specs.Writing.{Keeps, done_if_none, operation_of};
 
-use crate::stepping::{Turned, advance, turn};
+use crate::stepping::{Turned, advance};
+use asking::NextRequest;
 use job_model::{TaskEnd, TaskPlan};
-use machine::Machine;
 use path_keys::S3Path;
-use s3_types::{Reply, Request, let_go, put};
+use s3_types::{Reply, Request, put};
 use std::alloc::{AllocError, Global};
-use std::marker::Model;
-use task_requests::{WriteStage, directory};
+use task_machines::{Holds, TaskMachine, TheWrite};
+use task_requests::{WriteStage, ask, directory};
+
+/// A write as it goes on: the attempt's directory, how many files are whole, the stage of the next one, and how it
+/// ended.
+#[derive(Drop)]
+pub struct Writing {
+    pub dir: S3Path,
+    pub place: usize,
+    pub stage: WriteStage,
+    pub end: Option<TaskEnd>,
+}
 
 /// A magic attempt's write of its files, in the script's order: each is an upload that is not completed, with
 /// a marker and a record below the attempt's directory. (Hadoop, S3A committer architecture.)
-#[derive(Drop)]
-pub struct WriteFiles {
-    alloc: Global,
-    plan: TaskPlan,
-    dir: S3Path,
-    turned: Turned,
+pub type WriteFiles = TaskMachine<TheWrite, Writing>;
+
+/// The end of a write of which nothing was sent yet: without files it is done. Takes no memory.
+fn done_if_none(plan: &TaskPlan) -> Option<TaskEnd>
+    ensures { result ≡ done_if_none plan.now.files }
+{
+    if plan.files.len() == 0 {
+        Some(TaskEnd::Done)
+    } else {
+        None
+    }
 }
 
-impl Model for WriteFiles {
-    ghost use Rattle.job_operations.specs.AtWork.{Attempting};
-    ghost use Rattle.job_operations.specs.Writes.{Write};
-    ghost use Rattle.task_requests.specs.Writing.{seen_write, IsWrite};
-
-    ghost Value = { Attempting Write };
-
-    ghost view = { λ w. seen_write w.plan w.turned.place w.turned.stage w.turned.end };
-
-    ghost invariant = { λ w. IsWrite w.plan w.dir w.turned.place w.turned.stage w.turned.end w.turned.asked };
-}
-
-impl WriteFiles {
-    /// A write of which nothing was sent yet.
-    pub fn new(alloc: Global, plan: TaskPlan) -> Result<WriteFiles, AllocError>
-        requires { plan.job.committer ≡ Magic }
-        ensures { IfOk result (λ m. m ≡ record { plan = plan; operation = write_start (task_script plan) (who_of plan) }) }
+impl Writing {
+    /// Goes where a step led, and gives what is asked next. Takes no memory.
+    fn turn_to(&mut self, turned: Turned) -> Option<Request>
+        ensures asked { result ≡ turned.asked }
+        ensures goes { self.new ≡ record { dir = self.old.dir; place = turned.place; stage = turned.stage; end = turned.end } }
     {
-        let dir = directory(alloc, &plan)?;
-        match turn(alloc, &plan, &dir, 0, WriteStage::Creating) {
-            Ok(turned) => Ok(WriteFiles {
-                alloc,
-                plan,
-                dir,
-                turned,
-            }),
+        let Turned {
+            place,
+            stage,
+            end,
+            asked,
+        } = turned;
+        self.place = place;
+        self.stage = stage;
+        put(&mut self.end, end);
+        asked
+    }
+}
+
+impl Holds<TheWrite> for Writing {
+    ghost goes_by = { λ plan. plan.job.committer ≡ Magic };
+
+    ghost keeps = { Keeps };
+
+    ghost operation = { operation_of };
+
+    fn begin(alloc: Global, plan: &TaskPlan) -> Result<Writing, AllocError> {
+        let dir = directory(alloc, plan)?;
+        Ok(Writing {
+            dir,
+            place: 0,
+            stage: WriteStage::Creating,
+            end: done_if_none(plan),
+        })
+    }
+
+    fn ask(&self, alloc: Global, plan: &TaskPlan) -> NextRequest {
+        match &self.end {
+            Some(_) => Ok(None),
+            None => ask(alloc, plan, &self.dir, self.place, self.stage),
+        }
+    }
+
+    fn hear(
+        &mut self,
+        alloc: Global,
+        plan: &mut TaskPlan,
+        reply: &Reply,
+        repeated: bool,
+    ) -> NextRequest {
+        let _ = repeated;
+        match advance(alloc, plan, &self.dir, self.place, self.stage, reply) {
+            Ok(turned) => Ok(self.turn_to(turned)),
             Err(error) => Err(error),
         }
     }
 
-    /// The plan as this write leaves it. Takes no memory.
-    pub fn plan(&self) -> &TaskPlan
-        ensures { result.now ≡ self.now.plan }
+    fn wear(&mut self, plan: &mut TaskPlan) {
+        let _ = plan;
+        self.finish(TaskEnd::StoreFault);
+    }
+
+    fn finish(&mut self, end: TaskEnd)
+        ensures { self.new ≡ record { dir = self.old.dir; place = self.old.place; stage = self.old.stage; end = Some end } }
     {
-        &self.plan
+        put(&mut self.end, Some(end));
     }
 
-    /// Gives the plan back as this write leaves it. Takes no memory.
-    pub fn into_plan(self) -> TaskPlan
-        ensures { result ≡ self.plan }
-    {
-        let WriteFiles {
-            alloc: _,
-            plan,
-            dir: _,
-            turned,
-        } = self;
-        let_go(turned);
-        plan
-    }
-
-    /// How it ended, or None while something is asked. Takes no memory.
-    pub fn end(&self) -> Option<&TaskEnd>
-        ensures { option_copied result ≡ write_over self.now.operation }
-    {
-        self.turned.end.as_ref()
-    }
-
-    fn stop(&mut self, end: TaskEnd)
-        ensures { self.new ≡ record { plan = self.old.plan; operation = WriteOver end } }
-    {
-        put(&mut self.turned.asked, None);
-        put(&mut self.turned.end, Some(end));
-    }
-}
-
-impl Machine for WriteFiles {
-    ghost wants = { write_wants };
-
-    ghost after = { write_told };
-
-    ghost fits = { write_fits };
-
-    ghost ready = { never };
-
-    ghost left = { write_left };
-
-    ghost standing = { write_standing };
-
-    ghost laws = { write_laws };
-
-    fn request(&self) -> Option<&Request> {
-        self.turned.asked.as_ref()
-    }
-
-    fn take(&mut self, reply: &Reply, repeated: bool) -> Result<(), AllocError> {
-        let _ = repeated;
-        match advance(
-            self.alloc,
-            &mut self.plan,
-            &self.dir,
-            self.turned.place,
-            self.turned.stage,
-            &self.turned.asked,
-            reply,
-        ) {
-            Ok(turned) => {
-                put(&mut self.turned, turned);
-                Ok(())
-            }
-            Err(error) => {
-                put(&mut self.turned.asked, None);
-                put(&mut self.turned.end, Some(TaskEnd::NoMemory));
-                Err(error)
-            }
-        }
-    }
-
-    fn worn(&mut self) -> Result<(), AllocError> {
-        self.stop(TaskEnd::StoreFault);
-        Ok(())
+    fn end(&self, plan: &TaskPlan) -> Option<&TaskEnd> {
+        let _ = plan;
+        self.end.as_ref()
     }
 }

@@ -1,5 +1,5 @@
 -- What a staged commit asks, and where replies lead it.
-use Rattle.std.proofs.Common.{◌≡◌, ℕ, suc, ◌+◌, ◌<◌, ◌≤◌, ◌&&◌, nat_le, nat_lt, cond, Bool, true, false, List, [], ◌∷◌, ◌++◌, length, take, drop, get_or, slice_get, Option, Some, None, Result, Ok, Err, OnOk, refl, sym, ap, subst, ◌∙◌, arith, length-drop}
+use Rattle.std.proofs.Common.{◌≡◌, ℕ, suc, ◌+◌, ◌<◌, ◌≤◌, ◌&&◌, nat_le, nat_lt, cond, Bool, true, false, List, [], ◌∷◌, ◌++◌, length, take, drop, get_or, slice_get, Option, Some, None, Result, Ok, Err, OnOk, OnErr, refl, sym, ap, subst, ◌∙◌, arith, length-drop}
 use Rattle.std.proofs.lemmas.Bool.{true≢false}
 use Rattle.std.proofs.lemmas.List.{drop_all, take_all}
 use Rattle.proof_base.proofs.Numbers.{at_most_is, at_most_so, below_is, below_not}
@@ -539,6 +539,10 @@ open_fits t s ds place n end r e i hold f = fits_part t s ds place n end r e i (
 part_reply : (r : Reply) (tag : Spelled) → Some tag ≡ tag_in r → Part tag ≡ r
 part_reply (Part x) tag e = let same : tag ≡ x = cc in ap Part same
 part_reply _ tag e = absurd (cc)
+
+pub at_err : {X E : Type 0} (r : Result X E) (P : Type 0) → P → OnErr r P
+at_err (Ok x) P h = tt
+at_err (Err x) P h = h
 
 pub at_ok : {X E : Type 0} (r : Result X E) (P : Type 0) → P → OnOk r P
 at_ok (Ok x) P h = h

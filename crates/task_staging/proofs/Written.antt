@@ -1,5 +1,5 @@
 -- A staging attempt's write is done as it begins.
-use Rattle.std.proofs.Common.{◌≡◌, refl, sym, subst}
+use Rattle.std.proofs.Common.{◌≡◌, refl}
 use Rattle.std.specs.Prelude.{IsSome}
 use Rattle.std.proofs.lemmas.Bool.{false≢true}
 use Rattle.s3_types.specs.declared.request.Committer.{Committer}
@@ -7,10 +7,11 @@ use Rattle.s3_types.specs.declared.request.Committer.TheVariants.{Magic, Directo
 use Rattle.job_model.specs.Jobs.{Task}
 use Rattle.job_model.specs.declared.ends.TaskEnd.{TaskEnd}
 use Rattle.job_model.specs.declared.ends.TaskEnd.TheVariants as ends
-use Rattle.job_operations.specs.AtWork.{Attempting, task_script, who_of, write_wants}
+use Rattle.job_operations.specs.AtWork.{task_script, who_of, write_wants}
 use Rattle.job_operations.specs.Outputs.{files}
 use Rattle.job_operations.specs.Writes as writes
 use Rattle.job_operations.specs.Writes.{write_start, write_start_by}
+use Rattle.task_machines.specs.Tasks.{at}
 
 pub start_is : (t : Task) → (t.job.committer ≡ Magic → ⊥) → writes.WriteOver ends.Done ≡ write_start (task_script t) (who_of t)
 start_is t n = by t.job.committer n
@@ -21,5 +22,5 @@ start_is t n = by t.job.committer n
     by Partitioned h = refl
 
 -- nothing is asked
-pub asks_none : (t : Task) (end : TaskEnd) (m : Attempting writes.Write) → (let n : Attempting writes.Write = record { plan = t; operation = writes.WriteOver end } in n ≡ m) → IsSome (write_wants m) → ⊥
-asks_none t end m e h = false≢true (subst (λ (x : Attempting writes.Write). IsSome (write_wants x)) (sym e) h)
+pub asks_none : (t : Task) (end : TaskEnd) → IsSome (write_wants (at t (writes.WriteOver end))) → ⊥
+asks_none t end h = false≢true h

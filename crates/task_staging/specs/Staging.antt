@@ -1,12 +1,13 @@
 -- A commit of a staging attempt, by the partitions that are left to check, the records of the files that are uploaded, and how far the next file has come.
-use Rattle.std.specs.Prelude.{◌≡◌, ℕ, ◌<◌, ◌&&◌, nat_le, Bool, true, false, List, [], ◌∷◌, take, drop, length, get_or, Option, Some, None}
+use Rattle.std.specs.Prelude.{◌≡◌, ℕ, ◌<◌, ◌&&◌, nat_le, Bool, true, false, List, [], ◌∷◌, take, drop, length, get_or, Option, Some, None, Result, IfOk, OnOk, OnErr}
 use Rattle.serde_json.specs.Written.{compact_text}
-use Rattle.s3_types.specs.Tags.{Spelled}
+use Rattle.s3_types.specs.Tags.{Spelled, is_plain_tag}
 use Rattle.s3_types.specs.declared.request.Request.{Request}
 use Rattle.s3_types.specs.declared.request.Request.TheVariants.{CreateUpload, ClusterPut}
 use Rattle.s3_types.specs.declared.reply.Reply.{Reply}
 use Rattle.s3_types.specs.declared.reply.Reply.TheVariants.{Refused}
 use Rattle.s3_types.specs.declared.reply.Refusal.TheVariants.{NoSuchFile}
+use Rattle.sendings.specs.Retries.{Got}
 use Rattle.pending_json.specs.Trees.{set_tree}
 use Rattle.pending_json.specs.declared.records.PendingSet.{PendingSet}
 use Rattle.job_model.specs.Files.{File}
@@ -14,13 +15,14 @@ use Rattle.job_model.specs.Jobs.{Task}
 use Rattle.job_model.specs.Known.{Drawn, Known}
 use Rattle.job_model.specs.JobScript.{Script}
 use Rattle.job_model.specs.declared.ends.TaskEnd.{TaskEnd}
-use Rattle.job_operations.specs.AtWork.{Attempting, task_script, who_of}
+use Rattle.job_model.specs.declared.known.DrawnPart.{DrawnPart}
+use Rattle.job_operations.specs.AtWork.{Attempting, task_script, who_of, task_commit_wants, task_commit_told}
 use Rattle.job_operations.specs.Records.{file_key, files_set}
 use Rattle.job_operations.specs.Uploading.{Sending, file_parts}
 use Rattle.job_operations.specs.TaskCommits as commits
 use Rattle.job_operations.specs.TaskCommits.{TaskCommit, Checking, Storing, Renaming, TaskCommitOver, storing, temporary_path}
 use Rattle.conflict.specs.Checks.{is_none}
-use Rattle.task_requests.specs.Writing.{HasSent, parts_in, with_tag}
+use Rattle.task_requests.specs.Writing.{HasSent, part_behind, parts_in, with_tag}
 use Rattle.task_staging.specs.declared.staging.Stage.{Stage}
 use Rattle.task_staging.specs.declared.staging.Stage.TheVariants as stages
 use Rattle.task_staging.specs.declared.staging.Staging.{Staging}
@@ -95,6 +97,26 @@ Keeps t h = KeepsBy t h h.end
 pub record IsLastPart (t : Task) (place : ℕ) (tag : Spelled) (size : ℕ) : Type 0 where
   pub within : place < length t.files
   pub sent : let f = get_or t.files place ([], []) in HasSent (with_tag t.known tag size).drawn (parts_in t f)
+
+-- ---- what holds before a reply, and what is due behind it
+
+-- it has come to this stage, and has not ended
+pub record IsAt (t : Task) (h : Staging) (s : Stage) : Type 0 where
+  pub stage : h.stage ≡ s
+  pub end : h.end ≡ None
+  pub keeps : Keeps t h
+
+-- the part behind so many others of the file at a place came back
+pub record CameBack (t : Task) (place sent : ℕ) (part : DrawnPart) : Type 0 where
+  pub size : let f = get_or t.files place ([], []) in part.size ≡ length (part_behind t f.1 sent)
+  pub plain : is_plain_tag part.tag ≡ true
+
+-- it went where a reply leads, what is kept still is, and what is asked next was given; after want of memory the plan is as before
+pub record Heard {E : Type 0} (t u : Task) (h g : Staging) (r : Reply) (result : Result (Option Request) E) : Type 0 where
+  pub keeps : OnOk result (Keeps u g)
+  pub told : OnOk result ((b : Bool) → seen u g ≡ task_commit_told (seen t h) (Got r b))
+  pub next : IfOk result (λ request. request ≡ task_commit_wants (seen u g))
+  pub err : OnErr result (u ≡ t)
 
 -- ---- requests and replies
 

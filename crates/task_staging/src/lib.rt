@@ -3,14 +3,12 @@
 //! committers.)
 #![tactic(auto)]
 
-mod abort;
-mod commit;
 mod opening;
 mod requests;
 mod staging;
 mod undoing;
 mod write;
 
-pub use abort::AbortTask;
-pub use commit::CommitTask;
-pub use write::WriteFiles;
+pub use staging::{CommitTask, Staging};
+pub use undoing::{AbortTask, Undoing};
+pub use write::{Keeping, WriteFiles};

@@ -5,12 +5,12 @@ ghost use Rattle.sendings.specs.Retries.{Got, WornOut};
 ghost use Rattle.job_operations.specs.AtWork.{task_script, who_of, task_commit_wants, task_commit_told, with_known};
 ghost use Rattle.job_operations.specs.Records.{file_key, file_record};
 ghost use Rattle.job_operations.specs.Knowledge.{drawn_last};
-ghost use Rattle.job_operations.specs.TaskCommits.{TaskCommitOver, renamed, task_commit_start};
+ghost use Rattle.job_operations.specs.TaskCommits.{TaskCommitOver, renamed};
 ghost use Rattle.conflict.specs.Checks.{is_none};
 ghost use Rattle.s3_types.specs.declared.reply.Reply.TheVariants.{Part};
 ghost use Rattle.task_requests.specs.Writing.{next_stage, one_more, part_behind, parts_in};
 ghost use Rattle.task_laws.specs.Commits.{commit_fits};
-ghost use Rattle.task_staging.specs.Staging.{commit_of, seen, Keeps, IsLastPart, is_no_file, stores, worn_known};
+ghost use Rattle.task_staging.specs.Staging.{commit_of, seen, Keeps, IsAt, CameBack, Heard, IsLastPart, is_no_file, stores, worn_known};
 
 use crate::opening::to_check;
 use crate::requests::{check_request, next_request, part_request, rename_request, temporary};
@@ -20,6 +20,7 @@ use job_model::{DrawnPart, TaskEnd, TaskPlan};
 use pending_json::{PendingSet, PendingUpload};
 use s3_types::{Refusal, Reply, Sequence, Tag, put};
 use std::alloc::{AllocError, Global};
+use task_machines::{Holds, TaskMachine, TheCommit};
 use task_requests::{
     WriteStage, begin_upload, behind, file_at, job_of, last_drawn, note_part, pending_with, tag_in,
     target, upload_in,
@@ -47,6 +48,14 @@ pub struct Staging {
     pub stage: Stage,
     pub end: Option<TaskEnd>,
 }
+
+/// A staging attempt's commit of its task. For the partitioned committer with the mode `fail` it looks for a key below
+/// each partition that it writes, and a key ends it with Conflict; then it uploads its files, in the script's order, puts
+/// the set of their uploads into its temporary file in the cluster's file system, and renames that to the task's set,
+/// which publishes it. A rename that finds nothing counts as done where it is a repeated one. Gone comes with the key of
+/// an upload that is not there, or with the path of the temporary file. (Hadoop, S3A committer architecture: task
+/// commit.)
+pub type CommitTask = TaskMachine<TheCommit, Staging>;
 
 fn is_no_file(reply: &Reply) -> bool
     ensures { result ≡ is_no_file reply.now }
@@ -133,41 +142,9 @@ fn behind_at(plan: &TaskPlan, place: usize, sent: u64) -> (WriteStage, u64)
 }
 
 impl Staging {
-    /// A commit of which nothing was sent yet.
-    pub fn new(alloc: Global, plan: &TaskPlan) -> Result<Staging, AllocError>
-        requires { plan.now.job.committer ≡ Magic → ⊥ }
-        ensures start { IfOk result (λ h. commit_of plan.now h ≡ task_commit_start (task_script plan.now) (who_of plan.now)) }
-        ensures keeps { IfOk result (λ h. Keeps plan.now h) }
-    {
-        let partitions = to_check(alloc, plan)?;
-        let job = job_of(plan).job.clone()?;
-        let set = PendingSet {
-            job,
-            task: plan.task,
-            attempt: plan.attempt,
-            commits: Sequence::new(alloc),
-        };
-        Ok(Staging {
-            checks: CheckAbsent::new(partitions),
-            set,
-            place: 0,
-            stage: Stage::Opening,
-            end: None,
-        })
-    }
-
-    /// Ends it. Takes no memory.
-    pub fn finish(&mut self, end: TaskEnd)
-        ensures { self.new ≡ record { checks = self.old.checks; set = self.old.set; place = self.old.place; stage = self.old.stage; end = Some end } }
-    {
-        put(&mut self.end, Some(end));
-    }
-
     /// The next request while no upload is begun.
     fn open_request(&self, alloc: Global, plan: &TaskPlan) -> NextRequest
-        requires stage { self.now.stage ≡ Stage.Opening }
-        requires end { self.now.end ≡ None }
-        requires keeps { Keeps plan.now self.now }
+        requires { IsAt plan.now self.now Stage.Opening }
         ensures { IfOk result (λ request. request ≡ task_commit_wants (seen plan.now self.now)) }
     {
         if !self.checks.is_over() {
@@ -181,9 +158,7 @@ impl Staging {
 
     /// The next request while a file is uploaded.
     fn part_request(&self, alloc: Global, plan: &TaskPlan, sent: u64) -> NextRequest
-        requires stage { self.now.stage ≡ Stage.Sending sent }
-        requires end { self.now.end ≡ None }
-        requires keeps { Keeps plan.now self.now }
+        requires { IsAt plan.now self.now (Stage.Sending sent) }
         ensures { IfOk result (λ request. request ≡ task_commit_wants (seen plan.now self.now)) }
     {
         match part_request(alloc, plan, self.place, sent) {
@@ -194,8 +169,7 @@ impl Staging {
 
     /// The next request once the set is put.
     fn rename_request(&self, alloc: Global, plan: &TaskPlan) -> NextRequest
-        requires stage { self.now.stage ≡ Stage.Renaming }
-        requires end { self.now.end ≡ None }
+        requires { IsAt plan.now self.now Stage.Renaming }
         ensures { IfOk result (λ request. request ≡ task_commit_wants (seen plan.now self.now)) }
     {
         match rename_request(alloc, plan) {
@@ -204,52 +178,28 @@ impl Staging {
         }
     }
 
-    /// The next request, or None where it is over.
-    pub fn request(&self, alloc: Global, plan: &TaskPlan) -> NextRequest
-        requires { Keeps plan.now self.now }
-        ensures { IfOk result (λ request. request ≡ task_commit_wants (seen plan.now self.now)) }
-    {
-        let None = &self.end else {
-            return Ok(None);
-        };
-        match self.stage {
-            Stage::Opening => self.open_request(alloc, plan),
-            Stage::Sending(sent) => self.part_request(alloc, plan, sent),
-            Stage::Renaming => self.rename_request(alloc, plan),
-        }
-    }
-
     /// The look below a partition was answered.
     fn hear_check(&mut self, alloc: Global, plan: &TaskPlan, reply: &Reply) -> NextRequest
-        requires stage { self.old.stage ≡ Stage.Opening }
-        requires end { self.old.end ≡ None }
+        requires at { IsAt plan.now self.old Stage.Opening }
         requires some { is_none self.old.checks ≡ false }
-        requires keeps { Keeps plan.now self.old }
-        ensures keeps { OnOk result (Keeps plan.now self.new) }
-        ensures told { OnOk result ((b : Bool) → seen plan.now self.new ≡ task_commit_told (seen plan.now self.old) (Got reply.now b)) }
-        ensures next { IfOk result (λ request. request ≡ task_commit_wants (seen plan.now self.new)) }
+        ensures { Heard plan.now plan.now self.old self.new reply.now result }
     {
         match self.checks.hear(reply)? {
             Some(partition) => {
                 self.finish(TaskEnd::Conflict(partition));
                 Ok(None)
             }
-            None => self.request(alloc, plan),
+            None => self.ask(alloc, plan),
         }
     }
 
     /// The upload of the next file is begun.
     fn hear_upload(&mut self, alloc: Global, plan: &mut TaskPlan, reply: &Reply) -> NextRequest
-        requires stage { self.old.stage ≡ Stage.Opening }
-        requires end { self.old.end ≡ None }
+        requires at { IsAt plan.old self.old Stage.Opening }
         requires none { is_none self.old.checks ≡ true }
         requires within { self.old.place < length plan.old.files }
-        requires keeps { Keeps plan.old self.old }
         requires fits { commit_fits (seen plan.old self.old) reply.now false }
-        ensures keeps { OnOk result (Keeps plan.new self.new) }
-        ensures told { OnOk result ((b : Bool) → seen plan.new self.new ≡ task_commit_told (seen plan.old self.old) (Got reply.now b)) }
-        ensures next { IfOk result (λ request. request ≡ task_commit_wants (seen plan.new self.new)) }
-        ensures err { OnErr result (plan.new ≡ plan.old) }
+        ensures { Heard plan.old plan.new self.old self.new reply.now result }
     {
         let _ = job_of(plan);
         let Some(upload) = upload_in(reply) else {
@@ -266,15 +216,10 @@ impl Staging {
 
     /// The set is put.
     fn hear_stored(&mut self, alloc: Global, plan: &mut TaskPlan, reply: &Reply) -> NextRequest
-        requires stage { self.old.stage ≡ Stage.Opening }
-        requires end { self.old.end ≡ None }
+        requires at { IsAt plan.old self.old Stage.Opening }
         requires none { is_none self.old.checks ≡ true }
         requires behind { length plan.old.files ≤ self.old.place }
-        requires keeps { Keeps plan.old self.old }
-        ensures keeps { OnOk result (Keeps plan.new self.new) }
-        ensures told { OnOk result ((b : Bool) → seen plan.new self.new ≡ task_commit_told (seen plan.old self.old) (Got reply.now b)) }
-        ensures next { IfOk result (λ request. request ≡ task_commit_wants (seen plan.new self.new)) }
-        ensures err { OnErr result (plan.new ≡ plan.old) }
+        ensures { Heard plan.old plan.new self.old self.new reply.now result }
     {
         let _ = reply;
         match rename_request(alloc, plan) {
@@ -295,16 +240,10 @@ impl Staging {
         sent: u64,
         part: &DrawnPart,
     ) -> NextRequest
-        requires end { self.old.end ≡ None }
-        requires sending { self.old.stage ≡ Stage.Sending sent }
+        requires at { IsAt plan.old self.old (Stage.Sending sent) }
         requires more { sent + 1 < length (parts_in plan.old (get_or plan.old.files self.old.place ([], []))) }
-        requires size { let f = get_or plan.old.files self.old.place ([], []) in part.now.size ≡ length (part_behind plan.old f.1 sent) }
-        requires plain { is_plain_tag part.now.tag ≡ true }
-        requires keeps { Keeps plan.old self.old }
-        ensures keeps { OnOk result (Keeps plan.new self.new) }
-        ensures told { OnOk result ((b : Bool) → seen plan.new self.new ≡ task_commit_told (seen plan.old self.old) (Got (Part part.now.tag) b)) }
-        ensures next { IfOk result (λ request. request ≡ task_commit_wants (seen plan.new self.new)) }
-        ensures err { OnErr result (plan.new ≡ plan.old) }
+        requires part { CameBack plan.old self.old.place sent part.now }
+        ensures { Heard plan.old plan.new self.old self.new (Part part.now.tag) result }
     {
         let _ = job_of(plan);
         let asked = part_request(alloc, plan, self.place, sent + 1)?;
@@ -325,16 +264,10 @@ impl Staging {
         sent: u64,
         part: &DrawnPart,
     ) -> NextRequest
-        requires end { self.old.end ≡ None }
-        requires sending { self.old.stage ≡ Stage.Sending sent }
+        requires at { IsAt plan.old self.old (Stage.Sending sent) }
         requires last { length (parts_in plan.old (get_or plan.old.files self.old.place ([], []))) ≤ sent + 1 }
-        requires size { let f = get_or plan.old.files self.old.place ([], []) in part.now.size ≡ length (part_behind plan.old f.1 sent) }
-        requires plain { is_plain_tag part.now.tag ≡ true }
-        requires keeps { Keeps plan.old self.old }
-        ensures keeps { OnOk result (Keeps plan.new self.new) }
-        ensures told { OnOk result ((b : Bool) → seen plan.new self.new ≡ task_commit_told (seen plan.old self.old) (Got (Part part.now.tag) b)) }
-        ensures next { IfOk result (λ request. request ≡ task_commit_wants (seen plan.new self.new)) }
-        ensures err { OnErr result (plan.new ≡ plan.old) }
+        requires part { CameBack plan.old self.old.place sent part.now }
+        ensures { Heard plan.old plan.new self.old self.new (Part part.now.tag) result }
     {
         let _ = job_of(plan);
         let record = last_record(alloc, plan, self.place, part)?;
@@ -353,14 +286,9 @@ impl Staging {
 
     /// A part came back.
     fn add_part(&mut self, alloc: Global, plan: &mut TaskPlan, sent: u64, tag: Tag) -> NextRequest
-        requires end { self.old.end ≡ None }
-        requires sending { self.old.stage ≡ Stage.Sending sent }
+        requires at { IsAt plan.old self.old (Stage.Sending sent) }
         requires plain { is_plain_tag tag ≡ true }
-        requires keeps { Keeps plan.old self.old }
-        ensures keeps { OnOk result (Keeps plan.new self.new) }
-        ensures told { OnOk result ((b : Bool) → seen plan.new self.new ≡ task_commit_told (seen plan.old self.old) (Got (Part tag) b)) }
-        ensures next { IfOk result (λ request. request ≡ task_commit_wants (seen plan.new self.new)) }
-        ensures err { OnErr result (plan.new ≡ plan.old) }
+        ensures { Heard plan.old plan.new self.old self.new (Part tag) result }
     {
         let (stage, size) = behind_at(plan, self.place, sent);
         let part = DrawnPart { tag, size };
@@ -378,14 +306,9 @@ impl Staging {
         sent: u64,
         reply: &Reply,
     ) -> NextRequest
-        requires end { self.old.end ≡ None }
-        requires sending { self.old.stage ≡ Stage.Sending sent }
-        requires keeps { Keeps plan.old self.old }
+        requires at { IsAt plan.old self.old (Stage.Sending sent) }
         requires fits { commit_fits (seen plan.old self.old) reply.now false }
-        ensures keeps { OnOk result (Keeps plan.new self.new) }
-        ensures told { OnOk result ((b : Bool) → seen plan.new self.new ≡ task_commit_told (seen plan.old self.old) (Got reply.now b)) }
-        ensures next { IfOk result (λ request. request ≡ task_commit_wants (seen plan.new self.new)) }
-        ensures err { OnErr result (plan.new ≡ plan.old) }
+        ensures { Heard plan.old plan.new self.old self.new reply.now result }
     {
         match tag_in(reply) {
             Some(tag) => self.add_part(alloc, plan, sent, tag),
@@ -405,8 +328,7 @@ impl Staging {
         reply: &Reply,
         repeated: bool,
     ) -> NextRequest
-        requires stage { self.old.stage ≡ Stage.Renaming }
-        requires end { self.old.end ≡ None }
+        requires { IsAt plan.old self.old Stage.Renaming }
         ensures keeps { OnOk result (Keeps plan.new self.new) }
         ensures told { OnOk result (seen plan.new self.new ≡ task_commit_told (seen plan.old self.old) (Got reply.now repeated)) }
         ensures next { IfOk result (λ request. request ≡ task_commit_wants (seen plan.new self.new)) }
@@ -420,14 +342,9 @@ impl Staging {
 
     /// What was asked while no upload is begun was answered.
     fn hear_opening(&mut self, alloc: Global, plan: &mut TaskPlan, reply: &Reply) -> NextRequest
-        requires stage { self.old.stage ≡ Stage.Opening }
-        requires end { self.old.end ≡ None }
-        requires keeps { Keeps plan.old self.old }
+        requires at { IsAt plan.old self.old Stage.Opening }
         requires fits { commit_fits (seen plan.old self.old) reply.now false }
-        ensures keeps { OnOk result (Keeps plan.new self.new) }
-        ensures told { OnOk result ((b : Bool) → seen plan.new self.new ≡ task_commit_told (seen plan.old self.old) (Got reply.now b)) }
-        ensures next { IfOk result (λ request. request ≡ task_commit_wants (seen plan.new self.new)) }
-        ensures err { OnErr result (plan.new ≡ plan.old) }
+        ensures { Heard plan.old plan.new self.old self.new reply.now result }
     {
         if !self.checks.is_over() {
             return self.hear_check(alloc, plan, reply);
@@ -438,9 +355,9 @@ impl Staging {
         self.hear_stored(alloc, plan, reply)
     }
 
-    /// Takes the reply to its present request, and gives the next one. After want of memory the plan is as before, and
-    /// the commit is to be ended.
-    pub fn hear(
+    /// Goes where the reply to its present request leads. After want of memory the plan is as before, and the commit is
+    /// to be ended.
+    fn go_on(
         &mut self,
         alloc: Global,
         plan: &mut TaskPlan,
@@ -476,8 +393,7 @@ impl Staging {
 
     /// Tells the plan of what was sent while no upload is begun. Takes no memory.
     fn tell_opening(&self, plan: &mut TaskPlan)
-        requires stage { self.now.stage ≡ Stage.Opening }
-        requires end { self.now.end ≡ None }
+        requires { IsAt plan.old self.now Stage.Opening }
         ensures { plan.new ≡ with_known plan.old (worn_known (commit_of plan.old self.now) plan.old.known) }
     {
         if !self.stores(plan) {
@@ -500,14 +416,73 @@ impl Staging {
             Stage::Renaming => tell_rename(plan),
         }
     }
+}
 
-    /// Takes it that its present request wore out. Takes no memory.
-    pub fn wear(&mut self, plan: &mut TaskPlan)
-        requires { Keeps plan.old self.old }
-        ensures keeps { Keeps plan.new self.new }
-        ensures told { seen plan.new self.new ≡ task_commit_told (seen plan.old self.old) WornOut }
-    {
+impl Holds<TheCommit> for Staging {
+    ghost goes_by = { λ plan. plan.job.committer ≡ Magic → ⊥ };
+
+    ghost keeps = { Keeps };
+
+    ghost operation = { commit_of };
+
+    fn begin(alloc: Global, plan: &TaskPlan) -> Result<Staging, AllocError> {
+        let partitions = to_check(alloc, plan)?;
+        let job = job_of(plan).job.clone()?;
+        let set = PendingSet {
+            job,
+            task: plan.task,
+            attempt: plan.attempt,
+            commits: Sequence::new(alloc),
+        };
+        Ok(Staging {
+            checks: CheckAbsent::new(partitions),
+            set,
+            place: 0,
+            stage: Stage::Opening,
+            end: None,
+        })
+    }
+
+    fn ask(&self, alloc: Global, plan: &TaskPlan) -> NextRequest {
+        let None = &self.end else {
+            return Ok(None);
+        };
+        match self.stage {
+            Stage::Opening => self.open_request(alloc, plan),
+            Stage::Sending(sent) => self.part_request(alloc, plan, sent),
+            Stage::Renaming => self.rename_request(alloc, plan),
+        }
+    }
+
+    fn hear(
+        &mut self,
+        alloc: Global,
+        plan: &mut TaskPlan,
+        reply: &Reply,
+        repeated: bool,
+    ) -> NextRequest {
+        match self.go_on(alloc, plan, reply, repeated) {
+            Ok(next) => Ok(next),
+            Err(error) => {
+                self.finish(TaskEnd::NoMemory);
+                Err(error)
+            }
+        }
+    }
+
+    fn wear(&mut self, plan: &mut TaskPlan) {
         self.tell_sent(plan);
         self.finish(TaskEnd::StoreFault);
+    }
+
+    fn finish(&mut self, end: TaskEnd)
+        ensures { self.new ≡ record { checks = self.old.checks; set = self.old.set; place = self.old.place; stage = self.old.stage; end = Some end } }
+    {
+        put(&mut self.end, Some(end));
+    }
+
+    fn end(&self, plan: &TaskPlan) -> Option<&TaskEnd> {
+        let _ = plan;
+        self.end.as_ref()
     }
 }

@@ -2,14 +2,16 @@ ghost use Rattle.std.specs.Prelude.{◌≡◌, IfOk, Some};
 ghost use Rattle.s3_types.specs.declared.request.Request.TheVariants.{ClusterDelete};
 ghost use Rattle.job_operations.specs.AtWork.{task_script, who_of};
 ghost use Rattle.job_operations.specs.TaskCommits.{temporary_path};
-ghost use Rattle.job_operations.specs.TaskAborts.{task_abort_start, task_abort_asks, task_abort_hears};
+ghost use Rattle.job_operations.specs.TaskAborts.{task_abort_hears};
 ghost use Rattle.s3_types.specs.declared.request.Committer.TheVariants.{Magic};
 ghost use Rattle.task_staging.specs.Undoing.{abort_of, done_at, end_at};
 
 use crate::requests::temporary;
+use asking::NextRequest;
 use job_model::{TaskEnd, TaskPlan};
 use s3_types::{Reply, Request, put};
 use std::alloc::{AllocError, Global};
+use task_machines::{Holds, TaskMachine, TheAbort};
 use task_requests::{abort_request, bucket_of, made};
 
 /// An abort as it goes on: how many of the uploads are aborted, and how it ended.
@@ -18,6 +20,11 @@ pub struct Undoing {
     pub at: usize,
     pub end: Option<TaskEnd>,
 }
+
+/// A staging attempt's abort of its task. An attempt that has sent its publishing request ends Kept and sends
+/// nothing. Any other aborts its uploads, in the order of their making, and then deletes its temporary file, where it
+/// has sent the put of it. (Hadoop, S3A committer architecture: task abort.)
+pub type AbortTask = TaskMachine<TheAbort, Undoing>;
 
 /// The deletion of the attempt's temporary file.
 fn remove_request(alloc: Global, plan: &TaskPlan) -> Result<Option<Request>, AllocError>
@@ -53,32 +60,8 @@ fn end_at(plan: &TaskPlan) -> Option<TaskEnd>
 }
 
 impl Undoing {
-    /// An abort of which nothing was sent yet. Takes no memory.
-    pub fn new(plan: &TaskPlan) -> Undoing
-        requires { plan.now.job.committer ≡ Magic → ⊥ }
-        ensures { abort_of plan.now result ≡ task_abort_start (task_script plan.now) plan.now.known }
-    {
-        Undoing {
-            at: 0,
-            end: end_at(plan),
-        }
-    }
-
-    /// The next request, or None where it is over.
-    pub fn request(&self, alloc: Global, plan: &TaskPlan) -> Result<Option<Request>, AllocError>
-        ensures { IfOk result (λ request. request ≡ task_abort_asks (task_script plan.now) (who_of plan.now) (abort_of plan.now self.now)) }
-    {
-        let None = &self.end else {
-            return Ok(None);
-        };
-        match made(&plan.known).get(self.at) {
-            Some(drawn) => abort_request(bucket_of(plan), drawn),
-            None => remove_request(alloc, plan),
-        }
-    }
-
     /// Its present request was answered. Takes no memory.
-    pub fn hear(&mut self, plan: &TaskPlan, reply: &Reply)
+    fn go_on(&mut self, plan: &TaskPlan, reply: &Reply)
         requires { plan.now.job.committer ≡ Magic → ⊥ }
         ensures { abort_of plan.now self.new ≡ task_abort_hears (task_script plan.now) (abort_of plan.now self.old) reply.now }
     {
@@ -93,11 +76,58 @@ impl Undoing {
             self.finish(TaskEnd::Done);
         }
     }
+}
 
-    /// Ends it. Takes no memory.
-    pub fn finish(&mut self, end: TaskEnd)
+impl Holds<TheAbort> for Undoing {
+    ghost goes_by = { λ plan. plan.job.committer ≡ Magic → ⊥ };
+
+    ghost keeps = { λ plan _. plan.job.committer ≡ Magic → ⊥ };
+
+    ghost operation = { abort_of };
+
+    fn begin(alloc: Global, plan: &TaskPlan) -> Result<Undoing, AllocError> {
+        let _ = alloc;
+        Ok(Undoing {
+            at: 0,
+            end: end_at(plan),
+        })
+    }
+
+    fn ask(&self, alloc: Global, plan: &TaskPlan) -> NextRequest {
+        let None = &self.end else {
+            return Ok(None);
+        };
+        match made(&plan.known).get(self.at) {
+            Some(drawn) => abort_request(bucket_of(plan), drawn),
+            None => remove_request(alloc, plan),
+        }
+    }
+
+    fn hear(
+        &mut self,
+        alloc: Global,
+        plan: &mut TaskPlan,
+        reply: &Reply,
+        repeated: bool,
+    ) -> NextRequest {
+        let _ = repeated;
+        self.go_on(plan, reply);
+        self.ask(alloc, plan)
+    }
+
+    fn wear(&mut self, plan: &mut TaskPlan) {
+        let _ = plan;
+        self.finish(TaskEnd::StoreFault);
+    }
+
+    fn finish(&mut self, end: TaskEnd)
         ensures { self.new ≡ record { at = self.old.at; end = Some end } }
     {
         put(&mut self.end, Some(end));
+    }
+
+    fn end(&self, plan: &TaskPlan) -> Option<&TaskEnd> {
+        let _ = plan;
+        self.end.as_ref()
     }
 }

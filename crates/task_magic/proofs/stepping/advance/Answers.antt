@@ -1,19 +1,13 @@
 use Rattle.std.proofs.Common.{ap, sym, None, false}
 use Rattle.task_requests.specs.Writing.{seen_write}
-use Rattle.task_requests.proofs.Steps.{created_key, created_none, upload_new, upload_some, part_plain, part_none, told_as, marked_as, recorded_as}
+use Rattle.task_requests.proofs.Steps.{upload_new, upload_some, part_plain, part_none, told_as, marked_as, recorded_as}
 use Rattle.task_magic.proofs.stepping.advance.Goals as goal
 
 pub begin-requires-clause-new : goal.begin-requires-clause-new
 begin-requires-clause-new c = upload_new c.args.plan.now c.args.place c.args.stage c.args.reply.now false c.in-Some.upload c.in-Creating.is c.requires.within c.requires.fits c.in-Some.ensures
 
-pub begin-requires-clause-key : goal.begin-requires-clause-key
-begin-requires-clause-key c = created_key c.args.plan.now c.args.place c.args.stage c.args.asked.now c.in-Some-begun_key.key.now c.in-Creating.is c.requires.within c.requires.asked c.in-Some-begun_key.ensures
-
 pub unreachable-requires : goal.unreachable-requires
-unreachable-requires c = created_none c.args.plan.now c.args.place c.args.stage c.args.asked.now c.in-Creating.is c.requires.within c.requires.asked c.in-None-begun_key.ensures
-
-pub unreachable-requires-in-None : goal.unreachable-requires-in-None
-unreachable-requires-in-None c = upload_some c.args.plan.now c.args.place c.args.stage c.args.reply.now false c.in-Creating.is c.requires.within c.requires.fits c.in-None.ensures
+unreachable-requires c = upload_some c.args.plan.now c.args.place c.args.stage c.args.reply.now false c.in-Creating.is c.requires.within c.requires.fits c.in-None.ensures
 
 pub add_part-requires-clause-plain : goal.add_part-requires-clause-plain
 add_part-requires-clause-plain c = part_plain c.args.plan.now c.args.place c.in-Sending.sent c.args.stage c.args.reply.now false c.in-Some-tag_in.tag c.in-Sending.is c.requires.within c.requires.holds c.requires.fits c.in-Some-tag_in.ensures

@@ -1,25 +1,36 @@
-use Rattle.std.proofs.Common.{false, ap, ◌∙◌}
+use Rattle.std.proofs.Common.{refl, false, ap, sym, subst, ◌∙◌}
+use Rattle.job_operations.specs.AtWork.{task_commit_wants}
 use Rattle.task_staging.specs.declared.staging.Staging.{Staging}
-use Rattle.task_staging.specs.Staging.{seen}
-use Rattle.task_staging.proofs.Staged.{keeps_open, holds_open, found_told, passed_told, passed_holds, at_ok}
+use Rattle.task_staging.specs.Staging.{seen, Keeps}
+use Rattle.task_staging.proofs.Staged.{keeps_open, holds_open, found_told, passed_told, passed_holds, at_ok, at_err}
 use Rattle.task_staging.proofs.staging.Staging.hear_check.Goals as goal
 
-pub returns-in-Some-clause-told : goal.returns-in-Some-clause-told
-returns-in-Some-clause-told c =
+pub returns-in-Some : goal.returns-in-Some
+returns-in-Some c =
     let t = c.args.plan.now in
     let h = c.args.self.now in
-    λ b. ap (λ (x : Staging). seen t x) c.finish.ensures ∙ found_told t h.stage h.checks h.place h.end c.args.reply.now b c.requires.end c.requires.stage c.requires.some _ _ c.in-Some.partition c.in_ok-partition.ensures.found c.in_ok-partition.ensures.left c.in-Some.is
+    record {
+      keeps = subst (Keeps t) (sym c.finish.ensures) tt;
+      told = λ b. ap (λ (x : Staging). seen t x) c.finish.ensures ∙ found_told t h.stage h.checks h.place h.end c.args.reply.now b c.requires.at.end c.requires.at.stage c.requires.some _ _ c.in-Some.partition c.in_ok-partition.ensures.found c.in_ok-partition.ensures.left c.in-Some.is;
+      next = ap (λ (x : Staging). task_commit_wants (seen t x)) (sym c.finish.ensures);
+      err = tt;
+    }
 
-pub request-requires : goal.request-requires
-request-requires c =
+pub ask-requires : goal.ask-requires
+ask-requires c =
     let t = c.args.plan.now in
     let h = c.args.self.now in
-    let k = holds_open t h c.requires.end c.requires.keeps in
-    keeps_open t _ c.requires.end (record { set = k.set; at = passed_holds t h.stage h.checks h.place h.end c.args.reply.now false c.requires.end c.requires.stage c.requires.some _ k.at })
+    let k = holds_open t h c.requires.at.end c.requires.at.keeps in
+    keeps_open t _ c.requires.at.end (record { set = k.set; at = passed_holds t h.stage h.checks h.place h.end c.args.reply.now false c.requires.at.end c.requires.at.stage c.requires.some _ k.at })
 
-pub returns-in-None-clause-told : goal.returns-in-None-clause-told
-returns-in-None-clause-told c =
+pub returns-in-None : goal.returns-in-None
+returns-in-None c =
     let t = c.args.plan.now in
     let h = c.args.self.now in
-    let k = holds_open t h c.requires.end c.requires.keeps in
-    at_ok c.request.result _ (λ b. passed_told t h.stage h.checks h.place h.end c.args.reply.now b c.requires.end c.requires.stage c.requires.some _ _ k.at c.in_ok-partition.ensures.found c.in_ok-partition.ensures.left c.in-None.is)
+    let k = holds_open t h c.requires.at.end c.requires.at.keeps in
+    record {
+      keeps = at_ok c.ask.result _ (keeps_open t _ c.requires.at.end (record { set = k.set; at = passed_holds t h.stage h.checks h.place h.end c.args.reply.now false c.requires.at.end c.requires.at.stage c.requires.some _ k.at }));
+      told = at_ok c.ask.result _ (λ b. passed_told t h.stage h.checks h.place h.end c.args.reply.now b c.requires.at.end c.requires.at.stage c.requires.some _ _ k.at c.in_ok-partition.ensures.found c.in_ok-partition.ensures.left c.in-None.is);
+      next = c.ask.ensures;
+      err = at_err c.ask.result _ refl;
+    }

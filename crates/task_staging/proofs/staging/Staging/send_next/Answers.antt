@@ -12,29 +12,22 @@ pub part_request-requires-clause-within : goal.part_request-requires-clause-with
 part_request-requires-clause-within c =
     let t = c.args.plan.now in
     let h = c.args.self.now in
-    part_within (is_sent t h.stage h.checks h.place c.args.sent (holds_open t h c.requires.end c.requires.keeps).at c.requires.sending)
+    part_within (is_sent t h.stage h.checks h.place c.args.sent (holds_open t h c.requires.at.end c.requires.at.keeps).at c.requires.at.stage)
 
 pub part_request-requires-clause-behind : goal.part_request-requires-clause-behind
 part_request-requires-clause-behind c =
     let t = c.args.plan.now in
     let h = c.args.self.now in
-    next_behind t h.stage h.checks h.place c.args.sent h.end c.requires.end c.requires.sending (holds_open t h c.requires.end c.requires.keeps).at c.args.part.now.tag c.args.part.now.size c.requires.size c.requires.plain _ refl c.requires.more
+    next_behind t h.stage h.checks h.place c.args.sent h.end c.requires.at.end c.requires.at.stage (holds_open t h c.requires.at.end c.requires.at.keeps).at c.args.part.now.tag c.args.part.now.size c.requires.part.size c.requires.part.plain _ refl c.requires.more
 
-pub returns-in-Ok-clause-keeps : goal.returns-in-Ok-clause-keeps
-returns-in-Ok-clause-keeps c =
+pub returns-in-Ok : goal.returns-in-Ok
+returns-in-Ok c =
     let t = c.args.plan.now in
     let h = c.args.self.now in
-    let k = holds_open t h c.requires.end c.requires.keeps in
-    keeps_open _ _ c.requires.end (send_holds t h.stage h.checks h.place c.args.sent h.end c.requires.end c.requires.sending k.at c.args.part.now.tag c.args.part.now.size c.requires.size c.requires.plain _ c.in-Ok.ensures.drawn c.requires.more h.set c.job_of.ensures.task k.set)
-
-pub returns-in-Ok-clause-told : goal.returns-in-Ok-clause-told
-returns-in-Ok-clause-told c =
-    let t = c.args.plan.now in
-    let h = c.args.self.now in
-    λ b. send_told t h.stage h.checks h.place c.args.sent h.end c.requires.end c.requires.sending (holds_open t h c.requires.end c.requires.keeps).at c.args.part.now.tag c.args.part.now.size c.requires.size c.requires.plain _ c.in-Ok.ensures.drawn c.requires.more b
-
-pub returns-in-Ok-clause-next : goal.returns-in-Ok-clause-next
-returns-in-Ok-clause-next c =
-    let t = c.args.plan.now in
-    let h = c.args.self.now in
-    send_next t h.stage h.checks h.place c.args.sent h.end c.requires.end c.requires.sending (holds_open t h c.requires.end c.requires.keeps).at c.args.part.now.tag c.args.part.now.size c.requires.size c.requires.plain _ c.in-Ok.ensures.drawn c.requires.more c.in-Ok.asked (c.in-Ok.ensures.asked ∙ c.in_ok-asked.ensures)
+    let k = holds_open t h c.requires.at.end c.requires.at.keeps in
+    record {
+      keeps = keeps_open _ _ c.requires.at.end (send_holds t h.stage h.checks h.place c.args.sent h.end c.requires.at.end c.requires.at.stage k.at c.args.part.now.tag c.args.part.now.size c.requires.part.size c.requires.part.plain _ c.in-Ok.ensures.drawn c.requires.more h.set c.job_of.ensures.task k.set);
+      told = λ b. send_told t h.stage h.checks h.place c.args.sent h.end c.requires.at.end c.requires.at.stage (holds_open t h c.requires.at.end c.requires.at.keeps).at c.args.part.now.tag c.args.part.now.size c.requires.part.size c.requires.part.plain _ c.in-Ok.ensures.drawn c.requires.more b;
+      next = send_next t h.stage h.checks h.place c.args.sent h.end c.requires.at.end c.requires.at.stage (holds_open t h c.requires.at.end c.requires.at.keeps).at c.args.part.now.tag c.args.part.now.size c.requires.part.size c.requires.part.plain _ c.in-Ok.ensures.drawn c.requires.more c.in-Ok.asked (c.in-Ok.ensures.asked ∙ c.in_ok-asked.ensures);
+      err = tt;
+    }

@@ -1,0 +1,51 @@
+-- What holds of an attempt's operations, for every committer.
+use Rattle.std.specs.Prelude.{◌≡◌, Bool, Option, Some, None}
+use Rattle.std.proofs.Common.{refl, ap}
+use Rattle.s3_types.specs.declared.request.Request.{Request}
+use Rattle.s3_types.specs.declared.reply.Reply.{Reply}
+use Rattle.sendings.specs.Retries.{Item, WornOut, OutOfMemory}
+use Rattle.machine.specs.Standing.{Standing}
+use Rattle.job_model.specs.Attempts.{Who}
+use Rattle.job_model.specs.Known.{Known}
+use Rattle.job_model.specs.Jobs.{Task}
+use Rattle.job_model.specs.JobScript.{Script}
+use Rattle.job_model.specs.declared.ends.TaskEnd.{TaskEnd}
+use Rattle.job_model.specs.declared.ends.TaskEnd.TheVariants as ends
+use Rattle.job_operations.specs.AtWork.{Attempting, task_script, who_of, with_known, learned, told, write_wants, write_told, task_commit_wants, task_commit_told, task_abort_wants, task_abort_told}
+use Rattle.job_operations.specs.Writes.{WriteOver}
+use Rattle.job_operations.specs.TaskCommits.{TaskCommitOver}
+use Rattle.job_operations.specs.TaskAborts.{TaskAbortOver}
+use Rattle.asking.specs.Asks.{AskLaws}
+use Rattle.task_requests.specs.Writing.{write_fits}
+use Rattle.task_laws.specs.Writes.{write_standing, write_asks}
+use Rattle.task_laws.specs.Commits.{commit_fits}
+use Rattle.task_laws.specs.CommitStands.{commit_standing, commit_laws}
+use Rattle.task_laws.specs.Aborts.{abort_fits}
+use Rattle.task_laws.specs.AbortStands.{abort_standing, abort_laws}
+
+-- an operation beside the plan
+abbrev pub at : {O : Type 0} → Task → O → Attempting O
+at t o = record { plan = t; operation = o }
+
+pub record TaskLaws {O : Type 0} (wants : Attempting O → Option Request) (after : Attempting O → Item → Attempting O) (fits : Attempting O → Reply → Bool → Type 0) (standing : Attempting O → Standing) (ended : TaskEnd → O) : Type 0 where
+  pub asks : AskLaws wants after fits standing
+  -- want of memory ends it, and teaches nothing
+  pub broken : (m : Attempting O) → after m OutOfMemory ≡ at m.plan (ended ends.NoMemory)
+  -- once a request wore out it asks nothing more
+  pub worn : (m : Attempting O) → wants (after m WornOut) ≡ None
+
+no_memory : (w : Script) (a : Who) (k : Known) (asked : Option Request) → learned w a k asked OutOfMemory ≡ k
+no_memory w a k (Some r) = refl
+no_memory w a k None = refl
+
+broken : {O : Type 0} (m : Attempting O) (asked : Option Request) (next : O) → told m asked OutOfMemory next ≡ at m.plan next
+broken {O} m asked next = ap (λ (k : Known). let then : Attempting O = at (with_known m.plan k) next in then) (no_memory (task_script m.plan) (who_of m.plan) m.plan.known asked)
+
+pub write_is : TaskLaws write_wants write_told write_fits write_standing WriteOver
+write_is = record { asks = write_asks; broken = λ m. broken m _ _; worn = λ m. refl }
+
+pub commit_is : TaskLaws task_commit_wants task_commit_told commit_fits commit_standing TaskCommitOver
+commit_is = record { asks = commit_laws; broken = λ m. broken m _ _; worn = λ m. refl }
+
+pub abort_is : TaskLaws task_abort_wants task_abort_told abort_fits abort_standing TaskAbortOver
+abort_is = record { asks = abort_laws; broken = λ m. broken m _ _; worn = λ m. refl }

@@ -1,0 +1,106 @@
+ghost use Rattle.task_machines.specs.Tasks.{at};
+
+use crate::holds::Holds;
+use crate::operation::TaskOperation;
+use asking::{Asking, Asks, NextRequest};
+use job_model::{TaskEnd, TaskPlan};
+use s3_types::{Reply, let_go};
+use std::alloc::{AllocError, Global};
+use std::marker::{Model, PhantomData};
+
+/// An attempt's operation beside the attempt's plan.
+#[derive(Drop)]
+pub struct AtWork<O: TaskOperation, H: Holds<O>> {
+    plan: TaskPlan,
+    held: H,
+    operation: PhantomData<O>,
+}
+
+impl<O: TaskOperation, H: Holds<O>> Model for AtWork<O, H> {
+    ghost use Rattle.job_operations.specs.AtWork.{Attempting};
+    ghost use Rattle.task_machines.specs.Tasks.{at};
+
+    ghost Value = { Attempting O };
+
+    ghost view = { λ w. at w.plan (H.operation w.plan w.held) };
+
+    ghost invariant = { λ w. H.keeps w.plan w.held };
+}
+
+/// An attempt's operation as a machine.
+pub type TaskMachine<O, H> = Asking<AtWork<O, H>>;
+
+impl<O: TaskOperation, H: Holds<O>> Asks for AtWork<O, H> {
+    type Plan = TaskPlan;
+
+    type End = TaskEnd;
+
+    ghost goes_by = { H.goes_by };
+
+    ghost begun = { λ plan. at plan (O.start plan) };
+
+    ghost plan_of = { λ m. m.plan };
+
+    ghost end_of = { λ m. O.over m.operation };
+
+    ghost wants = { O.wants };
+
+    ghost after = { O.after };
+
+    ghost fits = { O.fits };
+
+    ghost left = { O.left };
+
+    ghost standing = { O.standing };
+
+    ghost laws = { O.laws.asks };
+
+    fn begin(alloc: Global, plan: TaskPlan) -> Result<AtWork<O, H>, AllocError> {
+        match H::begin(alloc, &plan) {
+            Ok(held) => Ok(AtWork {
+                plan,
+                held,
+                operation: PhantomData,
+            }),
+            Err(error) => {
+                let_go(plan);
+                Err(error)
+            }
+        }
+    }
+
+    fn ask(&self, alloc: Global) -> NextRequest {
+        self.held.ask(alloc, &self.plan)
+    }
+
+    fn hear(&mut self, alloc: Global, reply: &Reply, repeated: bool) -> NextRequest {
+        self.held.hear(alloc, &mut self.plan, reply, repeated)
+    }
+
+    fn wear(&mut self, _alloc: Global) -> NextRequest {
+        self.held.wear(&mut self.plan);
+        Ok(None)
+    }
+
+    fn break_off(&mut self) {
+        self.held.finish(TaskEnd::NoMemory);
+    }
+
+    fn plan(&self) -> &TaskPlan {
+        &self.plan
+    }
+
+    fn into_plan(self) -> TaskPlan {
+        let AtWork {
+            plan,
+            held,
+            operation: _,
+        } = self;
+        let_go(held);
+        plan
+    }
+
+    fn end(&self) -> Option<&TaskEnd> {
+        self.held.end(&self.plan)
+    }
+}

@@ -1,0 +1,68 @@
+ghost use Rattle.std.specs.Prelude.{◌≡◌, IfOk, OnOk, OnErr, IsSome};
+ghost use Rattle.std.specs.Option.{option_copied};
+ghost use Rattle.sendings.specs.Retries.{Got, WornOut};
+ghost use Rattle.job_model.specs.Jobs.{Task};
+ghost use Rattle.task_machines.specs.Tasks.{at};
+
+use crate::operation::TaskOperation;
+use asking::NextRequest;
+use job_model::{TaskEnd, TaskPlan};
+use s3_types::Reply;
+use std::alloc::{AllocError, Global};
+
+/// What a committer holds of an attempt's operation beside the attempt's plan, which is lent to each call.
+pub trait Holds<O: TaskOperation>: Drop {
+    /// It may be begun by such a plan.
+    ghost goes_by: { Task → Type 0 };
+
+    /// What is kept of it beside the plan.
+    ghost keeps: { Task → Self → Type 0 };
+
+    /// The operation.
+    ghost operation: { Task → Self → O };
+
+    /// The operation of a plan, of which nothing was sent yet.
+    fn begin(alloc: Global, plan: &TaskPlan) -> Result<Self, AllocError>
+        requires { goes_by plan.now }
+        ensures start { IfOk result (λ held. operation plan.now held ≡ O.start plan.now) }
+        ensures keeps { IfOk result (λ held. keeps plan.now held) };
+
+    /// The request that it asks, or None where it asks nothing more.
+    fn ask(&self, alloc: Global, plan: &TaskPlan) -> NextRequest
+        requires { keeps plan.now self.now }
+        ensures { IfOk result (λ request. request ≡ O.wants (at plan.now (operation plan.now self.now))) };
+
+    /// Takes the reply to its request, and gives the next one. After want of memory the plan is as before, and the
+    /// operation is to be ended.
+    fn hear(
+        &mut self,
+        alloc: Global,
+        plan: &mut TaskPlan,
+        reply: &Reply,
+        repeated: bool,
+    ) -> NextRequest
+        requires keeps { keeps plan.old self.old }
+        requires asked { IsSome (O.wants (at plan.old (operation plan.old self.old))) }
+        requires fits { O.fits (at plan.old (operation plan.old self.old)) reply.now repeated }
+        ensures keeps { keeps plan.new self.new }
+        ensures told { OnOk result (at plan.new (operation plan.new self.new) ≡ O.after (at plan.old (operation plan.old self.old)) (Got reply.now repeated)) }
+        ensures next { IfOk result (λ request. request ≡ O.wants (at plan.new (operation plan.new self.new))) }
+        ensures err { OnErr result (plan.new ≡ plan.old) };
+
+    /// Takes it that its request wore out. Takes no memory.
+    fn wear(&mut self, plan: &mut TaskPlan)
+        requires keeps { keeps plan.old self.old }
+        requires asked { IsSome (O.wants (at plan.old (operation plan.old self.old))) }
+        ensures keeps { keeps plan.new self.new }
+        ensures told { at plan.new (operation plan.new self.new) ≡ O.after (at plan.old (operation plan.old self.old)) WornOut };
+
+    /// Ends it. Takes no memory.
+    fn finish(&mut self, end: TaskEnd)
+        ensures keeps { (t : Task) → keeps t self.old → keeps t self.new }
+        ensures over { (t : Task) → operation t self.new ≡ O.ended end };
+
+    /// How it ended, or None while it asks a request. Takes no memory.
+    fn end(&self, plan: &TaskPlan) -> Option<&TaskEnd>
+        requires { keeps plan.now self.now }
+        ensures { option_copied result ≡ O.over (operation plan.now self.now) };
+}

@@ -1,0 +1,5 @@
+use Rattle.task_staging.proofs.Written.{asks_none}
+use Rattle.task_staging.proofs.write.KeepingHoldsTheWrite.wear.Goals as goal
+
+pub unreachable-requires : goal.unreachable-requires
+unreachable-requires c = asks_none c.args.plan.now c.args.self.now.end c.requires.asked
