@@ -108,26 +108,6 @@ module _ {W : Type 0} (wants : W → Option Request) (end_of : W → Option OpEn
 
   -- ---- or it is over
 
-  pub weaker : (place : ℕ) (b : Body W) → Holds is_of running picks_of all_sound b → Holds is_of running picks_of (all_but place) b
-  weaker place b h = record {
-    legal = h.legal;
-    opens = h.opens;
-    play = h.play;
-    happened = h.happened;
-    journal = h.journal;
-    ends = h.ends;
-    now = h.now;
-    finished = h.finished;
-    scene = h.scene;
-    fates = h.fates;
-    requests = h.requests;
-    few = h.few;
-    stands = h.stands;
-    places = h.places;
-    hands = λ p v k s there hand. h.hands p v k refl there hand;
-    picks = h.picks;
-  }
-
   module _ (place : ℕ) (a : Actor) (end : OpEnd) (b c : Body W) (over : IsOver place a end b c) where
     pub going_over : Holds is_of running picks_of all_sound c → IsSome b.event → ((q : ℕ) (h : Hand W) → (q ≡ place → ⊥) → is_busy_at b.states.actors q ≡ true → slice_get b.hands.items q ≡ Some h → Asks wants h) → Going wants is_of running picks_of c
     going_over holds during others = record {

@@ -21,7 +21,7 @@ use Rattle.job_happenings.specs.Happenings.{begun}
 use Rattle.job_states.specs.Stands.{Stands, IsPlace}
 use Rattle.acting.specs.Plans.{IsPlanOf}
 use Rattle.job_world.specs.Sending.{Asks}
-use Rattle.job_world.specs.Holds.{Holds, HandIs, AreOf, all_sound, all_but, setting_of, is_busy_at}
+use Rattle.job_world.specs.Holds.{Holds, Going, Quiet, HandIs, AreOf, all_sound, all_but, setting_of, is_busy_at}
 use Rattle.job_world.specs.declared.hands.Hand.{Hand}
 use Rattle.job_world.specs.declared.hands.Hand.TheVariants.{Plan, At, Empty}
 use Rattle.job_world.specs.declared.body.Body.{Body}
@@ -75,6 +75,18 @@ pub record Grown {W : Type 0} (b c : Body W) : Type 0 where
   pub ends : c.ends.items ≡ b.ends.items ++ end ∷ []
   -- entries are only added, of this event
   pub more : (part : List Entry) × (c.journal.entries ≡ b.journal.entries ++ part) × AreOf (length b.ends.items + 1) part
+
+-- an event may be played: it is the script's next one and is not refused, and there is room for its end
+pub record MayPlay {W : Type 0} (wants : W → Option Request) (is_of : Setting → Actor → W → Type 0) (running : Known → W → Running) (picks_of : W → Option (List Pick)) (event : Event) (b : Body W) : Type 0 where
+  pub next : Next b event
+  pub fine : IsFine b event
+  pub room : HasRoom b
+  pub quiet : Quiet wants is_of running picks_of b
+
+-- it is over, and has its end
+pub record IsPast {W : Type 0} (wants : W → Option Request) (is_of : Setting → Actor → W → Type 0) (running : Known → W → Running) (picks_of : W → Option (List Pick)) (b c : Body W) : Type 0 where
+  pub quiet : Quiet wants is_of running picks_of c
+  pub grown : Grown b c
 
 -- nothing but room was taken
 pub record IsAsBefore {W : Type 0} (b c : Body W) : Type 0 where
@@ -201,6 +213,12 @@ pub record Entered {W : Type 0} (event : Event) (b c : Body W) : Type 0 where
   pub now : c.event ≡ Some event
   pub journal : c.journal ≡ b.journal
   pub fresh : event_entries c ≡ []
+
+-- in it the actor at a place began an operation, and goes on or not
+pub record HasBegun {W : Type 0} (wants : W → Option Request) (is_of : Setting → Actor → W → Type 0) (running : Known → W → Running) (picks_of : W → Option (List Pick)) (event : Event) (place : ℕ) (a : Actor) (b c : Body W) (goes_on : Bool) : Type 0 where
+  pub going : Going wants is_of running picks_of c
+  pub entered : Entered event b c
+  pub taken : TakenUp place a c goes_on
 
 -- ---- an event ends
 

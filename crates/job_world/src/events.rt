@@ -11,7 +11,7 @@ ghost use Rattle.job_states.specs.Stands.{Stands, IsPlace};
 ghost use Rattle.acting.specs.Plans.{IsPlanOf};
 ghost use Rattle.job_world.specs.Sending.{Asks, hand_end};
 ghost use Rattle.job_world.specs.Holds.{Holds, Going, Quiet, Same, all_sound, setting_of, is_busy_at};
-ghost use Rattle.job_world.specs.Events.{Next, Refuses, IsFine, HasRoom, end_of, ByTurns, Grown, IsAsBefore, IsOpened, Emptied, put_away, knows_of, GivesPlan, IsWork, Begun, InHand, TakenUp, Entered, AllOf, BeginsBy, IsStill, event_entries};
+ghost use Rattle.job_world.specs.Events.{Next, Refuses, IsFine, HasRoom, end_of, ByTurns, Grown, IsAsBefore, IsOpened, Emptied, put_away, knows_of, GivesPlan, IsWork, Begun, InHand, TakenUp, Entered, AllOf, BeginsBy, HasBegun, IsStill, MayPlay, IsPast, event_entries};
 
 use crate::body::Body;
 use crate::hands::Hand;
@@ -60,8 +60,7 @@ impl<W: Works> Body<W> {
         requires refused { Refuses self.old event fault }
         requires room { HasRoom self.old }
         requires quiet { Quiet W.wants W.is_of W.running W.picks_of self.old }
-        ensures quiet { Quiet W.wants W.is_of W.running W.picks_of self.new }
-        ensures grown { Grown self.old self.new }
+        ensures { IsPast W.wants W.is_of W.running W.picks_of self.old self.new }
     {
         self.ends.push_reserved(EventEnd::Refused(fault));
         self.states.count();
@@ -83,8 +82,7 @@ impl<W: Works> Body<W> {
         requires turns { ByTurns self.old event }
         requires room { vec_len self.old.ends < vec_capacity self.old.ends }
         requires going { Going W.wants W.is_of W.running W.picks_of self.old }
-        ensures quiet { Quiet W.wants W.is_of W.running W.picks_of self.new }
-        ensures grown { Grown self.old self.new }
+        ensures { IsPast W.wants W.is_of W.running W.picks_of self.old self.new }
     {
         W::laws();
         let end = taken_end(self.alloc, &mut self.finished, event);
@@ -202,13 +200,8 @@ impl<W: Works> Body<W> {
     fn begin_driver(&mut self, event: Event, place: usize, op: Op) -> bool
         requires begins { BeginsBy event Driver op }
         requires actor { IsPlace self.old.script Driver (Some place) }
-        requires next { Next self.old event }
-        requires fine { IsFine self.old event }
-        requires room { HasRoom self.old }
-        requires quiet { Quiet W.wants W.is_of W.running W.picks_of self.old }
-        ensures going { Going W.wants W.is_of W.running W.picks_of self.new }
-        ensures entered { Entered event self.old self.new }
-        ensures taken { TakenUp place Driver self.new result }
+        requires ready { MayPlay W.wants W.is_of W.running W.picks_of event self.old }
+        ensures { HasBegun W.wants W.is_of W.running W.picks_of event place Driver self.old self.new result }
     {
         W::laws();
         self.put_by(place);
@@ -222,13 +215,8 @@ impl<W: Works> Body<W> {
         requires begins { BeginsBy event actor op }
         requires attempt { actor ≡ Driver → ⊥ }
         requires actor { IsPlace self.old.script actor (Some place) }
-        requires next { Next self.old event }
-        requires fine { IsFine self.old event }
-        requires room { HasRoom self.old }
-        requires quiet { Quiet W.wants W.is_of W.running W.picks_of self.old }
-        ensures going { Going W.wants W.is_of W.running W.picks_of self.new }
-        ensures entered { Entered event self.old self.new }
-        ensures taken { TakenUp place actor self.new result }
+        requires ready { MayPlay W.wants W.is_of W.running W.picks_of event self.old }
+        ensures { HasBegun W.wants W.is_of W.running W.picks_of event place actor self.old self.new result }
     {
         W::laws();
         let plan = self.take_plan(place, actor);
@@ -241,13 +229,8 @@ impl<W: Works> Body<W> {
     fn begin(&mut self, event: Event, place: usize, actor: Actor, op: Op) -> bool
         requires begins { BeginsBy event actor op }
         requires actor { IsPlace self.old.script actor (Some place) }
-        requires next { Next self.old event }
-        requires fine { IsFine self.old event }
-        requires room { HasRoom self.old }
-        requires quiet { Quiet W.wants W.is_of W.running W.picks_of self.old }
-        ensures going { Going W.wants W.is_of W.running W.picks_of self.new }
-        ensures entered { Entered event self.old self.new }
-        ensures taken { TakenUp place actor self.new result }
+        requires ready { MayPlay W.wants W.is_of W.running W.picks_of event self.old }
+        ensures { HasBegun W.wants W.is_of W.running W.picks_of event place actor self.old self.new result }
     {
         match actor {
             Actor::Driver => self.begin_driver(event, place, op),
@@ -273,12 +256,8 @@ impl<W: Works> Body<W> {
     /// An actor begins an operation, and has turns until it ends.
     fn do_event(&mut self, event: Event, actor: Actor, op: Op)
         requires is { event ≡ Event.Do actor op }
-        requires next { Next self.old event }
-        requires fine { IsFine self.old event }
-        requires room { HasRoom self.old }
-        requires quiet { Quiet W.wants W.is_of W.running W.picks_of self.old }
-        ensures quiet { Quiet W.wants W.is_of W.running W.picks_of self.new }
-        ensures grown { Grown self.old self.new }
+        requires ready { MayPlay W.wants W.is_of W.running W.picks_of event self.old }
+        ensures { IsPast W.wants W.is_of W.running W.picks_of self.old self.new }
     {
         let place = self.place(actor);
         let goes_on = self.begin(event, place, actor, op);
@@ -289,12 +268,8 @@ impl<W: Works> Body<W> {
     /// An actor begins an operation, and has no turn yet.
     fn start_event(&mut self, event: Event, actor: Actor, op: Op)
         requires is { event ≡ Event.Start actor op }
-        requires next { Next self.old event }
-        requires fine { IsFine self.old event }
-        requires room { HasRoom self.old }
-        requires quiet { Quiet W.wants W.is_of W.running W.picks_of self.old }
-        ensures quiet { Quiet W.wants W.is_of W.running W.picks_of self.new }
-        ensures grown { Grown self.old self.new }
+        requires ready { MayPlay W.wants W.is_of W.running W.picks_of event self.old }
+        ensures { IsPast W.wants W.is_of W.running W.picks_of self.old self.new }
     {
         let place = self.place(actor);
         let _ = self.begin(event, place, actor, op);
@@ -304,12 +279,8 @@ impl<W: Works> Body<W> {
     /// A busy actor has turns until its operation ends.
     fn run_event(&mut self, event: Event, actor: Actor)
         requires is { event ≡ Event.Run actor }
-        requires next { Next self.old event }
-        requires fine { IsFine self.old event }
-        requires room { HasRoom self.old }
-        requires quiet { Quiet W.wants W.is_of W.running W.picks_of self.old }
-        ensures quiet { Quiet W.wants W.is_of W.running W.picks_of self.new }
-        ensures grown { Grown self.old self.new }
+        requires ready { MayPlay W.wants W.is_of W.running W.picks_of event self.old }
+        ensures { IsPast W.wants W.is_of W.running W.picks_of self.old self.new }
     {
         let place = self.place(actor);
         self.open(event);
@@ -320,12 +291,8 @@ impl<W: Works> Body<W> {
     /// A busy actor has up to so many turns.
     fn step_event(&mut self, event: Event, actor: Actor, count: u32)
         requires is { event ≡ Event.Step actor count }
-        requires next { Next self.old event }
-        requires fine { IsFine self.old event }
-        requires room { HasRoom self.old }
-        requires quiet { Quiet W.wants W.is_of W.running W.picks_of self.old }
-        ensures quiet { Quiet W.wants W.is_of W.running W.picks_of self.new }
-        ensures grown { Grown self.old self.new }
+        requires ready { MayPlay W.wants W.is_of W.running W.picks_of event self.old }
+        ensures { IsPast W.wants W.is_of W.running W.picks_of self.old self.new }
     {
         let place = self.place(actor);
         self.open(event);
@@ -336,12 +303,8 @@ impl<W: Works> Body<W> {
     /// An event that moves nobody: a kill or a restart.
     fn still_event(&mut self, event: Event)
         requires still { IsStill event }
-        requires next { Next self.old event }
-        requires fine { IsFine self.old event }
-        requires room { HasRoom self.old }
-        requires quiet { Quiet W.wants W.is_of W.running W.picks_of self.old }
-        ensures quiet { Quiet W.wants W.is_of W.running W.picks_of self.new }
-        ensures grown { Grown self.old self.new }
+        requires ready { MayPlay W.wants W.is_of W.running W.picks_of event self.old }
+        ensures { IsPast W.wants W.is_of W.running W.picks_of self.old self.new }
     {
         self.open(event);
         self.close(event);
@@ -352,11 +315,8 @@ impl<W: Works> Body<W> {
         requires is { event ≡ Event.Mix seed }
         requires busy { (p : Past) → Stands self.old.script self.old.states p
             → map (slice_get (actors self.old.script)) busy.items ≡ map Some (busy_actors self.old.script p.state) }
-        requires next { Next self.old event }
-        requires room { HasRoom self.old }
-        requires quiet { Quiet W.wants W.is_of W.running W.picks_of self.old }
-        ensures quiet { Quiet W.wants W.is_of W.running W.picks_of self.new }
-        ensures grown { Grown self.old self.new }
+        requires ready { MayPlay W.wants W.is_of W.running W.picks_of event self.old }
+        ensures { IsPast W.wants W.is_of W.running W.picks_of self.old self.new }
     {
         self.open(event);
         mix(self, seed, busy);
@@ -365,10 +325,7 @@ impl<W: Works> Body<W> {
 
     /// The script's next event, which is not refused.
     fn play(&mut self, event: Event) -> Result<(), AllocError>
-        requires next { Next self.old event }
-        requires fine { IsFine self.old event }
-        requires room { HasRoom self.old }
-        requires quiet { Quiet W.wants W.is_of W.running W.picks_of self.old }
+        requires { MayPlay W.wants W.is_of W.running W.picks_of event self.old }
         ensures quiet { Quiet W.wants W.is_of W.running W.picks_of self.new }
         ensures grown { OnOk result (Grown self.old self.new) }
         ensures err { OnErr result (self.new ≡ self.old) }

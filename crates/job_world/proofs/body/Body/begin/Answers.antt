@@ -1,7 +1,7 @@
 use Rattle.std.proofs.Common.{Some, sym, subst}
 use Rattle.s3_types.specs.declared.request.Actor.{Actor}
 use Rattle.job_states.specs.Stands.{IsPlace}
-use Rattle.job_world.specs.Events.{BeginsBy, TakenUp}
+use Rattle.job_world.specs.Events.{BeginsBy, HasBegun}
 use Rattle.job_world.proofs.body.Body.begin.Goals as goal
 
 pub begin_driver-requires-clause-begins : goal.begin_driver-requires-clause-begins
@@ -10,5 +10,5 @@ begin_driver-requires-clause-begins g c = subst (λ (a : Actor). BeginsBy c.args
 pub begin_driver-requires-clause-actor : goal.begin_driver-requires-clause-actor
 begin_driver-requires-clause-actor g c = subst (λ (a : Actor). IsPlace c.args.self.now.script a (Some c.args.place)) c.in-Driver.is c.requires.actor
 
-pub returns-in-Driver-clause-taken : goal.returns-in-Driver-clause-taken
-returns-in-Driver-clause-taken g c = subst (λ (a : Actor). TakenUp c.args.place a c.begin_driver.new.self c.begin_driver.result) (sym c.in-Driver.is) c.begin_driver.ensures.taken
+pub returns-in-Driver : goal.returns-in-Driver
+returns-in-Driver g c = subst (λ (a : Actor). HasBegun g.W.Acts.wants g.W.Works.is_of g.W.Works.running g.W.Works.picks_of c.args.event c.args.place a c.args.self.now c.begin_driver.new.self c.begin_driver.result) (sym c.in-Driver.is) c.begin_driver.ensures

@@ -9,11 +9,11 @@ taken_end-end-requires g c = c.requires.turns.told
 pub count-requires : goal.count-requires
 count-requires g c = few_events_now _ _ _ _ _ c.requires.going.holds c.args.event c.requires.now
 
-pub returns-clause-quiet : goal.returns-clause-quiet
-returns-clause-quiet g c =
+pub returns : goal.returns
+returns g c =
     let k = c.args.self.now in
     let pushed = c.push_reserved.ensures.items ∙ ap (λ e. k.ends.items ++ e ∷ []) c.taken_end-end.ensures.end in
-    quiet_closed _ _ _ _ g.W.Acts.end_of g.met.W.Acts.laws.goes_on c.laws.ensures.ends k (record k { ends = c.push_reserved.new.self; states = c.count.new.self; finished = c.taken_end-end.new.finished }) c.args.event c.requires.going c.requires.now c.requires.turns pushed c.taken_end-end.ensures.none (λ p. c.count.ensures.stands _ p)
-
-pub returns-clause-grown : goal.returns-clause-grown
-returns-clause-grown g c = record { script = refl; opening = refl; end = _; ends = c.push_reserved.ensures.items; more = ([], sym (append-nil _), tt) }
+    record {
+      quiet = quiet_closed _ _ _ _ g.W.Acts.end_of g.met.W.Acts.laws.goes_on c.laws.ensures.ends k (record k { ends = c.push_reserved.new.self; states = c.count.new.self; finished = c.taken_end-end.new.finished }) c.args.event c.requires.going c.requires.now c.requires.turns pushed c.taken_end-end.ensures.none (λ p. c.count.ensures.stands _ p);
+      grown = record { script = refl; opening = refl; end = _; ends = c.push_reserved.ensures.items; more = ([], sym (append-nil _), tt) };
+    }

@@ -10,7 +10,7 @@ use Rattle.job_world.proofs.EventTurns.{do_turns}
 use Rattle.job_world.proofs.body.Body.do_event.Goals as goal
 
 pub place-place-requires : goal.place-place-requires
-place-place-requires g c = known_named c.args.self.now.script c.args.event c.args.actor c.args.op (begins_do c.args.event c.args.actor c.args.op c.requires.is) (event_of _ _ _ _ _ c.requires.quiet.holds c.args.event c.requires.next)
+place-place-requires g c = known_named c.args.self.now.script c.args.event c.args.actor c.args.op (begins_do c.args.event c.args.actor c.args.op c.requires.is) (event_of _ _ _ _ _ c.requires.ready.quiet.holds c.args.event c.requires.ready.next)
 
 pub begin-goes_on-requires-clause-begins : goal.begin-goes_on-requires-clause-begins
 begin-goes_on-requires-clause-begins g c = begins_do c.args.event c.args.actor c.args.op c.requires.is
@@ -25,7 +25,7 @@ pub close-requires-clause-turns : goal.close-requires-clause-turns
 close-requires-clause-turns g c = subst (λ (v : Event). ByTurns c.carry_on.new.self v) (sym c.requires.is) (do_turns _ c.args.actor c.args.op c.carry_on.ensures.all)
 
 pub close-requires-clause-room : goal.close-requires-clause-room
-close-requires-clause-room g c = room_after c.args.event _ _ _ c.begin-goes_on.ensures.entered c.carry_on.ensures.same c.requires.room
+close-requires-clause-room g c = room_after c.args.event _ _ _ c.begin-goes_on.ensures.entered c.carry_on.ensures.same c.requires.ready.room
 
-pub returns-clause-grown : goal.returns-clause-grown
-returns-clause-grown g c = grown_after c.args.event _ _ _ c.begin-goes_on.ensures.entered c.carry_on.ensures.same _ c.close.ensures.grown
+pub returns : goal.returns
+returns g c = record { quiet = c.close.ensures.quiet; grown = grown_after c.args.event _ _ _ c.begin-goes_on.ensures.entered c.carry_on.ensures.same _ c.close.ensures.grown }

@@ -11,11 +11,13 @@ refuse-requires-clause-next g c = next_roomy _ _ c.make_room.ensures.same c.args
 pub refuse-requires-clause-refused : goal.refuse-requires-clause-refused
 refuse-requires-clause-refused g c = refusal_is _ _ _ _ _ c.make_room.ensures.quiet c.args.event _ c.in-Some.ensures
 
-pub play-requires-clause-next : goal.play-requires-clause-next
-play-requires-clause-next g c = next_roomy _ _ c.make_room.ensures.same c.args.event c.requires.next
-
-pub play-requires-clause-fine : goal.play-requires-clause-fine
-play-requires-clause-fine g c = refusal_is _ _ _ _ _ c.make_room.ensures.quiet c.args.event _ c.in-None.ensures
+pub play-requires : goal.play-requires
+play-requires g c = record {
+  next = next_roomy _ _ c.make_room.ensures.same c.args.event c.requires.next;
+  fine = refusal_is _ _ _ _ _ c.make_room.ensures.quiet c.args.event _ c.in-None.ensures;
+  room = c.in_ok-make_room.ensures.room;
+  quiet = c.make_room.ensures.quiet;
+}
 
 pub returns-in-Some-clause-grown : goal.returns-in-Some-clause-grown
 returns-in-Some-clause-grown g c = grown_roomy _ _ c.make_room.ensures.same _ c.refuse.ensures.grown
