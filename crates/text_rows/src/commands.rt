@@ -17,48 +17,30 @@ fn words_in(alloc: Global, line: &str) -> Result<Vec<Text>, AllocError> {
     Ok(words)
 }
 
-/// The name of a command on a path, with the path.
-fn on_path(command: &Command) -> Option<(&'static str, &S3Path)> {
-    match command {
-        Command::Ls { path } => Some(("ls", path)),
-        Command::Stat { path } => Some(("stat", path)),
-        Command::Cat { path } => Some(("cat", path)),
-        Command::Put { path } => Some(("put", path)),
-        Command::PutForce { path } => Some(("put-force", path)),
-        Command::Mkdir { path } => Some(("mkdir", path)),
-        Command::Rm { path } => Some(("rm", path)),
-        Command::Rmr { path } => Some(("rmr", path)),
-        Command::Uploads { path } => Some(("uploads", path)),
-        Command::AbortUploads { path } => Some(("abort-uploads", path)),
-        _ => None,
-    }
-}
-
 fn show_on_path(rt: &impl Print, name: &str, path: &S3Path) -> io::Result<()> {
     let bucket = path.bucket().as_text().as_str();
     println!(rt; "{name} {bucket} {}", path.key().as_str())
 }
 
-fn show_move(rt: &impl Print, from: &S3Path, to: &S3Path) -> io::Result<()> {
-    let bucket = from.bucket().as_text().as_str();
-    let to_bucket = to.bucket().as_text().as_str();
-    let (key, to_key) = (from.key().as_str(), to.key().as_str());
-    println!(rt; "mv {bucket} {key} {to_bucket} {to_key}")
-}
-
 fn show_read(rt: &impl Print, command: &Command) -> io::Result<()> {
-    if let Some((name, path)) = on_path(command) {
-        return show_on_path(rt, name, path);
-    }
     match command {
+        Command::Init { minimum: None } => println!(rt; "init"),
         Command::Init {
             minimum: Some(minimum),
         } => println!(rt; "init {minimum}"),
-        Command::Init { minimum: None } => println!(rt; "init"),
         Command::Mb { name } => println!(rt; "mb {}", name.as_str()),
-        Command::Mv { from, to } => show_move(rt, from, to),
-        Command::Gen { seed, tasks, files } => println!(rt; "gen {seed} {tasks} {files}"),
-        _ => println!(rt; "job"),
+        Command::Ls { path } => show_on_path(rt, "ls", path),
+        Command::Stat { path } => show_on_path(rt, "stat", path),
+        Command::Cat { path } => show_on_path(rt, "cat", path),
+        Command::Put { path } => show_on_path(rt, "put", path),
+        Command::PutForce { path } => show_on_path(rt, "put-force", path),
+        Command::Mkdir { path } => show_on_path(rt, "mkdir", path),
+        Command::Rm { path } => show_on_path(rt, "rm", path),
+        Command::Rmr { path } => show_on_path(rt, "rmr", path),
+        Command::Uploads { path } => show_on_path(rt, "uploads", path),
+        Command::AbortUploads { path } => show_on_path(rt, "abort-uploads", path),
+        Command::Job => println!(rt; "job"),
+        _ => println!(rt; "another command"),
     }
 }
 

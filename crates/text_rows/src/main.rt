@@ -2,33 +2,29 @@
 //! are; each of those is answered by a line, or some.
 //!
 //! `records`: `upload`, `set` or `mark` and a JSON text, in which `~` stands for the byte 255. Printed is the
-//! one text of the record that it is, or why it is none. Behind `made` stands a record that is made of its fields.
+//! one text of the record that it is, or why it is none.
 //!
 //! `scripts`: a job script, of which is told what it is, or its fault. In it `|` stands for LF, `^` for CR,
 //! `~` for the byte 255, and `@` for the first five lines of an ordinary script. Behind a `{` stand a count,
 //! a `:`, and a text that is repeated so often, with `%` for the number of its turn, from 1, and `$` for that
-//! number's hundreds, a dot, and its rest. Of a script in a line that begins with `!` each part is told; one in a
-//! line that begins with `=` is printed. In a line that begins with `<` each front of the script is read, and in
-//! one that begins with `*` the script with the lowest bit of each of its bytes turned; of both it is told where
-//! the answer changes.
+//! number's hundreds, a dot, and its rest. A script in a line that begins with `=` is printed. In a line that
+//! begins with `<` each front of the script is read, and in one that begins with `*` the script with the lowest
+//! bit of each of its bytes turned; of both it is told where the answer changes.
 //!
-//! `paths`: what is asked of a path, where `{` and a number stand for so many letters. `commands`: the words of a
-//! command line, with a `|` between them. Last comes what stands in no line of input.
+//! `paths`: what is asked of a path, which is written as a script is. `commands`: the words of a command line,
+//! with a `|` between them. `made`: a seed and the numbers of tasks and of files, of which a script is made.
 #![tactic(auto)]
 
 mod commands;
-mod layout;
+mod made;
 mod paths;
 mod records;
-mod records_made;
 mod scripts;
-mod scripts_changed;
-mod scripts_spelled;
-mod scripts_told;
+mod spelling;
 
 use anyhow::Result;
 use commands::show_command;
-use layout::show_layout;
+use made::show_made;
 use paths::show_path;
 use records::show_record;
 use scripts::show_script;
@@ -41,6 +37,7 @@ enum Part {
     Script,
     Path,
     Command,
+    Made,
 }
 
 fn part_named(name: &str) -> Part {
@@ -48,7 +45,8 @@ fn part_named(name: &str) -> Part {
         "records" => Part::Record,
         "scripts" => Part::Script,
         "paths" => Part::Path,
-        _ => Part::Command,
+        "commands" => Part::Command,
+        _ => Part::Made,
     }
 }
 
@@ -58,6 +56,7 @@ fn show_row(rt: &impl Print, alloc: Global, part: Part, line: &str) -> Result<()
         Part::Script => show_script(rt, alloc, line),
         Part::Path => show_path(rt, alloc, line),
         Part::Command => show_command(rt, alloc, line),
+        Part::Made => show_made(rt, alloc, line),
     }
 }
 
@@ -81,5 +80,5 @@ fn main(rt: HostRuntime) -> Result<()> {
     for line in rt.lines(alloc) {
         part = part_after(&rt, alloc, part, line?.as_str())?;
     }
-    show_layout(&rt, alloc)
+    Ok(())
 }

@@ -1,31 +1,20 @@
-use anyhow::{Context, Result};
+ghost use Rattle.std.specs.Prelude.{◌≡◌, ◌≤◌, length, true};
+ghost use Rattle.s3_types.specs.Names.{is_job_id};
+
+use crate::spelling::spelled;
+use anyhow::{Context, Result, bail};
 use dir_markers::{MarkerPolicy, after_create};
 use job_plans::unique_name;
-use magic_paths::{MagicRefusal, final_path};
-use path_keys::{PathFault, S3Path};
-use s3_types::Key;
-use std::alloc::{AllocError, Global};
+use magic_paths::{
+    attempt_dir, cluster_prefix, final_path, magic_prefix, set_key, staged_set_path, success_key,
+    temporary_path,
+};
+use path_keys::S3Path;
+use s3_types::{Key, Text, let_go};
+use std::alloc::Global;
 
 /// The most bytes of a key that is shown as a whole.
 const MOST_SHOWN: usize = 100;
-
-/// A text, and as many letters behind it as the number behind its `{` says.
-fn lengthened(alloc: Global, word: &str) -> Result<String> {
-    let Some((text, letters)) = word.split_once('{') else {
-        return Ok(String::from_str(alloc, word)?);
-    };
-    let letters = letters.parse::<u32>().context("a number of letters")?;
-    let mut long = String::from_str(alloc, text)?;
-    put_letters(&mut long, letters)?;
-    Ok(long)
-}
-
-fn put_letters(text: &mut String, letters: u32) -> Result<()> {
-    for _ in 0..letters {
-        text.push('a')?;
-    }
-    Ok(())
-}
 
 fn show_key(rt: &impl Print, key: &str) -> Result<()> {
     if key.len() > MOST_SHOWN {
@@ -36,83 +25,42 @@ fn show_key(rt: &impl Print, key: &str) -> Result<()> {
     Ok(())
 }
 
-fn show_fault(rt: &impl Print, fault: PathFault) -> Result<()> {
-    println!(rt; "{fault:?}")?;
-    Ok(())
-}
-
-fn show_read(rt: &impl Print, alloc: Global, text: &str) -> Result<()> {
-    match S3Path::read(alloc, text) {
-        Ok(path) => show_key(rt, path.key().as_str()),
-        Err(fault) => show_fault(rt, fault),
-    }
-}
-
 /// The key of the file `f` below a path that was joined.
-fn joined_key(alloc: Global, text: &str, relative: &str) -> Result<String, PathFault> {
-    let path = S3Path::read(alloc, text)?.join(alloc, relative)?;
-    Ok(path.text_below(alloc, "f")?)
-}
-
-fn show_joined(rt: &impl Print, alloc: Global, text: &str, relative: &str) -> Result<()> {
-    match joined_key(alloc, text, relative) {
-        Ok(key) => show_key(rt, key.as_str()),
-        Err(fault) => show_fault(rt, fault),
+fn show_joined(rt: &impl Print, alloc: Global, path: &S3Path, relative: &str) -> Result<()> {
+    match path.join(alloc, relative) {
+        Ok(joined) => {
+            let key = joined.text_below(alloc, "f");
+            let_go(joined);
+            show_key(rt, key?.as_str())
+        }
+        Err(fault) => Ok(println!(rt; "{fault:?}")?),
     }
 }
 
-/// The parent of a path's copy.
-fn parent(alloc: Global, path: &S3Path) -> Result<Option<S3Path>, AllocError> {
-    path.clone()?.parent(alloc)
-}
-
-fn show_found(rt: &impl Print, found: &Option<S3Path>) -> Result<()> {
-    match found {
-        Some(path) => show_key(rt, path.key().as_str()),
+fn show_parent(rt: &impl Print, alloc: Global, path: &S3Path) -> Result<()> {
+    match path.parent(alloc)? {
+        Some(parent) => show_key(rt, parent.key().as_str()),
         None => Ok(println!(rt; "none")?),
     }
 }
 
-fn show_parent(rt: &impl Print, alloc: Global, text: &str) -> Result<()> {
-    let path = S3Path::read(alloc, text)?;
-    show_found(rt, &parent(alloc, &path)?)
-}
-
-fn show_rest(rt: &impl Print, rest: Option<&[u8]>) -> Result<()> {
-    match rest {
+fn show_behind(rt: &impl Print, path: &S3Path, key: &str) -> Result<()> {
+    match path.relative(key.as_bytes()) {
         Some(rest) => show_key(rt, str::from_utf8(rest)?),
         None => Ok(println!(rt; "none")?),
     }
 }
 
-fn show_behind(rt: &impl Print, alloc: Global, text: &str, key: &str) -> Result<()> {
-    let path = S3Path::read(alloc, text)?;
-    show_rest(rt, path.relative(key.as_bytes()))
-}
-
-fn show_last(rt: &impl Print, last: &S3Path) -> Result<()> {
-    println!(rt;
-        "{} {}",
-        last.bucket().as_text().as_str(),
-        last.key().as_str()
-    )?;
-    Ok(())
-}
-
-fn show_refusal(rt: &impl Print, refusal: MagicRefusal) -> Result<()> {
-    Ok(println!(rt; "{refusal:?}")?)
-}
-
-fn show_final_of(rt: &impl Print, last: &Result<S3Path, MagicRefusal>) -> Result<()> {
-    match last {
-        Ok(last) => show_last(rt, last),
-        Err(refusal) => show_refusal(rt, *refusal),
+fn show_final(rt: &impl Print, alloc: Global, path: &S3Path) -> Result<()> {
+    match final_path(alloc, path) {
+        Ok(last) => {
+            let bucket = last.bucket().as_text().as_str();
+            let shown = println!(rt; "{bucket} {}", last.key().as_str());
+            let_go(last);
+            Ok(shown?)
+        }
+        Err(refusal) => Ok(println!(rt; "{refusal:?}")?),
     }
-}
-
-fn show_final(rt: &impl Print, alloc: Global, text: &str) -> Result<()> {
-    let path = S3Path::read(alloc, text)?;
-    show_final_of(rt, &final_path(alloc, &path))
 }
 
 fn show_unique(rt: &impl Print, alloc: Global, path: &str, job: &str) -> Result<()> {
@@ -120,35 +68,105 @@ fn show_unique(rt: &impl Print, alloc: Global, path: &str, job: &str) -> Result<
     show_key(rt, name.as_str())
 }
 
-fn show_markers(rt: &impl Print, markers: &[Key]) -> Result<()> {
-    for marker in markers {
+/// Shows the markers that a file makes needless where it is made.
+fn show_above(rt: &impl Print, alloc: Global, path: &S3Path) -> Result<()> {
+    let markers = after_create(alloc, MarkerPolicy::Delete, path)?;
+    for marker in markers.as_slice() {
         show_key(rt, marker.as_text().as_str())?;
     }
     Ok(())
 }
 
-/// Shows the markers that a file makes needless where it is made.
-fn show_above(rt: &impl Print, alloc: Global, text: &str) -> Result<()> {
-    let path = S3Path::read(alloc, text)?;
-    let markers = after_create(alloc, MarkerPolicy::Delete, &path)?;
-    show_markers(rt, markers.as_slice())
+fn show_text(rt: &impl Print, name: &str, text: Text) -> Result<()> {
+    let shown = println!(rt; "{name}: {}", text.as_str());
+    let_go(text);
+    Ok(shown?)
+}
+
+fn show_named_key(rt: &impl Print, name: &str, key: Key) -> Result<()> {
+    let shown = println!(rt; "{name}: {}", key.as_text().as_str());
+    let_go(key);
+    Ok(shown?)
+}
+
+fn show_directory(rt: &impl Print, name: &str, path: S3Path) -> Result<()> {
+    let shown = println!(rt; "{name}: {}", path.key().as_str());
+    let_go(path);
+    Ok(shown?)
+}
+
+/// Where a magic job keeps what is its own, and its marker.
+fn show_keys(rt: &impl Print, alloc: Global, dest: &S3Path, job: &Text) -> Result<()>
+    requires some { 1 ≤ length dest.now.key }
+    requires most { length dest.now.key ≤ 400 }
+    requires id { is_job_id job.now ≡ true }
+{
+    show_directory(rt, "attempt", attempt_dir(alloc, dest, job, 7, 0)?)?;
+    show_named_key(rt, "set", set_key(alloc, dest, job, u32::MAX)?)?;
+    show_named_key(rt, "success", success_key(alloc, dest)?)?;
+    show_text(rt, "prefix", magic_prefix(alloc, dest, job)?)
+}
+
+/// Where a staging job keeps what is its own in the cluster's file system.
+fn show_cluster(rt: &impl Print, alloc: Global, job: &Text) -> Result<()> {
+    show_text(rt, "cluster", cluster_prefix(alloc, job)?)?;
+    show_text(rt, "temporary", temporary_path(alloc, job, 7, 0)?)?;
+    show_text(rt, "staged set", staged_set_path(alloc, job, 7)?)
+}
+
+fn show_places(rt: &impl Print, alloc: Global, dest: &S3Path, job: &Text) -> Result<()>
+    requires some { 1 ≤ length dest.now.key }
+    requires most { length dest.now.key ≤ 400 }
+    requires id { is_job_id job.now ≡ true }
+{
+    show_keys(rt, alloc, dest, job)?;
+    show_cluster(rt, alloc, job)
+}
+
+/// Where the committers keep what is theirs.
+fn show_layout(rt: &impl Print, alloc: Global, dest: &S3Path) -> Result<()> {
+    let length = dest.key().as_bytes().len();
+    if length == 0 || length > 400 {
+        bail!("no job writes there");
+    }
+    let job = Text::copied(alloc, "j_1")?;
+    let shown = show_places(rt, alloc, dest, &job);
+    let_go(job);
+    shown
+}
+
+fn show_of(rt: &impl Print, alloc: Global, path: &S3Path, verb: &str, other: &str) -> Result<()> {
+    match verb {
+        "read" => show_key(rt, path.key().as_str()),
+        "join" => show_joined(rt, alloc, path, other),
+        "parent" => show_parent(rt, alloc, path),
+        "behind" => show_behind(rt, path, other),
+        "above" => show_above(rt, alloc, path),
+        "layout" => show_layout(rt, alloc, path),
+        _ => show_final(rt, alloc, path),
+    }
+}
+
+fn show_row(rt: &impl Print, alloc: Global, row: &str) -> Result<()> {
+    let (verb, words) = row.split_once(' ').context("a verb and a path")?;
+    let (text, other) = words.split_once(' ').unwrap_or((words, ""));
+    if verb == "unique" {
+        return show_unique(rt, alloc, text, other);
+    }
+    match S3Path::read(alloc, text) {
+        Ok(path) => {
+            let shown = show_of(rt, alloc, &path, verb, other);
+            let_go(path);
+            shown
+        }
+        Err(fault) => Ok(println!(rt; "{fault:?}")?),
+    }
 }
 
 /// Shows what a row asks of a path: `read`, `parent` or `final` of it, what it is `join`ed with, what
-/// of a key comes `behind` it, what a file's path is once it is `unique` to a job, or which markers are
-/// `above` a file.
+/// of a key comes `behind` it, what a file's path is once it is `unique` to a job, which markers are
+/// `above` a file, or the `layout` of a job that writes there.
 pub fn show_path(rt: &impl Print, alloc: Global, line: &str) -> Result<()> {
-    let (verb, words) = line.split_once(' ').context("a verb and a path")?;
-    let (text, other) = words.split_once(' ').unwrap_or((words, ""));
-    let text = lengthened(alloc, text)?;
-    let other = lengthened(alloc, other)?;
-    match verb {
-        "read" => show_read(rt, alloc, text.as_str()),
-        "join" => show_joined(rt, alloc, text.as_str(), other.as_str()),
-        "parent" => show_parent(rt, alloc, text.as_str()),
-        "behind" => show_behind(rt, alloc, text.as_str(), other.as_str()),
-        "unique" => show_unique(rt, alloc, text.as_str(), other.as_str()),
-        "above" => show_above(rt, alloc, text.as_str()),
-        _ => show_final(rt, alloc, text.as_str()),
-    }
+    let bytes = spelled(alloc, line)?;
+    show_row(rt, alloc, str::from_utf8(&bytes)?)
 }

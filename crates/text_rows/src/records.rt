@@ -1,8 +1,8 @@
-use crate::records_made::{mark_text, set_text, stamped_text, upload_text};
+use crate::spelling::put;
 use anyhow::{Context, Result};
 use pending_json::{PendingSet, PendingUpload, RecordFault, SuccessMark};
 use s3_types::{Bytes, let_go};
-use std::alloc::{AllocError, Global};
+use std::alloc::Global;
 
 fn upload_again(alloc: Global, text: &[u8]) -> Result<Bytes, RecordFault> {
     let upload = PendingUpload::read(alloc, text)?;
@@ -25,52 +25,29 @@ fn mark_again(alloc: Global, text: &[u8]) -> Result<Bytes, RecordFault> {
     Ok(again?)
 }
 
-/// The bytes of a text, where `~` stands for the byte 255.
-fn bytes_in(alloc: Global, text: &str) -> Result<Vec<u8>, AllocError> {
-    let mut bytes = Vec::new(alloc);
-    for b in text.as_bytes() {
-        bytes.push(if *b == b'~' { 255 } else { *b })?;
+fn show_again(rt: &impl Print, read: &Result<Bytes, RecordFault>) -> Result<()> {
+    match read {
+        Ok(text) => println!(rt; "{}", str::from_utf8(text.as_slice())?)?,
+        Err(fault) => println!(rt; "{fault:?}")?,
     }
-    Ok(bytes)
-}
-
-fn show_text(rt: &impl Print, text: &Bytes) -> Result<()> {
-    println!(rt; "{}", str::from_utf8(text.as_slice())?)?;
     Ok(())
 }
 
-fn show_again(rt: &impl Print, read: Result<Bytes, RecordFault>) -> Result<()> {
-    match read {
-        Ok(text) => show_text(rt, &text),
-        Err(fault) => {
-            let shown = println!(rt; "{fault:?}");
-            let_go(fault);
-            Ok(shown?)
-        }
-    }
-}
-
-/// The text of a record that is made of its fields.
-fn made(alloc: Global, record: &str) -> Result<Bytes> {
-    match record {
-        "upload" => upload_text(alloc),
-        "set" => set_text(alloc),
-        "mark" => mark_text(alloc),
-        _ => stamped_text(alloc),
-    }
+fn show_read(rt: &impl Print, alloc: Global, record: &str, text: &[u8]) -> Result<()> {
+    let read = match record {
+        "upload" => upload_again(alloc, text),
+        "set" => set_again(alloc, text),
+        _ => mark_again(alloc, text),
+    };
+    let shown = show_again(rt, &read);
+    let_go(read);
+    shown
 }
 
 /// Shows the one text of the record that a row's text is, or why it is none.
 pub fn show_record(rt: &impl Print, alloc: Global, line: &str) -> Result<()> {
     let (record, text) = line.split_once(' ').context("a record and a text")?;
-    if record == "made" {
-        return show_text(rt, &made(alloc, text)?);
-    }
-    let bytes = bytes_in(alloc, text)?;
-    let read = match record {
-        "upload" => upload_again(alloc, &bytes),
-        "set" => set_again(alloc, &bytes),
-        _ => mark_again(alloc, &bytes),
-    };
-    show_again(rt, read)
+    let mut bytes = Vec::new(alloc);
+    put(&mut bytes, text)?;
+    show_read(rt, alloc, record, &bytes)
 }

@@ -12,7 +12,8 @@ fn byte_of(b: u8) -> u8 {
     }
 }
 
-fn put(bytes: &mut Vec<u8>, text: &str) -> Result<(), AllocError> {
+/// Adds the bytes that a text without turns stands for.
+pub fn put(bytes: &mut Vec<u8>, text: &str) -> Result<(), AllocError> {
     for b in text.as_bytes() {
         if *b == b'@' {
             bytes.extend_from_slice(ORDINARY.as_bytes())?;
@@ -56,8 +57,8 @@ fn put_turns(alloc: Global, bytes: &mut Vec<u8>, many: &str) -> Result<()> {
     Ok(())
 }
 
-/// The script that a line of the input stands for.
-pub fn script_of(alloc: Global, line: &str) -> Result<Vec<u8>> {
+/// The bytes that a line of the input stands for.
+pub fn spelled(alloc: Global, line: &str) -> Result<Vec<u8>> {
     let mut bytes = Vec::new(alloc);
     match line.split_once('{') {
         Some((front, many)) => {
