@@ -2,17 +2,17 @@ use anyhow::Result;
 use s3_types::{Bytes, EntryList, LengthHeader, Outcome, PageEntry, PartSizes, Reply, UploadList};
 use std::io;
 
+/// Bytes as the text that they are, in brackets.
+pub fn show_bytes(rt: &impl Print, bytes: &Bytes) -> Result<()> {
+    print!(rt; "[{}]", str::from_utf8(bytes.as_slice())?)?;
+    Ok(())
+}
+
 fn show_header(rt: &impl Print, header: Option<LengthHeader>) -> Result<()> {
     match header {
         Some(length) => print!(rt; ", header {}", length.get())?,
         None => print!(rt; ", no header")?,
     }
-    Ok(())
-}
-
-/// Bytes as the text that they are, in brackets.
-pub fn show_bytes(rt: &impl Print, bytes: &Bytes) -> Result<()> {
-    print!(rt; "[{}]", str::from_utf8(bytes.as_slice())?)?;
     Ok(())
 }
 
@@ -34,13 +34,10 @@ fn show_word(rt: &impl Print, reply: &Reply) -> io::Result<()> {
         Reply::Copied => print!(rt; "copied"),
         Reply::Page { entries, .. } => print!(rt; "page-of-{}", entries.len()),
         Reply::Upload(upload) => print!(rt; "{upload}"),
-        Reply::Part(tag) => print!(rt; "{tag}"),
-        Reply::Completed(tag) => print!(rt; "{tag}"),
+        Reply::Part(tag) | Reply::Completed(tag) => print!(rt; "{tag}"),
         Reply::Aborted => print!(rt; "aborted"),
         Reply::Uploads { entries, .. } => print!(rt; "uploads-of-{}", entries.len()),
         Reply::Parts(parts) => print!(rt; "parts-of-{}", parts.len()),
-        Reply::ClusterDone => print!(rt; "done"),
-        Reply::ClusterBytes(bytes) => print!(rt; "bytes-{}", bytes.as_slice().len()),
         Reply::Refused(refusal) => print!(rt; "{refusal:?}"),
         _ => print!(rt; "another-answer"),
     }
@@ -79,7 +76,7 @@ pub fn show_entries(rt: &impl Print, entries: &EntryList) -> Result<()> {
 }
 
 /// The uploads of a page, each key with its upload's id.
-pub fn show_uploads(rt: &impl Print, uploads: &UploadList) -> Result<()> {
+fn show_uploads(rt: &impl Print, uploads: &UploadList) -> Result<()> {
     for upload in uploads.as_slice() {
         print!(rt; " {} {}", upload.key.as_text().as_str(), upload.upload)?;
     }
@@ -94,30 +91,29 @@ fn show_parts(rt: &impl Print, parts: &PartSizes) -> Result<()> {
     Ok(())
 }
 
-/// A `+` where more remain.
-fn show_more(rt: &impl Print, more: bool) -> Result<()> {
-    if more {
-        print!(rt; " +")?;
-    }
-    Ok(())
+fn lists_more(reply: &Reply) -> bool {
+    matches!(
+        reply,
+        Reply::Page { more: true, .. } | Reply::Uploads { more: true, .. }
+    )
 }
 
-fn show_page(rt: &impl Print, entries: &EntryList, more: bool) -> Result<()> {
-    show_entries(rt, entries)?;
-    show_more(rt, more)
-}
-
-fn show_upload_page(rt: &impl Print, entries: &UploadList, more: bool) -> Result<()> {
-    show_uploads(rt, entries)?;
-    show_more(rt, more)
-}
-
-/// What a reply lists.
-pub fn show_listed(rt: &impl Print, reply: &Reply) -> Result<()> {
+fn show_list(rt: &impl Print, reply: &Reply) -> Result<()> {
     match reply {
-        Reply::Page { entries, more } => show_page(rt, entries, *more),
-        Reply::Uploads { entries, more } => show_upload_page(rt, entries, *more),
+        Reply::Page { entries, .. } => show_entries(rt, entries),
+        Reply::Uploads { entries, .. } => show_uploads(rt, entries),
         Reply::Parts(parts) => show_parts(rt, parts),
         _ => Ok(()),
     }
+}
+
+/// A reply, and what it lists, with a `+` where more remain.
+pub fn show_answer(rt: &impl Print, reply: &Reply) -> Result<()> {
+    print!(rt; ": ")?;
+    show_reply(rt, reply)?;
+    show_list(rt, reply)?;
+    if lists_more(reply) {
+        print!(rt; " +")?;
+    }
+    Ok(())
 }

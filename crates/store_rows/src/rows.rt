@@ -1,11 +1,15 @@
 use crate::images::{show_decoded, show_image};
-use crate::replies::{show_bytes, show_listed, show_reply};
+use crate::replies::{show_answer, show_bytes};
 use crate::requests::answer;
 use crate::spelling::cut;
+use crate::streams::show_stream;
+use crate::tags::show_joined;
+use crate::walks::{put_keys, show_walk};
 use anyhow::{Context, Result, bail};
+use block_stream::StreamMode;
 use object_store::Objects;
 use s3_service::Service;
-use s3_types::{Reply, let_go, put};
+use s3_types::{let_go, put};
 use std::alloc::Global;
 
 /// The store that the rows are about, and what it was when it was kept.
@@ -46,12 +50,6 @@ impl Stores {
     }
 }
 
-fn show_answer(rt: &impl Print, reply: &Reply) -> Result<()> {
-    print!(rt; ": ")?;
-    show_reply(rt, reply)?;
-    show_listed(rt, reply)
-}
-
 /// What the store answers to the request that words spell.
 fn ask(rt: &impl Print, alloc: Global, service: &mut Service, words: &str) -> Result<()> {
     let reply = answer(alloc, service, words)?;
@@ -61,7 +59,7 @@ fn ask(rt: &impl Print, alloc: Global, service: &mut Service, words: &str) -> Re
 }
 
 /// The objects one after another, each found by the key before it.
-fn show_steps(rt: &impl Print, objects: &Objects) -> Result<()> {
+pub fn show_steps(rt: &impl Print, objects: &Objects) -> Result<()> {
     let mut last = None;
     for _ in 0..=objects.count() {
         let Some((key, object)) = objects.next(last) else {
@@ -74,7 +72,7 @@ fn show_steps(rt: &impl Print, objects: &Objects) -> Result<()> {
     Ok(())
 }
 
-fn show_walk(rt: &impl Print, service: &Service) -> Result<()> {
+fn show_objects(rt: &impl Print, service: &Service) -> Result<()> {
     for bucket in service.iter() {
         print!(rt; ": {}", bucket.objects.count())?;
         show_steps(rt, bucket.objects)?;
@@ -88,7 +86,12 @@ fn answer_row(rt: &impl Print, alloc: Global, stores: &mut Stores, words: &str) 
         "store" => stores.begin(alloc, rest),
         "keep" => stores.keep(),
         "back" => stores.go_back(),
-        "walk" => show_walk(rt, &stores.now),
+        "many" => put_keys(alloc, &mut stores.now),
+        "walk" => show_objects(rt, &stores.now),
+        "keys" | "folder" => show_walk(rt, alloc, &stores.now, verb, rest),
+        "joined" => show_joined(rt, alloc, rest),
+        "direct" => show_stream(rt, alloc, StreamMode::Direct, rest),
+        "delayed" => show_stream(rt, alloc, StreamMode::Delayed, rest),
         "image" => show_image(rt, alloc, &stores.now, rest),
         "read" => show_decoded(rt, alloc, rest),
         _ => ask(rt, alloc, &mut stores.now, words),

@@ -30,6 +30,10 @@ fn put_word(bytes: &mut Vec<u8>, word: &str) -> Result<()> {
             bytes,
             &number.parse::<u16>().context("16 bits")?.to_be_bytes(),
         ),
+        "4" => put_slice(
+            bytes,
+            &number.parse::<u32>().context("32 bits")?.to_be_bytes(),
+        ),
         _ => put_slice(
             bytes,
             &number.parse::<u64>().context("64 bits")?.to_be_bytes(),

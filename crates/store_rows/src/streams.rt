@@ -4,7 +4,7 @@ ghost use Rattle.block_stream.specs.Holds.{IsReady};
 ghost use Rattle.store_rows.specs.Lake.{lake};
 
 use crate::lake::{BLOCK, new_store};
-use crate::streams_shown::{show_driven, show_pieces};
+use crate::streams_shown::show_driven;
 use anyhow::{Result, bail};
 use block_stream::{BlockStream, StreamFault, StreamMode, drive_stream};
 use machine::Retrying;
@@ -33,11 +33,11 @@ fn new_stream(alloc: Global, mode: StreamMode, bucket: &Bucket) -> Result<Retryi
 }
 
 /// Writes all pieces to a stream, and closes it.
-fn fill(stream: &mut BlockStream, pieces: &[&str]) -> Result<(), StreamFault>
+fn fill(stream: &mut BlockStream, pieces: &str) -> Result<(), StreamFault>
     requires { stream.old.closed ≡ false }
     ensures { OnOk result ((scene : Scene) (repeated : Bool) → IsReady stream.old scene repeated → IsReady stream.new scene repeated) }
 {
-    for piece in pieces {
+    for piece in pieces.split_whitespace() {
         stream.write(piece.as_bytes())?;
     }
     stream.close()?;
@@ -66,7 +66,7 @@ fn fill_and_drive(
     alloc: Global,
     stream: &mut Retrying<BlockStream>,
     store: &mut MemStore,
-    pieces: &[&str],
+    pieces: &str,
 ) -> Result<()>
     requires open { stream.old.machine.closed ≡ false }
     requires ready { IsReady stream.old.machine store.old.scene stream.old.repeated }
@@ -83,7 +83,7 @@ fn over_new_store(
     alloc: Global,
     bucket: &Bucket,
     stream: &mut Retrying<BlockStream>,
-    pieces: &[&str],
+    pieces: &str,
 ) -> Result<()>
     requires open { stream.old.machine.closed ≡ false }
     requires ready { IsReady stream.old.machine (lake bucket.now) stream.old.repeated }
@@ -95,20 +95,10 @@ fn over_new_store(
 }
 
 /// Writes pieces to a new stream over a new store, and drives it.
-fn run(rt: &impl Print, alloc: Global, mode: StreamMode, pieces: &[&str]) -> Result<()> {
-    show_pieces(rt, mode, pieces)?;
+pub fn show_stream(rt: &impl Print, alloc: Global, mode: StreamMode, pieces: &str) -> Result<()> {
     let bucket = Bucket::read(alloc, b"lake")?;
     let mut stream = new_stream(alloc, mode, &bucket)?;
     let driven = over_new_store(rt, alloc, &bucket, &mut stream, pieces);
     let_go(stream);
     driven
-}
-
-/// Delayed streams, then direct ones.
-pub fn show_streams(rt: &impl Print, alloc: Global) -> Result<()> {
-    run(rt, alloc, StreamMode::Delayed, &["123456789"])?;
-    run(rt, alloc, StreamMode::Delayed, &["123456", "78"])?;
-    run(rt, alloc, StreamMode::Delayed, &[])?;
-    run(rt, alloc, StreamMode::Direct, &["123456789"])?;
-    run(rt, alloc, StreamMode::Direct, &["12"])
 }
