@@ -1,6 +1,7 @@
 ghost use Rattle.folder_log.specs.Disk.{IsWithin};
 
 use crate::faults::{Fault, Faulty};
+use crate::streams::show_streams;
 use folder_log::{DiskFault, FileDisk, LogDisk};
 use s3_types::{Bytes, let_go};
 use shelf::Failed;
@@ -11,7 +12,7 @@ use std::{fs, io};
 
 const FOLDER: &str = "log-rows-folder";
 
-const IMAGE: &str = "log-rows-folder/store.img";
+pub const IMAGE: &str = "log-rows-folder/store.img";
 
 /// Another name of the file that stands at first.
 const OTHER: &str = "log-rows-folder/first.img";
@@ -24,15 +25,15 @@ const WITHOUT_FILE: [Call; 3] = [Call::Sync, Call::Read, Call::Write];
 
 const CALLS: [Call; 4] = [Call::Read, Call::Swap, Call::Write, Call::Sync];
 
-const FAULTS: [Fault; 8] = [
-    Fault::Nothing,
-    Fault::Open,
-    Fault::Read,
-    Fault::Short,
-    Fault::Full,
-    Fault::Sync,
-    Fault::FolderSync,
-    Fault::Rename,
+const FAULTS: [(Fault, &str); 8] = [
+    (Fault::Nothing, "nothing fails"),
+    (Fault::Open, "no file is opened"),
+    (Fault::Read, "a file is read up to its first byte"),
+    (Fault::Short, "one byte is read or written at a time"),
+    (Fault::Full, "no byte is written"),
+    (Fault::Sync, "no file is synced"),
+    (Fault::FolderSync, "no folder is synced"),
+    (Fault::Rename, "no file is renamed"),
 ];
 
 /// A call of a disk.
@@ -56,30 +57,8 @@ fn call_text(call: Call) -> &'static str {
     }
 }
 
-fn fault_text(fault: Fault) -> &'static str {
-    match fault {
-        Fault::Nothing => "nothing fails",
-        Fault::Open => "no file is opened",
-        Fault::Read => "a file is read up to its first byte",
-        Fault::Short => "one byte is read or written at a time",
-        Fault::Full => "no byte is written",
-        Fault::Sync => "no file is synced",
-        Fault::FolderSync => "no folder is synced",
-        Fault::Rename => "no file is renamed",
-    }
-}
-
-fn disk_of<R: Files>(
-    rt: &R,
-    alloc: Global,
-    fault: Fault,
-) -> Result<FileDisk<Faulty<'_, R>>, AllocError> {
-    let folder = String::from_str(alloc, FOLDER)?;
-    Ok(FileDisk::new(alloc, Faulty::new(rt, fault), folder))
-}
-
 /// The bytes as text, of which these rows have no other.
-fn text_of(bytes: &[u8]) -> &str {
+pub fn text_of(bytes: &[u8]) -> &str {
     str::from_utf8(bytes).unwrap_or("no text")
 }
 
@@ -122,7 +101,8 @@ fn put_call<R: Files>(
     call: Call,
     fault: Fault,
 ) -> Result<(), AllocError> {
-    let mut disk = disk_of(rt, alloc, fault)?;
+    let folder = String::from_str(alloc, FOLDER)?;
+    let mut disk = FileDisk::new(alloc, Faulty::new(rt, fault), folder);
     let put = put_answer(line, &mut disk, call);
     let_go(disk);
     put
@@ -160,15 +140,21 @@ fn put_fault<R: Files>(
     fs::remove_file(rt, OTHER)
 }
 
-fn show_fault<R: Print + Files>(rt: &R, alloc: Global, call: Call, fault: Fault) -> io::Result<()> {
+fn show_fault<R: Print + Files>(
+    rt: &R,
+    alloc: Global,
+    call: Call,
+    fault: Fault,
+    what: &str,
+) -> io::Result<()> {
     let mut line = String::new(alloc);
     put_fault(rt, alloc, &mut line, call, fault)?;
-    println!(rt; "{} where {}: {line}", call_text(call), fault_text(fault))
+    println!(rt; "{} where {what}: {line}", call_text(call))
 }
 
 fn show_faults<R: Print + Files>(rt: &R, alloc: Global, call: Call) -> io::Result<()> {
-    for fault in &FAULTS {
-        show_fault(rt, alloc, call, *fault)?;
+    for (fault, what) in &FAULTS {
+        show_fault(rt, alloc, call, *fault, what)?;
     }
     Ok(())
 }
@@ -199,12 +185,13 @@ fn show_all_missing<R: Print + Files>(
     Ok(())
 }
 
-/// What a folder's file answers.
+/// What a folder's file answers, and streams over it.
 pub fn show_disks<R: Print + Files>(rt: &R, alloc: Global) -> io::Result<()> {
     show_all_missing(rt, alloc, &WITHOUT_FOLDER, "folder")?;
     fs::create_dir(rt, FOLDER)?;
     show_all_missing(rt, alloc, &WITHOUT_FILE, "file")?;
     show_calls(rt, alloc)?;
+    show_streams(rt, alloc)?;
     fs::remove_file(rt, IMAGE)?;
     fs::remove_dir(rt, FOLDER)
 }

@@ -27,26 +27,20 @@ impl Edit {
     }
 }
 
-fn set(bytes: &mut [u8], place: usize, value: u8) {
-    if place < bytes.len() {
-        bytes[place] = value;
-    }
-}
-
-fn turn(bytes: &mut [u8], place: usize, mask: u8) {
-    if place < bytes.len() {
-        bytes[place] = bytes[place] ^ mask;
-    }
-}
-
 /// The bytes after the edit by a number.
 fn edited(alloc: Global, bytes: &[u8], edit: Edit, number: usize) -> Result<Bytes, AllocError> {
     let mut copy = Vec::from_slice(alloc, bytes)?;
-    match edit {
-        Edit::Prefix => copy.truncate(number),
-        Edit::Set(value) => set(copy.as_mut_slice(), number, value),
-        Edit::Turn(mask) => turn(copy.as_mut_slice(), number, mask),
-        Edit::Value(place) => set(copy.as_mut_slice(), place, (number % 256) as u8),
+    let (place, mask, value) = match edit {
+        Edit::Prefix => (number, 255, 0),
+        Edit::Set(value) => (number, 0, value),
+        Edit::Turn(mask) => (number, 255, mask),
+        Edit::Value(place) => (place, 0, (number % 256) as u8),
+    };
+    if let Edit::Prefix = edit {
+        copy.truncate(number);
+    }
+    if let Some(b) = copy.get_mut(place) {
+        *b = (*b & mask) ^ value;
     }
     Bytes::new(alloc, copy)
 }

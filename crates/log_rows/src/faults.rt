@@ -1,10 +1,7 @@
 use std::alloc::Allocator;
-use std::fs::{Metadata, OpenFile, OpenOptions, Permissions};
+use std::fs::{Metadata, OpenFile, OpenOptions};
 use std::io;
-use std::io::{PipeReader, PipeWriter, Read, Seek, SeekFrom, Write};
-use std::os::fd::BorrowedFd;
-use std::os::unix::net::SocketAddr;
-use std::path::PathBuf;
+use std::io::{Read, Seek, SeekFrom, Write};
 use std::rt::Files;
 
 /// What goes wrong with the calls of a file system.
@@ -27,7 +24,7 @@ pub enum Fault {
     Rename,
 }
 
-/// A file system of which some calls fail.
+/// A file system of which some calls fail, and all that a disk does not make.
 #[derive(Drop)]
 pub struct Faulty<'r, R> {
     rt: &'r R,
@@ -92,8 +89,8 @@ impl<F: OpenFile + Drop> OpenFile for FaultyFile<F> {
         self.file.metadata()
     }
 
-    fn set_len(&self, size: u64) -> io::Result<()> {
-        self.file.set_len(size)
+    fn set_len(&self, _size: u64) -> io::Result<()> {
+        Err(failed())
     }
 
     fn sync_all(&self) -> io::Result<()> {
@@ -109,7 +106,7 @@ impl<F: OpenFile + Drop> OpenFile for FaultyFile<F> {
     }
 
     fn sync_data(&self) -> io::Result<()> {
-        self.sync_all()
+        Err(failed())
     }
 }
 
@@ -131,20 +128,20 @@ impl<'r, R: Files> Files for Faulty<'r, R> {
         })
     }
 
-    fn open_dir(&self, path: &str) -> io::Result<R::Dir> {
-        self.rt.open_dir(path)
+    fn open_dir(&self, _path: &str) -> io::Result<R::Dir> {
+        Err(failed())
     }
 
-    fn metadata(&self, path: &str) -> io::Result<Metadata> {
-        self.rt.metadata(path)
+    fn metadata(&self, _path: &str) -> io::Result<Metadata> {
+        Err(failed())
     }
 
-    fn symlink_metadata(&self, path: &str) -> io::Result<Metadata> {
-        self.rt.symlink_metadata(path)
+    fn symlink_metadata(&self, _path: &str) -> io::Result<Metadata> {
+        Err(failed())
     }
 
-    fn copy(&self, from: &str, to: &str) -> io::Result<u64> {
-        self.rt.copy(from, to)
+    fn copy(&self, _from: &str, _to: &str) -> io::Result<u64> {
+        Err(failed())
     }
 
     fn rename(&self, from: &str, to: &str) -> io::Result<()> {
@@ -154,59 +151,19 @@ impl<'r, R: Files> Files for Faulty<'r, R> {
         self.rt.rename(from, to)
     }
 
-    fn remove_file(&self, path: &str) -> io::Result<()> {
-        self.rt.remove_file(path)
+    fn remove_file(&self, _path: &str) -> io::Result<()> {
+        Err(failed())
     }
 
-    fn create_dir(&self, path: &str) -> io::Result<()> {
-        self.rt.create_dir(path)
+    fn create_dir(&self, _path: &str) -> io::Result<()> {
+        Err(failed())
     }
 
-    fn remove_dir(&self, path: &str) -> io::Result<()> {
-        self.rt.remove_dir(path)
+    fn remove_dir(&self, _path: &str) -> io::Result<()> {
+        Err(failed())
     }
 
-    fn remove_dir_all<B: Allocator>(&self, alloc: B, path: &str) -> io::Result<()> {
-        self.rt.remove_dir_all(alloc, path)
-    }
-
-    fn canonicalize<B: Allocator>(&self, alloc: B, path: &str) -> io::Result<PathBuf<B>> {
-        self.rt.canonicalize(alloc, path)
-    }
-
-    fn read_link<B: Allocator>(&self, alloc: B, path: &str) -> io::Result<PathBuf<B>> {
-        self.rt.read_link(alloc, path)
-    }
-
-    fn hard_link(&self, original: &str, link: &str) -> io::Result<()> {
-        self.rt.hard_link(original, link)
-    }
-
-    fn set_permissions(&self, path: &str, permissions: Permissions) -> io::Result<()> {
-        self.rt.set_permissions(path, permissions)
-    }
-
-    fn symlink(&self, original: &str, link: &str) -> io::Result<()> {
-        self.rt.symlink(original, link)
-    }
-
-    fn pipe(&self) -> io::Result<(PipeReader, PipeWriter)> {
-        self.rt.pipe()
-    }
-
-    fn chown(&self, path: &str, user: Option<u32>, group: Option<u32>) -> io::Result<()> {
-        self.rt.chown(path, user, group)
-    }
-
-    fn lchown(&self, path: &str, user: Option<u32>, group: Option<u32>) -> io::Result<()> {
-        self.rt.lchown(path, user, group)
-    }
-
-    fn create_dir_with_mode(&self, path: &str, mode: u32) -> io::Result<()> {
-        self.rt.create_dir_with_mode(path, mode)
-    }
-
-    fn bind_unix(&self, socket: BorrowedFd<'_>, address: &SocketAddr) -> io::Result<()> {
-        self.rt.bind_unix(socket, address)
+    fn remove_dir_all<B: Allocator>(&self, _alloc: B, _path: &str) -> io::Result<()> {
+        Err(failed())
     }
 }

@@ -1,8 +1,8 @@
-use crate::changes::are_first;
 use crate::found::{fault_text, load};
 use crate::play::Play;
 use folder_log::{Choice, MemDisk};
-use s3_types::let_go;
+use log_format::{can_write, is_changing, record_of};
+use s3_types::{Request, let_go};
 use shelf::kept::{Held, LoadFault};
 use std::alloc::{AllocError, Global};
 use std::fmt;
@@ -31,39 +31,25 @@ impl fmt::Display for Left {
     }
 }
 
-/// Whether two things that are held are the same.
-fn are_same(alloc: Global, held: &Held, other: &Held) -> Result<bool, AllocError> {
-    if held.base.as_slice() != other.base.as_slice() || held.changes.len() != other.changes.len() {
-        return Ok(false);
-    }
-    are_first(alloc, held.changes.as_slice(), other.changes.as_slice())
-}
-
-/// Whether what is held is what the file held before the play.
-fn is_before(alloc: Global, play: Play<'_>, held: &Held) -> Result<bool, AllocError> {
-    match load(alloc, play.file.clone()?) {
-        Ok(Some(before)) => {
-            let same = are_same(alloc, held, &before);
-            let_go(before);
-            same
+/// A base with its length, and the changes behind it, each as a log has it.
+pub fn written(alloc: Global, base: &[u8], changes: &[Request]) -> Result<Vec<u8>, AllocError> {
+    let mut bytes = Vec::new(alloc);
+    bytes.extend_from_slice(&(base.len() as u64).to_be_bytes())?;
+    bytes.extend_from_slice(base)?;
+    for change in changes {
+        if is_changing(change) && can_write(change) {
+            bytes.extend_from_slice(&record_of(alloc, change)?)?;
         }
-        _ => Ok(false),
     }
-}
-
-/// Whether what is held is the base that was played with the first ones of the changes.
-fn is_played(alloc: Global, play: Play<'_>, held: &Held) -> Result<bool, AllocError> {
-    if held.base.as_slice() != play.base {
-        return Ok(false);
-    }
-    are_first(alloc, held.changes.as_slice(), play.changes)
+    Ok(bytes)
 }
 
 pub fn held_left(alloc: Global, play: Play<'_>, held: &Held) -> Result<Left, AllocError> {
-    if is_played(alloc, play, held)? {
+    let bytes = written(alloc, held.base.as_slice(), held.changes.as_slice())?;
+    if play.whole.starts_with(&bytes) {
         return Ok(Left::Changes(held.changes.len()));
     }
-    if is_before(alloc, play, held)? {
+    if play.before == bytes.as_slice() {
         return Ok(Left::Before);
     }
     Ok(Left::Another)

@@ -4,17 +4,17 @@
 //! turned by a mask, `values PLACE` with the byte at a place set to each value, and `number PLACE NUMBER` with this
 //! number in the 8 bytes there. What is alike is told once, from its first place or value to its last.
 //!
-//! `play BASE` loads the file, or no file where `log` has no bytes, replaces it by a base of these bytes and appends a
-//! change of each kind, over a disk in memory. It tells the calls and the file that they leave, and then, for each
+//! `changes HEX` takes the changes of a log, which plays append. `play BASE` loads the file, or no file where `log` has no
+//! bytes, replaces it by a base of these bytes and appends those changes, over a disk in memory. It tells the calls and the file that they leave, and then, for each
 //! number of calls after which the disk stops, and for each call that fails alone, how many appends were answered, and
 //! what loads after a crash by what became of the ranges that were not synced: how many of the changes, `before` for
 //! what was held, `nothing` for no file, or `another`. `memory BASE` plays the same over a shelf in memory of which no call
 //! fails, or one, and tells what it then holds.
 //!
-//! `files` tells what each call over a folder's file answers where a call of the system fails, and what a read then gives.
+//! `files` tells what each call over a folder's file answers where a call of the system fails, and what a read then
+//! gives; and what the program's streams give and take there, and those in memory.
 #![tactic(auto)]
 
-mod changes;
 mod disks;
 mod edits;
 mod faults;
@@ -23,6 +23,7 @@ mod left;
 mod play;
 mod plays;
 mod rows;
+mod streams;
 
 use anyhow::Result;
 use rows::{Rows, show_line};

@@ -11,6 +11,10 @@ pub struct Play<'p> {
     pub file: &'p Option<Bytes>,
     pub base: &'p [u8],
     pub changes: &'p [Request],
+    /// What is held before it, as bytes; none where nothing is.
+    pub before: &'p [u8],
+    /// What is held after all of it, as bytes.
+    pub whole: &'p [u8],
 }
 
 /// How far a play came.

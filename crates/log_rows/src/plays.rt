@@ -1,5 +1,5 @@
 use crate::found::load;
-use crate::left::{Left, crash_left, held_left};
+use crate::left::{Left, crash_left, held_left, written};
 use crate::play::{Came, Play, play_over};
 use folder_log::{Choice, LogShelf, MemDisk};
 use s3_types::{Bytes, let_go};
@@ -9,7 +9,7 @@ use std::alloc::{AllocError, Global};
 use std::io;
 
 /// A list of one call, or of none.
-fn calls_of(alloc: Global, call: Option<u64>) -> Result<CallList, AllocError> {
+pub fn calls_of(alloc: Global, call: Option<u64>) -> Result<CallList, AllocError> {
     let mut calls = CallList::new(alloc);
     if let Some(call) = call {
         calls.push(call)?;
@@ -30,49 +30,39 @@ fn shelf_of(
 }
 
 /// How far a play came, and what loads after a crash at its end.
-#[derive(Clone, Copy)]
-struct Told {
+fn show_came(
+    rt: &impl Print,
+    alloc: Global,
+    play: Play<'_>,
     came: Came,
-    lost: Left,
-    kept: Left,
-    closed: Left,
-    open: Left,
+    disk: &MemDisk,
+) -> io::Result<()> {
+    let lost = crash_left(alloc, play, disk, Choice::Lost)?;
+    let kept = crash_left(alloc, play, disk, Choice::Kept)?;
+    let closed = crash_left(alloc, play, disk, Choice::Torn(0))?;
+    let open = crash_left(alloc, play, disk, Choice::Torn(1))?;
+    println!(rt; "{came}, lost {lost}, kept {kept}, torn to 0 {closed}, torn to 1 {open}")
 }
 
-fn told_at(alloc: Global, play: Play<'_>, came: Came, disk: &MemDisk) -> Result<Told, AllocError> {
-    Ok(Told {
-        came,
-        lost: crash_left(alloc, play, disk, Choice::Lost)?,
-        kept: crash_left(alloc, play, disk, Choice::Kept)?,
-        closed: crash_left(alloc, play, disk, Choice::Torn(0))?,
-        open: crash_left(alloc, play, disk, Choice::Torn(1))?,
-    })
-}
-
-fn told_of(
+fn show_play(
+    rt: &impl Print,
     alloc: Global,
     play: Play<'_>,
     fail: Option<u64>,
     stop: Option<u64>,
-) -> Result<Told, AllocError> {
+) -> io::Result<()> {
     let mut shelf = shelf_of(alloc, play, fail, stop)?;
     let came = play_over(&mut shelf, play);
-    let told = told_at(alloc, play, came, shelf.disk());
+    let shown = show_came(rt, alloc, play, came, shelf.disk());
     let_go(shelf);
-    told
-}
-
-fn show_told(rt: &impl Print, name: &str, number: u64, told: Told) -> io::Result<()> {
-    println!(rt;
-        "{name} {number}: {}, lost {}, kept {}, torn to 0 {}, torn to 1 {}",
-        told.came, told.lost, told.kept, told.closed, told.open
-    )
+    shown
 }
 
 /// Plays once for each number of calls after which the disk stops.
 fn show_stops(rt: &impl Print, alloc: Global, play: Play<'_>, calls: u64) -> io::Result<()> {
     for stop in 0..=calls {
-        show_told(rt, "stop", stop, told_of(alloc, play, None, Some(stop))?)?;
+        print!(rt; "stop {stop}: ")?;
+        show_play(rt, alloc, play, None, Some(stop))?;
     }
     Ok(())
 }
@@ -80,7 +70,8 @@ fn show_stops(rt: &impl Print, alloc: Global, play: Play<'_>, calls: u64) -> io:
 /// Plays once for each call that fails alone.
 fn show_fails(rt: &impl Print, alloc: Global, play: Play<'_>, calls: u64) -> io::Result<()> {
     for call in 1..=calls {
-        show_told(rt, "fail", call, told_of(alloc, play, Some(call), None)?)?;
+        print!(rt; "fail {call}: ")?;
+        show_play(rt, alloc, play, Some(call), None)?;
     }
     Ok(())
 }
@@ -119,6 +110,18 @@ fn held_of(alloc: Global, file: &Option<Bytes>) -> Result<Option<Held>, AllocErr
     match load(alloc, file.clone()?) {
         Ok(held) => Ok(held),
         Err(_) => Ok(None),
+    }
+}
+
+/// What the file holds before a play, as bytes, which are none where it holds nothing.
+pub fn written_before(alloc: Global, file: &Option<Bytes>) -> Result<Vec<u8>, AllocError> {
+    match held_of(alloc, file)? {
+        Some(held) => {
+            let bytes = written(alloc, held.base.as_slice(), held.changes.as_slice());
+            let_go(held);
+            bytes
+        }
+        None => Ok(Vec::new(alloc)),
     }
 }
 

@@ -1,19 +1,21 @@
-use crate::changes::push_all_changes;
 use crate::disks::show_disks;
 use crate::edits::{Edit, show_edits};
-use crate::found::{Found, find};
+use crate::found::find;
+use crate::left::written;
 use crate::play::Play;
-use crate::plays::{show_memories, show_plays};
+use crate::plays::{show_memories, show_plays, written_before};
 use anyhow::{Context, Result, bail};
-use s3_types::{Bytes, Request, Sequence, let_go, put};
+use log_format::{LogFault, read_log};
+use s3_types::{Bytes, Sequence, put};
+use shelf::kept::Held;
 use std::alloc::{AllocError, Global};
-use std::io;
 use std::rt::Files;
 
-/// The file that the rows are about.
+/// The file that the rows are about, and a log whose changes are played.
 #[derive(Drop)]
 pub struct Rows {
     file: Option<Bytes>,
+    log: Held,
     alloc: Global,
 }
 
@@ -24,18 +26,21 @@ enum Medium {
     Memory,
 }
 
-fn push_word(alloc: Global, bytes: &mut Vec<u8>, word: &str) -> Result<()> {
-    let piece = hex::decode(alloc, word)?;
-    Ok(bytes.extend_from_slice(&piece)?)
-}
-
 /// The bytes that words of hex digits spell.
 fn spelled(alloc: Global, words: &str) -> Result<Vec<u8>> {
-    let mut bytes = Vec::new(alloc);
+    let mut digits = String::new(alloc);
     for word in words.split_whitespace() {
-        push_word(alloc, &mut bytes, word)?;
+        digits.push_str(word)?;
     }
-    Ok(bytes)
+    Ok(hex::decode(alloc, digits.as_str())?)
+}
+
+fn log_in(alloc: Global, bytes: &Bytes) -> Result<Held> {
+    match read_log(alloc, bytes) {
+        Ok(held) => Ok(held),
+        Err(LogFault::Bad(place)) => bail!("bad at {place}"),
+        Err(LogFault::NoMemory) => Err(AllocError.into()),
+    }
 }
 
 fn place_and_number(words: &str) -> Result<(usize, u64)> {
@@ -55,7 +60,15 @@ fn with_number(alloc: Global, bytes: &[u8], place: usize, number: u64) -> Result
 
 impl Rows {
     pub fn new(alloc: Global) -> Rows {
-        Rows { file: None, alloc }
+        let log = Held {
+            base: Bytes::empty(),
+            changes: Sequence::new(alloc),
+        };
+        Rows {
+            file: None,
+            log,
+            alloc,
+        }
     }
 
     fn take(&mut self, words: &str) -> Result<()> {
@@ -69,6 +82,12 @@ impl Rows {
         Ok(())
     }
 
+    fn take_log(&mut self, words: &str) -> Result<()> {
+        let bytes = Bytes::new(self.alloc, spelled(self.alloc, words)?)?;
+        put(&mut self.log, log_in(self.alloc, &bytes)?);
+        Ok(())
+    }
+
     fn bytes(&self) -> &[u8] {
         match &self.file {
             Some(file) => file.as_slice(),
@@ -78,54 +97,34 @@ impl Rows {
 
     fn read(&self, rt: &impl Print) -> Result<()> {
         let bytes = Bytes::from_slice(self.alloc, self.bytes())?;
-        Ok(show_found(rt, find(self.alloc, bytes))?)
+        Ok(println!(rt; "{}", find(self.alloc, bytes))?)
     }
 
     /// `PLACE NUMBER`
     fn read_with(&self, rt: &impl Print, words: &str) -> Result<()> {
         let (place, number) = place_and_number(words)?;
         let bytes = with_number(self.alloc, self.bytes(), place, number)?;
-        Ok(show_found(rt, find(self.alloc, bytes))?)
+        Ok(println!(rt; "{}", find(self.alloc, bytes))?)
     }
 
-    /// Plays this base and these changes over a disk, or a shelf in memory.
-    fn play_changes(
-        &self,
-        rt: &impl Print,
-        medium: Medium,
-        base: &[u8],
-        changes: &[Request],
-    ) -> io::Result<()> {
-        let play = Play {
-            file: &self.file,
-            base,
-            changes,
-        };
-        match medium {
-            Medium::Disk => show_plays(rt, self.alloc, play),
-            Medium::Memory => show_memories(rt, self.alloc, play),
-        }
-    }
-
-    /// Plays this base and a change of each kind.
-    fn play_base(&self, rt: &impl Print, medium: Medium, base: &[u8]) -> Result<()> {
-        let mut changes = Sequence::new(self.alloc);
-        let shown = match push_all_changes(self.alloc, &mut changes) {
-            Ok(()) => self.play_changes(rt, medium, base, changes.as_slice()),
-            Err(_) => Err(AllocError.into()),
-        };
-        let_go(changes);
-        Ok(shown?)
-    }
-
+    /// Plays this base and the log's changes over a disk, or a shelf in memory.
     fn play(&self, rt: &impl Print, medium: Medium, words: &str) -> Result<()> {
         let base = spelled(self.alloc, words)?;
-        self.play_base(rt, medium, &base)
+        let changes = self.log.changes.as_slice();
+        let before = written_before(self.alloc, &self.file)?;
+        let whole = written(self.alloc, &base, changes)?;
+        let play = Play {
+            file: &self.file,
+            base: &base,
+            changes,
+            before: &before,
+            whole: &whole,
+        };
+        match medium {
+            Medium::Disk => Ok(show_plays(rt, self.alloc, play)?),
+            Medium::Memory => Ok(show_memories(rt, self.alloc, play)?),
+        }
     }
-}
-
-fn show_found(rt: &impl Print, found: Found) -> io::Result<()> {
-    println!(rt; "{found}")
 }
 
 /// The edit that a row asks for.
@@ -147,6 +146,7 @@ fn show_edit(rt: &impl Print, rows: &Rows, verb: &str, words: &str) -> Result<()
 fn show_row<R: Print + Files>(rt: &R, rows: &mut Rows, verb: &str, words: &str) -> Result<()> {
     match verb {
         "log" => rows.take(words),
+        "changes" => rows.take_log(words),
         "read" => rows.read(rt),
         "number" => rows.read_with(rt, words),
         "play" => rows.play(rt, Medium::Disk, words),
