@@ -12,9 +12,6 @@ ghost use Rattle.s3_types.specs.declared.limits.TheConstants.{MOST_PARTS};
 use md5::{Digest, Md5};
 use s3_types::Tag;
 
-#[cfg(test)]
-mod tests;
-
 /// A digest as 32 lower-case hex digits.
 fn digits_of(digest: &[u8; 16]) -> [u8; 32]
     ensures digits { result ≡ encode_lower digest.now }

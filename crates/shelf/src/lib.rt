@@ -13,6 +13,3 @@ pub use calls::Calls;
 pub use device::{CallList, Failed, Sink, Source};
 pub use memory::{MemSink, MemSource, SureSource};
 pub use streams::{StdSink, StdSource};
-
-#[cfg(test)]
-mod tests;
