@@ -6,8 +6,6 @@ mod lines;
 mod numbers;
 mod parts;
 mod shapes;
-#[cfg(test)]
-mod tests;
 
 pub use lines::{next_field, next_line};
 pub use numbers::{number, number_within};
