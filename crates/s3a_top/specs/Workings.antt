@@ -1,12 +1,13 @@
 -- What the work of the words gives before its text is made and written.
-use Rattle.std.specs.Prelude.{◌≡◌, ◌⊎◌, ℕ, true, List, [], Option, Result, Ok, Err}
+use Rattle.std.specs.Prelude.{◌≡◌, ◌⊎◌, ◌<◌, ◌^◌, ◌-◌, ℕ, true, false, List, [], Option, Result, Ok, Err}
 use Rattle.s3_types.specs.declared.journal.Entry.{Entry}
 use Rattle.shelf.specs.Logged.{Holding, Stored, LeavesOnly}
 use Rattle.kept_stores.specs.Works.{Work as Doing}
 use Rattle.kept_stores.specs.Outcomes.{CallsBy, Tells}
 use Rattle.kept_stores.specs.declared.held.Held.{Held}
+use Rattle.s3a_words.specs.Words.{IsBounded}
 use Rattle.s3a_words.specs.declared.command.Command.{Command}
-use Rattle.shell_works.specs.Commanded.{takes_input, IsWork}
+use Rattle.shell_works.specs.Commanded.{takes_input, plays, IsWork}
 use Rattle.s3a_top.specs.Openings.{is_sound}
 use Rattle.s3a_top.specs.Statuses.{code, written_text, memory_text}
 use Rattle.s3a_top.specs.Stops.{status_of, stop_text}
@@ -17,6 +18,24 @@ use Rattle.s3a_top.specs.declared.statuses.Status.TheVariants as statuses
 use Rattle.s3a_top.specs.declared.stop.Stop.{Stop}
 use Rattle.s3a_top.specs.declared.stop.Stop.TheVariants.{Usage, ReadFault, ShelfFault, Script as BadScript, Image, NoMemory}
 use Rattle.s3a_top.specs.declared.work.Work.{Work}
+
+-- ---- what may be asked
+
+-- the counts of faults of the input and of the shelf may rise, and the command's numbers are within their bounds
+pub record MayDo (input shelf : ℕ) (command : Command) : Type 0 where
+  pub source_count : input < 2 ^ 64 - 1
+  pub shelf_count : shelf < 2 ^ 64 - 1
+  pub fit : IsBounded command
+
+-- and it plays a job
+pub record MayPlay (input shelf : ℕ) (command : Command) : Type 0 where
+  pub ready : MayDo input shelf command
+  pub one : plays command ≡ true
+
+-- or another
+pub record MayWork (input shelf : ℕ) (command : Command) : Type 0 where
+  pub ready : MayDo input shelf command
+  pub no_job : plays command ≡ false
 
 -- ---- the status
 

@@ -5,15 +5,14 @@ ghost use Rattle.store_image.specs.Image.{image};
 ghost use Rattle.job_promise.specs.States as states;
 ghost use Rattle.job_world.specs.Worlds.{MayBegin};
 ghost use Rattle.kept_stores.specs.Outcomes.{IsSound};
-ghost use Rattle.s3a_words.specs.Words.{IsBounded};
-ghost use Rattle.shell_works.specs.Commanded.{plays};
 ghost use Rattle.s3a_top.specs.Openings.{opening_in};
 ghost use Rattle.s3a_top.specs.Statuses.{code, written_text, IsWorked};
 ghost use Rattle.s3a_top.specs.Jobs.{job_text, JobRan};
 ghost use Rattle.s3a_top.specs.Commands.{may_read};
 ghost use Rattle.s3a_top.specs.Plays.{IsFinal, IsVerdict, IsOfStop, IsReported, IsTold, Survived, JobOver, HasCauseIn, MayHaveLeftOver, HasFailed};
-ghost use Rattle.s3a_top.specs.Workings.{CountsAs, IsOfShelf, IsWritten};
+ghost use Rattle.s3a_top.specs.Workings.{MayPlay, CountsAs, IsOfShelf, IsWritten};
 
+use crate::asked::Asked;
 use crate::script::script_for;
 use crate::statuses::Status;
 use crate::stop::Stop;
@@ -211,31 +210,27 @@ fn play_script<F: Shelf>(
 
 /// Plays the script of a command over a new store.
 fn play_new<Q: Source, F: Shelf>(
-    alloc: Global,
     input: &mut Q,
     shelf: &mut F,
-    command: &Command,
+    asked: Asked<'_>,
 ) -> Result<Work, Stop>
-    requires source_count { Q.faults input.old < 2 ^ 64 - 1 }
-    requires shelf_count { F.faults shelf.old < 2 ^ 64 - 1 }
-    requires one { plays command.now ≡ true }
-    requires fit { IsBounded command.now }
-    ensures played { IfOk result (λ work. JobOver F.held F.may_leave F.answers F.fails F.moment F.left_since command.now Held.Nothing (Q.left input.old) (Q.left input.new) shelf.old shelf.new (code work.due) work.journal.entries work.picks work.ends (IsWritten work)) }
+    requires { MayPlay (Q.faults input.old) (F.faults shelf.old) asked.command.now }
+    ensures played { IfOk result (λ work. JobOver F.held F.may_leave F.answers F.fails F.moment F.left_since asked.entry.command.now Held.Nothing (Q.left input.old) (Q.left input.new) shelf.old shelf.new (code work.due) work.journal.entries work.picks work.ends (IsWritten work)) }
     ensures due { IfOk result (λ work. IsWorked work.due) }
-    ensures stop { IfErr result (λ stop. HasCauseIn stop command.now Held.Nothing (Q.left input.old) (Q.left input.new)) }
+    ensures stop { IfErr result (λ stop. HasCauseIn stop asked.entry.command.now Held.Nothing (Q.left input.old) (Q.left input.new)) }
     ensures same { OnErr result (F.held shelf.new ≡ F.held shelf.old) }
     ensures calls { OnErr result (HasFailed F.fails shelf.old shelf.new) }
-    ensures leaves { OnErr result (LeavesOnly F.moment F.left_since shelf.old shelf.new (MayHaveLeftOver (F.may_leave shelf.old) command.now Held.Nothing (Q.left input.old) (Q.left input.new))) }
-    ensures unread { may_read (Some command.now) ≡ false → input.new ≡ input.old }
+    ensures leaves { OnErr result (LeavesOnly F.moment F.left_since shelf.old shelf.new (MayHaveLeftOver (F.may_leave shelf.old) asked.entry.command.now Held.Nothing (Q.left input.old) (Q.left input.new))) }
+    ensures unread { may_read (Some asked.entry.command.now) ≡ false → input.new ≡ input.old }
     ensures reads { CountsAs 3 result (Q.faults input.old) (Q.faults input.new) }
     ensures counted { CountsAs 5 result (F.faults shelf.old) (F.faults shelf.new) }
 {
-    let script = match script_for(alloc, input, command) {
+    let script = match script_for(asked.alloc, input, asked.command) {
         Ok(script) => script,
         Err(stop) => return Err(stop),
     };
-    match new_store(alloc, &script) {
-        Ok(service) => play_script(alloc, shelf, command, script, service),
+    match new_store(asked.alloc, &script) {
+        Ok(service) => play_script(asked.alloc, shelf, asked.command, script, service),
         Err(_) => {
             let_go(script);
             Err(Stop::NoMemory)
@@ -245,29 +240,25 @@ fn play_new<Q: Source, F: Shelf>(
 
 /// Plays the script of a command over the store that is held.
 fn play_over<Q: Source, F: Shelf>(
-    alloc: Global,
     input: &mut Q,
     shelf: &mut F,
-    command: &Command,
+    asked: Asked<'_>,
     service: Service,
 ) -> Result<Work, Stop>
-    requires source_count { Q.faults input.old < 2 ^ 64 - 1 }
-    requires shelf_count { F.faults shelf.old < 2 ^ 64 - 1 }
-    requires one { plays command.now ≡ true }
-    requires fit { IsBounded command.now }
+    requires ready { MayPlay (Q.faults input.old) (F.faults shelf.old) asked.command.now }
     requires store { MayBegin service }
-    ensures played { IfOk result (λ work. JobOver F.held F.may_leave F.answers F.fails F.moment F.left_since command.now (Held.Store service) (Q.left input.old) (Q.left input.new) shelf.old shelf.new (code work.due) work.journal.entries work.picks work.ends (IsWritten work)) }
+    ensures played { IfOk result (λ work. JobOver F.held F.may_leave F.answers F.fails F.moment F.left_since asked.entry.command.now (Held.Store service) (Q.left input.old) (Q.left input.new) shelf.old shelf.new (code work.due) work.journal.entries work.picks work.ends (IsWritten work)) }
     ensures due { IfOk result (λ work. IsWorked work.due) }
-    ensures stop { IfErr result (λ stop. HasCauseIn stop command.now (Held.Store service) (Q.left input.old) (Q.left input.new)) }
+    ensures stop { IfErr result (λ stop. HasCauseIn stop asked.entry.command.now (Held.Store service) (Q.left input.old) (Q.left input.new)) }
     ensures same { OnErr result (F.held shelf.new ≡ F.held shelf.old) }
     ensures calls { OnErr result (HasFailed F.fails shelf.old shelf.new) }
-    ensures leaves { OnErr result (LeavesOnly F.moment F.left_since shelf.old shelf.new (MayHaveLeftOver (F.may_leave shelf.old) command.now (Held.Store service) (Q.left input.old) (Q.left input.new))) }
-    ensures unread { may_read (Some command.now) ≡ false → input.new ≡ input.old }
+    ensures leaves { OnErr result (LeavesOnly F.moment F.left_since shelf.old shelf.new (MayHaveLeftOver (F.may_leave shelf.old) asked.entry.command.now (Held.Store service) (Q.left input.old) (Q.left input.new))) }
+    ensures unread { may_read (Some asked.entry.command.now) ≡ false → input.new ≡ input.old }
     ensures reads { CountsAs 3 result (Q.faults input.old) (Q.faults input.new) }
     ensures counted { CountsAs 5 result (F.faults shelf.old) (F.faults shelf.new) }
 {
-    match script_for(alloc, input, command) {
-        Ok(script) => play_script(alloc, shelf, command, script, service),
+    match script_for(asked.alloc, input, asked.command) {
+        Ok(script) => play_script(asked.alloc, shelf, asked.command, script, service),
         Err(stop) => {
             let_go(service);
             Err(stop)
@@ -277,30 +268,26 @@ fn play_over<Q: Source, F: Shelf>(
 
 /// Plays the script of a command, `job` or `gen`, over what the shelf was found to hold.
 pub fn job<Q: Source, F: Shelf>(
-    alloc: Global,
     input: &mut Q,
     shelf: &mut F,
-    command: &Command,
+    asked: Asked<'_>,
     held: Held,
 ) -> Result<Work, Stop>
-    requires source_count { Q.faults input.old < 2 ^ 64 - 1 }
-    requires shelf_count { F.faults shelf.old < 2 ^ 64 - 1 }
-    requires one { plays command.now ≡ true }
-    requires fit { IsBounded command.now }
+    requires ready { MayPlay (Q.faults input.old) (F.faults shelf.old) asked.command.now }
     requires sound { IsSound held }
-    ensures played { IfOk result (λ work. JobOver F.held F.may_leave F.answers F.fails F.moment F.left_since command.now held (Q.left input.old) (Q.left input.new) shelf.old shelf.new (code work.due) work.journal.entries work.picks work.ends (IsWritten work)) }
+    ensures played { IfOk result (λ work. JobOver F.held F.may_leave F.answers F.fails F.moment F.left_since asked.entry.command.now held (Q.left input.old) (Q.left input.new) shelf.old shelf.new (code work.due) work.journal.entries work.picks work.ends (IsWritten work)) }
     ensures due { IfOk result (λ work. IsWorked work.due) }
-    ensures stop { IfErr result (λ stop. HasCauseIn stop command.now held (Q.left input.old) (Q.left input.new)) }
+    ensures stop { IfErr result (λ stop. HasCauseIn stop asked.entry.command.now held (Q.left input.old) (Q.left input.new)) }
     ensures same { OnErr result (F.held shelf.new ≡ F.held shelf.old) }
     ensures calls { OnErr result (HasFailed F.fails shelf.old shelf.new) }
-    ensures leaves { OnErr result (LeavesOnly F.moment F.left_since shelf.old shelf.new (MayHaveLeftOver (F.may_leave shelf.old) command.now held (Q.left input.old) (Q.left input.new))) }
-    ensures unread { may_read (Some command.now) ≡ false → input.new ≡ input.old }
+    ensures leaves { OnErr result (LeavesOnly F.moment F.left_since shelf.old shelf.new (MayHaveLeftOver (F.may_leave shelf.old) asked.entry.command.now held (Q.left input.old) (Q.left input.new))) }
+    ensures unread { may_read (Some asked.entry.command.now) ≡ false → input.new ≡ input.old }
     ensures reads { CountsAs 3 result (Q.faults input.old) (Q.faults input.new) }
     ensures counted { CountsAs 5 result (F.faults shelf.old) (F.faults shelf.new) }
 {
     match held {
-        Held::Nothing => play_new(alloc, input, shelf, command),
-        Held::Store(service) => play_over(alloc, input, shelf, command, service),
+        Held::Nothing => play_new(input, shelf, asked),
+        Held::Store(service) => play_over(input, shelf, asked, service),
         Held::Faulty { number, place } => Err(Stop::Image { number, place }),
     }
 }

@@ -1,6 +1,7 @@
 //! All that the program does, over its words, its input, what keeps the store, and its output.
 #![tactic(auto)]
 
+mod asked;
 mod input;
 mod jobs;
 mod output;

@@ -2,14 +2,14 @@ ghost use Rattle.std.specs.Prelude.{◌≡◌, ◌<◌, ◌^◌, ◌-◌, true, 
 ghost use Rattle.kept_stores.specs.Works.{IsPlain};
 ghost use Rattle.kept_stores.specs.Doing.{work_in};
 ghost use Rattle.kept_stores.specs.Outcomes.{IsSound, CallsBy, Tells};
-ghost use Rattle.s3a_words.specs.Words.{IsBounded};
-ghost use Rattle.shell_works.specs.Commanded.{takes_input, plays};
+ghost use Rattle.shell_works.specs.Commanded.{takes_input};
 ghost use Rattle.s3a_top.specs.Openings.{is_sound};
 ghost use Rattle.s3a_top.specs.Reads.{CountsReads};
 ghost use Rattle.s3a_top.specs.Statuses.{code, written_text, IsWorked};
 ghost use Rattle.s3a_top.specs.Commands.{reads_input, IsInput, answer_text, WorkDone};
-ghost use Rattle.s3a_top.specs.Workings.{CountsAs, IsOfAnswer, HasReasonIn, StoreOver, IsWritten, IsQuiet};
+ghost use Rattle.s3a_top.specs.Workings.{MayWork, CountsAs, IsOfAnswer, HasReasonIn, StoreOver, IsWritten, IsQuiet};
 
+use crate::asked::Asked;
 use crate::input::{InputFault, read_input};
 use crate::statuses::Status;
 use crate::stop::Stop;
@@ -129,35 +129,31 @@ fn read_bytes<Q: Source>(
 /// Does a command but `job` and `gen` on what the shelf was found to hold, with the bytes of its input where it has one. After an error
 /// the shelf was not called.
 pub fn commanded<Q: Source, F: Shelf>(
-    alloc: Global,
     input: &mut Q,
     shelf: &mut F,
-    command: &Command,
+    asked: Asked<'_>,
     held: Held,
 ) -> Result<Work, Stop>
-    requires source_count { Q.faults input.old < 2 ^ 64 - 1 }
-    requires shelf_count { F.faults shelf.old < 2 ^ 64 - 1 }
-    requires no_job { plays command.now ≡ false }
-    requires fit { IsBounded command.now }
+    requires ready { MayWork (Q.faults input.old) (F.faults shelf.old) asked.command.now }
     requires sound { IsSound held }
-    ensures over { IfOk result (λ work. StoreOver F.held F.may_leave F.answers F.fails F.moment F.left_since command.now held (Q.left input.old) (Q.left input.new) shelf.old shelf.new (code work.due) work.journal.entries (IsWritten work)) }
-    ensures stop { IfErr result (λ stop. HasReasonIn stop command.now held (Q.left input.old) (Q.left input.new)) }
+    ensures over { IfOk result (λ work. StoreOver F.held F.may_leave F.answers F.fails F.moment F.left_since asked.entry.command.now held (Q.left input.old) (Q.left input.new) shelf.old shelf.new (code work.due) work.journal.entries (IsWritten work)) }
+    ensures stop { IfErr result (λ stop. HasReasonIn stop asked.entry.command.now held (Q.left input.old) (Q.left input.new)) }
     ensures same { OnErr result (shelf.new ≡ shelf.old) }
     ensures quiet { IsQuiet result }
     ensures due { IfOk result (λ work. IsWorked work.due) }
-    ensures unread { takes_input command.now ≡ false → input.new ≡ input.old }
+    ensures unread { takes_input asked.entry.command.now ≡ false → input.new ≡ input.old }
     ensures read { CountsAs 3 result (Q.faults input.old) (Q.faults input.new) }
     ensures shelf { CountsAs 5 result (F.faults shelf.old) (F.faults shelf.new) }
 {
-    let bytes = match read_bytes(alloc, input, command, &held) {
+    let bytes = match read_bytes(asked.alloc, input, asked.command, &held) {
         Ok(bytes) => bytes,
         Err(stop) => {
             let_go(held);
             return Err(stop);
         }
     };
-    match work_of(alloc, command, bytes, held) {
-        Ok(work) => Ok(obeyed(alloc, shelf, work)),
+    match work_of(asked.alloc, asked.command, bytes, held) {
+        Ok(work) => Ok(obeyed(asked.alloc, shelf, work)),
         Err(_) => Err(Stop::NoMemory),
     }
 }

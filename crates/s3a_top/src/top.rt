@@ -1,13 +1,14 @@
 ghost use Rattle.std.specs.Prelude.{◌≡◌, ◌≢◌, ◌⊎◌, ◌<◌, ◌^◌, ◌-◌, true, false, [], Some, None, IfOk, IsErrOf};
 ghost use Rattle.kept_stores.specs.Outcomes.{Tells};
-ghost use Rattle.s3a_words.specs.Words.{command_of, IsBounded};
+ghost use Rattle.s3a_words.specs.Words.{command_of};
 ghost use Rattle.s3a_words.specs.declared.command.Command as words_said;
 ghost use Rattle.shell_works.specs.Commanded.{takes_input, plays};
 ghost use Rattle.s3a_top.specs.Statuses.{code, written_text, IsDue, IsWorked, Writes};
 ghost use Rattle.s3a_top.specs.Jobs.{JobPlayed, JobStopped};
 ghost use Rattle.s3a_top.specs.Commands.{may_read, NoCommand, StoreStopped, StoreDone};
-ghost use Rattle.s3a_top.specs.Workings.{CountsAs, IsNothing, IsWritten, JobGoes, StoreGoes, IsQuiet};
+ghost use Rattle.s3a_top.specs.Workings.{MayDo, MayPlay, MayWork, CountsAs, IsNothing, IsWritten, JobGoes, StoreGoes, IsQuiet};
 
+use crate::asked::Asked;
 use crate::jobs::job;
 use crate::output::write_output;
 use crate::statuses::Status;
@@ -24,74 +25,55 @@ use shell_works::plays;
 use std::alloc::Global;
 
 /// Plays the job of a command, `job` or `gen`, over what the shelf holds.
-fn do_job<Q: Source, F: Shelf>(
-    alloc: Global,
-    input: &mut Q,
-    shelf: &mut F,
-    command: &Command,
-) -> Result<Work, Stop>
-    requires source_count { Q.faults input.old < 2 ^ 64 - 1 }
-    requires shelf_count { F.faults shelf.old < 2 ^ 64 - 1 }
-    requires one { plays command.now ≡ true }
-    requires fit { IsBounded command.now }
-    ensures job { JobGoes F.held F.may_leave F.answers F.fails F.moment F.left_since command.now (Q.left input.old) (Q.left input.new) shelf.old shelf.new result }
+fn do_job<Q: Source, F: Shelf>(input: &mut Q, shelf: &mut F, asked: Asked<'_>) -> Result<Work, Stop>
+    requires { MayPlay (Q.faults input.old) (F.faults shelf.old) asked.command.now }
+    ensures job { JobGoes F.held F.may_leave F.answers F.fails F.moment F.left_since asked.entry.command.now (Q.left input.old) (Q.left input.new) shelf.old shelf.new result }
     ensures due { IfOk result (λ work. IsWorked work.due) }
-    ensures unread { may_read (Some command.now) ≡ false → input.new ≡ input.old }
+    ensures unread { may_read (Some asked.entry.command.now) ≡ false → input.new ≡ input.old }
     ensures read { CountsAs 3 result (Q.faults input.old) (Q.faults input.new) }
     ensures shelf { CountsAs 5 result (F.faults shelf.old) (F.faults shelf.new) }
 {
-    match load(alloc, shelf) {
-        Ok(held) => job(alloc, input, shelf, command, held),
+    match load(asked.alloc, shelf) {
+        Ok(held) => job(input, shelf, asked, held),
         Err(fault) => Err(Stop::of_shelf(fault)),
     }
 }
 
 /// Does a command but `job` and `gen` on what the shelf holds.
 fn do_command<Q: Source, F: Shelf>(
-    alloc: Global,
     input: &mut Q,
     shelf: &mut F,
-    command: &Command,
+    asked: Asked<'_>,
 ) -> Result<Work, Stop>
-    requires source_count { Q.faults input.old < 2 ^ 64 - 1 }
-    requires shelf_count { F.faults shelf.old < 2 ^ 64 - 1 }
-    requires no_job { plays command.now ≡ false }
-    requires fit { IsBounded command.now }
-    ensures store { StoreGoes F.held F.may_leave F.answers F.fails F.moment F.left_since command.now (Q.left input.old) (Q.left input.new) shelf.old shelf.new result }
+    requires { MayWork (Q.faults input.old) (F.faults shelf.old) asked.command.now }
+    ensures store { StoreGoes F.held F.may_leave F.answers F.fails F.moment F.left_since asked.entry.command.now (Q.left input.old) (Q.left input.new) shelf.old shelf.new result }
     ensures quiet { IsQuiet result }
     ensures due { IfOk result (λ work. IsWorked work.due) }
-    ensures unread { takes_input command.now ≡ false → input.new ≡ input.old }
+    ensures unread { takes_input asked.entry.command.now ≡ false → input.new ≡ input.old }
     ensures read { CountsAs 3 result (Q.faults input.old) (Q.faults input.new) }
     ensures shelf { CountsAs 5 result (F.faults shelf.old) (F.faults shelf.new) }
 {
-    match load(alloc, shelf) {
-        Ok(held) => commanded(alloc, input, shelf, command, held),
+    match load(asked.alloc, shelf) {
+        Ok(held) => commanded(input, shelf, asked, held),
         Err(fault) => Err(Stop::of_shelf(fault)),
     }
 }
 
 /// Does a command.
-fn do_any<Q: Source, F: Shelf>(
-    alloc: Global,
-    input: &mut Q,
-    shelf: &mut F,
-    command: &Command,
-) -> Result<Work, Stop>
-    requires source_count { Q.faults input.old < 2 ^ 64 - 1 }
-    requires shelf_count { F.faults shelf.old < 2 ^ 64 - 1 }
-    requires fit { IsBounded command.now }
-    ensures job { plays command.now ≡ true → JobGoes F.held F.may_leave F.answers F.fails F.moment F.left_since command.now (Q.left input.old) (Q.left input.new) shelf.old shelf.new result }
-    ensures store { plays command.now ≡ false → StoreGoes F.held F.may_leave F.answers F.fails F.moment F.left_since command.now (Q.left input.old) (Q.left input.new) shelf.old shelf.new result }
-    ensures quiet { plays command.now ≡ false → IsQuiet result }
+fn do_any<Q: Source, F: Shelf>(input: &mut Q, shelf: &mut F, asked: Asked<'_>) -> Result<Work, Stop>
+    requires { MayDo (Q.faults input.old) (F.faults shelf.old) asked.command.now }
+    ensures job { plays asked.entry.command.now ≡ true → JobGoes F.held F.may_leave F.answers F.fails F.moment F.left_since asked.entry.command.now (Q.left input.old) (Q.left input.new) shelf.old shelf.new result }
+    ensures store { plays asked.entry.command.now ≡ false → StoreGoes F.held F.may_leave F.answers F.fails F.moment F.left_since asked.entry.command.now (Q.left input.old) (Q.left input.new) shelf.old shelf.new result }
+    ensures quiet { plays asked.entry.command.now ≡ false → IsQuiet result }
     ensures due { IfOk result (λ work. IsWorked work.due) }
-    ensures unread { may_read (Some command.now) ≡ false → input.new ≡ input.old }
+    ensures unread { may_read (Some asked.entry.command.now) ≡ false → input.new ≡ input.old }
     ensures read { CountsAs 3 result (Q.faults input.old) (Q.faults input.new) }
     ensures shelf { CountsAs 5 result (F.faults shelf.old) (F.faults shelf.new) }
 {
-    if plays(command) {
-        do_job(alloc, input, shelf, command)
+    if plays(asked.command) {
+        do_job(input, shelf, asked)
     } else {
-        do_command(alloc, input, shelf, command)
+        do_command(input, shelf, asked)
     }
 }
 
@@ -117,7 +99,11 @@ fn do_work<Q: Source, F: Shelf>(
 {
     match read_words(alloc, words) {
         Ok(command) => {
-            let done = do_any(alloc, input, shelf, &command);
+            let asked = Asked {
+                alloc,
+                command: &command,
+            };
+            let done = do_any(input, shelf, asked);
             let_go(command);
             done
         }

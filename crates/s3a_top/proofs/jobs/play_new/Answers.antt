@@ -5,11 +5,11 @@ use Rattle.s3a_top.proofs.jobs.play_new.Goals as goal
 pub returns-in-Ok-new_store-clause-played : goal.returns-in-Ok-new_store-clause-played
 returns-in-Ok-new_store-clause-played g c =
     let s = g.F.Shelf in
-    over_of s.held s.may_leave s.answers s.fails s.moment s.left_since c.play_script.result c.args.command.now Nothing (g.Q.Source.left c.args.input.now) (g.Q.Source.left c.script_for.new.input) c.in-Ok.script c.in-Ok-new_store.service c.args.shelf.now c.play_script.new.shelf
+    over_of s.held s.may_leave s.answers s.fails s.moment s.left_since c.play_script.result c.args.asked.command.now Nothing (g.Q.Source.left c.args.input.now) (g.Q.Source.left c.script_for.new.input) c.in-Ok.script c.in-Ok-new_store.service c.args.shelf.now c.play_script.new.shelf
     c.in-Ok.ensures.script c.in-Ok-new_store.ensures.opening c.play_script.ensures.ran c.play_script.ensures.survived
 
 pub returns-in-Ok-new_store-clause-leaves : goal.returns-in-Ok-new_store-clause-leaves
 returns-in-Ok-new_store-clause-leaves g c =
     let s = g.F.Shelf in
-    image_over s.held s.may_leave s.answers s.fails s.moment s.left_since c.play_script.result c.args.command.now Nothing (g.Q.Source.left c.args.input.now) (g.Q.Source.left c.script_for.new.input) c.in-Ok.script c.in-Ok-new_store.service c.args.shelf.now c.play_script.new.shelf
+    image_over s.held s.may_leave s.answers s.fails s.moment s.left_since c.play_script.result c.args.asked.command.now Nothing (g.Q.Source.left c.args.input.now) (g.Q.Source.left c.script_for.new.input) c.in-Ok.script c.in-Ok-new_store.service c.args.shelf.now c.play_script.new.shelf
     c.in-Ok.ensures.script c.in-Ok-new_store.ensures.opening c.play_script.ensures.leaves

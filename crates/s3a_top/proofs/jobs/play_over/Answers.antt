@@ -6,11 +6,11 @@ use Rattle.s3a_top.proofs.jobs.play_over.Goals as goal
 pub returns-in-Ok-clause-played : goal.returns-in-Ok-clause-played
 returns-in-Ok-clause-played g c =
     let s = g.F.Shelf in
-    over_of s.held s.may_leave s.answers s.fails s.moment s.left_since c.play_script.result c.args.command.now (Store c.args.service) (g.Q.Source.left c.args.input.now) (g.Q.Source.left c.script_for.new.input) c.in-Ok.script c.args.service c.args.shelf.now c.play_script.new.shelf
+    over_of s.held s.may_leave s.answers s.fails s.moment s.left_since c.play_script.result c.args.asked.command.now (Store c.args.service) (g.Q.Source.left c.args.input.now) (g.Q.Source.left c.script_for.new.input) c.in-Ok.script c.args.service c.args.shelf.now c.play_script.new.shelf
     c.in-Ok.ensures.script refl c.play_script.ensures.ran c.play_script.ensures.survived
 
 pub returns-in-Ok-clause-leaves : goal.returns-in-Ok-clause-leaves
 returns-in-Ok-clause-leaves g c =
     let s = g.F.Shelf in
-    image_over s.held s.may_leave s.answers s.fails s.moment s.left_since c.play_script.result c.args.command.now (Store c.args.service) (g.Q.Source.left c.args.input.now) (g.Q.Source.left c.script_for.new.input) c.in-Ok.script c.args.service c.args.shelf.now c.play_script.new.shelf
+    image_over s.held s.may_leave s.answers s.fails s.moment s.left_since c.play_script.result c.args.asked.command.now (Store c.args.service) (g.Q.Source.left c.args.input.now) (g.Q.Source.left c.script_for.new.input) c.in-Ok.script c.args.service c.args.shelf.now c.play_script.new.shelf
     c.in-Ok.ensures.script refl c.play_script.ensures.leaves
