@@ -1,9 +1,10 @@
-ghost use Rattle.std.specs.Prelude.{◌≡◌, ◌+◌, ◌^◌, ◌<◌, ◌≤◌, [], ◌∷◌, ◌++◌, length, Some, IfSome, IsSome};
+ghost use Rattle.std.specs.Prelude.{◌≡◌, ◌≤◌, length, Some, IfSome, IsSome};
 ghost use Rattle.machine.specs.Counted.{Counted};
 ghost use Rattle.acting.specs.Posting.{PostedBy, DueFits, sight};
 
 use crate::acts::Acts;
-use s3_types::{Actor, Entry, Journal, ObjectStore, Outcome, Request, let_go};
+use machine::write_down;
+use s3_types::{Actor, Journal, ObjectStore, Request, let_go};
 use std::alloc::Global;
 
 /// What became of a sending.
@@ -16,20 +17,6 @@ pub enum Posted {
     Broken,
     /// It was sent, its entry stands, and the actor was told.
     Heard,
-}
-
-/// Appends the entry of a sending where there is room for it.
-fn write_down(journal: &mut Journal, event: u32, actor: Actor, request: Request, outcome: Outcome)
-    requires room { 0 < journal.old.room }
-    requires few { length journal.old.entries + 1 < 2 ^ 62 }
-    ensures { journal.new.entries ≡ journal.old.entries ++ record { event = event; actor = actor; request = request; outcome = outcome } ∷ [] }
-{
-    journal.push(Entry {
-        event,
-        actor,
-        request,
-        outcome,
-    });
 }
 
 /// The request that is asked, which shares its bytes; or none where memory is wanting.

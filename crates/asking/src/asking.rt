@@ -3,7 +3,7 @@ ghost use Rattle.std.specs.Option.{option_copied};
 ghost use Rattle.sendings.specs.Retries.{OutOfMemory};
 ghost use Rattle.asking.specs.MachineLaws.{never, machine_laws};
 
-use crate::asks::{Asks, NextRequest};
+use crate::asks::{Asked, Asks};
 use machine::Machine;
 use s3_types::{Reply, Request, let_go, put};
 use std::alloc::{AllocError, Global};
@@ -32,7 +32,7 @@ impl<O: Asks> Model for Asking<O> {
 fn settle<O: Asks>(
     operation: &mut O,
     asked: &mut Option<Request>,
-    given: NextRequest,
+    given: Asked,
 ) -> Result<(), AllocError>
     requires { IfOk given (λ request. request ≡ O.wants operation.old) }
     ensures asked { asked.new ≡ O.wants operation.new }

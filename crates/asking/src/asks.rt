@@ -11,7 +11,7 @@ use s3_types::{Reply, Request};
 use std::alloc::{AllocError, Global};
 
 /// The next request that an operation asks, or None where it asks nothing more; or want of memory.
-pub type NextRequest = Result<Option<Request>, AllocError>;
+pub type Asked = Result<Option<Request>, AllocError>;
 
 /// An operation as an actor holds it, with the plan that it goes by. It is told how each request ended, and
 /// gives the next one.
@@ -55,12 +55,12 @@ pub trait Asks: Drop {
         ensures { IfOk result (λ operation. operation ≡ begun plan) };
 
     /// The request that it asks, or None where it asks nothing more.
-    fn ask(&self, alloc: Global) -> NextRequest
+    fn ask(&self, alloc: Global) -> Asked
         ensures { IfOk result (λ request. request ≡ wants self.now) };
 
     /// Takes the reply to its request, and gives the next one. After want of memory it is to be broken off,
     /// and is then as if it had been so before.
-    fn hear(&mut self, alloc: Global, reply: &Reply, repeated: bool) -> NextRequest
+    fn hear(&mut self, alloc: Global, reply: &Reply, repeated: bool) -> Asked
         requires asked { IsSome (wants self.old) }
         requires fits { fits self.old reply.now repeated }
         ensures ok { OnOk result (self.new ≡ after self.old (Got reply.now repeated)) }
@@ -69,7 +69,7 @@ pub trait Asks: Drop {
 
     /// Takes it that its request wore out, and gives the next one. After want of memory it is to be broken
     /// off, and is then as if it had been so before.
-    fn wear(&mut self, alloc: Global) -> NextRequest
+    fn wear(&mut self, alloc: Global) -> Asked
         requires asked { IsSome (wants self.old) }
         ensures ok { OnOk result (self.new ≡ after self.old WornOut) }
         ensures next { IfOk result (λ request. request ≡ wants self.new) }

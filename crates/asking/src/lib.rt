@@ -6,4 +6,4 @@ mod asking;
 mod asks;
 
 pub use asking::Asking;
-pub use asks::{Asks, NextRequest};
+pub use asks::{Asked, Asks};

@@ -6,7 +6,7 @@ ghost use Rattle.cleanup.specs.Left.{clean_left};
 ghost use Rattle.cleanup.specs.AskingLaws.{clean_laws};
 
 use crate::held::{Held, Stage};
-use asking::{Asking, Asks, NextRequest};
+use asking::{Asked, Asking, Asks};
 use job_model::{CleanEnd, JobPlan};
 use s3_types::{Reply, Request, let_go};
 use std::alloc::{AllocError, Global};
@@ -72,16 +72,16 @@ impl Asks for Cleaning {
         })
     }
 
-    fn ask(&self, alloc: Global) -> NextRequest {
+    fn ask(&self, alloc: Global) -> Asked {
         self.held.request(alloc, &self.plan)
     }
 
-    fn wear(&mut self, _alloc: Global) -> NextRequest {
+    fn wear(&mut self, _alloc: Global) -> Asked {
         self.held.stage = Stage::Over(CleanEnd::StoreFault);
         Ok(None)
     }
 
-    fn hear(&mut self, alloc: Global, reply: &Reply, _repeated: bool) -> NextRequest {
+    fn hear(&mut self, alloc: Global, reply: &Reply, _repeated: bool) -> Asked {
         self.held.hear(alloc, &self.plan, reply)?;
         self.ask(alloc)
     }

@@ -15,8 +15,14 @@ pub enum DriveStop {
     NoMemory,
 }
 
-/// Appends the entry of a sending where there is room for it.
-fn write_down(journal: &mut Journal, event: u32, actor: Actor, request: Request, outcome: Outcome)
+/// Appends the entry of a sending where there is room for it. Takes no memory.
+pub fn write_down(
+    journal: &mut Journal,
+    event: u32,
+    actor: Actor,
+    request: Request,
+    outcome: Outcome,
+)
     requires room { 0 < journal.old.room }
     requires few { length journal.old.entries + 1 < 2 ^ 62 }
     ensures { journal.new.entries ≡ journal.old.entries ++ record { event = event; actor = actor; request = request; outcome = outcome } ∷ [] }

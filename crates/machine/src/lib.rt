@@ -6,6 +6,6 @@ mod driving;
 mod operation;
 mod retrying;
 
-pub use driving::{DriveStop, drive, send};
+pub use driving::{DriveStop, drive, send, write_down};
 pub use operation::Machine;
 pub use retrying::{Retrying, Turn};

@@ -143,21 +143,14 @@ fn cut(due: Status, played: Played) -> Work
     ensures picks { result.picks ≡ played.picks }
     ensures ends { result.ends ≡ played.ends }
 {
-    let Played {
-        script,
-        service,
-        journal,
-        picks,
-        ends,
-    } = played;
-    let_go(script);
-    let_go(service);
+    let_go(played.script);
+    let_go(played.service);
     Work {
         due,
         text: None,
-        journal,
-        picks,
-        ends,
+        journal: played.journal,
+        picks: played.picks,
+        ends: played.ends,
     }
 }
 

@@ -145,32 +145,32 @@ fn show_sendings(rt: &impl Print, journal: &Journal) -> Result<()> {
     Ok(())
 }
 
-fn walk_keys(
-    rt: &impl Print,
+/// A walk below a prefix.
+#[derive(Clone, Copy)]
+struct Walk<'w> {
     alloc: Global,
-    prefix: &str,
-    store: &mut Lossy,
-    journal: &mut Journal,
-) -> Result<()>
+    prefix: &'w str,
+}
+
+fn walk_keys(rt: &impl Print, at: Walk<'_>, store: &mut Lossy, journal: &mut Journal) -> Result<()>
     requires { store.old.requests ≡ 0 }
 {
-    let found = found_by(alloc, Keys, prefix, store, journal)?;
+    let found = found_by(at.alloc, Keys, at.prefix, store, journal)?;
     show_sendings(rt, journal)?;
-    let shown = show_keys(rt, alloc, &found);
+    let shown = show_keys(rt, at.alloc, &found);
     let_go(found);
     shown
 }
 
 fn walk_folder(
     rt: &impl Print,
-    alloc: Global,
-    prefix: &str,
+    at: Walk<'_>,
     store: &mut Lossy,
     journal: &mut Journal,
 ) -> Result<()>
     requires { store.old.requests ≡ 0 }
 {
-    let found = found_by(alloc, Folder, prefix, store, journal)?;
+    let found = found_by(at.alloc, Folder, at.prefix, store, journal)?;
     let shown = show_folder(rt, &found);
     let_go(found);
     shown
@@ -180,10 +180,11 @@ fn walk(rt: &impl Print, alloc: Global, verb: &str, prefix: &str, store: &mut Lo
     requires { store.old.requests ≡ 0 }
 {
     let mut journal = Journal::new(alloc);
+    let at = Walk { alloc, prefix };
     let shown = if verb == "folder" {
-        walk_folder(rt, alloc, prefix, store, &mut journal)
+        walk_folder(rt, at, store, &mut journal)
     } else {
-        walk_keys(rt, alloc, prefix, store, &mut journal)
+        walk_keys(rt, at, store, &mut journal)
     };
     let_go(journal);
     shown

@@ -2,7 +2,7 @@ ghost use Rattle.task_machines.specs.Tasks.{at};
 
 use crate::holds::Holds;
 use crate::operation::TaskOperation;
-use asking::{Asking, Asks, NextRequest};
+use asking::{Asked, Asking, Asks};
 use job_model::{TaskEnd, TaskPlan};
 use s3_types::{Reply, let_go};
 use std::alloc::{AllocError, Global};
@@ -69,15 +69,15 @@ impl<O: TaskOperation, H: Holds<O>> Asks for AtWork<O, H> {
         }
     }
 
-    fn ask(&self, alloc: Global) -> NextRequest {
+    fn ask(&self, alloc: Global) -> Asked {
         self.held.ask(alloc, &self.plan)
     }
 
-    fn hear(&mut self, alloc: Global, reply: &Reply, repeated: bool) -> NextRequest {
+    fn hear(&mut self, alloc: Global, reply: &Reply, repeated: bool) -> Asked {
         self.held.hear(alloc, &mut self.plan, reply, repeated)
     }
 
-    fn wear(&mut self, _alloc: Global) -> NextRequest {
+    fn wear(&mut self, _alloc: Global) -> Asked {
         self.held.wear(&mut self.plan);
         Ok(None)
     }

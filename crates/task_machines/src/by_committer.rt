@@ -2,7 +2,7 @@ ghost use Rattle.task_machines.specs.ByCommitter.{GoesBy, KeepsBy, operation_by}
 
 use crate::holds::Holds;
 use crate::operation::TaskOperation;
-use asking::NextRequest;
+use asking::Asked;
 use job_model::{TaskEnd, TaskPlan};
 use s3_types::{Committer, Reply};
 use std::alloc::{AllocError, Global};
@@ -34,20 +34,14 @@ impl<O: TaskOperation, M: Holds<O>, S: Holds<O>> Holds<O> for ByCommitter<M, S> 
         }
     }
 
-    fn ask(&self, alloc: Global, plan: &TaskPlan) -> NextRequest {
+    fn ask(&self, alloc: Global, plan: &TaskPlan) -> Asked {
         match self {
             ByCommitter::Magic(held) => held.ask(alloc, plan),
             ByCommitter::Staging(held) => held.ask(alloc, plan),
         }
     }
 
-    fn hear(
-        &mut self,
-        alloc: Global,
-        plan: &mut TaskPlan,
-        reply: &Reply,
-        repeated: bool,
-    ) -> NextRequest {
+    fn hear(&mut self, alloc: Global, plan: &mut TaskPlan, reply: &Reply, repeated: bool) -> Asked {
         match self {
             ByCommitter::Magic(held) => held.hear(alloc, plan, reply, repeated),
             ByCommitter::Staging(held) => held.hear(alloc, plan, reply, repeated),

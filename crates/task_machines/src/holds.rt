@@ -5,7 +5,7 @@ ghost use Rattle.job_model.specs.Jobs.{Task};
 ghost use Rattle.task_machines.specs.Tasks.{at};
 
 use crate::operation::TaskOperation;
-use asking::NextRequest;
+use asking::Asked;
 use job_model::{TaskEnd, TaskPlan};
 use s3_types::Reply;
 use std::alloc::{AllocError, Global};
@@ -28,19 +28,13 @@ pub trait Holds<O: TaskOperation>: Drop {
         ensures keeps { IfOk result (λ held. keeps plan.now held) };
 
     /// The request that it asks, or None where it asks nothing more.
-    fn ask(&self, alloc: Global, plan: &TaskPlan) -> NextRequest
+    fn ask(&self, alloc: Global, plan: &TaskPlan) -> Asked
         requires { keeps plan.now self.now }
         ensures { IfOk result (λ request. request ≡ O.wants (at plan.now (operation plan.now self.now))) };
 
     /// Takes the reply to its request, and gives the next one. After want of memory the plan is as before, and the
     /// operation is to be ended.
-    fn hear(
-        &mut self,
-        alloc: Global,
-        plan: &mut TaskPlan,
-        reply: &Reply,
-        repeated: bool,
-    ) -> NextRequest
+    fn hear(&mut self, alloc: Global, plan: &mut TaskPlan, reply: &Reply, repeated: bool) -> Asked
         requires keeps { keeps plan.old self.old }
         requires asked { IsSome (O.wants (at plan.old (operation plan.old self.old))) }
         requires fits { O.fits (at plan.old (operation plan.old self.old)) reply.now repeated }

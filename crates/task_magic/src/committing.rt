@@ -9,7 +9,7 @@ ghost use Rattle.task_laws.specs.Commits.{FitsCommit};
 ghost use Rattle.task_magic.specs.Committing.{HoldsCommit, commit_of, Keeps, record_of, is_no_key, publishes, with_sent};
 
 use crate::listing::{Listed, files_of_keys, missing, record_at};
-use asking::NextRequest;
+use asking::Asked;
 use job_model::{TaskEnd, TaskPlan};
 use s3_types::{Key, KeyList, Refusal, Reply, Request, Sequence, put};
 use std::alloc::{AllocError, Global};
@@ -36,7 +36,7 @@ pub struct Committing {
 pub type CommitTask = TaskMachine<TheCommit, Committing>;
 
 /// The request for the next page of the attempt's directory.
-fn page_request(alloc: Global, plan: &TaskPlan, walk: &KeyWalk) -> NextRequest
+fn page_request(alloc: Global, plan: &TaskPlan, walk: &KeyWalk) -> Asked
     ensures { IfOk result (λ request. request ≡ Some (page_after plan.now.job.dest.bucket (attempt_prefix (task_script plan.now) (who_of plan.now)) walk.now)) }
 {
     let prefix = prefix(alloc, plan)?;
@@ -56,7 +56,7 @@ fn record_key_at(alloc: Global, plan: &TaskPlan, place: usize) -> Result<Key, Al
 }
 
 /// The read of the record at a key.
-fn read_request(plan: &TaskPlan, key: &Key) -> NextRequest
+fn read_request(plan: &TaskPlan, key: &Key) -> Asked
     ensures { IfOk result (λ request. request ≡ Some (GetObject plan.now.job.dest.bucket key.now)) }
 {
     match Request::get_object(bucket_of(plan), key) {
@@ -79,7 +79,7 @@ fn record_or_set(
     places: &[usize],
     records: &[Key],
     at: usize,
-) -> NextRequest
+) -> Asked
     requires { HoldsCommit plan.now places.now records.now at }
     ensures { let cs = picked plan.now.files places.now in IfOk result (λ request. request ≡ task_commit_asks (task_script plan.now) (who_of plan.now) plan.now.known (reading cs (drop at cs))) }
 {
@@ -227,7 +227,7 @@ impl Holds<TheCommit> for Committing {
         })
     }
 
-    fn ask(&self, alloc: Global, plan: &TaskPlan) -> NextRequest {
+    fn ask(&self, alloc: Global, plan: &TaskPlan) -> Asked {
         let None = &self.end else {
             return Ok(None);
         };
@@ -238,13 +238,7 @@ impl Holds<TheCommit> for Committing {
         record_or_set(alloc, plan, places, self.records.as_slice(), self.at)
     }
 
-    fn hear(
-        &mut self,
-        alloc: Global,
-        plan: &mut TaskPlan,
-        reply: &Reply,
-        repeated: bool,
-    ) -> NextRequest {
+    fn hear(&mut self, alloc: Global, plan: &mut TaskPlan, reply: &Reply, repeated: bool) -> Asked {
         let _ = repeated;
         let publishes = self.publishes(plan);
         self.go_on(alloc, plan, reply)?;

@@ -7,7 +7,7 @@ ghost use Rattle.job_operations.specs.TaskAborts.{task_abort_hears};
 ghost use Rattle.task_laws.specs.Aborts.{FitsAbort};
 ghost use Rattle.task_magic.specs.Undoing.{abort_of, kept_if};
 
-use asking::NextRequest;
+use asking::Asked;
 use job_model::{TaskEnd, TaskPlan};
 use s3_types::{Reply, put};
 use std::alloc::{AllocError, Global};
@@ -37,7 +37,7 @@ fn kept_if(sent: bool) -> Option<TaskEnd>
 }
 
 /// The next request of the sweep of the attempt's directory.
-fn sweep_request(alloc: Global, plan: &TaskPlan, sweep: &Sweep) -> NextRequest
+fn sweep_request(alloc: Global, plan: &TaskPlan, sweep: &Sweep) -> Asked
     ensures { IfOk result (λ request. request ≡ Some (sweep_asks plan.now.job.dest.bucket (attempt_prefix (task_script plan.now) (who_of plan.now)) sweep.now)) }
 {
     let prefix = prefix(alloc, plan)?;
@@ -85,7 +85,7 @@ impl Holds<TheAbort> for Undoing {
         })
     }
 
-    fn ask(&self, alloc: Global, plan: &TaskPlan) -> NextRequest {
+    fn ask(&self, alloc: Global, plan: &TaskPlan) -> Asked {
         let None = &self.end else {
             return Ok(None);
         };
@@ -95,13 +95,7 @@ impl Holds<TheAbort> for Undoing {
         }
     }
 
-    fn hear(
-        &mut self,
-        alloc: Global,
-        plan: &mut TaskPlan,
-        reply: &Reply,
-        repeated: bool,
-    ) -> NextRequest {
+    fn hear(&mut self, alloc: Global, plan: &mut TaskPlan, reply: &Reply, repeated: bool) -> Asked {
         let _ = repeated;
         self.go_on(alloc, plan, reply)?;
         self.ask(alloc, plan)

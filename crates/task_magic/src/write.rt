@@ -3,7 +3,7 @@ ghost use Rattle.s3_types.specs.declared.request.Committer.TheVariants.{Magic};
 ghost use Rattle.task_magic.specs.Writing.{Keeps, done_if_none, operation_of};
 
 use crate::stepping::{Turned, advance};
-use asking::NextRequest;
+use asking::Asked;
 use job_model::{TaskEnd, TaskPlan};
 use path_keys::S3Path;
 use s3_types::{Reply, Request, put};
@@ -72,20 +72,14 @@ impl Holds<TheWrite> for Writing {
         })
     }
 
-    fn ask(&self, alloc: Global, plan: &TaskPlan) -> NextRequest {
+    fn ask(&self, alloc: Global, plan: &TaskPlan) -> Asked {
         match &self.end {
             Some(_) => Ok(None),
             None => ask(alloc, plan, &self.dir, self.place, self.stage),
         }
     }
 
-    fn hear(
-        &mut self,
-        alloc: Global,
-        plan: &mut TaskPlan,
-        reply: &Reply,
-        repeated: bool,
-    ) -> NextRequest {
+    fn hear(&mut self, alloc: Global, plan: &mut TaskPlan, reply: &Reply, repeated: bool) -> Asked {
         let _ = repeated;
         match advance(alloc, plan, &self.dir, self.place, self.stage, reply) {
             Ok(turned) => Ok(self.turn_to(turned)),

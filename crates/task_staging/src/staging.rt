@@ -14,7 +14,7 @@ ghost use Rattle.task_staging.specs.Staging.{commit_of, seen, Keeps, IsAt, CameB
 
 use crate::opening::to_check;
 use crate::requests::{check_request, next_request, part_request, rename_request, temporary};
-use asking::NextRequest;
+use asking::Asked;
 use conflict::CheckAbsent;
 use job_model::{DrawnPart, TaskEnd, TaskPlan};
 use pending_json::{PendingSet, PendingUpload};
@@ -143,7 +143,7 @@ fn behind_at(plan: &TaskPlan, place: usize, sent: u64) -> (WriteStage, u64)
 
 impl Staging {
     /// The next request while no upload is begun.
-    fn open_request(&self, alloc: Global, plan: &TaskPlan) -> NextRequest
+    fn open_request(&self, alloc: Global, plan: &TaskPlan) -> Asked
         requires { IsAt plan.now self.now Stage.Opening }
         ensures { IfOk result (λ request. request ≡ task_commit_wants (seen plan.now self.now)) }
     {
@@ -157,7 +157,7 @@ impl Staging {
     }
 
     /// The next request while a file is uploaded.
-    fn part_request(&self, alloc: Global, plan: &TaskPlan, sent: u64) -> NextRequest
+    fn part_request(&self, alloc: Global, plan: &TaskPlan, sent: u64) -> Asked
         requires { IsAt plan.now self.now (Stage.Sending sent) }
         ensures { IfOk result (λ request. request ≡ task_commit_wants (seen plan.now self.now)) }
     {
@@ -168,7 +168,7 @@ impl Staging {
     }
 
     /// The next request once the set is put.
-    fn rename_request(&self, alloc: Global, plan: &TaskPlan) -> NextRequest
+    fn rename_request(&self, alloc: Global, plan: &TaskPlan) -> Asked
         requires { IsAt plan.now self.now Stage.Renaming }
         ensures { IfOk result (λ request. request ≡ task_commit_wants (seen plan.now self.now)) }
     {
@@ -179,7 +179,7 @@ impl Staging {
     }
 
     /// The look below a partition was answered.
-    fn hear_check(&mut self, alloc: Global, plan: &TaskPlan, reply: &Reply) -> NextRequest
+    fn hear_check(&mut self, alloc: Global, plan: &TaskPlan, reply: &Reply) -> Asked
         requires at { IsAt plan.now self.old Stage.Opening }
         requires some { is_none self.old.checks ≡ false }
         ensures { Heard plan.now plan.now self.old self.new reply.now result }
@@ -194,7 +194,7 @@ impl Staging {
     }
 
     /// The upload of the next file is begun.
-    fn hear_upload(&mut self, alloc: Global, plan: &mut TaskPlan, reply: &Reply) -> NextRequest
+    fn hear_upload(&mut self, alloc: Global, plan: &mut TaskPlan, reply: &Reply) -> Asked
         requires at { IsAt plan.old self.old Stage.Opening }
         requires none { is_none self.old.checks ≡ true }
         requires within { self.old.place < length plan.old.files }
@@ -215,7 +215,7 @@ impl Staging {
     }
 
     /// The set is put.
-    fn hear_stored(&mut self, alloc: Global, plan: &mut TaskPlan, reply: &Reply) -> NextRequest
+    fn hear_stored(&mut self, alloc: Global, plan: &mut TaskPlan, reply: &Reply) -> Asked
         requires at { IsAt plan.old self.old Stage.Opening }
         requires none { is_none self.old.checks ≡ true }
         requires behind { length plan.old.files ≤ self.old.place }
@@ -239,7 +239,7 @@ impl Staging {
         plan: &mut TaskPlan,
         sent: u64,
         part: &DrawnPart,
-    ) -> NextRequest
+    ) -> Asked
         requires at { IsAt plan.old self.old (Stage.Sending sent) }
         requires more { sent + 1 < length (parts_in plan.old (get_or plan.old.files self.old.place ([], []))) }
         requires part { CameBack plan.old self.old.place sent part.now }
@@ -257,13 +257,7 @@ impl Staging {
     }
 
     /// The last part of a file came back.
-    fn close(
-        &mut self,
-        alloc: Global,
-        plan: &mut TaskPlan,
-        sent: u64,
-        part: &DrawnPart,
-    ) -> NextRequest
+    fn close(&mut self, alloc: Global, plan: &mut TaskPlan, sent: u64, part: &DrawnPart) -> Asked
         requires at { IsAt plan.old self.old (Stage.Sending sent) }
         requires last { length (parts_in plan.old (get_or plan.old.files self.old.place ([], []))) ≤ sent + 1 }
         requires part { CameBack plan.old self.old.place sent part.now }
@@ -285,7 +279,7 @@ impl Staging {
     }
 
     /// A part came back.
-    fn add_part(&mut self, alloc: Global, plan: &mut TaskPlan, sent: u64, tag: Tag) -> NextRequest
+    fn add_part(&mut self, alloc: Global, plan: &mut TaskPlan, sent: u64, tag: Tag) -> Asked
         requires at { IsAt plan.old self.old (Stage.Sending sent) }
         requires plain { is_plain_tag tag ≡ true }
         ensures { Heard plan.old plan.new self.old self.new (Part tag) result }
@@ -299,13 +293,7 @@ impl Staging {
     }
 
     /// The sending of a part was answered.
-    fn hear_part(
-        &mut self,
-        alloc: Global,
-        plan: &mut TaskPlan,
-        sent: u64,
-        reply: &Reply,
-    ) -> NextRequest
+    fn hear_part(&mut self, alloc: Global, plan: &mut TaskPlan, sent: u64, reply: &Reply) -> Asked
         requires at { IsAt plan.old self.old (Stage.Sending sent) }
         requires fits { commit_fits (seen plan.old self.old) reply.now false }
         ensures { Heard plan.old plan.new self.old self.new reply.now result }
@@ -327,7 +315,7 @@ impl Staging {
         plan: &mut TaskPlan,
         reply: &Reply,
         repeated: bool,
-    ) -> NextRequest
+    ) -> Asked
         requires { IsAt plan.old self.old Stage.Renaming }
         ensures keeps { OnOk result (Keeps plan.new self.new) }
         ensures told { OnOk result (seen plan.new self.new ≡ task_commit_told (seen plan.old self.old) (Got reply.now repeated)) }
@@ -341,7 +329,7 @@ impl Staging {
     }
 
     /// What was asked while no upload is begun was answered.
-    fn hear_opening(&mut self, alloc: Global, plan: &mut TaskPlan, reply: &Reply) -> NextRequest
+    fn hear_opening(&mut self, alloc: Global, plan: &mut TaskPlan, reply: &Reply) -> Asked
         requires at { IsAt plan.old self.old Stage.Opening }
         requires fits { commit_fits (seen plan.old self.old) reply.now false }
         ensures { Heard plan.old plan.new self.old self.new reply.now result }
@@ -357,13 +345,7 @@ impl Staging {
 
     /// Goes where the reply to its present request leads. After want of memory the plan is as before, and the commit is
     /// to be ended.
-    fn go_on(
-        &mut self,
-        alloc: Global,
-        plan: &mut TaskPlan,
-        reply: &Reply,
-        repeated: bool,
-    ) -> NextRequest
+    fn go_on(&mut self, alloc: Global, plan: &mut TaskPlan, reply: &Reply, repeated: bool) -> Asked
         requires keeps { Keeps plan.old self.old }
         requires fits { commit_fits (seen plan.old self.old) reply.now repeated }
         ensures keeps { OnOk result (Keeps plan.new self.new) }
@@ -443,7 +425,7 @@ impl Holds<TheCommit> for Staging {
         })
     }
 
-    fn ask(&self, alloc: Global, plan: &TaskPlan) -> NextRequest {
+    fn ask(&self, alloc: Global, plan: &TaskPlan) -> Asked {
         let None = &self.end else {
             return Ok(None);
         };
@@ -454,13 +436,7 @@ impl Holds<TheCommit> for Staging {
         }
     }
 
-    fn hear(
-        &mut self,
-        alloc: Global,
-        plan: &mut TaskPlan,
-        reply: &Reply,
-        repeated: bool,
-    ) -> NextRequest {
+    fn hear(&mut self, alloc: Global, plan: &mut TaskPlan, reply: &Reply, repeated: bool) -> Asked {
         match self.go_on(alloc, plan, reply, repeated) {
             Ok(next) => Ok(next),
             Err(error) => {

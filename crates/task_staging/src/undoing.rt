@@ -7,7 +7,7 @@ ghost use Rattle.s3_types.specs.declared.request.Committer.TheVariants.{Magic};
 ghost use Rattle.task_staging.specs.Undoing.{abort_of, done_at, end_at};
 
 use crate::requests::temporary;
-use asking::NextRequest;
+use asking::Asked;
 use job_model::{TaskEnd, TaskPlan};
 use s3_types::{Reply, Request, put};
 use std::alloc::{AllocError, Global};
@@ -93,7 +93,7 @@ impl Holds<TheAbort> for Undoing {
         })
     }
 
-    fn ask(&self, alloc: Global, plan: &TaskPlan) -> NextRequest {
+    fn ask(&self, alloc: Global, plan: &TaskPlan) -> Asked {
         let None = &self.end else {
             return Ok(None);
         };
@@ -103,13 +103,7 @@ impl Holds<TheAbort> for Undoing {
         }
     }
 
-    fn hear(
-        &mut self,
-        alloc: Global,
-        plan: &mut TaskPlan,
-        reply: &Reply,
-        repeated: bool,
-    ) -> NextRequest {
+    fn hear(&mut self, alloc: Global, plan: &mut TaskPlan, reply: &Reply, repeated: bool) -> Asked {
         let _ = repeated;
         self.go_on(plan, reply);
         self.ask(alloc, plan)

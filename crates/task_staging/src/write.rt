@@ -2,7 +2,7 @@ ghost use Rattle.std.specs.Prelude.{◌≡◌, ⊤};
 ghost use Rattle.job_operations.specs.Writes.{WriteOver};
 ghost use Rattle.s3_types.specs.declared.request.Committer.TheVariants.{Magic};
 
-use asking::NextRequest;
+use asking::Asked;
 use job_model::{TaskEnd, TaskPlan};
 use s3_types::{Reply, put};
 use std::alloc::{AllocError, Global};
@@ -30,7 +30,7 @@ impl Holds<TheWrite> for Keeping {
         Ok(Keeping { end: TaskEnd::Done })
     }
 
-    fn ask(&self, _alloc: Global, plan: &TaskPlan) -> NextRequest {
+    fn ask(&self, _alloc: Global, plan: &TaskPlan) -> Asked {
         let _ = plan;
         Ok(None)
     }
@@ -41,7 +41,7 @@ impl Holds<TheWrite> for Keeping {
         plan: &mut TaskPlan,
         _reply: &Reply,
         _repeated: bool,
-    ) -> NextRequest {
+    ) -> Asked {
         let _ = plan;
         unreachable!()
     }
