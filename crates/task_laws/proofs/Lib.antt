@@ -1,4 +1,3 @@
 pub mod WriteFalls
 pub mod AbortFalls
 pub mod CommitFalls
-pub mod Broken
