@@ -27,7 +27,7 @@ use Rattle.job_operations.specs.Writes as writes
 use Rattle.job_operations.specs.Writes.{Write}
 use Rattle.task_requests.specs.declared.stage.WriteStage.{WriteStage}
 use Rattle.task_requests.specs.declared.stage.WriteStage.TheVariants as stage
-use Rattle.task_requests.specs.Writing.{begun_key, at_parts, at_stage, seen_write, is_new, HasSent, HoldsAt, Holds, IsWrite, dir_of, IsBehind, next_stage, with_drawn, with_tag, FitsCreate, FitsPart, write_fits, upload_in, tag_in, ended_by, part_behind, size_of, parts_in, asks_behind}
+use Rattle.task_requests.specs.Writing.{at_parts, at_stage, seen_write, is_new, HasSent, HoldsAt, Holds, IsWrite, dir_of, IsBehind, next_stage, with_drawn, with_tag, FitsCreate, FitsPart, write_fits, upload_in, tag_in, ended_by, part_behind, size_of, parts_in, asks_behind}
 use Rattle.s3_types.proofs.Blocks.{drop-parts, some_size, some_parts, few_parts, sum_parts}
 use Rattle.task_requests.proofs.Told.{seen_at, front_is, none_left, created, part_gone, part_sent, has_more, take_next, marked, recorded}
 
@@ -280,19 +280,6 @@ asked_at t place f s y r i e h = subst (λ z. Some r ≡ write_wants (seen_write
 
 pub creating_asked : (t : Task) (place : ℕ) (f : File) (s : WriteStage) → s ≡ stage.Creating → Some f ≡ slice_get t.files place → Some (CreateUpload t.job.dest.bucket (file_key (task_script t) f)) ≡ write_wants (seen_write t place s None)
 creating_asked t place f s i e = asked_at t place f s stage.Creating _ i e refl
-
--- the request that begins an upload has the file's key
-pub created_key : (t : Task) (place : ℕ) (s : WriteStage) (o : Option Request) (k : List ℕ) → s ≡ stage.Creating → place < length t.files → o ≡ write_wants (seen_write t place s None) → Some k ≡ begun_key o → k ≡ file_key (task_script t) (get_or t.files place ([], []))
-created_key t place s o k i h e g =
-    let f : File = get_or t.files place ([], []) in
-    let same : Some k ≡ Some (file_key (task_script t) f) = g ∙ ap begun_key (e ∙ sym (creating_asked t place f s i (at_place t.files place h))) in
-    cc
-
-pub created_none : (t : Task) (place : ℕ) (s : WriteStage) (o : Option Request) → s ≡ stage.Creating → place < length t.files → o ≡ write_wants (seen_write t place s None) → None ≡ begun_key o → ⊥
-created_none t place s o i h e g =
-    let f : File = get_or t.files place ([], []) in
-    let same : None ≡ Some (file_key (task_script t) f) = g ∙ ap begun_key (e ∙ sym (creating_asked t place f s i (at_place t.files place h))) in
-    absurd (cc)
 
 pub sending_asked : (t : Task) (place n : ℕ) (f : File) (s : WriteStage) → s ≡ stage.Sending n → Some f ≡ slice_get t.files place → Holds t place s → Some (asks_behind t f (stage.Sending n)) ≡ write_wants (seen_write t place s None)
 sending_asked t place n f s i e h = let k = holds_sending t place n f (sym e) (subst (Holds t place) i h) in asked_at t place f s (stage.Sending n) _ i e (asks_part t f (drop (place + 1) t.files) n k.0 k.1)

@@ -21,7 +21,7 @@ use Rattle.job_model.specs.declared.ends.TaskEnd.TheVariants as ends
 use Rattle.job_operations.specs.AtWork.{Attempting, task_script, who_of, write_wants}
 use Rattle.job_operations.specs.Knowledge.{drawn_last}
 use Rattle.job_operations.specs.Records.{file_key, marker_key}
-use Rattle.s3_types.specs.declared.request.Request.TheVariants.{CreateUpload, UploadPart, PutObject}
+use Rattle.s3_types.specs.declared.request.Request.TheVariants.{UploadPart, PutObject}
 use Rattle.job_operations.specs.Uploading.{Uploading, Creating, Sending, file_parts}
 use Rattle.job_operations.specs.Writes as writes
 use Rattle.job_operations.specs.Writes.{Write}
@@ -104,11 +104,6 @@ pub record IsWrite (t : Task) (base : Path) (place : ℕ) (s : WriteStage) (end 
   pub asked : request ≡ write_wants (seen_write t place s end)
   pub holds : Holds t place s
   pub within : IsOpen end place t.files
-
--- the key of the upload that a request begins
-abbrev pub begun_key : Option Request → Option (List ℕ)
-begun_key (Some (CreateUpload bucket key)) = Some key
-begun_key _ = None
 
 -- ---- what fits, and what is left
 

@@ -16,4 +16,4 @@ pub use names::{bucket_of, directory, file_at, job_of, prefix, record, target};
 pub use publishing::publish_request;
 pub use requests::{abort_request, ask, ask_behind, ask_next, ask_upload, behind, pending_with};
 pub use stage::WriteStage;
-pub use uploads::{begin_upload, begin_upload_to, begun_key, note_part, tag_in, upload_in};
+pub use uploads::{begin_upload, note_part, tag_in, upload_in};

@@ -1,9 +1,8 @@
-ghost use Rattle.std.specs.Option.{option_map};
 ghost use Rattle.std.specs.Prelude.{◌≡◌, ◌<◌, length, get_or, [], IfOk, OnOk, OnErr};
 ghost use Rattle.s3_types.specs.declared.request.Request.TheVariants.{UploadPart};
 ghost use Rattle.job_operations.specs.AtWork.{task_script, with_known};
 ghost use Rattle.job_operations.specs.Records.{file_key};
-ghost use Rattle.task_requests.specs.Writing.{begun_key, part_behind, tag_in, upload_in, with_drawn, with_tag};
+ghost use Rattle.task_requests.specs.Writing.{part_behind, tag_in, upload_in, with_drawn, with_tag};
 
 use crate::names::{file_at, target};
 use crate::requests::ask_part;
@@ -31,16 +30,6 @@ pub fn tag_in(reply: &Reply) -> Option<Tag>
     }
 }
 
-/// The key of the upload that a request begins. Takes no memory.
-pub fn begun_key(asked: &Option<Request>) -> Option<&Key>
-    ensures { option_map (λ k. k.now) result ≡ begun_key asked.now }
-{
-    match asked {
-        Some(Request::CreateUpload { bucket: _, key }) => Some(key),
-        _ => None,
-    }
-}
-
 /// The upload of the file at a place is begun under this id: its first part is asked. After want of memory the plan
 /// is as before.
 pub fn begin_upload(
@@ -61,8 +50,8 @@ pub fn begin_upload(
     begin_upload_to(alloc, plan, place, &key, upload)
 }
 
-/// The same, where the key of the upload is at hand, which is shared.
-pub fn begin_upload_to(
+/// The same by the key of the upload, which is shared.
+fn begin_upload_to(
     alloc: Global,
     plan: &mut TaskPlan,
     place: usize,

@@ -1,4 +1,4 @@
-use Rattle.std.proofs.Common.{◌≡◌, ◌∙◌, ◌+◌, sym, ap, List, [], ◌∷◌, ℕ, Some, slice_get}
+use Rattle.std.proofs.Common.{◌≡◌, ◌∙◌, ◌+◌, ap, List, [], ◌∷◌, ℕ, Some, slice_get}
 use Rattle.s3_types.specs.declared.request.Request.TheVariants.{UploadPart}
 use Rattle.job_model.specs.Jobs.{Task}
 use Rattle.job_model.specs.Known.{Drawn}
