@@ -10,12 +10,15 @@ use s3_types::Bytes;
 use serde::Serialize;
 use std::alloc::{AllocError, Global};
 
-/// The text of what a record sends.
+/// The text of what a record sends, in no more room than it needs, since stores and journals keep it.
 fn written<T: Serialize>(alloc: Global, value: &T) -> Result<Bytes, AllocError>
     ensures { IfOk result (λ b. (log : Log) × T.writes value.now (Some []) log × IsTextOf log b) }
 {
     match serde_json::to_vec(alloc, value) {
-        Ok(text) => Bytes::new(alloc, text),
+        Ok(mut text) => {
+            text.shrink_to_fit();
+            Bytes::new(alloc, text)
+        }
         Err(_) => Err(AllocError),
     }
 }
