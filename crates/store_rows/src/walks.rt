@@ -145,14 +145,14 @@ fn show_sendings(rt: &impl Print, journal: &Journal) -> Result<()> {
     Ok(())
 }
 
-/// A walk below a prefix.
+/// What is walked.
 #[derive(Clone, Copy)]
-struct Walk<'w> {
+struct Below<'w> {
     alloc: Global,
     prefix: &'w str,
 }
 
-fn walk_keys(rt: &impl Print, at: Walk<'_>, store: &mut Lossy, journal: &mut Journal) -> Result<()>
+fn walk_keys(rt: &impl Print, at: Below<'_>, store: &mut Lossy, journal: &mut Journal) -> Result<()>
     requires { store.old.requests ≡ 0 }
 {
     let found = found_by(at.alloc, Keys, at.prefix, store, journal)?;
@@ -164,7 +164,7 @@ fn walk_keys(rt: &impl Print, at: Walk<'_>, store: &mut Lossy, journal: &mut Jou
 
 fn walk_folder(
     rt: &impl Print,
-    at: Walk<'_>,
+    at: Below<'_>,
     store: &mut Lossy,
     journal: &mut Journal,
 ) -> Result<()>
@@ -180,7 +180,7 @@ fn walk(rt: &impl Print, alloc: Global, verb: &str, prefix: &str, store: &mut Lo
     requires { store.old.requests ≡ 0 }
 {
     let mut journal = Journal::new(alloc);
-    let at = Walk { alloc, prefix };
+    let at = Below { alloc, prefix };
     let shown = if verb == "folder" {
         walk_folder(rt, at, store, &mut journal)
     } else {
