@@ -1,5 +1,5 @@
 -- A staging attempt's write is done as it begins.
-use Rattle.std.proofs.Common.{◌≡◌, refl}
+use Rattle.std.proofs.Common.{◌≡◌, refl, sym, subst}
 use Rattle.std.specs.Prelude.{IsSome}
 use Rattle.std.proofs.lemmas.Bool.{false≢true}
 use Rattle.s3_types.specs.declared.request.Committer.{Committer}
@@ -22,5 +22,5 @@ start_is t n = by t.job.committer n
     by Partitioned h = refl
 
 -- nothing is asked
-pub asks_none : (t : Task) (end : TaskEnd) → IsSome (write_wants (at t (writes.WriteOver end))) → ⊥
-asks_none t end h = false≢true h
+pub asks_none : (t : Task) (end : TaskEnd) (o : writes.Write) → writes.WriteOver end ≡ o → IsSome (write_wants (at t o)) → ⊥
+asks_none t end o e h = false≢true (subst (λ (x : writes.Write). IsSome (write_wants (at t x))) (sym e) h)

@@ -1,17 +1,25 @@
 ghost use Rattle.std.specs.Prelude.{◌≡◌, ⊤};
-ghost use Rattle.job_operations.specs.Writes.{WriteOver};
 ghost use Rattle.s3_types.specs.declared.request.Committer.TheVariants.{Magic};
 
 use asking::Asked;
 use job_model::{TaskEnd, TaskPlan};
 use s3_types::{Reply, put};
 use std::alloc::{AllocError, Global};
+use std::marker::Model;
 use task_machines::{Holds, TaskMachine, TheWrite};
 
 /// A write of files that stay where the plan has them: how it ended.
 #[derive(Drop)]
 pub struct Keeping {
     end: TaskEnd,
+}
+
+impl Model for Keeping {
+    ghost use Rattle.job_operations.specs.Writes as writes;
+
+    ghost Value = { writes.Write };
+
+    ghost view = { λ k. writes.WriteOver k.end };
 }
 
 /// A staging attempt's write of its files. They stay where the plan has them, and nothing is sent. (Hadoop, S3A
@@ -23,7 +31,7 @@ impl Holds<TheWrite> for Keeping {
 
     ghost keeps = { λ _ _. ⊤ };
 
-    ghost operation = { λ _ held. WriteOver held.end };
+    ghost operation = { λ _ held. held };
 
     fn begin(_alloc: Global, plan: &TaskPlan) -> Result<Keeping, AllocError> {
         let _ = plan;
@@ -32,6 +40,7 @@ impl Holds<TheWrite> for Keeping {
 
     fn ask(&self, _alloc: Global, plan: &TaskPlan) -> Asked {
         let _ = plan;
+        let _end = &self.end;
         Ok(None)
     }
 
@@ -43,17 +52,17 @@ impl Holds<TheWrite> for Keeping {
         _repeated: bool,
     ) -> Asked {
         let _ = plan;
+        let _end = &self.end;
         unreachable!()
     }
 
     fn wear(&mut self, plan: &mut TaskPlan) {
         let _ = plan;
+        let _end = &self.end;
         unreachable!()
     }
 
-    fn finish(&mut self, end: TaskEnd)
-        ensures { self.new.end ≡ end }
-    {
+    fn finish(&mut self, end: TaskEnd) {
         put(&mut self.end, end);
     }
 

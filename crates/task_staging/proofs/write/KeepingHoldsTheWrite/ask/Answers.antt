@@ -1,0 +1,8 @@
+use Rattle.std.proofs.Common.{ap}
+use Rattle.job_operations.specs.AtWork.{write_wants}
+use Rattle.job_operations.specs.Writes as writes
+use Rattle.task_machines.specs.Tasks.{at}
+use Rattle.task_staging.proofs.write.KeepingHoldsTheWrite.ask.Goals as goal
+
+pub returns : goal.returns
+returns c = ap (λ (o : writes.Write). write_wants (at c.args.plan.now o)) c.self.view_is
