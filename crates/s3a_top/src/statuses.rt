@@ -27,7 +27,7 @@ pub enum Status {
 }
 
 impl Status {
-    /// The number that the program ends with, 0 to 10.
+    /// The number that the program ends with, 0 to 9.
     pub fn code(self) -> u8
         ensures { result ≡ code self }
     {

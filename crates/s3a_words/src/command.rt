@@ -24,7 +24,7 @@ pub enum Command {
     Rm { path: S3Path },
     /// Deletes a file, or a directory with all that is below it.
     Rmr { path: S3Path },
-    /// Moves a file, or a directory with all that is below it, to another path.
+    /// Renames a file, or a directory with all that is below it, to another path.
     Mv { from: S3Path, to: S3Path },
     /// Lists the live uploads below a path.
     Uploads { path: S3Path },
@@ -32,7 +32,7 @@ pub enum Command {
     AbortUploads { path: S3Path },
     /// Plays a script that is read from the input.
     Job,
-    /// Prints a script made from a seed, with 1 to 200 tasks of 1 to 50 files.
+    /// Plays a job whose script is made of a seed, with 1 to 200 tasks of 1 to 50 files each, and sums it up in a line.
     Gen { seed: u32, tasks: u32, files: u32 },
 }
 
