@@ -22,6 +22,7 @@ use Rattle.s3a_top.specs.declared.statuses.Status.TheVariants as statuses
 use Rattle.s3a_top.specs.declared.stop.Stop.{Stop}
 use Rattle.s3a_top.specs.declared.stop.Stop.TheVariants.{Usage, ReadFault, ShelfFault, Script as BadScript, Image, NoMemory}
 use Rattle.s3a_top.proofs.Crashing.{loaded_alone, loaded_first}
+use Rattle.s3a_top.proofs.Pieces.{taken_part}
 use Rattle.s3a_top.proofs.Telling.{tells_none}
 
 -- ---- causes, where it is told what the shelf held
@@ -64,7 +65,7 @@ module _ {S : Type 0} (held : S → Option Stored) (may_leave : S → Holding �
 
   -- a stop whose text is made has a cause of want of memory too
   made_cause : (stop : Stop) (told : Option Stored) → IsMade stop → HasCause stop command told left rest → HasCause NoMemory command told left rest
-  made_cause (BadScript e) told m h = inr (h.0, h.1.0)
+  made_cause (BadScript e) told m h = inr (h.0, (h.1.0, taken_part left rest h.1.1.1.1))
   made_cause (Image number place) told m h = inl h.1
   made_cause _ told m h = absurd m
 

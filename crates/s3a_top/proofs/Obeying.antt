@@ -1,23 +1,26 @@
 -- What comes of a command but a job.
-use Rattle.std.proofs.Common.{◌≡◌, inl, inr, ℕ, ◌≤◌, List, Option, Result, Ok, Err, IfOk, IfErr, OnErr, refl, sym, subst}
+use Rattle.std.proofs.Common.{◌≡◌, inl, inr, ℕ, ◌≤◌, Bool, true, false, List, Option, Result, Ok, Err, IfOk, IfErr, OnErr, refl, sym, subst}
 use Rattle.s3_types.specs.declared.journal.Entry.{Entry}
-use Rattle.shelf.specs.Logged.{Holding, Stored, LeavesOnly}
+use Rattle.shelf.specs.Logged.{Holding, Stored, IsDurable, LeavesOnly}
 use Rattle.kept_stores.specs.Works.{Work as Doing, IsPlain}
-use Rattle.kept_stores.specs.Outcomes.{IsAnswer, IsHeld, MightLeave, IsDurableNow, CallsBy, Tells}
+use Rattle.kept_stores.specs.Outcomes.{IsAnswer, IsHeld, WhereSound, MightLeave, IsDurableNow, CallsBy, Tells}
 use Rattle.kept_stores.specs.Outcomes.IsAnswer.{said, saved, failed, wanting}
 use Rattle.kept_stores.specs.declared.held.Held.{Held}
+use Rattle.kept_stores.specs.declared.held.Held.TheVariants.{Nothing, Store, Faulty}
 use Rattle.kept_stores.specs.declared.held.ShelfStop.{ShelfStop}
 use Rattle.kept_stores.specs.declared.held.ShelfStop.TheVariants as shelves
 use Rattle.s3a_words.specs.declared.command.Command.{Command}
-use Rattle.s3a_top.specs.Openings.{IsFound}
+use Rattle.shell_works.specs.Commanded.{takes_input}
+use Rattle.s3a_top.specs.Openings.{is_sound, IsFound}
 use Rattle.s3a_top.specs.Statuses.{code}
 use Rattle.s3a_top.specs.Stops.{status_of, of_shelf}
-use Rattle.s3a_top.specs.Commands.{answer_text, HasReason, WorkDone, StoreDone}
+use Rattle.s3a_top.specs.Commands.{reads_input, IsInput, answer_text, HasReason, WorkDone, StoreDone}
 use Rattle.s3a_top.specs.Workings.{IsOfAnswer, HasReasonIn, StoreOver, StoreHalted, IsWritten, StoreGoes}
 use Rattle.s3a_top.specs.declared.stop.Stop.{Stop}
 use Rattle.s3a_top.specs.declared.stop.Stop.TheVariants.{ReadFault, NoMemory}
 use Rattle.s3a_top.specs.declared.work.Work.{Work}
 use Rattle.s3a_top.proofs.Crashing.{command_since}
+use Rattle.s3a_top.proofs.Pieces.{read_taken, taken_part}
 use Rattle.s3a_top.proofs.Halting.{sound_of}
 use Rattle.s3a_top.proofs.Telling.{tells_none}
 
@@ -67,6 +70,16 @@ reason_of NoMemory command told before left rest f (inl h) = inl h
 reason_of NoMemory command told before left rest f (inr h) = inr (sound_of told before f h.0, h.1)
 reason_of _ command told before left rest f h = absurd h
 
+-- memory was wanting behind the input
+wanting_behind : (takes : Bool) (command : Command) (before : Held) (left rest : Option (List ℕ)) (bytes : List ℕ) → is_sound before → takes_input command ≡ takes → IsInput takes left rest bytes → HasReasonIn NoMemory command before left rest
+wanting_behind true command before left rest bytes sound e h = inr (sound, (e, taken_part left rest (read_taken left rest bytes h)))
+wanting_behind false command before left rest bytes sound e h = inl h.1
+
+pub wanting_reason : (command : Command) (before : Held) (left rest : Option (List ℕ)) (bytes : List ℕ) → IsInput (reads_input command before) left rest bytes → HasReasonIn NoMemory command before left rest
+wanting_reason command Nothing left rest bytes h = wanting_behind (takes_input command) command Nothing left rest bytes tt refl h
+wanting_reason command (Store c) left rest bytes h = wanting_behind (takes_input command) command (Store c) left rest bytes tt refl h
+wanting_reason command (Faulty number place) left rest bytes h = inl h.1
+
 -- the shelf was not called
 pub reason_calm : (stop : Stop) (command : Command) (before : Held) (left rest : Option (List ℕ)) (count : ℕ) → HasReasonIn stop command before left rest → Tells 5 (code (status_of stop)) count count
 reason_calm ReadFault command before left rest count h = tells_none 5 3 count count (λ e. cc) refl
@@ -82,9 +95,9 @@ module _ {S : Type 0} (held : S → Option Stored) (may_leave : S → Holding �
   load_stopped old new shelves.Failed unread same leaves answered broken = record { reason = unread; same = same; calls = inr (inl (broken refl)); leaves = leaves }
   load_stopped old new shelves.NoMemory unread same leaves answered broken = record { reason = inl unread; same = same; calls = inr (inr (answered (λ e. cc))); leaves = leaves }
 
-  done_from : ((s : S) (t : ℕ) (h : Holding) → t ≤ moment_of s → may_leave s h → left_since s t h) → (before : Held) (old mid new : S) (due : ℕ) (es : List Entry) (Told : List ℕ → Type 0) → IsFound (held old) before → held mid ≡ held old → answers old mid → LeavesOnly moment_of left_since old mid (may_leave old)
+  done_from : ((s : S) (t : ℕ) (h : Holding) → t ≤ moment_of s → may_leave s h → left_since s t h) → (before : Held) (old mid new : S) (due : ℕ) (es : List Entry) (Told : List ℕ → Type 0) → IsFound (held old) before → held mid ≡ held old → answers old mid → LeavesOnly moment_of left_since old mid (may_leave old) → WhereSound before (IsDurable (held mid) (may_leave mid))
       → StoreOver held may_leave answers fails moment_of left_since command before left rest mid new due es Told → StoreDone held may_leave answers fails moment_of left_since command left rest old new due es Told
-  done_from counts_now before old mid new due es Told found same answered load h = record {
+  done_from counts_now before old mid new due es Told found same answered load lasts h = record {
     before = before;
     found = found;
     bytes = h.bytes;
@@ -94,6 +107,7 @@ module _ {S : Type 0} (held : S → Option Stored) (may_leave : S → Holding �
     done = work_from held may_leave moment_of left_since counts_now h.work old mid new due es Told same load h.done;
     loaded = mid;
     load = answered;
+    lasts = lasts;
     calls = h.calls;
   }
 
@@ -103,8 +117,8 @@ module _ {S : Type 0} (held : S → Option Stored) (may_leave : S → Holding �
       subst (λ (s : S). StoreHalted held may_leave answers fails moment_of left_since command left rest old s stop) (sym still)
       (record { reason = reason_of stop command (held old) before left rest found reason; same = same; calls = inr (inr answered); leaves = load })
 
-  pub store_from : (result : Result Work Stop) → ((s : S) (t : ℕ) (h : Holding) → t ≤ moment_of s → may_leave s h → left_since s t h) → (before : Held) (old mid new : S) → IsFound (held old) before → held mid ≡ held old → answers old mid → LeavesOnly moment_of left_since old mid (may_leave old)
+  pub store_from : (result : Result Work Stop) → ((s : S) (t : ℕ) (h : Holding) → t ≤ moment_of s → may_leave s h → left_since s t h) → (before : Held) (old mid new : S) → IsFound (held old) before → held mid ≡ held old → answers old mid → LeavesOnly moment_of left_since old mid (may_leave old) → WhereSound before (IsDurable (held mid) (may_leave mid))
       → IfOk result (λ work. StoreOver held may_leave answers fails moment_of left_since command before left rest mid new (code work.due) work.journal.entries (IsWritten work)) → IfErr result (λ stop. HasReasonIn stop command before left rest) → OnErr result (new ≡ mid)
       → StoreGoes held may_leave answers fails moment_of left_since command left rest old new result
-  store_from (Ok work) counts_now before old mid new found same answered load over reason still = done_from counts_now before old mid new (code work.due) work.journal.entries (IsWritten work) found same answered load over
-  store_from (Err stop) counts_now before old mid new found same answered load over reason still = halted_from before old mid new stop found same answered load reason still
+  store_from (Ok work) counts_now before old mid new found same answered load lasts over reason still = done_from counts_now before old mid new (code work.due) work.journal.entries (IsWritten work) found same answered load lasts over
+  store_from (Err stop) counts_now before old mid new found same answered load lasts over reason still = halted_from before old mid new stop found same answered load reason still

@@ -69,6 +69,7 @@ module _ (A B : List ℕ → Type 0) (f : (t : List ℕ) → A t → B t) {S : T
       done = work_out h.work old new h.done;
       loaded = h.loaded;
       load = h.load;
+      lasts = h.lasts;
       calls = h.calls;
     }
 

@@ -1,8 +1,8 @@
 -- What was read and what was written so far.
-use Rattle.std.proofs.Common.{◌≡◌, ℕ, ◌<◌, ◌≤◌, List, [], ◌++◌, length, take, drop, Option, Some, None, Result, Ok, Err, OnErr, refl, sym, ap, subst, ◌∙◌, arith, append_assoc}
-use Rattle.std.proofs.lemmas.List.{append-nil, take-append-drop, take_at, drop_at, take_all, drop_all}
+use Rattle.std.proofs.Common.{◌≡◌, ℕ, ◌+◌, ◌<◌, ◌≤◌, List, [], ◌++◌, length, take, drop, Option, Some, None, Result, Ok, Err, OnErr, refl, sym, ap, subst, ◌∙◌, arith, lit≤, append_assoc, length-append}
+use Rattle.std.proofs.lemmas.List.{append-nil, take-append-drop, take_at, drop_at, take_all, drop_all, length-take}
 use Rattle.shelf.specs.Devices.{Takes, Appends}
-use Rattle.s3a_top.specs.Bytes.{IsRead, WritesSome}
+use Rattle.s3a_top.specs.Bytes.{IsRead, IsTaken, TakesPart, WritesSome}
 
 -- what was left before is what was read so far and what is left, where the source tells it
 abbrev pub IsReadSoFar : Option (List ℕ) → Option (List ℕ) → List ℕ → Type 0
@@ -22,6 +22,25 @@ more_told left all rest (Some others) n buffer e t =
 pub more_read : (before now after : Option (List ℕ)) (all : List ℕ) (n : ℕ) (buffer : List ℕ) → IsReadSoFar before now all → Takes now after n buffer → IsReadSoFar before after (all ++ take n buffer)
 more_read None now after all n buffer h t = subst (λ (o : Option (List ℕ)). Takes o after n buffer) h t
 more_read (Some left) now after all n buffer h t = more_told left all h.0 after n buffer h.2 (subst (λ (o : Option (List ℕ)). Takes o after n buffer) h.1 t)
+
+-- what was read was taken
+pub part_read : (before now : Option (List ℕ)) (all : List ℕ) → length all ≤ 67108865 → IsReadSoFar before now all → TakesPart before now
+part_read None now all size h = h
+part_read (Some left) now all size h = (length all, (size, h.1 ∙ ap (λ (l : List ℕ). Some l) (sym (ap (drop (length all)) h.2 ∙ drop_at all h.0 (length all) refl))))
+
+-- and so was what was read behind it
+pub more_taken : (before now after : Option (List ℕ)) (all : List ℕ) (n : ℕ) (buffer : List ℕ) → length all + n ≤ 67108865 → IsReadSoFar before now all → Takes now after n buffer → TakesPart before after
+more_taken before now after all n buffer size h t =
+    let few : length (all ++ take n buffer) ≤ 67108865 = omega (arith, length-append all (take n buffer), length-take n buffer) in
+    part_read before after (all ++ take n buffer) few (more_read before now after all n buffer h t)
+
+pub read_taken : (left rest : Option (List ℕ)) (all : List ℕ) → IsRead left rest all → IsTaken left rest
+read_taken None rest all r = r
+read_taken (Some bytes) rest all r = r.1
+
+pub taken_part : (left rest : Option (List ℕ)) → IsTaken left rest → TakesPart left rest
+taken_part None rest h = h
+taken_part (Some bytes) rest h = (67108865, (lit≤ tt, h))
 
 -- all that may be read was read
 pub full_read : (before after : Option (List ℕ)) (all : List ℕ) → length all ≡ 67108865 → IsReadSoFar before after all → IsRead before after all

@@ -1,5 +1,5 @@
 -- What was read of the input, and what it is.
-use Rattle.std.proofs.Common.{◌≡◌, ◌≢◌, ◌≤◌, ◌<◌, ℕ, Bool, true, false, nat_le, List, length, take, Option, Some, None, Result, Ok, Err, refl, sym, ap, ◌∙◌, arith}
+use Rattle.std.proofs.Common.{◌≡◌, ◌≢◌, ◌≤◌, ◌<◌, ℕ, Bool, true, false, nat_le, List, length, take, Option, Some, None, Result, Ok, Err, refl, sym, ap, ◌∙◌, arith, lit≤}
 use Rattle.std.proofs.lemmas.Bool.Decides.{nat_tests}
 use Rattle.std.proofs.lemmas.List.{take_all, drop_all, length-take-le}
 use Rattle.proof_base.specs.Reading.{Fails}
@@ -8,7 +8,7 @@ use Rattle.job_script.specs.Fault.{wanting}
 use Rattle.job_script.specs.Script.{script_of}
 use Rattle.job_script.specs.declared.fault.ScriptFault.{ScriptFault}
 use Rattle.job_script.specs.declared.fault.ScriptFault.TheVariants.{TooLarge, NoMemory}
-use Rattle.s3a_top.specs.Bytes.{IsRead}
+use Rattle.s3a_top.specs.Bytes.{IsRead, TakesPart}
 use Rattle.s3a_top.specs.Openings.{IsScript}
 use Rattle.s3a_top.specs.Jobs.{IsNoScript}
 
@@ -51,6 +51,12 @@ script_is (Some bytes) rest all w r e =
     let whole : script_of bytes ≡ Ok w = sym (read_whole bytes all r.0 (nat_le (length bytes) 67108865) refl) ∙ e in
     let few = small bytes w whole in
     (whole, r.1 ∙ ap Some (drop_all 67108865 bytes (omega (arith, few))))
+
+pub script_part : (left rest : Option (List ℕ)) (w : Script) → IsScript left rest w → TakesPart left rest
+script_part None rest w h = h
+script_part (Some bytes) rest w h =
+    let few = small bytes w h.0 in
+    (67108865, (lit≤ tt, h.1 ∙ ap Some (sym (drop_all 67108865 bytes (omega (arith, few))))))
 
 -- it was none
 pub no_script : (left rest : Option (List ℕ)) (all : List ℕ) (e : ScriptFault) → IsRead left rest all → script_of all ≡ Err e → IsNoScript left e

@@ -19,6 +19,7 @@ use Rattle.s3a_top.specs.Workings.{IsWritten, JobGoes}
 use Rattle.s3a_top.specs.declared.stop.Stop.{Stop}
 use Rattle.s3a_top.specs.declared.stop.Stop.TheVariants.{Script as BadScript, NoMemory}
 use Rattle.s3a_top.specs.declared.work.Work.{Work}
+use Rattle.s3a_top.proofs.Pieces.{read_taken, taken_part}
 use Rattle.s3a_top.proofs.Readings.{script_is, no_script}
 use Rattle.s3a_top.proofs.Crashing.{image_left}
 use Rattle.s3a_top.proofs.Playing.{played_from}
@@ -31,8 +32,8 @@ script_read (Ok w) left rest all bytes r same h = script_is left rest all w r (a
 script_read (Err stop) left rest all bytes r same h = tt
 
 none_read : (stop : Stop) (left rest : Option (List ℕ)) (all : List ℕ) → IsRead left rest all → IsNone stop all → IsReadStop stop Job left rest
-none_read (BadScript e) left rest all r h = (refl, (no_script left rest all e r h.0, h.1))
-none_read NoMemory left rest all r h = inr refl
+none_read (BadScript e) left rest all r h = (refl, (no_script left rest all e r h.0, (h.1, read_taken left rest all r)))
+none_read NoMemory left rest all r h = inr (refl, taken_part left rest (read_taken left rest all r))
 none_read _ left rest all r h = absurd h
 
 pub stop_read : {A : Type 0} (result : Result A Stop) (left rest : Option (List ℕ)) (all bytes : List ℕ) → IsRead left rest all → bytes ≡ all → IfErr result (λ stop. IsNone stop bytes) → IfErr result (λ stop. IsReadStop stop Job left rest)

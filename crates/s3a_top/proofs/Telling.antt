@@ -1,5 +1,5 @@
 -- Which counts of faults rise, and which causes stops have.
-use Rattle.std.proofs.Common.{◌≡◌, ◌≢◌, inl, inr, ℕ, ◌<◌, List, Option, Some, None, Err, refl, sym, subst, ◌∙◌}
+use Rattle.std.proofs.Common.{◌≡◌, ◌≢◌, inl, inr, ℕ, ◌<◌, List, Option, Some, None, Result, Ok, Err, IfErr, refl, sym, subst, ◌∙◌}
 use Rattle.shelf.specs.declared.kept.AppendFault.{AppendFault}
 use Rattle.shelf.specs.declared.kept.AppendFault.TheVariants as appends
 use Rattle.kept_stores.specs.Outcomes.{Counts as CountsLoad, Tells}
@@ -10,7 +10,7 @@ use Rattle.kept_jobs.specs.Played.{Counts}
 use Rattle.job_model.specs.JobScript.{Script}
 use Rattle.s3a_words.specs.declared.command.Command.{Command}
 use Rattle.s3a_words.specs.declared.command.Command.TheVariants.{Job, Gen}
-use Rattle.s3a_top.specs.Openings.{IsScriptOf, StaysUnlessJob, is_sound}
+use Rattle.s3a_top.specs.Openings.{IsScriptOf, TakesIfJob, is_sound}
 use Rattle.s3a_top.specs.Statuses.{code, IsDue, IsWorked}
 use Rattle.s3a_top.specs.Stops.{status_of, of_shelf}
 use Rattle.s3a_top.specs.Reads.{IsReadStop, CountsReads}
@@ -20,6 +20,7 @@ use Rattle.s3a_top.specs.declared.statuses.Status.{Status}
 use Rattle.s3a_top.specs.declared.statuses.Status.TheVariants as statuses
 use Rattle.s3a_top.specs.declared.stop.Stop.{Stop}
 use Rattle.s3a_top.specs.declared.stop.Stop.TheVariants.{Usage, ReadFault, ShelfFault, Script as BadScript, Image, NoMemory}
+use Rattle.s3a_top.proofs.Readings.{script_part}
 
 -- ---- counts of faults
 
@@ -112,16 +113,20 @@ read_cause NoMemory command before left rest sound h = (sound, h)
 read_cause _ command before left rest sound h = absurd h
 
 -- what was taken from the input was the script of `job`
-pub script_stays : (command : Command) (left rest : Option (List ℕ)) (w : Script) → IsScriptOf command left rest w → StaysUnlessJob command left rest
-script_stays Job left rest w h = inr refl
-script_stays (Gen seed tasks files) left rest w h = inl h.1
-script_stays _ left rest w h = absurd h
+pub script_taken : (command : Command) (left rest : Option (List ℕ)) (w : Script) → IsScriptOf command left rest w → TakesIfJob command left rest
+script_taken Job left rest w h = inr (refl, script_part left rest w h)
+script_taken (Gen seed tasks files) left rest w h = inl h.1
+script_taken _ left rest w h = absurd h
 
 -- ---- a stop of the shelf
 
-pub shelf_cause : (stop : Stop) (command : Command) (before : Held) (left rest : Option (List ℕ)) → is_sound before → StaysUnlessJob command left rest → IsOfShelf stop → HasCauseIn stop command before left rest
-shelf_cause stop command before left rest sound stays (inl e) = subst (λ (s : Stop). HasCauseIn s command before left rest) (sym e) stays
-shelf_cause stop command before left rest sound stays (inr e) = subst (λ (s : Stop). HasCauseIn s command before left rest) (sym e) (sound, stays)
+shelf_cause : (stop : Stop) (command : Command) (before : Held) (left rest : Option (List ℕ)) → is_sound before → (w : Script) → IsScriptOf command left rest w → IsOfShelf stop → HasCauseIn stop command before left rest
+shelf_cause stop command before left rest sound w reads (inl e) = subst (λ (s : Stop). HasCauseIn s command before left rest) (sym e) (inr (w, reads))
+shelf_cause stop command before left rest sound w reads (inr e) = subst (λ (s : Stop). HasCauseIn s command before left rest) (sym e) (sound, script_taken command left rest w reads)
+
+pub shelf_causes : {T : Type 0} (result : Result T Stop) (command : Command) (before : Held) (left rest : Option (List ℕ)) → is_sound before → (w : Script) → IsScriptOf command left rest w → IfErr result IsOfShelf → IfErr result (λ stop. HasCauseIn stop command before left rest)
+shelf_causes (Ok work) command before left rest sound w reads h = h
+shelf_causes (Err stop) command before left rest sound w reads h = shelf_cause stop command before left rest sound w reads h
 
 -- the input did not fail
 pub shelf_read : (stop : Stop) (before after : ℕ) → IsOfShelf stop → after ≡ before → Tells 3 (code (status_of stop)) before after

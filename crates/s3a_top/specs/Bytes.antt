@@ -1,5 +1,5 @@
 -- Which bytes were read and which were written.
-use Rattle.std.specs.Prelude.{◌≡◌, ℕ, ◌+◌, List, Option, Some, None, take, drop}
+use Rattle.std.specs.Prelude.{◌≡◌, ℕ, ◌+◌, ◌≤◌, List, Option, Some, None, take, drop}
 use Rattle.s3_types.specs.declared.limits.TheConstants.{MOST_SCRIPT_BYTES}
 use Rattle.shelf.specs.Devices.{Appends}
 
@@ -7,6 +7,16 @@ use Rattle.shelf.specs.Devices.{Appends}
 abbrev pub IsRead : Option (List ℕ) → Option (List ℕ) → List ℕ → Type 0
 IsRead None after all = after ≡ None
 IsRead (Some left) after all = (all ≡ take (MOST_SCRIPT_BYTES + 1) left) × (after ≡ Some (drop (MOST_SCRIPT_BYTES + 1) left))
+
+-- all that was left was taken, to one byte over the limit, where the source tells it
+abbrev pub IsTaken : (left rest : Option (List ℕ)) → Type 0
+IsTaken None rest = rest ≡ None
+IsTaken (Some left) rest = rest ≡ Some (drop (MOST_SCRIPT_BYTES + 1) left)
+
+-- some first bytes of that were taken
+abbrev pub TakesPart : (left rest : Option (List ℕ)) → Type 0
+TakesPart None rest = rest ≡ None
+TakesPart (Some left) rest = (n : ℕ) × ((n ≤ MOST_SCRIPT_BYTES + 1) × (rest ≡ Some (drop n left)))
 
 -- some first bytes of the text were written behind what was written before
 abbrev pub WritesSome : Option (List ℕ) → Option (List ℕ) → List ℕ → Type 0

@@ -3,15 +3,15 @@ use Rattle.std.specs.Prelude.{◌≡◌, ◌⊎◌, ℕ, ◌==◌, Bool, true, f
 use Rattle.s3_types.specs.declared.journal.Entry.{Entry}
 use Rattle.job_model.specs.declared.ends.Pick.{Pick}
 use Rattle.job_model.specs.declared.ends.EventEnd.{EventEnd}
-use Rattle.shelf.specs.Logged.{Holding, Stored, LeavesOnly}
+use Rattle.shelf.specs.Logged.{Holding, Stored, IsDurable, LeavesOnly}
 use Rattle.kept_stores.specs.Works.{Work}
-use Rattle.kept_stores.specs.Outcomes.{IsAnswer, IsHeld, MightLeave, IsDurableNow, CallsBy}
+use Rattle.kept_stores.specs.Outcomes.{IsAnswer, IsHeld, WhereSound, MightLeave, IsDurableNow, CallsBy}
 use Rattle.kept_stores.specs.declared.held.Held.{Held}
 use Rattle.kept_stores.specs.declared.held.Held.TheVariants.{Faulty}
 use Rattle.s3a_words.specs.declared.command.Command.{Command}
 use Rattle.s3a_words.specs.declared.command.Command.TheVariants.{Job}
 use Rattle.shell_works.specs.Commanded.{takes_input, IsWork}
-use Rattle.s3a_top.specs.Bytes.{IsRead}
+use Rattle.s3a_top.specs.Bytes.{IsRead, TakesPart}
 use Rattle.s3a_top.specs.Openings.{IsFound, IsSoundly}
 use Rattle.s3a_top.specs.Statuses.{IsIdle, code, usage_text, shelf_text, memory_text}
 use Rattle.s3a_top.specs.Stops.{status_of, stop_text}
@@ -47,8 +47,8 @@ IsInput false left rest bytes = (bytes ≡ []) × (rest ≡ left)
 -- a stop has its cause: the shelf failed, and nothing was taken from the input; or that failed; or memory was wanting
 abbrev pub HasReason : Stop → Command → Option Stored → (left rest : Option (List ℕ)) → Type 0
 HasReason ShelfFault command told left rest = rest ≡ left
-HasReason ReadFault command told left rest = IsSoundly told × (takes_input command ≡ true)
-HasReason NoMemory command told left rest = (rest ≡ left) ⊎ (IsSoundly told × (takes_input command ≡ true))
+HasReason ReadFault command told left rest = IsSoundly told × ((takes_input command ≡ true) × TakesPart left rest)
+HasReason NoMemory command told left rest = (rest ≡ left) ⊎ (IsSoundly told × ((takes_input command ≡ true) × TakesPart left rest))
 HasReason _ command told left rest = ⊥
 
 pub record StoreStopped {S : Type 0} (held : S → Option Stored) (may_leave : S → Holding → Type 0) (answers fails : S → S → Type 0) (moment_of : S → ℕ) (left_since : S → ℕ → Holding → Type 0) (command : Command) (left rest : Option (List ℕ)) (old new : S)
@@ -92,4 +92,6 @@ pub record StoreDone {S : Type 0} (held : S → Option Stored) (may_leave : S �
   -- the shelf was loaded, and then called as the work wants
   pub loaded : S
   pub load : answers old loaded
+  -- a crash after the load leaves what is held
+  pub lasts : WhereSound before (IsDurable (held loaded) (may_leave loaded))
   pub calls : CallsBy answers fails work due loaded new

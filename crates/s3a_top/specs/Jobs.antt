@@ -24,7 +24,8 @@ use Rattle.kept_appends.specs.Appends.{AreCalled}
 use Rattle.kept_jobs.specs.Pace.{Stops}
 use Rattle.s3a_words.specs.declared.command.Command.{Command}
 use Rattle.s3a_words.specs.declared.command.Command.TheVariants.{Job, Gen}
-use Rattle.s3a_top.specs.Openings.{IsScript, IsScriptOf, StaysUnlessJob, IsSoundly, Opens}
+use Rattle.s3a_top.specs.Bytes.{IsTaken, TakesPart}
+use Rattle.s3a_top.specs.Openings.{IsScript, IsScriptOf, TakesScript, IsSoundly, Opens}
 use Rattle.s3a_top.specs.Statuses.{IsIdle, code, shelf_text, memory_text}
 use Rattle.s3a_top.specs.Stops.{status_of, stop_text}
 use Rattle.s3a_top.specs.declared.stop.Stop.{Stop}
@@ -42,14 +43,14 @@ abbrev pub IsNoScript : Option (List ℕ) → ScriptFault → Type 0
 IsNoScript None e = Unit {0}
 IsNoScript (Some bytes) e = script_of bytes ≡ Err e
 
--- a job's stop has its cause: the shelf comes before the input, and that before the script; nothing is taken from the input before the shelf gave a store, or nothing; by the input and by its script `job` alone stops
+-- a job's stop has its cause: the shelf comes before the input, and that before the script; nothing is taken from the input before the shelf gave a store, or nothing; by the input and by its script `job` alone stops, and by its script once the input was taken to its end or to one byte over the limit
 abbrev pub HasCause : Stop → Command → Option Stored → (left rest : Option (List ℕ)) → Type 0
 HasCause Usage command told left rest = ⊥
-HasCause ReadFault command told left rest = IsSoundly told × (command ≡ Job)
-HasCause ShelfFault command told left rest = StaysUnlessJob command left rest
-HasCause (BadScript e) command told left rest = IsSoundly told × ((command ≡ Job) × (IsNoScript left e × (e ≢ faults.NoMemory)))
+HasCause ReadFault command told left rest = IsSoundly told × ((command ≡ Job) × TakesPart left rest)
+HasCause ShelfFault command told left rest = TakesScript command left rest
+HasCause (BadScript e) command told left rest = IsSoundly told × ((command ≡ Job) × (IsNoScript left e × ((e ≢ faults.NoMemory) × IsTaken left rest)))
 HasCause (Image number place) command told left rest = IsFaulty told number place × (rest ≡ left)
-HasCause NoMemory command told left rest = (rest ≡ left) ⊎ (IsSoundly told × (command ≡ Job))
+HasCause NoMemory command told left rest = (rest ≡ left) ⊎ (IsSoundly told × ((command ≡ Job) × TakesPart left rest))
 
 -- the shelf was called to load at most, and once more to take an image, which failed; a load that failed was before the input
 abbrev pub AreFew : {S : Type 0} → (answers fails : S → S → Type 0) → (left rest : Option (List ℕ)) → S → S → Type 0

@@ -13,6 +13,7 @@ use Rattle.kept_stores.specs.declared.held.Held.{Held}
 use Rattle.kept_stores.specs.declared.held.Held.TheVariants.{Nothing, Store, Faulty}
 use Rattle.s3a_words.specs.declared.command.Command.{Command}
 use Rattle.s3a_words.specs.declared.command.Command.TheVariants.{Job, Gen}
+use Rattle.s3a_top.specs.Bytes.{TakesPart}
 
 -- the input was this script, and nothing of it is left, where the source tells it
 abbrev pub IsScript : (left rest : Option (List ℕ)) → Script → Type 0
@@ -25,9 +26,13 @@ IsScriptOf Job left rest w = IsScript left rest w
 IsScriptOf (Gen seed tasks files) left rest w = (w ≡ made_script seed tasks files) × (rest ≡ left)
 IsScriptOf _ left rest w = ⊥
 
--- nothing was taken from the input, unless by `job`
-abbrev pub StaysUnlessJob : Command → (left rest : Option (List ℕ)) → Type 0
-StaysUnlessJob command left rest = (rest ≡ left) ⊎ (command ≡ Job)
+-- nothing was taken from the input, or some first bytes by `job`
+abbrev pub TakesIfJob : Command → (left rest : Option (List ℕ)) → Type 0
+TakesIfJob command left rest = (rest ≡ left) ⊎ ((command ≡ Job) × TakesPart left rest)
+
+-- nothing was taken from the input, or the command's script was read
+abbrev pub TakesScript : Command → (left rest : Option (List ℕ)) → Type 0
+TakesScript command left rest = (rest ≡ left) ⊎ ((w : Script) × IsScriptOf command left rest w)
 
 -- the store that a job opens with: the one that is held, or a new one in which its destination's bucket was made
 abbrev pub opening_in : Held → Script → Option Content

@@ -18,7 +18,8 @@ use Rattle.kept_runs.specs.Kept.{IsMoment}
 use Rattle.kept_runs.specs.Crashes.{WhereTold}
 use Rattle.s3a_words.specs.declared.command.Command.{Command}
 use Rattle.s3a_words.specs.declared.command.Command.TheVariants.{Job}
-use Rattle.s3a_top.specs.Openings.{IsScript, IsScriptOf, StaysUnlessJob, opening_in, is_sound}
+use Rattle.s3a_top.specs.Bytes.{IsTaken, TakesPart}
+use Rattle.s3a_top.specs.Openings.{IsScript, IsScriptOf, TakesIfJob, TakesScript, opening_in, is_sound}
 use Rattle.s3a_top.specs.Statuses.{shelf_text, memory_text}
 use Rattle.s3a_top.specs.Jobs.{IsNoScript, job_text, JobRan}
 use Rattle.s3a_top.specs.declared.statuses.Status.{Status}
@@ -79,11 +80,11 @@ pub record JobOver {S : Type 0} (held : S → Option Stored) (may_leave : S → 
 -- a stop has its cause
 abbrev pub HasCauseIn : Stop → Command → Held → (left rest : Option (List ℕ)) → Type 0
 HasCauseIn Usage command before left rest = ⊥
-HasCauseIn ReadFault command before left rest = is_sound before × (command ≡ Job)
-HasCauseIn ShelfFault command before left rest = StaysUnlessJob command left rest
-HasCauseIn (BadScript e) command before left rest = is_sound before × ((command ≡ Job) × (IsNoScript left e × (e ≢ faults.NoMemory)))
+HasCauseIn ReadFault command before left rest = is_sound before × ((command ≡ Job) × TakesPart left rest)
+HasCauseIn ShelfFault command before left rest = TakesScript command left rest
+HasCauseIn (BadScript e) command before left rest = is_sound before × ((command ≡ Job) × (IsNoScript left e × ((e ≢ faults.NoMemory) × IsTaken left rest)))
 HasCauseIn (Image number place) command before left rest = (before ≡ Faulty number place) × (rest ≡ left)
-HasCauseIn NoMemory command before left rest = is_sound before × StaysUnlessJob command left rest
+HasCauseIn NoMemory command before left rest = is_sound before × TakesIfJob command left rest
 
 -- what a crash might have left: what one before it may leave, or the image of the job's opening store
 abbrev pub MayHaveLeftOver : (at_first : Holding → Type 0) → Command → Held → (left rest : Option (List ℕ)) → Holding → Type 0

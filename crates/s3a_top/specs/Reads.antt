@@ -5,16 +5,17 @@ use Rattle.job_script.specs.declared.fault.ScriptFault.TheVariants as faults
 use Rattle.job_script.specs.Script.{script_of}
 use Rattle.s3a_words.specs.declared.command.Command.{Command}
 use Rattle.s3a_words.specs.declared.command.Command.TheVariants.{Job}
-use Rattle.s3a_top.specs.Openings.{IsScript, StaysUnlessJob}
+use Rattle.s3a_top.specs.Bytes.{IsTaken, TakesPart}
+use Rattle.s3a_top.specs.Openings.{IsScript, TakesIfJob}
 use Rattle.s3a_top.specs.Jobs.{IsNoScript}
 use Rattle.s3a_top.specs.declared.stop.Stop.{Stop}
 use Rattle.s3a_top.specs.declared.stop.Stop.TheVariants.{Usage, ReadFault, ShelfFault, Script as BadScript, Image, NoMemory}
 
 -- why there is no script
 abbrev pub IsReadStop : Stop → Command → (left rest : Option (List ℕ)) → Type 0
-IsReadStop ReadFault command left rest = command ≡ Job
-IsReadStop (BadScript e) command left rest = (command ≡ Job) × (IsNoScript left e × (e ≢ faults.NoMemory))
-IsReadStop NoMemory command left rest = StaysUnlessJob command left rest
+IsReadStop ReadFault command left rest = (command ≡ Job) × TakesPart left rest
+IsReadStop (BadScript e) command left rest = (command ≡ Job) × (IsNoScript left e × ((e ≢ faults.NoMemory) × IsTaken left rest))
+IsReadStop NoMemory command left rest = TakesIfJob command left rest
 IsReadStop Usage command left rest = ⊥
 IsReadStop ShelfFault command left rest = ⊥
 IsReadStop (Image number place) command left rest = ⊥

@@ -8,6 +8,7 @@ use Rattle.kept_stores.specs.declared.held.Held.{Held}
 use Rattle.s3a_words.specs.Words.{IsBounded}
 use Rattle.s3a_words.specs.declared.command.Command.{Command}
 use Rattle.shell_works.specs.Commanded.{takes_input, plays, IsWork}
+use Rattle.s3a_top.specs.Bytes.{TakesPart}
 use Rattle.s3a_top.specs.Openings.{is_sound}
 use Rattle.s3a_top.specs.Statuses.{code, written_text, memory_text}
 use Rattle.s3a_top.specs.Stops.{status_of, stop_text}
@@ -90,8 +91,8 @@ pub record StoreHalted {S : Type 0} (held : S → Option Stored) (may_leave : S 
 
 -- why it stopped behind the load
 abbrev pub HasReasonIn : Stop → Command → Held → (left rest : Option (List ℕ)) → Type 0
-HasReasonIn ReadFault command before left rest = is_sound before × (takes_input command ≡ true)
-HasReasonIn NoMemory command before left rest = (rest ≡ left) ⊎ (is_sound before × (takes_input command ≡ true))
+HasReasonIn ReadFault command before left rest = is_sound before × ((takes_input command ≡ true) × TakesPart left rest)
+HasReasonIn NoMemory command before left rest = (rest ≡ left) ⊎ (is_sound before × ((takes_input command ≡ true) × TakesPart left rest))
 HasReasonIn _ command before left rest = ⊥
 
 -- it was done

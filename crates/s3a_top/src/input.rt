@@ -1,6 +1,6 @@
 ghost use Rattle.std.specs.Prelude.{◌≡◌, ◌<◌, ◌≤◌, ◌^◌, ◌-◌, ◌+◌, length, IfOk, OnOk, OnErr, IsErrOf, vec_len, take, Some, Option, IfSome};
 ghost use Rattle.shelf.specs.Devices.{Rose};
-ghost use Rattle.s3a_top.specs.Bytes.{IsRead};
+ghost use Rattle.s3a_top.specs.Bytes.{IsRead, TakesPart};
 
 use s3_types::MOST_SCRIPT_BYTES;
 use shelf::{Failed, Source};
@@ -19,6 +19,7 @@ pub fn read_input<Q: Source>(alloc: Global, input: &mut Q) -> Result<Vec<u8>, In
     ensures failed { IsErrOf result InputFault.Failed → Q.faults input.old < 2 ^ 64 - 1 → Q.faults input.old < Q.faults input.new }
     ensures wanting { IsErrOf result InputFault.NoMemory → Q.faults input.new ≡ Q.faults input.old }
     ensures few { IfOk result (λ bytes. vec_len bytes ≤ MOST_SCRIPT_BYTES + 1) }
+    ensures part { TakesPart (Q.left input.old) (Q.left input.new) }
     ensures read { IfOk result (λ all. IsRead (Q.left input.old) (Q.left input.new) all.items) }
 {
     let mut all = Vec::new(alloc);
