@@ -7,7 +7,7 @@ use crate::disk::{DiskFault, LogDisk};
 use s3_types::Bytes;
 use shelf::Failed;
 use shelf::kept::MOST_FILE;
-use std::alloc::Global;
+use std::alloc::{AllocError, Global};
 use std::fs::{OpenFile, OpenOptions};
 use std::io::{Read, Seek, SeekFrom, Write};
 use std::marker::Model;
@@ -19,6 +19,10 @@ use std::{fs, io};
 pub struct FileDisk<R: Files> {
     rt: R,
     folder: String,
+    /// The path of `store.img`.
+    image: String,
+    /// The path of `store.tmp`, which a swap writes and then renames.
+    fresh: String,
     /// The file, once it was written.
     file: Option<R::File>,
     /// That the folder has the file under its name is on the disk.
@@ -112,32 +116,29 @@ fn is_missing<T>(opened: &io::Result<T>) -> bool {
 }
 
 impl<R: Files + Drop> FileDisk<R> {
-    /// The disk of a folder, by its path. Touches nothing.
-    pub fn new(alloc: Global, rt: R, folder: String) -> FileDisk<R>
-        ensures { result ≡ 0 }
+    /// The disk of a folder, by its path. Touches nothing. Its one error is want of memory, and none of its
+    /// calls takes memory but `read`, for the file's bytes.
+    pub fn new(alloc: Global, rt: R, folder: String) -> Result<FileDisk<R>, AllocError>
+        ensures { IfOk result (λ disk. disk ≡ 0) }
     {
-        FileDisk {
+        let image = format!(in alloc; "{}/store.img", folder.as_str())?;
+        let fresh = format!(in alloc; "{}/store.tmp", folder.as_str())?;
+        Ok(FileDisk {
             rt,
             folder,
+            image,
+            fresh,
             file: None,
             is_named: false,
             faults: 0,
             alloc,
-        }
-    }
-
-    fn path(&self) -> io::Result<String> {
-        let folder = self.folder.as_str();
-        Ok(format!(in self.alloc; "{folder}/store.img")?)
+        })
     }
 
     fn read_file(&self) -> Result<Option<Bytes>, DiskFault>
         ensures { IfOk result (λ read. file_length read ≤ most_file) }
     {
-        let Ok(path) = self.path() else {
-            return Err(DiskFault::NoMemory);
-        };
-        let opened = fs::open(&self.rt, path.as_str());
+        let opened = fs::open(&self.rt, self.image.as_str());
         if is_missing(&opened) {
             return Ok(None);
         }
@@ -155,12 +156,9 @@ impl<R: Files + Drop> FileDisk<R> {
     fn put(&mut self, head: &[u8], body: &[u8], tail: &[u8]) -> io::Result<()>
         ensures { self.new ≡ self.old }
     {
-        let folder = self.folder.as_str();
-        let fresh = format!(in self.alloc; "{folder}/store.tmp")?;
-        let path = self.path()?;
-        let file = write_whole(&self.rt, fresh.as_str(), head, body, tail)?;
+        let file = write_whole(&self.rt, self.fresh.as_str(), head, body, tail)?;
         self.is_named = false;
-        fs::rename(&self.rt, fresh.as_str(), path.as_str())?;
+        fs::rename(&self.rt, self.fresh.as_str(), self.image.as_str())?;
         self.file = Some(file);
         self.sync_folder()
     }
@@ -186,7 +184,7 @@ impl<R: Files + Drop> FileDisk<R> {
     {
         let mut file = match self.file.take() {
             Some(file) => file,
-            None => open_to_write(&self.rt, self.path()?.as_str())?,
+            None => open_to_write(&self.rt, self.image.as_str())?,
         };
         let done = write_from(&mut file, place, bytes);
         self.file = Some(file);
@@ -198,8 +196,7 @@ impl<R: Files + Drop> FileDisk<R> {
         if let Some(file) = &self.file {
             return file.sync_all();
         }
-        let path = self.path()?;
-        let synced = sync_path(&self.rt, path.as_str());
+        let synced = sync_path(&self.rt, self.image.as_str());
         if is_missing(&synced) {
             return Ok(());
         }

@@ -102,7 +102,7 @@ fn put_call<R: Files>(
     fault: Fault,
 ) -> Result<(), AllocError> {
     let folder = String::from_str(alloc, FOLDER)?;
-    let mut disk = FileDisk::new(alloc, Faulty::new(rt, fault), folder);
+    let mut disk = FileDisk::new(alloc, Faulty::new(rt, fault), folder)?;
     let put = put_answer(line, &mut disk, call);
     let_go(disk);
     put

@@ -1,21 +1,29 @@
 //! `s3a FOLDER COMMAND WORDS`: the program over a folder, standard input and standard output.
 #![tactic(auto)]
 
+ghost use Rattle.std.specs.Prelude.{◌≡◌, IfOk};
+
 use folder_log::{FileDisk, LogShelf};
 use s3_types::Text;
-use s3a_top::run;
+use s3a_top::{Status, run};
 use shelf::{StdSink, StdSource};
 use std::alloc::{AllocError, Global};
 use std::process::ExitCode;
-use std::rt::Env;
+use std::rt::{Env, Files};
 use std::{env, io};
 
 /// The words behind the program's name, or none where the system does not give them as text.
 fn words(rt: &(impl Env + AllocGlobal)) -> Result<Vec<Text>, AllocError> {
     let alloc = rt.alloc();
     let mut words = Vec::new(alloc);
-    let Ok(args) = env::args(rt) else {
-        return Ok(words);
+    let args = match env::args(rt) {
+        Ok(args) => args,
+        Err(error) => {
+            return match error.kind() {
+                io::ErrorKind::OutOfMemory => Err(AllocError),
+                _ => Ok(words),
+            };
+        }
     };
     for arg in args.skip(1) {
         words.push(Text::new(alloc, arg)?)?;
@@ -23,26 +31,35 @@ fn words(rt: &(impl Env + AllocGlobal)) -> Result<Vec<Text>, AllocError> {
     Ok(words)
 }
 
-/// The folder that the words name, or the one where the program runs.
-fn folder(alloc: Global, words: &[Text]) -> Result<String, AllocError> {
-    match words.first() {
-        Some(folder) => String::from_str(alloc, folder.as_str()),
-        None => String::from_str(alloc, "."),
-    }
+/// The disk of the folder that the words name, or of the one where the program runs.
+fn disk<R: Files + Drop>(alloc: Global, rt: R, words: &[Text]) -> Result<FileDisk<R>, AllocError>
+    ensures { IfOk result (λ disk. disk ≡ record { calls = 0; faults = 0 }) }
+{
+    let folder = match words.first() {
+        Some(folder) => String::from_str(alloc, folder.as_str())?,
+        None => String::from_str(alloc, ".")?,
+    };
+    FileDisk::new(alloc, rt, folder)
 }
 
-/// The status where there is no memory for the words.
-const NO_MEMORY: u8 = 9;
+/// Says that there is no memory for the words or for the folder's disk.
+fn say_no_memory(rt: &impl Print) -> ExitCode {
+    let status = match println!(rt; "no memory") {
+        Ok(()) => Status::NoMemory,
+        Err(_) => Status::WriteFault,
+    };
+    ExitCode::from(status.code())
+}
 
 fn main(rt: HostRuntime) -> ExitCode {
     let alloc = rt.alloc();
     let Ok(words) = words(&rt) else {
-        return ExitCode::from(NO_MEMORY);
+        return say_no_memory(&rt);
     };
-    let Ok(folder) = folder(alloc, words.as_slice()) else {
-        return ExitCode::from(NO_MEMORY);
+    let Ok(disk) = disk(alloc, &rt, words.as_slice()) else {
+        return say_no_memory(&rt);
     };
-    let mut shelf = LogShelf::new(alloc, FileDisk::new(alloc, &rt, folder));
+    let mut shelf = LogShelf::new(alloc, disk);
     let mut input = StdSource::new(rt.reader());
     let mut out = StdSink::new(io::writer(&rt));
     let report = run(alloc, words.as_slice(), &mut input, &mut shelf, &mut out);
