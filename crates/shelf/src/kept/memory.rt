@@ -120,7 +120,7 @@ impl Shelf for MemShelf {
 
     ghost answers = { λ s t. calls_of.Answers s.calls t.calls };
 
-    ghost fails = { λ s t. calls_of.Fails s.calls t.calls };
+    ghost fails = { λ s t. calls_of.Fails s.calls t.calls × (t.takes ≡ false) };
 
     ghost takes_appends = { λ s. s.takes ≡ true };
 
