@@ -12,7 +12,7 @@ use Rattle.s3_types.specs.declared.journal.Entry.{Entry}
 use Rattle.sendings.specs.Operation.{Follows, run}
 use Rattle.sendings.specs.Retries.{Item, wants_of, fresh, step, has_worn}
 use Rattle.machine.specs.Standing.{Standing, Faulted}
-use Rattle.machine.specs.Turns.{retried, turn_of, AreBy}
+use Rattle.machine.specs.Turns.{retried, broken, turn_of, AreBy}
 use Rattle.machine.specs.Counted.{Counted}
 use Rattle.machine.specs.Tries.{Tried, IsFaultBy}
 use Rattle.machine.specs.declared.retrying.Retrying.{Retrying}
@@ -48,11 +48,17 @@ Sent wants after actor event t t' s s' old new before now told first requests (S
     × IsForetold (told (first + 1)) e.outcome
     × (requests ≡ first + 1)
 
--- memory was wanting before the sending, or after it, and then its entry stands
-abbrev pub SentNone : {M : Type 0} → (M → Option Request) → Actor → ℕ → Retrying M → Scene → Scene → List Entry → List Entry → (ℕ → Option Fate) → ℕ → Type 0
-SentNone wants actor event t s s' old new told first =
-    ((new ≡ old) × (s' ≡ s))
-    ⊎ ((e : Entry) × IsSent wants actor event t s e s' × (new ≡ old ++ e ∷ []) × IsForetold (told (first + 1)) e.outcome)
+-- memory was wanting before the sending, and all is as it was; or after it, and then its entry stands and the machine is broken
+abbrev pub SentNone : {M : Type 0} → (M → Option Request) → (M → Item → M) → Actor → ℕ → Retrying M → Retrying M → Scene → Scene
+    → List Entry → List Entry → (ℕ → Option Fate) → ℕ → Type 0
+SentNone wants after actor event t t' s s' old new told first =
+    ((new ≡ old) × (s' ≡ s) × (t' ≡ t))
+    ⊎ ((e : Entry)
+    × IsSent wants actor event t s e s'
+    × (new ≡ old ++ e ∷ [])
+    × IsForetold (told (first + 1)) e.outcome
+    × (retried t' ≡ broken after (retried t))
+    × (t'.retries ≡ t.retries))
 
 -- a worn request shows
 abbrev pub standing_after : Bool → Standing → Standing

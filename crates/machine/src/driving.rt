@@ -36,8 +36,8 @@ pub fn write_down(
 }
 
 /// Sends the present request once, if there is one, and appends its entry, whose place is taken before
-/// the sending. The answer that is due fits. Where memory is wanting before the sending, store and journal
-/// are as before; else the entry stands, and the machine asks nothing more.
+/// the sending. The answer that is due fits. Where memory is wanting before the sending, store, journal and
+/// machine are as before; else the entry stands, and the machine asks nothing more.
 pub fn send<M: Machine, S: ObjectStore>(
     alloc: Global,
     store: &mut S,
@@ -50,7 +50,8 @@ pub fn send<M: Machine, S: ObjectStore>(
     requires counted { S.requests store.old ≤ length journal.old.entries }
     ensures sent { IfOk result (λ turn. Sent M.wants M.after actor event machine.old machine.new (S.scene store.old) (S.scene store.new) journal.old.entries journal.new.entries (S.losses store.old) (S.losses store.new) (S.foretold store.old) (S.requests store.old) (S.requests store.new) turn) }
     ensures counts { Counted journal.old.entries journal.new.entries (S.requests store.old) (S.requests store.new) (S.losses store.old) (S.losses store.new) (S.foretold store.old) (S.foretold store.new) }
-    ensures err { OnErr result (SentNone M.wants actor event machine.old (S.scene store.old) (S.scene store.new) journal.old.entries journal.new.entries (S.foretold store.old) (S.requests store.old)) }
+    ensures err { OnErr result (SentNone M.wants M.after actor event machine.old machine.new (S.scene store.old) (S.scene store.new)
+        journal.old.entries journal.new.entries (S.foretold store.old) (S.requests store.old)) }
 {
     let request = match machine.request() {
         None => return Ok(None),
