@@ -1,11 +1,10 @@
-ghost use Rattle.folder_log.specs.Disk.{IsWithin};
-
 use crate::faults::{Fault, Faulty};
 use crate::streams::show_streams;
 use folder_log::{DiskFault, FileDisk, LogDisk};
 use s3_types::{Bytes, let_go};
 use shelf::Failed;
 use std::alloc::{AllocError, Global};
+use std::cell::Cell;
 use std::io::Read;
 use std::rt::Files;
 use std::{fs, io};
@@ -34,6 +33,25 @@ const FAULTS: [(Fault, &str); 8] = [
     (Fault::Sync, "no file is synced"),
     (Fault::FolderSync, "no folder is synced"),
     (Fault::Rename, "no file is renamed"),
+];
+
+/// Two calls of one disk, each with what goes wrong with it.
+const PAIRS: [([(Call, Fault); 2], &str, &str); 3] = [
+    (
+        [(Call::Sync, Fault::Nothing), (Call::Swap, Fault::FolderSync)],
+        "sync and swap",
+        "no folder is synced from the second on",
+    ),
+    (
+        [(Call::Write, Fault::Nothing), (Call::Sync, Fault::Sync)],
+        "write and sync",
+        "no file is synced from the second on",
+    ),
+    (
+        [(Call::Sync, Fault::FolderSync), (Call::Sync, Fault::FolderSync)],
+        "sync and sync",
+        "no folder is synced",
+    ),
 ];
 
 /// A call of a disk.
@@ -76,9 +94,11 @@ fn put_done(line: &mut String, done: Result<(), Failed>) -> Result<(), AllocErro
 }
 
 /// What a call answers.
-fn put_answer<D: LogDisk>(line: &mut String, disk: &mut D, call: Call) -> Result<(), AllocError>
-    requires { IsWithin 2 (D.seen disk.old) }
-{
+fn put_answer<R: Files + Drop>(
+    line: &mut String,
+    disk: &mut FileDisk<R>,
+    call: Call,
+) -> Result<(), AllocError> {
     match call {
         Call::Read => {
             let read = disk.read();
@@ -93,17 +113,34 @@ fn put_answer<D: LogDisk>(line: &mut String, disk: &mut D, call: Call) -> Result
     }
 }
 
-/// What the call answers over a new disk of the folder, where this goes wrong.
-fn put_call<R: Files>(
+/// What calls answer, one behind the other, where this goes wrong with each.
+fn put_answers<R: Files + Drop>(
+    line: &mut String,
+    disk: &mut FileDisk<R>,
+    fault: &Cell<Fault>,
+    calls: &[(Call, Fault)],
+) -> Result<(), AllocError> {
+    for (call, wrong) in calls {
+        if !line.is_empty() {
+            line.push_str(", ")?;
+        }
+        fault.set(*wrong);
+        put_answer(line, disk, *call)?;
+    }
+    Ok(())
+}
+
+/// What calls of a new disk of the folder answer.
+fn put_calls<R: Files>(
     rt: &R,
     alloc: Global,
     line: &mut String,
-    call: Call,
-    fault: Fault,
+    calls: &[(Call, Fault)],
 ) -> Result<(), AllocError> {
     let folder = String::from_str(alloc, FOLDER)?;
-    let mut disk = FileDisk::new(alloc, Faulty::new(rt, fault), folder)?;
-    let put = put_answer(line, &mut disk, call);
+    let fault = Cell::new(Fault::Nothing);
+    let mut disk = FileDisk::new(alloc, Faulty::new(rt, &fault), folder)?;
+    let put = put_answers(line, &mut disk, &fault, calls);
     let_go(disk);
     put
 }
@@ -112,7 +149,7 @@ fn put_call<R: Files>(
 /// none to name.
 fn begin<R: Files>(rt: &R, alloc: Global) -> io::Result<()> {
     let mut line = String::new(alloc);
-    put_call(rt, alloc, &mut line, Call::First, Fault::Nothing)?;
+    put_calls(rt, alloc, &mut line, &[(Call::First, Fault::Nothing)])?;
     fs::hard_link(rt, IMAGE, OTHER)
 }
 
@@ -123,16 +160,15 @@ fn put_file<R: Files>(rt: &R, alloc: Global, line: &mut String, path: &str) -> i
     Ok(line.push_str(text_of(&bytes))?)
 }
 
-/// What a call answers where something fails, and what the file then has, under its name and as the old one.
+/// What calls answer where something fails, and what the file then has, under its name and as the old one.
 fn put_fault<R: Files>(
     rt: &R,
     alloc: Global,
     line: &mut String,
-    call: Call,
-    fault: Fault,
+    calls: &[(Call, Fault)],
 ) -> io::Result<()> {
     begin(rt, alloc)?;
-    put_call(rt, alloc, line, call, fault)?;
+    put_calls(rt, alloc, line, calls)?;
     line.push_str(", then ")?;
     put_file(rt, alloc, line, IMAGE)?;
     line.push_str(", the old file ")?;
@@ -143,18 +179,18 @@ fn put_fault<R: Files>(
 fn show_fault<R: Print + Files>(
     rt: &R,
     alloc: Global,
-    call: Call,
-    fault: Fault,
+    calls: &[(Call, Fault)],
+    name: &str,
     what: &str,
 ) -> io::Result<()> {
     let mut line = String::new(alloc);
-    put_fault(rt, alloc, &mut line, call, fault)?;
-    println!(rt; "{} where {what}: {line}", call_text(call))
+    put_fault(rt, alloc, &mut line, calls)?;
+    println!(rt; "{name} where {what}: {line}")
 }
 
 fn show_faults<R: Print + Files>(rt: &R, alloc: Global, call: Call) -> io::Result<()> {
     for (fault, what) in &FAULTS {
-        show_fault(rt, alloc, call, *fault, what)?;
+        show_fault(rt, alloc, &[(call, *fault)], call_text(call), what)?;
     }
     Ok(())
 }
@@ -166,10 +202,17 @@ fn show_calls<R: Print + Files>(rt: &R, alloc: Global) -> io::Result<()> {
     Ok(())
 }
 
+fn show_pairs<R: Print + Files>(rt: &R, alloc: Global) -> io::Result<()> {
+    for (calls, name, what) in &PAIRS {
+        show_fault(rt, alloc, calls, name, what)?;
+    }
+    Ok(())
+}
+
 /// What a call answers where there is no file, or no folder.
 fn show_missing<R: Print + Files>(rt: &R, alloc: Global, call: Call, what: &str) -> io::Result<()> {
     let mut line = String::new(alloc);
-    put_call(rt, alloc, &mut line, call, Fault::Nothing)?;
+    put_calls(rt, alloc, &mut line, &[(call, Fault::Nothing)])?;
     println!(rt; "{} where there is no {what}: {line}", call_text(call))
 }
 
@@ -191,6 +234,7 @@ pub fn show_disks<R: Print + Files>(rt: &R, alloc: Global) -> io::Result<()> {
     fs::create_dir(rt, FOLDER)?;
     show_all_missing(rt, alloc, &WITHOUT_FILE, "file")?;
     show_calls(rt, alloc)?;
+    show_pairs(rt, alloc)?;
     show_streams(rt, alloc)?;
     fs::remove_file(rt, IMAGE)?;
     fs::remove_dir(rt, FOLDER)

@@ -1,4 +1,5 @@
 use std::alloc::Allocator;
+use std::cell::Cell;
 use std::fs::{Metadata, OpenFile, OpenOptions};
 use std::io;
 use std::io::{Read, Seek, SeekFrom, Write};
@@ -16,6 +17,8 @@ pub enum Fault {
     Short,
     /// No byte is written.
     Full,
+    /// Nothing is flushed.
+    Flush,
     /// No file is synced.
     Sync,
     /// No folder is synced.
@@ -24,24 +27,24 @@ pub enum Fault {
     Rename,
 }
 
-/// A file system of which some calls fail, and all that a disk does not make.
+/// A file system of which some calls fail, by what goes wrong at that time, and all that a disk does not make.
 #[derive(Drop)]
 pub struct Faulty<'r, R> {
     rt: &'r R,
-    fault: Fault,
+    fault: &'r Cell<Fault>,
 }
 
 /// An open file or folder of it.
 #[derive(Drop)]
-pub struct FaultyFile<F> {
+pub struct FaultyFile<'r, F> {
     file: F,
-    fault: Fault,
+    fault: &'r Cell<Fault>,
     is_folder: bool,
     reads: u64,
 }
 
 impl<'r, R> Faulty<'r, R> {
-    pub fn new(rt: &'r R, fault: Fault) -> Faulty<'r, R> {
+    pub fn new(rt: &'r R, fault: &'r Cell<Fault>) -> Faulty<'r, R> {
         Faulty { rt, fault }
     }
 }
@@ -50,13 +53,14 @@ fn failed() -> io::Error {
     io::Error::from(io::ErrorKind::PermissionDenied)
 }
 
-impl<F: Read + Drop> Read for FaultyFile<F> {
+impl<'r, F: Read + Drop> Read for FaultyFile<'r, F> {
     fn read(&mut self, buffer: &mut [u8]) -> io::Result<usize> {
+        let fault = self.fault.get();
         self.reads = self.reads.saturating_add(1);
-        if self.fault == Fault::Read && self.reads > 1 {
+        if fault == Fault::Read && self.reads > 1 {
             return Err(failed());
         }
-        if self.fault == Fault::Read || self.fault == Fault::Short {
+        if fault == Fault::Read || fault == Fault::Short {
             let most = buffer.len().min(1);
             return self.file.read(&mut buffer[..most]);
         }
@@ -64,9 +68,9 @@ impl<F: Read + Drop> Read for FaultyFile<F> {
     }
 }
 
-impl<F: Write + Drop> Write for FaultyFile<F> {
+impl<'r, F: Write + Drop> Write for FaultyFile<'r, F> {
     fn write(&mut self, piece: &[u8]) -> io::Result<usize> {
-        match self.fault {
+        match self.fault.get() {
             Fault::Full => Ok(0),
             Fault::Short => self.file.write(&piece[..piece.len().min(1)]),
             _ => self.file.write(piece),
@@ -74,17 +78,20 @@ impl<F: Write + Drop> Write for FaultyFile<F> {
     }
 
     fn flush(&mut self) -> io::Result<()> {
-        self.file.flush()
+        match self.fault.get() {
+            Fault::Flush => Err(failed()),
+            _ => self.file.flush(),
+        }
     }
 }
 
-impl<F: Seek + Drop> Seek for FaultyFile<F> {
+impl<'r, F: Seek + Drop> Seek for FaultyFile<'r, F> {
     fn seek(&mut self, to: SeekFrom) -> io::Result<u64> {
         self.file.seek(to)
     }
 }
 
-impl<F: OpenFile + Drop> OpenFile for FaultyFile<F> {
+impl<'r, F: OpenFile + Drop> OpenFile for FaultyFile<'r, F> {
     fn metadata(&self) -> io::Result<Metadata> {
         self.file.metadata()
     }
@@ -94,12 +101,8 @@ impl<F: OpenFile + Drop> OpenFile for FaultyFile<F> {
     }
 
     fn sync_all(&self) -> io::Result<()> {
-        let stops = if self.is_folder {
-            self.fault == Fault::FolderSync
-        } else {
-            self.fault == Fault::Sync
-        };
-        if stops {
+        let stops = if self.is_folder { Fault::FolderSync } else { Fault::Sync };
+        if self.fault.get() == stops {
             return Err(failed());
         }
         self.file.sync_all()
@@ -111,12 +114,12 @@ impl<F: OpenFile + Drop> OpenFile for FaultyFile<F> {
 }
 
 impl<'r, R: Files> Files for Faulty<'r, R> {
-    type File = FaultyFile<R::File>;
+    type File = FaultyFile<'r, R::File>;
 
     type Dir = R::Dir;
 
-    fn open_file(&self, how: &OpenOptions, path: &str) -> io::Result<FaultyFile<R::File>> {
-        if self.fault == Fault::Open {
+    fn open_file(&self, how: &OpenOptions, path: &str) -> io::Result<FaultyFile<'r, R::File>> {
+        if self.fault.get() == Fault::Open {
             return Err(failed());
         }
         let file = self.rt.open_file(how, path)?;
@@ -145,7 +148,7 @@ impl<'r, R: Files> Files for Faulty<'r, R> {
     }
 
     fn rename(&self, from: &str, to: &str) -> io::Result<()> {
-        if self.fault == Fault::Rename {
+        if self.fault.get() == Fault::Rename {
             return Err(failed());
         }
         self.rt.rename(from, to)

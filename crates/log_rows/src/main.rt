@@ -12,7 +12,7 @@
 //! fails, or one, and tells what it then holds.
 //!
 //! `files` tells what each call over a folder's file answers where a call of the system fails, and what a read then
-//! gives; and what the program's streams give and take there, and those in memory.
+//! gives, and so of two calls of one disk; and what the program's streams give and take there, and those in memory.
 #![tactic(auto)]
 
 mod disks;

@@ -4,14 +4,16 @@ use crate::plays::calls_of;
 use s3_types::{Bytes, let_go};
 use shelf::{MemSink, MemSource, Sink, Source, StdSink, StdSource};
 use std::alloc::{AllocError, Global};
+use std::cell::Cell;
 use std::rt::Files;
 use std::{fs, io};
 
-const FAULTS: [(Fault, &str); 4] = [
+const FAULTS: [(Fault, &str); 5] = [
     (Fault::Nothing, "nothing fails"),
     (Fault::Read, "a file is read up to its first byte"),
     (Fault::Short, "one byte is read or written at a time"),
     (Fault::Full, "no byte is written"),
+    (Fault::Flush, "nothing is flushed"),
 ];
 
 /// What four reads of two bytes give.
@@ -35,7 +37,8 @@ fn put_writes<S: Sink>(line: &mut String, sink: &mut S) -> Result<(), AllocError
 }
 
 fn put_source<R: Files>(rt: &R, line: &mut String, fault: Fault) -> io::Result<()> {
-    let faulty = Faulty::new(rt, fault);
+    let fault = Cell::new(fault);
+    let faulty = Faulty::new(rt, &fault);
     let mut source = StdSource::new(fs::open(&faulty, IMAGE)?);
     let put = put_reads(line, &mut source);
     let_go(source);
@@ -43,7 +46,8 @@ fn put_source<R: Files>(rt: &R, line: &mut String, fault: Fault) -> io::Result<(
 }
 
 fn put_sink<R: Files>(rt: &R, line: &mut String, fault: Fault) -> io::Result<()> {
-    let faulty = Faulty::new(rt, fault);
+    let fault = Cell::new(fault);
+    let faulty = Faulty::new(rt, &fault);
     let mut sink = StdSink::new(fs::create(&faulty, IMAGE)?);
     let put = put_writes(line, &mut sink);
     let_go(sink);
