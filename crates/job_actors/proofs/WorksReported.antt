@@ -44,6 +44,7 @@ use Rattle.job_facts.proofs.Entries.{sees, tells_so}
 use Rattle.job_happenings.specs.Happenings.{Play, Refuses, Opens, Sends, Finishes, Closes, knows_now, begun, open_running, hear, happen, MaySend, MayFinish, Happened, nothing_happened, happens}
 use Rattle.job_happenings.specs.Running.{Ahead, IsRun, operation_of}
 use Rattle.job_happenings.proofs.Actors.{same_or_not, put_here, put_other}
+use Rattle.job_happenings.proofs.RunningStages.{may_end}
 use Rattle.job_happenings.proofs.Running.{is_run, sent_ahead, finished_ahead, opened_ahead, refused_ahead, not_refused, closed_ahead}
 use Rattle.job_answers.specs.Due.{AllPublished}
 use Rattle.job_answers.proofs.Kept.{published_still}
@@ -317,7 +318,7 @@ module _ (g : Setting) (opening : Content) (j : IsLegal g.script) (is_opening : 
 
   finishes : (y : Play) → Happened g opening y → Ahead y all_ends → (v : ActorEnd) → MayFinish y v → Unclean y → Reported y → Reported (happen g y (Finishes v))
   finishes y past ahead v may clean old = record {
-    live = λ t h. elim (reports v.actor (y.live.state v.actor).stage v.end y.live.reported t h) [ inl before ↦ old.live t before | inr now ↦ published t now may.end ];
+    live = λ t h. elim (reports v.actor (y.live.state v.actor).stage v.end y.live.reported t h) [ inl before ↦ old.live t before | inr now ↦ published t now (may_end y v may) ];
     past = old.past;
     driver = old.driver;
   }

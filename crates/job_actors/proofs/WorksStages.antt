@@ -38,7 +38,7 @@ use Rattle.job_happenings.specs.Happenings.{Play, Refuses, Opens, Sends, Finishe
 use Rattle.job_happenings.specs.Running.{Ahead, IsRun, operation_of}
 use Rattle.job_happenings.proofs.Actors.{same_or_not, put_here, put_other}
 use Rattle.job_happenings.proofs.Told.{told_all}
-use Rattle.job_happenings.proofs.RunningStages.{begins_so, memory_dies, mapped}
+use Rattle.job_happenings.proofs.RunningStages.{begins_so, memory_dies, may_end, mapped}
 use Rattle.job_happenings.proofs.Running.{is_run}
 use Rattle.job_actors.proofs.WorksTasks.{NotKept, HasEnded, OwnTask, own_task}
 
@@ -230,7 +230,7 @@ module _ (g : Setting) (opening : Content) (j : IsLegal g.script) (is_opening : 
       run = is_run g opening j is_opening y past (y.ends ++ Done ∷ []) (goes_on y)
 
       over_at : actor_of b ≡ v.actor → At (ended v.end (y.live.state v.actor).stage) (y.running (actor_of b))
-      over_at s = elim may.end [
+      over_at s = elim (may_end y v may) [
         | inl memory ↦ subst (λ x. At x (y.running (actor_of b))) (sym (memory_dies v.end (y.live.state v.actor).stage memory)) (dead_at (is_committing (y.live.state v.actor).stage) (operation_of (y.running (actor_of b))))
         | inr q ↦
             let m = q.0 in

@@ -33,7 +33,7 @@ use Rattle.job_facts.proofs.Whose.{attempt}
 use Rattle.job_happenings.specs.Happenings.{Play, Refuses, Opens, Sends, Finishes, Closes, open_running, hear, happen, MayOpen, MaySend, MayFinish, MayClose, Happened, nothing_happened, happens, nothing_played}
 use Rattle.job_happenings.specs.Running.{Ahead, IsRun, operation_of}
 use Rattle.job_happenings.proofs.RunningNumbers.{begun_next, unbegun, legal_event}
-use Rattle.job_happenings.proofs.RunningStages.{DriverAt, begins_so, memory_dies, driver_stops, driver_restarts, restarted_new, driver_ends}
+use Rattle.job_happenings.proofs.RunningStages.{DriverAt, begins_so, memory_dies, may_end, driver_stops, driver_restarts, restarted_new, driver_ends}
 use Rattle.job_happenings.proofs.RunningTasks.{AttemptAt, attempt_dies, attempt_ends}
 use Rattle.job_happenings.proofs.RunningAlong.{Along, told_known, driver_state, attempt_state, shell_state, driver_sent, attempt_sent}
 use Rattle.job_happenings.proofs.RunningSteps.{still, begins}
@@ -225,7 +225,7 @@ module _ (g : Setting) (opening : Content) (j : IsLegal g.script) (is_opening : 
 
   finishes : (k : Option ℕ) (x : Play) (y : ActorEnd) → MayFinish x y → Carried g opening k x → Carried g opening k (happen g x (Finishes y))
   finishes k x y may h = record {
-    along = end_of k (is_begun k (number x.now (length x.ends))) x.journal x.running x.live.state h.along y.actor y.end may.busy may.end;
+    along = end_of k (is_begun k (number x.now (length x.ends))) x.journal x.running x.live.state h.along y.actor y.end may.busy (may_end x y may);
     rest = λ e. absurd (none_some e may.during);
   }
 

@@ -3,13 +3,13 @@ use Rattle.std.proofs.Common.{◌≡◌, ℕ, ◌⊎◌, inl, inr, ◌&&◌, ◌
 use Rattle.std.specs.Prelude.{if◌then◌else◌}
 use Rattle.std.specs.Option.{option_map}
 use Rattle.s3_types.specs.declared.request.Actor.{Actor}
-use Rattle.s3_types.specs.declared.request.Actor.TheVariants.{Driver}
+use Rattle.s3_types.specs.declared.request.Actor.TheVariants.{Driver, Attempt}
 use Rattle.s3_types.specs.declared.request.Request.{Request}
 use Rattle.s3_types.specs.declared.journal.Outcome.{Outcome}
 use Rattle.sendings.specs.Retries.{Retried}
 use Rattle.job_model.specs.Known.{Known}
 use Rattle.job_model.specs.declared.events.Op.{Op}
-use Rattle.job_model.specs.declared.events.Op.TheVariants.{Setup, Commit, Clean}
+use Rattle.job_model.specs.declared.events.Op.TheVariants.{Setup, Commit, Abort, Clean}
 use Rattle.job_model.specs.declared.ends.SetupEnd.{SetupEnd}
 use Rattle.job_model.specs.declared.ends.SetupEnd.TheVariants as setups
 use Rattle.job_model.specs.declared.ends.CommitEnd.{CommitEnd}
@@ -20,6 +20,7 @@ use Rattle.job_model.specs.declared.ends.TaskEnd.{TaskEnd}
 use Rattle.job_model.specs.declared.ends.TaskEnd.TheVariants as tasks
 use Rattle.job_model.specs.declared.ends.OpEnd.{OpEnd}
 use Rattle.job_model.specs.declared.ends.OpEnd.TheVariants as ends
+use Rattle.job_model.specs.declared.ends.ActorEnd.{ActorEnd}
 use Rattle.job_model.specs.declared.ends.EventFault.{EventFault}
 use Rattle.job_model.specs.declared.ends.EventFault.TheVariants as faults
 use Rattle.job_model.specs.declared.states.Life.{Life}
@@ -30,13 +31,14 @@ use Rattle.job_operations.specs.Setup as setup
 use Rattle.job_operations.specs.Setup.{setup_over}
 use Rattle.job_operations.specs.JobCommits.{commit_over}
 use Rattle.job_operations.specs.Cleanups.{clean_over}
-use Rattle.job_operations.specs.Operations.{Setting, Operation, TheSetup, TheWrite, TheTaskCommit, TheTaskAbort, TheCommit, TheClean, who, asks, tells, over}
+use Rattle.job_operations.specs.Operations.{Setting, Operation, TheSetup, TheWrite, TheTaskCommit, TheTaskAbort, TheCommit, TheClean, Running, who, asks, tells, over}
 use Rattle.job_promise.specs.Seen.{is_begun}
 use Rattle.job_promise.specs.States.{ended, setup_ended, commit_ended, clean_ended, dead, restarted, is_new, needs_set, may, driver_may, refuse_op, refuse_begin}
-use Rattle.job_promise.specs.Turns.{is_busy, is_memory}
+use Rattle.job_promise.specs.Turns.{is_busy, is_memory, is_wanting}
 use Rattle.request_frame.proofs.Members.{some_is, none_some, false_true, true_or_false}
 use Rattle.job_facts.specs.Runs.{is_set, is_just_set, is_done, IsTimely, nothing_learnt}
 use Rattle.job_facts.proofs.Whose.{or_false}
+use Rattle.job_happenings.specs.Happenings.{Play, MayFinish}
 
 -- ---- when an operation may begin
 
@@ -91,6 +93,23 @@ of_task (tasks.Conflict p) s h = absurd (false_true refl h)
 of_task tasks.Kept s h = absurd (false_true refl h)
 of_task (tasks.Gone p) s h = absurd (false_true refl h)
 of_task tasks.StoreFault s h = absurd (false_true refl h)
+
+wanting_memory : (a : Actor) (op : Op) (e : OpEnd) → is_wanting a op e ≡ true → is_memory e ≡ true
+wanting_memory a op ends.NoMemory h = refl
+wanting_memory Driver Setup (ends.Setup setups.NoMemory) h = refl
+wanting_memory Driver Commit (ends.Commit commits.NoMemory) h = refl
+wanting_memory Driver Abort (ends.Clean cleans.NoMemory) h = refl
+wanting_memory Driver Clean (ends.Clean cleans.NoMemory) h = refl
+wanting_memory (Attempt t a) op (ends.Task tasks.NoMemory) h = refl
+wanting_memory _ _ _ h = absurd (false_true refl h)
+
+-- whose it is aside
+pub memory_or : {X : Type 0} (a : Actor) (op : Op) (e : OpEnd) → (is_wanting a op e ≡ true) ⊎ X → (is_memory e ≡ true) ⊎ X
+memory_or a op e (inl wanting) = inl (wanting_memory a op e wanting)
+memory_or a op e (inr x) = inr x
+
+pub may_end : (x : Play) (y : ActorEnd) → MayFinish x y → (is_memory y.end ≡ true) ⊎ ((m : Running) × (x.running y.actor ≡ Some m) × (over m.operation ≡ Some y.end))
+may_end x y may = memory_or y.actor may.doing.op y.end may.end
 
 -- its actor is dead, at its stage
 pub memory_dies : (e : OpEnd) (s : ActorStage) → is_memory e ≡ true → ended e s ≡ dead s

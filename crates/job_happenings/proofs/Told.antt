@@ -27,7 +27,7 @@ use Rattle.job_model.specs.declared.states.ActorState.{ActorState}
 use Rattle.job_operations.specs.Knowledge.{knows}
 use Rattle.job_operations.specs.Operations.{Setting, Operation, Running, who, wants, advance, start_of, over}
 use Rattle.job_promise.specs.States.{Past, Doing, same_actor, put, idle, dead, restarted, missing, begin, count, end_op, end_ops, open_event, after_event, refusal, nothing_past, past}
-use Rattle.job_promise.specs.Turns.{of_event, until, before, since, by_actor, is_busy, is_memory, Turns, AllFrom, IsRising, AllUpTo}
+use Rattle.job_promise.specs.Turns.{of_event, until, before, since, by_actor, is_busy, is_wanting, Turns, AllFrom, IsRising, AllUpTo}
 use Rattle.job_promise.specs.Follows.{known_then, FollowsFrom, OpFollows, over_from, op_over, Obeyed, AllObeyed}
 use Rattle.job_promise.specs.Promise.{Sent}
 use Rattle.job_happenings.specs.Happenings.{Play, nothing_played, knows_now, Happening, Refuses, Opens, Sends, Finishes, Closes, begun, begin_running, open_running, hear, happen, MayOpen, MaySend, MayFinish, MayClose, Allowed, Happened, nothing_happened, happens}
@@ -91,7 +91,9 @@ pub record Opened (g : Setting) (x : Play) (ev : Event) : Type 0 where
 -- an operation that ended in the event that goes on
 pub record Finished (x : Play) (y : ActorEnd) : Type 0 where
   pub idle : is_busy (x.live.state y.actor).life ≡ false
-  pub end : (is_memory y.end ≡ true) ⊎ ((d : Doing) × (m : Running) × (x.live.doing y.actor ≡ Some d) × (x.running y.actor ≡ Some m) × (over m.operation ≡ Some y.end))
+  pub doing : Doing
+  pub does : x.live.doing y.actor ≡ Some doing
+  pub end : (is_wanting y.actor doing.op y.end ≡ true) ⊎ ((m : Running) × (x.running y.actor ≡ Some m) × (over m.operation ≡ Some y.end))
 
 -- each actor's operation
 abbrev pub AllRun : Setting → (Actor → Option Doing) → List Entry → (Actor → Option Running) → ℕ → Type 0
@@ -208,12 +210,13 @@ module _ (g : Setting) (opening : Content) (x : Play) (h : Told g opening x) whe
             let r = h.runs a d (doing a d e) in
             let busy = busy_is _ (ap (λ (p : Past). is_busy (p.state a).life) (sym after_past) ∙ b) in
             runs_over g a d (by_actor a x.journal) (length x.ends + 1) (x.running a) _ r r.led.at ∙ ok.going a _ busy r.led.at;
-        over = λ i y e. elim (h.finish i y (ap (λ ys. slice_get ys i) (sym ok.told_is) ∙ e)).end [
-          | inl memory ↦ inl memory
-          | inr q ↦
-              let r = h.runs y.actor q.0 q.2 in
-              inr (q.0, ap (λ (p : Past). p.doing y.actor) after_past ∙ q.2, runs_over g y.actor q.0 (by_actor y.actor x.journal) (length x.ends + 1) (x.running y.actor) q.1 r q.3 ∙ q.4)
-        ];
+        over = λ i y e.
+            let f = h.finish i y (ap (λ ys. slice_get ys i) (sym ok.told_is) ∙ e) in
+            let r = h.runs y.actor f.doing f.does in
+            (f.doing, ap (λ (p : Past). p.doing y.actor) after_past ∙ f.does, elim f.end [
+              | inl wanting ↦ inl wanting
+              | inr q ↦ inr (runs_over g y.actor f.doing (by_actor y.actor x.journal) (length x.ends + 1) (x.running y.actor) q.0 r q.1 ∙ q.2)
+            ]);
       } in
       let below : length x.ends + 1 ≤ length (x.ends ++ end ∷ []) + 1 = omega (arith, longer) in
       record {
@@ -367,15 +370,11 @@ module _ (g : Setting) (opening : Content) (x : Play) (h : Told g opening x) whe
                   | inl s ↦ ap (λ n. is_busy ((end_op x.live y).state n).life) s ∙ idle
                   | inr ne ↦ ap (λ (v : ActorState). is_busy v.life) (put_other x.live.state y.actor _ z.actor ne) ∙ f.idle
                 ];
+                doing = f.doing;
+                does = f.does;
                 end = f.end;
               }
-          | inr k ↦ subst (λ v. Finished (happen g x (Finishes y)) v) k.1 (record {
-            idle = idle;
-            end = elim ok.end [
-              | inl memory ↦ inl memory
-              | inr q ↦ let d = h.does y.actor ok.busy in inr (d.0, q.0, d.1, q.1, q.2)
-            ];
-          })
+          | inr k ↦ subst (λ v. Finished (happen g x (Finishes y)) v) k.1 (record { idle = idle; doing = ok.doing; does = ok.does; end = ok.end })
         ];
         going = λ e. absurd (none_some e ok.during);
         rising = h.rising;
@@ -418,9 +417,11 @@ module _ (g : Setting) (opening : Content) (x : Play) (h : Told g opening x) whe
         let ne : y.actor ≡ e.actor → ⊥ = λ s. busy_not _ (ap (λ n. (x.live.state n).life) s ∙ ok.busy) f.idle in
         record {
           idle = f.idle;
+          doing = f.doing;
+          does = f.does;
           end = elim f.end [
-            | inl memory ↦ inl memory
-            | inr q ↦ inr (q.0, q.1, q.2, put_other x.running e.actor _ y.actor ne ∙ q.3, q.4)
+            | inl wanting ↦ inl wanting
+            | inr q ↦ inr (q.0, put_other x.running e.actor _ y.actor ne ∙ q.1, q.2)
           ];
         }
 

@@ -18,8 +18,8 @@ use Rattle.job_model.specs.declared.ends.EventFault.{EventFault}
 use Rattle.job_model.specs.declared.states.Life.TheVariants.{Busy}
 use Rattle.job_operations.specs.Knowledge.{knows}
 use Rattle.job_operations.specs.Operations.{Setting, Operation, Running, who, wants, advance, start_of, over}
-use Rattle.job_promise.specs.States.{Past, put, missing, refusal, open_event, end_op, count, told, nothing_past}
-use Rattle.job_promise.specs.Turns.{of_event, by_actor, is_memory, Turns}
+use Rattle.job_promise.specs.States.{Past, Doing, put, missing, refusal, open_event, end_op, count, told, nothing_past}
+use Rattle.job_promise.specs.Turns.{of_event, by_actor, is_wanting, Turns}
 
 -- ---- how far a run has come
 
@@ -115,12 +115,14 @@ pub record MaySend (g : Setting) (opening : Content) (x : Play) (e : Entry) : Ty
   -- the store has drawn fewer ids than there are
   pub few : (scene_of opening x).content.next ≤ 2 ^ 64
 
--- an operation ends as it stands, or for want of memory
+-- an operation ends as it stands, or for its want of memory
 pub record MayFinish (x : Play) (y : ActorEnd) : Type 0 where
   pub event : Event
   pub during : x.now ≡ Some event
   pub busy : (x.live.state y.actor).life ≡ Busy
-  pub end : (is_memory y.end ≡ true) ⊎ ((m : Running) × (x.running y.actor ≡ Some m) × (over m.operation ≡ Some y.end))
+  pub doing : Doing
+  pub does : x.live.doing y.actor ≡ Some doing
+  pub end : (is_wanting y.actor doing.op y.end ≡ true) ⊎ ((m : Running) × (x.running y.actor ≡ Some m) × (over m.operation ≡ Some y.end))
 
 -- the event's entries are by turns, and who is busy has more to send
 pub record MayClose (g : Setting) (x : Play) (end : EventEnd) : Type 0 where

@@ -28,7 +28,7 @@ use Rattle.job_happenings.specs.Happenings.{Play, Refuses, Opens, Sends, Finishe
 use Rattle.job_happenings.specs.Running.{Ahead, operation_of}
 use Rattle.job_happenings.proofs.Parts.{get_last}
 use Rattle.job_happenings.proofs.Actors.{same_or_not, put_here, put_other}
-use Rattle.job_happenings.proofs.RunningStages.{DriverAt, IsBehind, begins_so, memory_dies, restarted_new, driver_ends}
+use Rattle.job_happenings.proofs.RunningStages.{DriverAt, IsBehind, begins_so, memory_dies, may_end, restarted_new, driver_ends}
 use Rattle.job_happenings.proofs.Running.{carried}
 use Rattle.job_kept.proofs.Cuts.{all_by_last}
 use Rattle.job_kept.proofs.Sorts.{kind, OfSetup, OfCommit, OfClean, over_kind}
@@ -167,7 +167,7 @@ module _ (g : Setting) (opening : Content) (j : IsLegal g.script) (is_opening : 
   finished_new y past v may new = elim (same_or_not Driver v.actor) [
     | inl s ↦
         subst (λ a. (y.live.state a).life ≡ Busy → ((is_memory v.end ≡ true) ⊎ ((m : Running) × (y.running a ≡ Some m) × (over m.operation ≡ Some v.end))) → is_new (ended v.end (y.live.state a).stage).stage ≡ true → is_new (y.live.state Driver).stage ≡ true) s
-        (ended_new y past v.end) may.busy may.end (ap (λ (t : ActorState). is_new t.stage) (sym (put_here y.live.state v.actor _ Driver s)) ∙ new)
+        (ended_new y past v.end) may.busy (may_end y v may) (ap (λ (t : ActorState). is_new t.stage) (sym (put_here y.live.state v.actor _ Driver s)) ∙ new)
     | inr ne ↦ ap (λ (t : ActorState). is_new t.stage) (sym (put_other y.live.state v.actor _ Driver ne)) ∙ new
   ]
 
@@ -178,8 +178,8 @@ module _ (g : Setting) (opening : Content) (j : IsLegal g.script) (is_opening : 
 
   finished_set : (y : Play) → Happened g opening y → Early y → (v : ActorEnd) → MayFinish y v → (e : SetupEnd) → v ≡ record { actor = Driver; end = ends.Setup e } → (is_memory (ends.Setup e) ≡ true) ⊎ (is_new (y.past.state Driver).stage ≡ true)
   finished_set y past old v may e is =
-      let may_end = subst (MayFinish y) is may in
-      elim (setup_new y past e may_end.busy may_end.end) [ inl memory ↦ inl memory | inr new ↦ inr (old.kept new) ]
+      let so = subst (MayFinish y) is may in
+      elim (setup_new y past e so.busy (may_end y _ so)) [ inl memory ↦ inl memory | inr new ↦ inr (old.kept new) ]
 
   finishes : (y : Play) → Happened g opening y → (v : ActorEnd) → Early y → MayFinish y v → Early (happen g y (Finishes v))
   finishes y past v old may = record {

@@ -1,5 +1,5 @@
 -- An operation that ended in an event of a run, at the moment right before that event was over.
-use Rattle.std.proofs.Common.{◌≡◌, ℕ, ◌+◌, ◌≤◌, ◌⊎◌, inl, inr, true, false, List, [], ◌∷◌, ◌++◌, length, take, slice_get, append_assoc, append-nil, Some, None, refl, sym, ap, subst, ◌∙◌, arith}
+use Rattle.std.proofs.Common.{◌≡◌, ℕ, ◌+◌, ◌≤◌, ◌⊎◌, inl, inr, true, false, List, [], ◌∷◌, ◌++◌, length, take, slice_get, append_assoc, append-nil, Option, Some, None, refl, sym, ap, subst, ◌∙◌, arith}
 use Rattle.std.proofs.lemmas.List.{take-append-le}
 use Rattle.s3_types.specs.Store.{Content}
 use Rattle.s3_types.specs.declared.request.Actor.{Actor}
@@ -21,6 +21,7 @@ use Rattle.job_happenings.specs.Happenings.{Play, Happened}
 use Rattle.job_happenings.specs.Running.{Ahead}
 use Rattle.job_happenings.proofs.Parts.{take_whole}
 use Rattle.job_happenings.proofs.PastMore.{after_is, turns_refused}
+use Rattle.job_happenings.proofs.RunningStages.{memory_or}
 use Rattle.job_happenings.proofs.Told.{told_all}
 use Rattle.job_kept.proofs.Cuts.{until_cut}
 use Rattle.job_kept.proofs.History.{Closed, closed_at}
@@ -117,10 +118,10 @@ module _ (g : Setting) (opening : Content) (x : Play) (run_x : Happened g openin
         begun_is = runs.led.begun_is;
         follows = subst (Follows (wants g a) (advance g a) first) (sym parts) runs.led.follows;
         running = at;
-        ended = ended_so z f.end first es at;
+        ended = ended_so (memory_or a f.doing.op end f.end) first es at;
       }
     where
-      ended_so : (z : Play) → ((is_memory end ≡ true) ⊎ ((v : Doing) × (m : Running) × (z.live.doing a ≡ Some v) × (z.running a ≡ Some m) × (over m.operation ≡ Some end))) → (first : Running) (es : List Entry)
-          → z.running a ≡ Some (run (advance g a) first es) → (is_memory end ≡ true) ⊎ (over (run (advance g a) first es).operation ≡ Some end)
-      ended_so z (inl memory) first es at = inl memory
-      ended_so z (inr q) first es at = inr (ap (λ (m : Running). over m.operation) (some_is (sym at ∙ q.3)) ∙ q.4)
+      ended_so : {o : Option Running} → ((is_memory end ≡ true) ⊎ ((m : Running) × (o ≡ Some m) × (over m.operation ≡ Some end))) → (first : Running) (es : List Entry)
+          → o ≡ Some (run (advance g a) first es) → (is_memory end ≡ true) ⊎ (over (run (advance g a) first es).operation ≡ Some end)
+      ended_so (inl memory) first es at = inl memory
+      ended_so (inr q) first es at = inr (ap (λ (m : Running). over m.operation) (some_is (sym at ∙ q.1)) ∙ q.2)

@@ -13,7 +13,7 @@ use Rattle.job_model.specs.Known.{Known}
 use Rattle.job_operations.specs.Knowledge.{knows}
 use Rattle.job_operations.specs.Operations.{Setting, Operation, Running, who, wants, advance, start_of, over}
 use Rattle.job_promise.specs.States.{Doing, past, refusal, after_event, open_event, told}
-use Rattle.job_promise.specs.Turns.{own, of_event, until, before, since, by_actor, is_busy, is_memory, Turns, OpenTurns, AllFrom, IsRising, AllUpTo}
+use Rattle.job_promise.specs.Turns.{own, of_event, until, before, since, by_actor, is_busy, is_wanting, Turns, OpenTurns, AllFrom, IsRising, AllUpTo}
 
 -- ---- an operation and its entries
 
@@ -57,8 +57,9 @@ pub record Obeyed (g : Setting) (before_it : List EventEnd) (journal : List Entr
   -- each operation sends what is asked next; who is busy afterwards has more to send
   pub follow : (a : Actor) (d : Doing) → (after_event g.script (past g.script before_it) ev end).doing a ≡ Some d → OpFollows g a d (by_actor a journal)
   pub goes_on : (a : Actor) (d : Doing) → (after_event g.script (past g.script before_it) ev end).doing a ≡ Some d → is_busy ((after_event g.script (past g.script before_it) ev end).state a).life ≡ true → op_over g a d (by_actor a journal) ≡ None
-  -- each end is the operation's, or for want of memory
-  pub over : (i : ℕ) (x : ActorEnd) → slice_get (told ev end) i ≡ Some x → (is_memory x.end ≡ true) ⊎ ((d : Doing) × ((after_event g.script (past g.script before_it) ev end).doing x.actor ≡ Some d) × (op_over g x.actor d (by_actor x.actor journal) ≡ Some x.end))
+  -- each end is that of an operation, or its want of memory
+  pub over : (i : ℕ) (x : ActorEnd) → slice_get (told ev end) i ≡ Some x → (d : Doing) × ((after_event g.script (past g.script before_it) ev end).doing x.actor ≡ Some d)
+      × ((is_wanting x.actor d.op x.end ≡ true) ⊎ (op_over g x.actor d (by_actor x.actor journal) ≡ Some x.end))
 
 -- each event that has an end was obeyed
 abbrev pub AllObeyed : Setting → List EventEnd → List Entry → Type 0

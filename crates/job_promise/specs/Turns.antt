@@ -5,6 +5,8 @@ use Rattle.s3_types.specs.declared.request.Actor.{Actor}
 use Rattle.s3_types.specs.declared.request.Actor.TheVariants.{Driver, Attempt, Shell}
 use Rattle.s3_types.specs.declared.journal.Entry.{Entry}
 use Rattle.job_model.specs.JobScript.{Script}
+use Rattle.job_model.specs.declared.events.Op.{Op}
+use Rattle.job_model.specs.declared.events.Op.TheVariants as ops
 use Rattle.job_model.specs.declared.events.Event.{Event}
 use Rattle.job_model.specs.declared.events.Event.TheVariants.{Do, Start, Step, Run, Kill, Mix, Restart, Recover}
 use Rattle.job_model.specs.declared.ends.OpEnd.{OpEnd}
@@ -81,6 +83,16 @@ is_memory (ends.Commit commits.NoMemory) = true
 is_memory (ends.Clean cleans.NoMemory) = true
 is_memory (ends.Task tasks.NoMemory) = true
 is_memory _ = false
+
+-- want of memory, as it is told of this operation of an actor: as its own end, or as that of any
+abbrev pub is_wanting : Actor → Op → OpEnd → Bool
+is_wanting a op ends.NoMemory = true
+is_wanting Driver ops.Setup (ends.Setup setups.NoMemory) = true
+is_wanting Driver ops.Commit (ends.Commit commits.NoMemory) = true
+is_wanting Driver ops.Abort (ends.Clean cleans.NoMemory) = true
+is_wanting Driver ops.Clean (ends.Clean cleans.NoMemory) = true
+is_wanting (Attempt task attempt) op (ends.Task tasks.NoMemory) = true
+is_wanting _ _ _ = false
 
 -- In a mix that began with these actors busy: the entries so far, the ends so far, and who is busy still.
 pub data Mixing (seed : ℕ) (first : List Actor) : List Entry → List ActorEnd → List Actor → Type 0 where

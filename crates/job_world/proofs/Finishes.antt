@@ -8,6 +8,7 @@ use Rattle.s3_types.specs.declared.request.Actor.TheVariants.{Driver}
 use Rattle.job_model.specs.Known.{Known}
 use Rattle.job_model.specs.Legal.{IsLegal}
 use Rattle.job_model.specs.JobScript.{Script}
+use Rattle.job_model.specs.declared.events.Op.{Op}
 use Rattle.job_model.specs.declared.ends.SetupEnd.TheVariants as setups
 use Rattle.job_model.specs.declared.ends.TaskEnd.TheVariants as tasks
 use Rattle.job_model.specs.declared.ends.CommitEnd.TheVariants as commits
@@ -22,12 +23,13 @@ use Rattle.job_model.specs.declared.states.ActorStage.{ActorStage}
 use Rattle.job_model.specs.declared.states.ActorState.{ActorState}
 use Rattle.job_operations.specs.Operations.{Setting, Running, over}
 use Rattle.job_promise.specs.States.{Past, actors, ended, is_commit, decide, end_op}
-use Rattle.job_promise.specs.Turns.{is_busy, is_memory}
+use Rattle.job_promise.specs.Turns.{is_busy, is_memory, is_wanting}
 use Rattle.job_promise.specs.Promise.{lacked_memory}
 use Rattle.job_states.specs.Standing.{standing}
 use Rattle.job_states.specs.Stands.{Kept, Stands}
 use Rattle.job_happenings.specs.Happenings.{Play, Finishes, happen, MayFinish, Happened, happens, knows_now}
 use Rattle.job_happenings.proofs.Actors.{put_here, put_other}
+use Rattle.job_happenings.proofs.Told.{told_all}
 use Rattle.job_works.specs.Picks.{is_committing}
 use Rattle.job_world.specs.Sending.{hand_end}
 use Rattle.job_world.specs.Holds.{Holds, HandIs, HandsAre, IsLost, IsOver, all_sound, all_but, busy_in, is_busy_at, setting_of}
@@ -174,14 +176,15 @@ module _ {W : Type 0} (is_of : Setting → Actor → W → Type 0) (running : Kn
     next = record b { states = k; finished = f; hands = hs }
 
     pub finish_holds : slice_get (actors b.script) place ≡ Some y.actor → is_busy_at b.states.actors place ≡ true → IsSome b.event → (h : Holds is_of running picks_of sound b)
-        → (is_memory y.end ≡ true) ⊎ ((m : Running) × (h.play.running y.actor ≡ Some m) × (over m.operation ≡ Some y.end)) → f.items ≡ b.finished.items ++ y ∷ [] → ((p : Past) → Stands b.script b.states p → Stands b.script k (end_op p y))
+        → ((op : Op) → is_wanting y.actor op y.end ≡ true) ⊎ ((m : Running) × (h.play.running y.actor ≡ Some m) × (over m.operation ≡ Some y.end)) → f.items ≡ b.finished.items ++ y ∷ [] → ((p : Past) → Stands b.script b.states p → Stands b.script k (end_op p y))
         → length hs.items ≡ length b.hands.items → HandsAre is_of running picks_of all_sound (setting_of b) b.opening (happen (setting_of b) h.play (Finishes y)) hs.items → Holds is_of running picks_of all_sound next
     finish_holds actor busy during h end told stands places hands =
         let x = h.play in
         let g = setting_of b in
         let ev = is_something b.event during in
         let life = busy_is (x.live.state y.actor).life (sym (busy_there b.script b.states x.live h.stands place y.actor actor) ∙ busy) in
-        let may : MayFinish x y = record { event = ev.0; during = sym h.now ∙ ev.1; busy = life; end = end } in
+        let d = (told_all g b.opening x h.happened).does y.actor life in
+        let may : MayFinish x y = record { event = ev.0; during = sym h.now ∙ ev.1; busy = life; doing = d.0; does = d.1; end = elim end [ inl wanting ↦ inl (wanting d.0.op) | inr q ↦ inr q ] } in
         record {
           legal = h.legal;
           opens = h.opens;
@@ -245,7 +248,7 @@ module _ {W : Type 0} (is_of : Setting → Actor → W → Type 0) (running : Kn
       → length hs.items ≡ length b.hands.items → slice_get hs.items place ≡ Some Empty → ((q : ℕ) → (q ≡ place → ⊥) → slice_get hs.items q ≡ slice_get b.hands.items q)
       → Holds is_of running picks_of all_sound (record b { states = k; finished = f; hands = hs })
   die_holds doing b place y k f hs actor busy during lack h told stands places empty others =
-      finish_holds doing b place y (all_but place) k f hs actor busy during h (inl (ap is_memory lack)) told stands places hands
+      finish_holds doing b place y (all_but place) k f hs actor busy during h (inl (λ op. ap (is_wanting y.actor op) lack)) told stands places hands
     where
       g : Setting
       g = setting_of b

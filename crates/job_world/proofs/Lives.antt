@@ -33,6 +33,7 @@ use Rattle.job_promise.specs.Turns.{is_busy, is_memory}
 use Rattle.job_happenings.specs.Happenings.{Play, Happening, Refuses, Opens, Sends, Finishes, Closes, open_running, hear, happen, Allowed, Happened, nothing_happened, happens}
 use Rattle.job_happenings.proofs.Actors.{same_or_not, put_here, put_other}
 use Rattle.job_happenings.proofs.PastMore.{event_at, ended_idle}
+use Rattle.job_happenings.proofs.RunningStages.{may_end}
 use Rattle.job_happenings.proofs.Told.{told_all}
 
 -- ---- who is busy is of the job
@@ -202,7 +203,7 @@ module _ (g : Setting) (opening : Content) (legal : IsLegal g.script) (x : Play)
   }
   lives_more (Finishes y) ok = record {
     known = end_known g.script.attempts x.live old.known y;
-    over = state_over x.live x.running old.over y.actor (ended y.end (x.live.state y.actor).stage) (λ idle nd n at. elim ok.end [
+    over = state_over x.live x.running old.over y.actor (ended y.end (x.live.state y.actor).stage) (λ idle nd n at. elim (may_end x y ok) [
       | inl memory ↦ absurd (idle_memory y.end _ idle memory)
       | inr q ↦ over_is _ y.end (ap (λ (m : Running). over m.operation) (some_is (sym at ∙ q.1)) ∙ q.2)
     ]);

@@ -25,7 +25,7 @@ use Rattle.job_model.specs.declared.ends.EventEnd.TheVariants.{Ended}
 use Rattle.job_model.specs.declared.ends.EventFault.{EventFault}
 use Rattle.job_operations.specs.Operations.{Setting}
 use Rattle.job_promise.specs.States.{Doing, past, refusal, after_event}
-use Rattle.job_promise.specs.Turns.{own, of_event, until, by_actor, AllBy, is_busy, is_memory, AllFrom, IsRising, AllUpTo}
+use Rattle.job_promise.specs.Turns.{own, of_event, until, by_actor, AllBy, is_busy, is_wanting, AllFrom, IsRising, AllUpTo}
 use Rattle.job_promise.specs.Follows.{OpFollows, op_over, Obeyed, AllObeyed, Plays}
 use Rattle.worked_runs.specs.Jobs.{worker}
 use Rattle.worked_runs.specs.OneFile.{script, setting, doing, journal, OneFileRuns}
@@ -90,11 +90,11 @@ commit_doing = doing ops.Commit 4 None
 -- ---- event by event
 
 one_over : (g : Setting) (after_it : Actor → Option Doing) (a : Actor) (end : OpEnd) (d : Doing) (es : List Entry) → after_it a ≡ Some d → op_over g a d (by_actor a es) ≡ Some end
-    → (i : ℕ) (x : ActorEnd) → slice_get (record { actor = a; end = end } ∷ []) i ≡ Some x → (is_memory x.end ≡ true) ⊎ ((c : Doing) × (after_it x.actor ≡ Some c) × (op_over g x.actor c (by_actor x.actor es) ≡ Some x.end))
+    → (i : ℕ) (x : ActorEnd) → slice_get (record { actor = a; end = end } ∷ []) i ≡ Some x → (c : Doing) × (after_it x.actor ≡ Some c) × ((is_wanting x.actor c.op x.end ≡ true) ⊎ (op_over g x.actor c (by_actor x.actor es) ≡ Some x.end))
 one_over g after_it a end d es h o zero x e =
     let y : ActorEnd = record { actor = a; end = end } in
     let k : y ≡ x = same_some y x e in
-    subst (λ (z : ActorEnd). (is_memory z.end ≡ true) ⊎ ((c : Doing) × (after_it z.actor ≡ Some c) × (op_over g z.actor c (by_actor z.actor es) ≡ Some z.end))) k (inr (d, h, o))
+    subst (λ (z : ActorEnd). (c : Doing) × (after_it z.actor ≡ Some c) × ((is_wanting z.actor c.op z.end ≡ true) ⊎ (op_over g z.actor c (by_actor z.actor es) ≡ Some z.end))) k (d, h, inr o)
 one_over g after_it a end d es h o (suc i) x e = absurd (cc)
 
 -- an event that does a whole operation, whose end comes with it, after which nobody is busy
