@@ -48,6 +48,7 @@ module _ (g : Setting) (opening : Content) (x : Play) (legal : IsLegal g.script)
       none = λ e. no_entry;
       rising = h.rising;
       past = h.up_to;
+      within = h.within;
     };
     sent = h.sent;
     past = h.past_is;

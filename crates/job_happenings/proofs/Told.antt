@@ -122,6 +122,7 @@ pub record Told (g : Setting) (opening : Content) (x : Play) : Type 0 where
   pub numbered : AllFrom 1 x.journal
   pub obeyed : AllObeyed g x.ends x.journal
   pub sent : Sent g.script opening x.journal
+  pub within : length x.ends ≤ length g.script.events
 
 -- ---- events that are over
 
@@ -219,6 +220,7 @@ module _ (g : Setting) (opening : Content) (x : Play) (h : Told g opening x) whe
             ]);
       } in
       let below : length x.ends + 1 ≤ length (x.ends ++ end ∷ []) + 1 = omega (arith, longer) in
+      let there : length x.ends < length w.events = slice_get_within w.events (length x.ends) ok.event o.next in
       record {
         past_is = sym (past_more w nothing_past w.events x.ends ok.event end o.next ∙ after_past);
         counts = counted;
@@ -234,6 +236,7 @@ module _ (g : Setting) (opening : Content) (x : Play) (h : Told g opening x) whe
         numbered = h.numbered;
         obeyed = obeyed_more g x.ends x.journal ok.event end o.next h.up_to h.obeyed one;
         sent = h.sent;
+        within = omega (arith, longer, there);
       }
 
   -- ---- an event is refused
@@ -262,6 +265,7 @@ module _ (g : Setting) (opening : Content) (x : Play) (h : Told g opening x) whe
         over = λ i y e. absurd (none_some refl e);
       } in
       let below : length x.ends + 1 ≤ length (x.ends ++ end ∷ []) + 1 = omega (arith, longer) in
+      let there : length x.ends < length w.events = slice_get_within w.events (length x.ends) ev ok.next in
       record {
         past_is = ap count h.past_is ∙ sym (past_more w nothing_past w.events x.ends ev end ok.next);
         counts = counted;
@@ -277,6 +281,7 @@ module _ (g : Setting) (opening : Content) (x : Play) (h : Told g opening x) whe
         numbered = h.numbered;
         obeyed = obeyed_more g x.ends x.journal ev end ok.next h.up_to h.obeyed one;
         sent = h.sent;
+        within = omega (arith, longer, there);
       }
 
   -- ---- an event begins
@@ -342,6 +347,7 @@ module _ (g : Setting) (opening : Content) (x : Play) (h : Told g opening x) whe
         numbered = h.numbered;
         obeyed = h.obeyed;
         sent = h.sent;
+        within = h.within;
       }
 
   -- ---- an operation ends
@@ -381,6 +387,7 @@ module _ (g : Setting) (opening : Content) (x : Play) (h : Told g opening x) whe
         numbered = h.numbered;
         obeyed = h.obeyed;
         sent = h.sent;
+        within = h.within;
       }
 
   -- ---- a request is sent
@@ -453,6 +460,7 @@ module _ (g : Setting) (opening : Content) (x : Play) (h : Told g opening x) whe
           numbered = from_last 1 x.journal e h.numbered one;
           obeyed = obeyed_later g x.ends x.journal e ok.number h.obeyed;
           sent = sent_more;
+          within = h.within;
         }
 
   -- ---- whatever happens
@@ -480,6 +488,7 @@ nothing_told g opening = record {
   numbered = tt;
   obeyed = λ k ev end at that. absurd (none_some refl that);
   sent = record { honest = tt; fated = tt };
+  within = omega arith;
 }
 
 pub told_all : (g : Setting) (opening : Content) (x : Play) → Happened g opening x → Told g opening x

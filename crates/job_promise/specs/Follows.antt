@@ -1,5 +1,5 @@
 -- That a run does what its events say: each operation sends what is asked next and ends as it should.
-use Rattle.std.specs.Prelude.{◌≡◌, ℕ, ◌+◌, ◌⊎◌, true, List, [], length, take, slice_get, Option, Some, None}
+use Rattle.std.specs.Prelude.{◌≡◌, ℕ, ◌+◌, ◌≤◌, ◌⊎◌, true, List, [], length, take, slice_get, Option, Some, None}
 use Rattle.s3_types.specs.declared.request.Actor.{Actor}
 use Rattle.s3_types.specs.declared.journal.Entry.{Entry}
 use Rattle.sendings.specs.Operation as sendings
@@ -86,3 +86,5 @@ pub record Plays (g : Setting) (xs : List EventEnd) (journal : List Entry) : Typ
   -- the events of the entries never fall, and none is of a later event
   pub rising : IsRising journal
   pub past : AllUpTo (length xs + 1) journal
+  -- each end is of an event of the script
+  pub within : length xs ≤ length g.script.events

@@ -219,4 +219,5 @@ plays = record {
   none = λ e. refl;
   rising = rising journal refl;
   past = up_to 5 journal refl;
+  within = omega arith;
 }
