@@ -1,29 +1,58 @@
 -- Whose the entries of a run are.
-use Rattle.std.proofs.Common.{◌≡◌, ℕ, zero, suc, ◌<◌, ◌≤◌, ◌⊎◌, inl, inr, Bool, true, false, cond, List, [], ◌∷◌, ◌++◌, length, slice_get, Option, Some, None, refl, sym, ap, subst, ◌∙◌, arith}
-use Rattle.std.specs.List.{filter}
+use Rattle.std.proofs.Common.{◌≡◌, ℕ, zero, suc, ◌<◌, ◌≤◌, ◌⊎◌, inl, inr, ◌||◌, Bool, true, false, cond, List, [], ◌∷◌, ◌++◌, length, slice_get, Option, Some, None, refl, sym, ap, subst, ◌∙◌, arith}
+use Rattle.std.specs.List.{filter, list_any}
 use Rattle.std.proofs.lemmas.List.{append-nil, take-append-le}
 use Rattle.std.proofs.lemmas.List.Elements.{filter-append}
+use Rattle.std.proofs.lemmas.List.Folds.{list_any-append}
 use Rattle.std.proofs.lemmas.Option.{slice_get_within}
 use Rattle.s3_types.specs.Store.{Content, opening as opening_scene}
 use Rattle.s3_types.specs.Moment.{after_all}
+use Rattle.s3_types.specs.declared.request.Actor.{Actor}
 use Rattle.s3_types.specs.declared.request.Actor.TheVariants.{Driver}
 use Rattle.s3_types.specs.declared.request.Request.{Request}
 use Rattle.s3_types.specs.declared.journal.Outcome.{Outcome}
 use Rattle.s3_types.specs.declared.journal.Entry.{Entry}
-use Rattle.job_model.specs.Attempts.{Who}
+use Rattle.job_model.specs.Attempts.{Who, actor_of}
 use Rattle.job_model.specs.JobScript.{Script}
+use Rattle.job_model.specs.Known.{Known}
+use Rattle.job_model.specs.declared.events.Op.{Op}
+use Rattle.job_model.specs.declared.events.Op.TheVariants as ops
 use Rattle.job_operations.specs.Setup.{Setup, Heading, Checking, Clearing, Sweeping, SetupOver, setup_asks}
 use Rattle.job_operations.specs.JobCommits.{Commit}
-use Rattle.job_operations.specs.Operations.{Setting, Operation, TheSetup, TheWrite, TheTaskCommit, TheTaskAbort, TheCommit, TheClean, who, asks, tells}
+use Rattle.job_operations.specs.Operations.{Setting, Operation, TheSetup, TheWrite, TheTaskCommit, TheTaskAbort, TheCommit, TheClean, who, asks, tells, start_of}
 use Rattle.job_promise.specs.OperationEnds.{WasPublished}
 use Rattle.job_promise.specs.Seen.{is_begun, is_publishing}
-use Rattle.job_promise.specs.Turns.{by_actor, AllBy, AllUpTo}
+use Rattle.job_promise.specs.Turns.{by_actor, until_last, AllBy, AllUpTo}
 use Rattle.job_promise.specs.States.{same_actor}
 use Rattle.request_frame.proofs.Members.{some_is, none_some, false_true}
-use Rattle.job_facts.specs.Told.{entry, driver_entry}
+use Rattle.job_facts.specs.Told.{known, put_who, entry, driver_entry}
 use Rattle.job_facts.specs.Runs.{Stand, Runs, run_begins, setup_begins, commit_begins, clean_begins, driver_sends, write_begins, publish_begins, abort_begins, attempt_sends, is_set, is_done, is_just_set, MaySetUp, IsTimely, commit_with, nothing_learnt}
-use Rattle.job_facts.proofs.Whose.{who_here}
+use Rattle.job_facts.proofs.Whose.{same_or_another, who_true, who_false, who_here, who_other, or_false, or_true}
 use Rattle.job_ends.specs.RunEntries.{RunEntries}
+
+-- ---- up to an actor's last entry
+
+-- an entry of its own is the last, and another's is not
+last_own : (a : Actor) (es : List Entry) (e : Entry) → same_actor e.actor a ≡ true → until_last a (es ++ e ∷ []) ≡ es ++ e ∷ []
+last_own a [] e h = ap (λ b. cond (b || false) (e ∷ []) []) h
+last_own a (x ∷ es) e h =
+    let any : list_any (λ y. same_actor y.actor a) (x ∷ es ++ e ∷ []) ≡ true = list_any-append (λ y. same_actor y.actor a) (x ∷ es) (e ∷ []) ∙ ap (λ b. list_any (λ y. same_actor y.actor a) (x ∷ es) || (b || false)) h ∙ or_true _ in
+    ap (λ b. cond b (x ∷ until_last a (es ++ e ∷ [])) []) any ∙ ap (λ l. x ∷ l) (last_own a es e h)
+
+last_other : (a : Actor) (es : List Entry) (e : Entry) → same_actor e.actor a ≡ false → until_last a (es ++ e ∷ []) ≡ until_last a es
+last_other a [] e h = ap (λ b. cond (b || false) (e ∷ []) []) h
+last_other a (x ∷ es) e h =
+    let any : list_any (λ y. same_actor y.actor a) (x ∷ es ++ e ∷ []) ≡ list_any (λ y. same_actor y.actor a) (x ∷ es) = list_any-append (λ y. same_actor y.actor a) (x ∷ es) (e ∷ []) ∙ ap (λ b. list_any (λ y. same_actor y.actor a) (x ∷ es) || (b || false)) h ∙ or_false _ in
+    ap (λ b. cond b (x ∷ until_last a (es ++ e ∷ [])) []) any ∙ ap (λ l. cond (list_any (λ y. same_actor y.actor a) (x ∷ es)) (x ∷ l) []) (last_other a es e h)
+
+-- others follow it
+pub behind_last : (a : Actor) (es : List Entry) → (more : List Entry) × (until_last a es ++ more ≡ es)
+behind_last a [] = ([], refl)
+behind_last a (e ∷ es) = by (list_any (λ x. same_actor x.actor a) (e ∷ es)) (behind_last a es)
+  where
+    by : (b : Bool) → (more : List Entry) × (until_last a es ++ more ≡ es) → (more : List Entry) × (cond b (e ∷ until_last a es) [] ++ more ≡ e ∷ es)
+    by true h = (h.0, ap (λ l. e ∷ l) h.1)
+    by false h = (e ∷ es, refl)
 
 module _ (g : Setting) (k : Option ℕ) (opening : Content) where
   -- ---- the commit's entries
@@ -169,6 +198,32 @@ module _ (g : Setting) (k : Option ℕ) (opening : Content) where
   none_begun es x (abort_begins fs y a run set d) e b = absurd (false_true e set)
   none_begun es x (attempt_sends fs y a op n r o run set at asked honest) e b = absurd (false_true e set)
 
+  -- ---- up to an attempt's last entry
+
+  abbrev At : Who → Operation → List Entry → Type 0
+  At a op es = (y : Stand) × Runs g k opening es y × (y.attempts a ≡ Some op)
+
+  module _ (a : Who) (op : Operation) (late : (b : Who) (o : Op) (m : Known) → start_of g (actor_of b) o None m ≡ Some op → ⊥) where
+    begun : (y : Stand) (b : Who) (o : Op) (m : Known) (s : Operation) → start_of g (actor_of b) o None m ≡ Some s → put_who y.attempts b (Some s) a ≡ Some op → y.attempts a ≡ Some op
+    begun y b o m s start at = elim (same_or_another a b) [
+      | inl same ↦ absurd (late b o m (start ∙ sym (who_here y.attempts b (Some s) a same) ∙ at))
+      | inr ne ↦ sym (who_other y.attempts b (Some s) a ne) ∙ at
+    ]
+
+    pub at_last : (es : List Entry) (x : Stand) → Runs g k opening es x → x.attempts a ≡ Some op → At a op (until_last (actor_of a) es)
+    at_last es x (run_begins) at = absurd (none_some refl at)
+    at_last es x (setup_begins fs y run may) at = at_last fs y run at
+    at_last es x (commit_begins fs y missing run just) at = at_last fs y run at
+    at_last es x (clean_begins fs y run set) at = at_last fs y run at
+    at_last es x (driver_sends fs y d n r o run is asked timely few honest) at = subst (At a op) (sym (last_other (actor_of a) fs (driver_entry n r o) refl)) (at_last fs y run at)
+    at_last es x (write_begins fs y b run set d none) at = at_last fs y run (begun y b ops.Write nothing_learnt _ refl at)
+    at_last es x (publish_begins fs y b spare repeated run set is) at = at_last fs y run (begun y b ops.Commit nothing_learnt _ refl at)
+    at_last es x (abort_begins fs y b run set d) at = at_last fs y run (begun y b ops.Abort (known y.told b) _ refl at)
+    at_last es x (attempt_sends fs y b m n r o run set is asked honest) at = elim (same_or_another b a) [
+      | inl same ↦ subst (At a op) (sym (last_own (actor_of a) fs (entry b n r o) (who_true b a same))) (x, attempt_sends fs y b m n r o run set is asked honest, at)
+      | inr ne ↦ subst (At a op) (sym (last_other (actor_of a) fs (entry b n r o) (who_false b a ne))) (at_last fs y run (sym (who_other y.attempts b _ a (λ e. ne (sym e))) ∙ at))
+    ]
+
 -- ---- what was published
 
 get_more : (es more : List Entry) (m : ℕ) (e : Entry) → slice_get es m ≡ Some e → slice_get (es ++ more) m ≡ Some e
@@ -181,23 +236,27 @@ up_to i [] m e h s = absurd (none_some refl s)
 up_to i (x ∷ es) zero e h s = subst (λ (v : Entry). v.event ≤ i) (some_is s) h.0
 up_to i (x ∷ es) (suc m) e h s = up_to i es m e h.1 s
 
-still_published : (w : Script) (opening : Content) (es more : List Entry) (t a n i : ℕ) → WasPublished w opening es t a n → AllUpTo i es → WasPublished w opening (es ++ more) t a i
-still_published w opening es more t a n i h all =
+pub longer_published : (w : Script) (opening : Content) (es more : List Entry) (t a n i : ℕ) (h : WasPublished w opening es t a n) → h.entry.event ≤ i → WasPublished w opening (es ++ more) t a i
+longer_published w opening es more t a n i h until =
     let low : h.m < length es = slice_get_within es h.m h.entry h.is_entry in
     record {
       m = h.m;
       entry = h.entry;
       is_entry = get_more es more h.m h.entry h.is_entry;
       by = h.by;
-      until = up_to i es h.m h.entry all h.is_entry;
+      until = until;
       effective = h.effective;
       publishes = ap (λ l. is_publishing w (after_all (opening_scene opening) l) t h.entry.request) (take-append-le h.m es more (omega arith)) ∙ h.publishes;
     }
+
+still_published : (w : Script) (opening : Content) (es more : List Entry) (t a n i : ℕ) → WasPublished w opening es t a n → AllUpTo i es → WasPublished w opening (es ++ more) t a i
+still_published w opening es more t a n i h all = longer_published w opening es more t a n i h (up_to i es h.m h.entry all h.is_entry)
 
 pub run_entries : RunEntries
 run_entries = record {
   commit = λ g k opening es x run c d. commit_entries g k opening es x run c d;
   alone = λ g k opening es x run none. all_alone g k opening es x run none;
   setup = λ g k opening es x run t d e. none_begun g k opening es x run (ap is_set d ∙ e);
+  last = λ g k opening es x run a op at late. at_last g k opening a op late es x run at;
   published = still_published;
 }

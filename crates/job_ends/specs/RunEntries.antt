@@ -5,14 +5,16 @@ use Rattle.s3_types.specs.Store.{Content}
 use Rattle.s3_types.specs.declared.request.Actor.TheVariants.{Driver}
 use Rattle.s3_types.specs.declared.journal.Entry.{Entry}
 use Rattle.sendings.specs.Retries.{Retried}
-use Rattle.job_model.specs.Attempts.{Who}
+use Rattle.job_model.specs.Attempts.{Who, actor_of}
 use Rattle.job_model.specs.JobScript.{Script}
+use Rattle.job_model.specs.Known.{Known}
+use Rattle.job_model.specs.declared.events.Op.{Op}
 use Rattle.job_operations.specs.Setup.{Setup}
 use Rattle.job_operations.specs.JobCommits.{Commit}
-use Rattle.job_operations.specs.Operations.{Setting, TheSetup, TheCommit}
+use Rattle.job_operations.specs.Operations.{Setting, Operation, TheSetup, TheCommit, start_of}
 use Rattle.job_promise.specs.OperationEnds.{WasPublished}
 use Rattle.job_promise.specs.Seen.{is_begun}
-use Rattle.job_promise.specs.Turns.{by_actor, AllBy, AllUpTo}
+use Rattle.job_promise.specs.Turns.{by_actor, until_last, AllBy, AllUpTo}
 use Rattle.job_facts.specs.Runs.{Stand, Runs, is_done}
 
 pub record RunEntries : Type 0 where
@@ -22,5 +24,8 @@ pub record RunEntries : Type 0 where
   pub alone : (g : Setting) (k : Option ℕ) (opening : Content) (es : List Entry) (x : Stand) → Runs g k opening es x → ((a : Who) → x.attempts a ≡ None) → AllBy Driver es
   -- so is it until its set-up has ended Done
   pub setup : (g : Setting) (k : Option ℕ) (opening : Content) (es : List Entry) (x : Stand) → Runs g k opening es x → (t : Retried Setup) → x.driver ≡ Some (TheSetup t) → is_done t.operation ≡ false → (a : Who) → x.attempts a ≡ None
+  -- an attempt's operation that is none that begins was the same in the run up to its attempt's last entry
+  pub last : (g : Setting) (k : Option ℕ) (opening : Content) (es : List Entry) (x : Stand) → Runs g k opening es x → (a : Who) (op : Operation) → x.attempts a ≡ Some op
+      → ((b : Who) (o : Op) (m : Known) → start_of g (actor_of b) o None m ≡ Some op → ⊥) → (y : Stand) × Runs g k opening (until_last (actor_of a) es) y × (y.attempts a ≡ Some op)
   -- what was published is so in a longer journal, at the latest in the last event of these entries
   pub published : (w : Script) (opening : Content) (es more : List Entry) (t a n i : ℕ) → WasPublished w opening es t a n → AllUpTo i es → WasPublished w opening (es ++ more) t a i

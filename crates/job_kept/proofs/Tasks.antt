@@ -21,23 +21,19 @@ use Rattle.job_operations.specs.Knowledge.{knows}
 use Rattle.job_operations.specs.Operations.{Setting, Operation, TheSetup, TheWrite, TheTaskCommit, TheTaskAbort, TheCommit, TheClean, Running, tells, advance, start_of, over}
 use Rattle.job_promise.specs.Ends.{has_cleaned}
 use Rattle.job_promise.specs.States.{Doing, commit_event}
-use Rattle.job_promise.specs.Turns.{until, by_actor}
+use Rattle.job_promise.specs.Turns.{until, by_actor, until_last}
 use Rattle.job_promise.specs.Follows.{known_then}
 use Rattle.job_promise.specs.OperationEnds.{TaskIs, WasPublished}
 use Rattle.job_promise.specs.Promise.{TasksEnd, Publishes, setting}
 use Rattle.request_frame.proofs.Members.{some_is, none_some, false_true}
-use Rattle.job_facts.specs.Told.{Told, nothing_told}
 use Rattle.job_facts.specs.Runs.{IsOpening}
 use Rattle.job_facts.proofs.Whose.{attempt}
-use Rattle.job_facts.proofs.Learnt.{cleaned_is}
-use Rattle.job_facts.proofs.Entries.{tells_so}
-use Rattle.job_facts.proofs.Published.{has_published}
 use Rattle.job_happenings.specs.Happenings.{Play, Closes, happen, Happened, happens}
 use Rattle.job_happenings.specs.Running.{IsRun, operation_of}
 use Rattle.job_happenings.proofs.Running.{is_run}
 use Rattle.job_ends.specs.TaskEnds.{is_abort}
 use Rattle.job_ends.proofs.TaskEnds.{task_ends, task_joined}
-use Rattle.job_ends.proofs.Gone.{gone_cleaned}
+use Rattle.job_ends.proofs.Gone.{gone_cleaned, done_published}
 use Rattle.job_ends.proofs.RunEntries.{run_entries}
 use Rattle.job_kept.proofs.Sorts.{memory_task}
 use Rattle.job_kept.proofs.Ending.{Ending, ahead_none, ending, journal_until}
@@ -126,23 +122,26 @@ module _ (g : Setting) (opening : Content) (j : IsLegal g.script) (is_opening : 
     journal_then : until (i + 1) x.journal ≡ z.journal
     journal_then = journal_until g opening x run_x idle i n.event_end n.closed
 
-    cleaned_then : then.stand.told.cleaned ≡ has_cleaned (until (i + 1) x.journal)
-    cleaned_then =
-        ap (λ (m : Told). m.cleaned) (tells_so g (commit_event g.script x.ends) opening j is_opening z.journal then.stand then.runs) ∙ cleaned_is g.script z.journal nothing_told ∙ ap has_cleaned (sym journal_then)
+    -- whether the driver's abort or clean had begun at its last entry
+    abbrev cleaned : Bool
+    cleaned = has_cleaned (until_last (Attempt t a) (until (i + 1) x.journal))
 
-    gone_so : over at ≡ Some (ends.Task e) → (d.op ≡ ops.Abort → ⊥) → (name : List ℕ) → e ≡ tasks.Gone name → has_cleaned (until (i + 1) x.journal) ≡ true
+    cleaned_then : cleaned ≡ has_cleaned (until_last (Attempt t a) z.journal)
+    cleaned_then = ap (λ l. has_cleaned (until_last (Attempt t a) l)) journal_then
+
+    gone_so : over at ≡ Some (ends.Task e) → (d.op ≡ ops.Abort → ⊥) → (name : List ℕ) → e ≡ tasks.Gone name → cleaned ≡ true
     gone_so o not_abort name is =
-        sym cleaned_then
+        cleaned_then
         ∙ gone_cleaned g (commit_event g.script x.ends) opening j is_opening z.journal then.stand then.runs (attempt t a) at name is_at (abort_run g t a (record { operation = n.op; known = k }) es ∙ no_abort g t a d.op d.missing k n.op n.begun_is not_abort) (o ∙ ap (λ v. Some (ends.Task v)) is)
 
     known_so : k ≡ known_then (setting g.script opening) (Attempt t a) d (by_actor (Attempt t a) x.journal)
     known_so = ap (knows g.script (attempt t a)) (sym (known_is g opening x i (Attempt t a) d (ends.Task e) es n))
 
     task_so : over at ≡ Some (ends.Task e) → (worn : Option Request) × WornFirst g.script.retries es worn
-        × TaskIs d.op g.script (known_then (setting g.script opening) (Attempt t a) d (by_actor (Attempt t a) x.journal)).publish_sent (has_cleaned (until (i + 1) x.journal)) worn e
+        × TaskIs d.op g.script (known_then (setting g.script opening) (Attempt t a) d (by_actor (Attempt t a) x.journal)).publish_sent cleaned worn e
     task_so o =
         let r = task_ends g t a d.op d.missing k n.op n.begun_is es n.follows e o in
-        (r.0, r.1, subst (λ (v : Known). TaskIs d.op g.script v.publish_sent (has_cleaned (until (i + 1) x.journal)) r.0 e) known_so (task_joined d.op g.script k.publish_sent (has_cleaned (until (i + 1) x.journal)) r.0 e r.2 (gone_so o)))
+        (r.0, r.1, subst (λ (v : Known). TaskIs d.op g.script v.publish_sent cleaned r.0 e) known_so (task_joined d.op g.script k.publish_sent cleaned r.0 e r.2 (gone_so o)))
 
   pub tasks_kept : TasksEnd g.script opening x.journal x.ends
   tasks_kept own i t a d e es h =
@@ -158,11 +157,11 @@ module _ (g : Setting) (opening : Content) (j : IsLegal g.script) (is_opening : 
     commit_begun : d.op ≡ ops.Commit → IsTaskCommit n.op
     commit_begun is = subst IsTaskCommit (some_is (sym (ap (λ v. start_of g (Attempt t a) v d.missing (k i t a d tasks.Done es n)) is) ∙ n.begun_is)) tt
 
-    publishes_so : d.op ≡ ops.Commit → has_cleaned (until (i + 1) x.journal) ≡ false → over (at i t a d tasks.Done es n) ≡ Some (ends.Task tasks.Done) → WasPublished g.script opening x.journal t a (i + 1)
+    publishes_so : d.op ≡ ops.Commit → cleaned i t a d tasks.Done es n ≡ false → over (at i t a d tasks.Done es n) ≡ Some (ends.Task tasks.Done) → WasPublished g.script opening x.journal t a (i + 1)
     publishes_so is clean o =
         let r = then i t a d tasks.Done es n in
         let c = done_commit (at i t a d tasks.Done es n) (commit_run g t a (record { operation = n.op; known = k i t a d tasks.Done es n }) es (commit_begun is)) o in
-        let p = has_published g (commit_event g.script x.ends) opening j is_opening u.journal r.stand r.runs (cleaned_then i t a d tasks.Done es n ∙ clean) (attempt t a) c.0 c.1 (is_at i t a d tasks.Done es n ∙ ap (λ v. Some v) c.2) in
+        let p = done_published g (commit_event g.script x.ends) opening j is_opening u.journal r.stand r.runs (attempt t a) c.0 c.1 (is_at i t a d tasks.Done es n ∙ ap (λ v. Some v) c.2) (sym (cleaned_then i t a d tasks.Done es n) ∙ clean) in
         subst (λ l. WasPublished g.script opening l t a (i + 1)) (sym n.closed.all) (run_entries.published g.script opening u.journal n.closed.entries t a p.0 (i + 1) p.1 n.up_to)
 
   pub publishes_kept : Publishes g.script opening x.journal x.ends

@@ -1,6 +1,6 @@
 -- Whose turn it is: which entries an event has.
-use Rattle.std.specs.Prelude.{◌≡◌, ℕ, zero, suc, ◌+◌, ◌*◌, ◌/◌, ◌%◌, ◌^◌, ◌<◌, ◌≤◌, ◌&&◌, nat_eq, nat_le, nat_lt, Some, Bool, true, false, List, [], ◌∷◌, ◌++◌, length, slice_get}
-use Rattle.std.specs.List.{filter, remove}
+use Rattle.std.specs.Prelude.{◌≡◌, ℕ, zero, suc, ◌+◌, ◌*◌, ◌/◌, ◌%◌, ◌^◌, ◌<◌, ◌≤◌, ◌&&◌, nat_eq, nat_le, nat_lt, Some, Bool, true, false, cond, List, [], ◌∷◌, ◌++◌, length, slice_get}
+use Rattle.std.specs.List.{filter, list_any, remove}
 use Rattle.s3_types.specs.declared.request.Actor.{Actor}
 use Rattle.s3_types.specs.declared.request.Actor.TheVariants.{Driver, Attempt, Shell}
 use Rattle.s3_types.specs.declared.journal.Entry.{Entry}
@@ -49,6 +49,11 @@ since k es = filter (λ e. nat_le k e.event) es
 
 abbrev pub by_actor : Actor → List Entry → List Entry
 by_actor a es = filter (λ e. same_actor e.actor a) es
+
+-- the entries up to the last one of an actor, and that with them
+abbrev pub until_last : Actor → List Entry → List Entry
+until_last a [] = []
+until_last a (e ∷ es) = cond (list_any (λ x. same_actor x.actor a) (e ∷ es)) (e ∷ until_last a es) []
 
 -- all are an actor's
 abbrev pub AllBy : Actor → List Entry → Type 0
