@@ -1,3 +1,4 @@
 pub mod Told
 mod Complete
 mod Restarted
+mod Answered

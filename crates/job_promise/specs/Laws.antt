@@ -1,9 +1,12 @@
 -- The laws of this crate.
 use Rattle.std.specs.Prelude.{◌≡◌, ℕ, suc, ◌⊎◌, Bool, true, false, List, [], ◌∷◌, ◌++◌, length, slice_get, Option, Some, None}
+use Rattle.std.specs.FinMap as fin
 use Rattle.s3_types.specs.Store.{Content}
 use Rattle.s3_types.specs.Moment.{effect, moment, IsHonest}
+use Rattle.s3_types.specs.declared.request.Actor.{Actor}
 use Rattle.s3_types.specs.declared.request.Actor.TheVariants.{Driver, Attempt, Shell}
 use Rattle.s3_types.specs.declared.journal.Entry.{Entry}
+use Rattle.sendings.specs.Worn.{WornFirst}
 use Rattle.job_model.specs.JobScript.{Script}
 use Rattle.job_model.specs.declared.events.Op.TheVariants.{Commit}
 use Rattle.job_model.specs.declared.events.Event.TheVariants.{Start, Restart}
@@ -17,10 +20,11 @@ use Rattle.job_model.specs.declared.ends.EventFault.{EventFault}
 use Rattle.job_model.specs.declared.states.Life.TheVariants.{Idle}
 use Rattle.job_model.specs.declared.states.ActorStage.TheVariants as stage
 use Rattle.job_operations.specs.Outputs.{Picks, is_clash}
-use Rattle.job_promise.specs.Ends.{commit_due}
+use Rattle.job_promise.specs.Ends.{EndedIn, commit_due}
 use Rattle.job_promise.specs.Seen.{Seen, see, seen}
-use Rattle.job_promise.specs.States.{NotBegun, Unended, EndedSo, past, missing, is_committing, end_verdict, verdict_or, verdict}
+use Rattle.job_promise.specs.States.{Doing, NotBegun, Unended, EndedSo, past, missing, is_committing, end_verdict, verdict_or, verdict}
 use Rattle.job_promise.specs.Turns.{IsRising}
+use Rattle.job_promise.specs.Promise.{Sent}
 use Rattle.job_promise.specs.Eyes.{in_eyes}
 
 -- what is seen of the store is its moment, and of a stranger nothing else is seen
@@ -39,6 +43,11 @@ pub record EyesAreTrue : Type 0 where
 -- a job's commit that misses no task, of which no request wore out and whose picks do not clash is due to end Committed
 pub record CommitsComplete : Type 0 where
   pub committed : (w : Script) (picks : Picks) → is_clash w picks ≡ false → commit_due w picks None None ≡ commits.Committed
+
+-- where the script names no fate, so that each sending is answered, no request of an operation that ended wore out
+pub record NothingWorn : Type 0 where
+  pub none : (w : Script) (opening : Content) (journal : List Entry) (xs : List EventEnd) → w.fates ≡ fin.empty → Sent w opening journal
+      → (j : ℕ) (a : Actor) (d : Doing) (end : OpEnd) (es : List Entry) → EndedIn w xs journal j a d end es → WornFirst w.retries es None
 
 -- a restart after these events: a new driver, which has failed where the old one was committing and else stands where that stood, and knows no report
 pub record RestartsAnew : Type 0 where

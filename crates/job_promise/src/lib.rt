@@ -2,7 +2,7 @@
 //! actors, and how operations end, in `specs/`.
 #![tactic(auto)]
 
-ghost use Rattle.job_promise.specs.Laws.{SeenIsMoment, EyesAreTrue, CommitsComplete, RestartsAnew, CommitDecides};
+ghost use Rattle.job_promise.specs.Laws.{SeenIsMoment, EyesAreTrue, CommitsComplete, NothingWorn, RestartsAnew, CommitDecides};
 
 /// What a journal says of a job.
 pub fn folds()
@@ -17,6 +17,11 @@ pub fn eyes()
 /// The end of a job's commit that nothing hinders.
 pub fn commits()
     ensures complete { CommitsComplete }
+{}
+
+/// A script of which no sending is lost.
+pub fn losses()
+    ensures none { NothingWorn }
 {}
 
 /// A driver that takes the place of a dead one.
