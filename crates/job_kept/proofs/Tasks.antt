@@ -138,10 +138,10 @@ module _ (g : Setting) (opening : Content) (j : IsLegal g.script) (is_opening : 
     known_so = ap (knows g.script (attempt t a)) (sym (known_is g opening x i (Attempt t a) d (ends.Task e) es n))
 
     task_so : over at ≡ Some (ends.Task e) → (worn : Option Request) × WornFirst g.script.retries es worn
-        × TaskIs d.op g.script (known_then (setting g.script opening) (Attempt t a) d (by_actor (Attempt t a) x.journal)).publish_sent cleaned worn e
+        × TaskIs d.op g.script (attempt t a) es (known_then (setting g.script opening) (Attempt t a) d (by_actor (Attempt t a) x.journal)).publish_sent cleaned worn e
     task_so o =
         let r = task_ends g t a d.op d.missing k n.op n.begun_is es n.follows e o in
-        (r.0, r.1, subst (λ (v : Known). TaskIs d.op g.script v.publish_sent cleaned r.0 e) known_so (task_joined d.op g.script k.publish_sent cleaned r.0 e r.2 (gone_so o)))
+        (r.0, r.1, subst (λ (v : Known). TaskIs d.op g.script (attempt t a) es v.publish_sent cleaned r.0 e) known_so (task_joined d.op g.script (attempt t a) es k.publish_sent cleaned r.0 e r.2 (gone_so o)))
 
   pub tasks_kept : TasksEnd g.script opening x.journal x.ends
   tasks_kept own i t a d e es h =

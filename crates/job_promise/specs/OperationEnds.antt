@@ -1,15 +1,20 @@
 -- The causes of the ends of operations, and what holds at them.
-use Rattle.std.specs.Prelude.{◌≡◌, ℕ, ◌≤◌, Bool, true, false, List, slice_get, Option, Some, None, IsSome}
+use Rattle.std.specs.Prelude.{◌≡◌, ℕ, ◌≤◌, Bool, true, false, List, [], ◌∷◌, ◌++◌, slice_get, Option, Some, None, IsSome}
 use Rattle.std.specs.FinMap as fin
+use Rattle.std.specs.List.{All, Contains}
 use Rattle.std.specs.Ordering.{is_lt}
 use Rattle.proof_base.specs.Order.{text_cmp}
 use Rattle.s3_types.specs.Store.{Content, Scene}
 use Rattle.s3_types.specs.Moment.{moment, is_effective}
 use Rattle.s3_types.specs.declared.request.Actor.TheVariants.{Attempt}
 use Rattle.s3_types.specs.declared.request.Request.{Request}
-use Rattle.s3_types.specs.declared.request.Request.TheVariants.{DeleteObject}
+use Rattle.s3_types.specs.declared.request.Request.TheVariants.{DeleteObject, ListPage}
+use Rattle.s3_types.specs.declared.reply.PageEntry.{PageEntry}
+use Rattle.s3_types.specs.declared.reply.Reply.TheVariants.{Page}
+use Rattle.s3_types.specs.declared.journal.Outcome.TheVariants.{Answered}
 use Rattle.s3_types.specs.declared.journal.Entry.{Entry}
 use Rattle.sendings.specs.Worn.{IsWorn}
+use Rattle.job_model.specs.Attempts.{Who}
 use Rattle.job_model.specs.JobScript.{Script}
 use Rattle.job_model.specs.declared.events.Op.{Op}
 use Rattle.job_model.specs.declared.events.Op.TheVariants as ops
@@ -23,7 +28,9 @@ use Rattle.job_model.specs.declared.ends.CommitEnd.{CommitEnd}
 use Rattle.job_model.specs.declared.ends.CommitEnd.TheVariants as commits
 use Rattle.job_model.specs.declared.ends.Stage.TheVariants as stages
 use Rattle.job_operations.specs.View.{view, object_at}
-use Rattle.job_operations.specs.Conflicts.{checks_all, checks_partitions}
+use Rattle.job_operations.specs.Outputs.{files, paths_of}
+use Rattle.job_operations.specs.Conflicts.{partitions, checks_all, checks_partitions}
+use Rattle.job_operations.specs.TaskCommits.{partition_prefix}
 use Rattle.job_promise.specs.Headline.{Same}
 use Rattle.job_promise.specs.Seen.{is_publishing}
 use Rattle.job_promise.specs.Scope.{NothingLeft}
@@ -50,21 +57,39 @@ SetupIs w c None _ = ⊥
 
 -- ---- an attempt's operations
 
--- The ends of an attempt's operation of which no request wore out, by whether it has sent its publishing request and whether
--- the driver's abort or clean has begun.
-abbrev pub TaskMay : Op → Script → Bool → Bool → TaskEnd → Type 0
-TaskMay ops.Write w sent cleaned tasks.Done = Unit {0}
-TaskMay ops.Write w sent cleaned (tasks.Gone name) = cleaned ≡ true
-TaskMay ops.Commit w sent cleaned tasks.Done = Unit {0}
-TaskMay ops.Commit w sent cleaned (tasks.Conflict d) = checks_partitions w.committer w.mode ≡ true
-TaskMay ops.Commit w sent cleaned (tasks.Gone name) = cleaned ≡ true
-TaskMay ops.Abort w sent cleaned tasks.Kept = sent ≡ true
-TaskMay ops.Abort w sent cleaned tasks.Done = sent ≡ false
-TaskMay op w sent cleaned e = ⊥
+-- the store was asked for one key below this partition, and answered with this page
+pub record WasListed (w : Script) (es : List Entry) (d : List ℕ) (page : List PageEntry) : Type 0 where
+  pub entry : Entry
+  pub is_entry : Contains es entry
+  pub asks : entry.request ≡ ListPage w.dest.bucket (partition_prefix w d) false [] 1
+  pub more : Bool
+  pub answered : entry.outcome ≡ Answered (Page page more)
 
-abbrev pub TaskIs : Op → Script → Bool → Bool → Option Request → TaskEnd → Type 0
-TaskIs op w sent cleaned (Some r) e = e ≡ tasks.StoreFault
-TaskIs op w sent cleaned None e = TaskMay op w sent cleaned e
+-- d is the first of the partitions that the attempt writes below which the store listed a key
+pub record IsFirstListed (w : Script) (a : Who) (es : List Entry) (d : List ℕ) : Type 0 where
+  pub before : List (List ℕ)
+  pub rest : List (List ℕ)
+  pub parts : before ++ d ∷ rest ≡ partitions (paths_of (files w a))
+  pub free : All (λ b. WasListed w es b []) before
+  pub key : PageEntry
+  pub others : List PageEntry
+  pub listed : WasListed w es d (key ∷ others)
+
+-- The ends of an attempt's operation of which no request wore out, by its entries, by whether it has sent its publishing
+-- request and whether the driver's abort or clean has begun.
+abbrev pub TaskMay : Op → Script → Who → List Entry → Bool → Bool → TaskEnd → Type 0
+TaskMay ops.Write w a es sent cleaned tasks.Done = Unit {0}
+TaskMay ops.Write w a es sent cleaned (tasks.Gone name) = cleaned ≡ true
+TaskMay ops.Commit w a es sent cleaned tasks.Done = Unit {0}
+TaskMay ops.Commit w a es sent cleaned (tasks.Conflict d) = (checks_partitions w.committer w.mode ≡ true) × IsFirstListed w a es d
+TaskMay ops.Commit w a es sent cleaned (tasks.Gone name) = cleaned ≡ true
+TaskMay ops.Abort w a es sent cleaned tasks.Kept = sent ≡ true
+TaskMay ops.Abort w a es sent cleaned tasks.Done = sent ≡ false
+TaskMay op w a es sent cleaned e = ⊥
+
+abbrev pub TaskIs : Op → Script → Who → List Entry → Bool → Bool → Option Request → TaskEnd → Type 0
+TaskIs op w a es sent cleaned (Some r) e = e ≡ tasks.StoreFault
+TaskIs op w a es sent cleaned None e = TaskMay op w a es sent cleaned e
 
 -- the attempt has published: one of these entries is its publishing request, and took effect
 pub record WasPublished (w : Script) (opening : Content) (journal : List Entry) (task attempt event : ℕ) : Type 0 where

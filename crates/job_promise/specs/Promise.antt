@@ -71,7 +71,7 @@ SetupsEnd w opening journal xs = AreOwn journal → (j : ℕ) (d : Doing) (e : S
 abbrev pub TasksEnd : Script → Content → List Entry → List EventEnd → Type 0
 TasksEnd w opening journal xs = AreOwn journal → (j t a : ℕ) (d : Doing) (e : TaskEnd) (es : List Entry) → EndedIn w xs journal j (Attempt t a) d (ends.Task e) es
     → (e ≡ tasks.NoMemory) ⊎ ((worn : Option Request) × WornFirst w.retries es worn
-    × TaskIs d.op w (known_then (setting w opening) (Attempt t a) d (by_actor (Attempt t a) journal)).publish_sent (has_cleaned (until_last (Attempt t a) (until (j + 1) journal))) worn e)
+    × TaskIs d.op w (record { task = t; attempt = a }) es (known_then (setting w opening) (Attempt t a) d (by_actor (Attempt t a) journal)).publish_sent (has_cleaned (until_last (Attempt t a) (until (j + 1) journal))) worn e)
 
 -- an attempt's commit that ended Done has published, where the driver's abort or clean has not begun before its last entry and no stranger sends
 abbrev pub Publishes : Script → Content → List Entry → List EventEnd → Type 0
