@@ -1,22 +1,16 @@
 -- New keys are keys.
-use Rattle.std.proofs.Common.{◌≡◌, ℕ, zero, suc, ◌-◌, ◌≤◌, ◌&&◌, nat_eq, nat_le, nat_lt, cond, Bool, true, false, List, [], ◌∷◌, ◌++◌, length, drop, Some, None, refl, sym, ap, ◌∙◌, arith, length-append, append_assoc, if◌then◌else◌}
-use Rattle.std.specs.List.{list_all, slice_get, starts_with}
-use Rattle.std.proofs.lemmas.Bool.{and_parts, false≢true, le-leb}
+use Rattle.std.proofs.Common.{◌≡◌, ℕ, zero, suc, ◌-◌, ◌≤◌, ◌&&◌, nat_eq, nat_lt, cond, Bool, true, false, List, [], ◌∷◌, ◌++◌, length, drop, Some, None, refl, sym, ap, ◌∙◌, arith, length-append, append_assoc, if◌then◌else◌}
+use Rattle.std.specs.List.{slice_get, starts_with}
+use Rattle.std.proofs.lemmas.Bool.{le-leb}
 use Rattle.std.proofs.lemmas.Bool.Decides.{nat_tests, Decides-eqb}
-use Rattle.std.proofs.lemmas.List.Folds.{list_all-append}
 use Rattle.std.proofs.lemmas.Slice.Eq.{starts_is}
-use Rattle.words.specs.Parts.{parts_of}
-use Rattle.words.proofs.Pieces.{parts_append}
-use Rattle.s3_types.specs.Names.{are_elements, is_element, is_key_path, trimmed}
+use Rattle.s3_types.specs.Names.{are_elements, is_key_path, trimmed}
 use Rattle.path_keys.proofs.Beneath.{elements_append, key_path_from}
-use Rattle.path_keys.proofs.Ends.{no_end}
 use Rattle.dir_markers.specs.Markers.{marker_of}
-use Rattle.dir_markers.proofs.Above.{trimmed_marker}
 use Rattle.request_frame.proofs.Members.{some_is, none_some}
 use Rattle.fs_tree.specs.Tree.{is_marker}
 use Rattle.fs_tree.specs.Moves.{is_too_long}
-use Rattle.fs_tree.proofs.Begins.{marker_is}
-use Rattle.fs_tree.proofs.Above.{marker_ends}
+use Rattle.fs_tree.proofs.Above.{marker_ends, marker_behind, other_end, cut_elements, key_elements, marker_elements}
 use Rattle.fs_ops.specs.List.{rest_of}
 use Rattle.fs_ops.specs.Showing.{rest_is as rest_follows}
 use Rattle.fs_moves.specs.Keys.{new_by, new_key}
@@ -49,34 +43,11 @@ short k h = short_by (is_marker k) (length k) h
 pub base_key : (q : List ℕ) → are_elements q ≡ true → is_too_long q ≡ false → is_key_path q ≡ true
 base_key q e f = key_path_from q e (short q f)
 
-marker_behind : (a : List ℕ) (x : ℕ) (r : List ℕ) → is_marker (a ++ x ∷ r) ≡ is_marker (x ∷ r)
-marker_behind [] x r = refl
-marker_behind (y ∷ []) x r = refl
-marker_behind (y ∷ z ∷ a) x r = marker_behind (z ∷ a) x r
-
-other_end : (t : List ℕ) → is_marker t ≡ false → t ≡ trimmed t
-other_end t h = no_end t (λ front e. false≢true (sym h ∙ ap is_marker e ∙ marker_is front))
-
-behind_elements : (a r : List ℕ) → are_elements (a ++ 47 ∷ r) ≡ true → are_elements r ≡ true
-behind_elements a r h =
-    (and_parts (are_elements a) (are_elements r)
-    (sym (ap (list_all is_element) (parts_append 47 a r) ∙ list_all-append is_element (parts_of 47 a) (parts_of 47 r)) ∙ h)).1
-
 all_three : (a b c : Bool) → a ≡ true → b ≡ true → c ≡ true → (a && b && c) ≡ true
 all_three a b c h i j = rw (h, i, j) refl
 
 key_path : (t : List ℕ) → 1 ≤ length t → length t ≤ 1024 → are_elements (trimmed t) ≡ true → is_key_path t ≡ true
 key_path t some most h = all_three _ _ _ (le-leb 1 (length t) some) (le-leb (length t) 1024 most) h
-
-key_elements : (k : List ℕ) → is_key_path k ≡ true → are_elements (trimmed k) ≡ true
-key_elements k h = (and_parts (nat_le 1 (length k) && nat_le (length k) 1024) (are_elements (trimmed k)) (grouped (nat_le 1 (length k)) (nat_le (length k) 1024) (are_elements (trimmed k)) h)).1
-  where
-    grouped : (a b c : Bool) → (a && b && c) ≡ true → ((a && b) && c) ≡ true
-    grouped true b c h = h
-    grouped false b c h = absurd (false≢true h)
-
-marker_elements : (t front : List ℕ) → t ≡ front ++ 47 ∷ [] → are_elements (trimmed t) ≡ are_elements front
-marker_elements t front e = ap (λ t. are_elements (trimmed t)) e ∙ ap are_elements (trimmed_marker front)
 
 module _ (q front : List ℕ) (e : are_elements q ≡ true) where
   ended : (r f : List ℕ) → 47 ∷ r ≡ f ++ 47 ∷ [] → is_key_path (front ++ 47 ∷ r) ≡ true → are_elements (trimmed (q ++ 47 ∷ r)) ≡ true
@@ -87,13 +58,13 @@ module _ (q front : List ℕ) (e : are_elements q ≡ true) where
       let old = ap (λ l. front ++ l) a ∙ sym (append_assoc front (47 ∷ f) (47 ∷ [])) in
       let new = ap (λ l. q ++ l) a ∙ sym (append_assoc q (47 ∷ f) (47 ∷ [])) in
       let els = sym (marker_elements (front ++ 47 ∷ r) (front ++ 47 ∷ f) old) ∙ key_elements (front ++ 47 ∷ r) k in
-      marker_elements (q ++ 47 ∷ r) (q ++ 47 ∷ f) new ∙ elements_append q f e (behind_elements front f els)
+      marker_elements (q ++ 47 ∷ r) (q ++ 47 ∷ f) new ∙ elements_append q f e (cut_elements front f els).1
 
   by_end : (r : List ℕ) (b : Bool) → is_marker (47 ∷ r) ≡ b → is_key_path (front ++ 47 ∷ r) ≡ true → are_elements (trimmed (q ++ 47 ∷ r)) ≡ true
   by_end r true i k = let w = marker_ends (47 ∷ r) i in ended r w.0 w.1 k
   by_end r false i k =
       let els = ap are_elements (other_end (front ++ 47 ∷ r) (marker_behind front 47 r ∙ i)) ∙ key_elements (front ++ 47 ∷ r) k in
-      ap are_elements (sym (other_end (q ++ 47 ∷ r) (marker_behind q 47 r ∙ i))) ∙ elements_append q r e (behind_elements front r els)
+      ap are_elements (sym (other_end (q ++ 47 ∷ r) (marker_behind q 47 r ∙ i))) ∙ elements_append q r e (cut_elements front r els).1
 
   -- what a key has behind a `/` is so behind other elements, within the limit
   pub below_key : (r : List ℕ) → is_key_path (front ++ 47 ∷ r) ≡ true → is_too_long (q ++ 47 ∷ r) ≡ false → is_key_path (q ++ 47 ∷ r) ≡ true

@@ -5,6 +5,7 @@ use Rattle.std.proofs.lemmas.Bool.{false≢true}
 use Rattle.std.proofs.lemmas.List.{append-nil, reverse-append}
 use Rattle.std.proofs.Math.Seq.{drop-append_seam}
 use Rattle.std.specs.List.{starts_with, list_any, list_all, prefix_len, AllByRecursion}
+use Rattle.std.specs.Str.{is_utf8}
 use Rattle.std.specs.List.Sorted.{IsStrictlySortedBy}
 use Rattle.std.specs.FinMap as fin
 use Rattle.std.specs.Ordering.{is_lt, nat_cmp, ordering_then}
@@ -14,7 +15,7 @@ use Rattle.proof_base.specs.Order.{text_cmp, text_eq, text_total}
 use Rattle.proof_base.proofs.Less.{lt, irrefl, lt_trans, lt_not, less_of}
 use Rattle.words.specs.Parts.{parts_of, is_other}
 use Rattle.words.proofs.Pieces.{one_part, parts_append}
-use Rattle.s3_types.specs.Names.{is_element}
+use Rattle.s3_types.specs.Names.{is_element, is_key, is_key_path}
 use Rattle.s3_types.specs.Store.{Objects}
 use Rattle.s3_types.specs.Pages.{begins, text_in, listed}
 use Rattle.s3_types.specs.declared.object.Object.{Object}
@@ -26,12 +27,13 @@ use Rattle.dir_markers.specs.Markers.{marker_of}
 use Rattle.dir_markers.specs.declared.status.Status.{Status}
 use Rattle.dir_markers.specs.declared.status.Status.TheVariants.{Directory, File}
 use Rattle.fs_tree.proofs.Begins.{both, begins_all, begins_more, begins_marker}
+use Rattle.fs_tree.proofs.Above.{file_element, dir_element}
 use Rattle.fs_tree.specs.declared.answers.DirEntry.{DirEntry}
 use Rattle.fs_tree.specs.Tree.{SomeBelow, NoFile, HasDir, IsFile, IsStatus}
-use Rattle.fs_tree.specs.Changes.{text_by, text_of, IsName, HasEntries}
+use Rattle.fs_tree.specs.Changes.{text_by, text_of, IsName, HasOddKey, HasEntries}
 use Rattle.fs_ops.specs.Places.{prefix_of}
 use Rattle.fs_ops.specs.List.{rest_of, is_file, is_file_named, has_file, file_by, first_of, dir_named, dir_by, shown, added, all_added, children}
-use Rattle.fs_ops.specs.Children.{NoSlash, behind, entry_at, entry_from, text_at, IsChild, shown_in, listed_rises, are_shown, file_listed, dir_listed}
+use Rattle.fs_ops.specs.Children.{NoSlash, Standing, behind, entry_at, entry_from, text_at, IsChild, shown_in, listed_rises, are_shown, file_listed, dir_listed}
 
 abbrev child_at : List ℕ → Status → DirEntry
 child_at n s = record { name = n; status = s }
@@ -206,12 +208,13 @@ record Found (ds firsts found : List DirEntry) : Type 0 where
   files : (x : ℕ) (r : List ℕ) (l : ℕ) → IsIn (child_at (x ∷ r) (File l)) firsts → IsIn (child_at (x ∷ r) (File l)) found
   dirs : (n : List ℕ) → IsIn (child_at n Directory) firsts → IsIn (child_at n Directory) found ⊎ HasNamed n found
   once : (x : ℕ) (r : List ℕ) (l : ℕ) → IsIn (child_at (x ∷ r) Directory) found → IsIn (child_at (x ∷ r) (File l)) ds → ⊥
+  named : (l : ℕ) → IsIn (child_at [] (File l)) found → ⊥
   falls : Falls (reverse found)
   sorted : IsStrictlySortedBy text_cmp (map text_of found)
 
 nothing_found : (ds : List DirEntry) → Found ds [] []
 unfolding IsStrictlySortedBy
-nothing_found ds = record { sub = λ e i. i; files = λ x r l i. i; dirs = λ n i. inl i; once = λ x r l i j. i; falls = tt; sorted = tt }
+nothing_found ds = record { sub = λ e i. i; files = λ x r l i. i; dirs = λ n i. inl i; once = λ x r l i j. i; named = λ l i. i; falls = tt; sorted = tt }
 
 module _ (ds firsts found : List DirEntry) (f : Found ds firsts found) (d : DirEntry) (later : Below firsts (text_of d)) where
   before : Below found (text_of d)
@@ -221,12 +224,13 @@ module _ (ds firsts found : List DirEntry) (f : Found ds firsts found) (d : DirE
   before_back e i = before e (reverse_in e found i)
 
   -- it is found
-  adds : IsIn d ds → ((x : ℕ) (r : List ℕ) (l : ℕ) → d ≡ child_at (x ∷ r) Directory → IsIn (child_at (x ∷ r) (File l)) ds → ⊥) → Found ds (firsts ++ d ∷ []) (found ++ d ∷ [])
-  adds i other = record {
+  adds : IsIn d ds → ((l : ℕ) → child_at [] (File l) ≡ d → ⊥) → ((x : ℕ) (r : List ℕ) (l : ℕ) → d ≡ child_at (x ∷ r) Directory → IsIn (child_at (x ∷ r) (File l)) ds → ⊥) → Found ds (firsts ++ d ∷ []) (found ++ d ∷ [])
+  adds i none other = record {
     sub = λ e j. elim (in_append e found (d ∷ []) j) [ inl k ↦ in_front e firsts (d ∷ []) (f.sub e k) | inr k ↦ in_back e firsts (d ∷ []) k ];
     files = λ x r l j. elim (in_append (child_at (x ∷ r) (File l)) firsts (d ∷ []) j) [ inl k ↦ in_front (child_at (x ∷ r) (File l)) found (d ∷ []) (f.files x r l k) | inr k ↦ in_back (child_at (x ∷ r) (File l)) found (d ∷ []) k ];
     dirs = λ n j. elim (in_append (child_at n Directory) firsts (d ∷ []) j) [ inl k ↦ old n (f.dirs n k) | inr k ↦ inl (in_back (child_at n Directory) found (d ∷ []) k) ];
     once = λ x r l j k. elim (in_append (child_at (x ∷ r) Directory) found (d ∷ []) j) [ inl m ↦ f.once x r l m k | inr m ↦ own x r l m k ];
+    named = λ l j. elim (in_append (child_at [] (File l)) found (d ∷ []) j) [ inl k ↦ f.named l k | inr k ↦ elim k [ inl e ↦ none l e | inr m ↦ m ] ];
     falls = subst Falls (sym (reverse-append found (d ∷ []))) (before_back, f.falls);
     sorted = sorted_end found d f.sorted before;
   }
@@ -246,6 +250,7 @@ module _ (ds firsts found : List DirEntry) (f : Found ds firsts found) (d : DirE
     files = λ x r l j. elim (in_append (child_at (x ∷ r) (File l)) firsts (d ∷ []) j) [ inl k ↦ f.files x r l k | inr k ↦ absurd (none x r l k) ];
     dirs = λ n j. elim (in_append (child_at n Directory) firsts (d ∷ []) j) [ inl k ↦ f.dirs n k | inr k ↦ inr (file n k) ];
     once = f.once;
+    named = f.named;
     falls = f.falls;
     sorted = f.sorted;
   }
@@ -286,7 +291,7 @@ same_name e = ap (λ (d : DirEntry). d.name) e
 seen_one : (ds firsts rest found : List DirEntry) (n : List ℕ) (s : Status) → ds ≡ firsts ++ child_at n s ∷ rest → Below firsts (text_by n s) → Later (text_by n s) rest → Found ds firsts found → Found ds (firsts ++ child_at n s ∷ []) (added found (seen_by found n s))
 seen_one ds firsts rest found [] (File l) e b a f = skips ds firsts found f (child_at [] (File l)) b (λ x r k g. no_name g) (λ m g. absurd (no_file (sym g)))
 seen_one ds firsts rest found (y ∷ n) (File l) e b a f =
-    adds ds firsts found f (child_at (y ∷ n) (File l)) b (subst (IsIn (child_at (y ∷ n) (File l))) (sym e) (in_back (child_at (y ∷ n) (File l)) firsts (child_at (y ∷ n) (File l) ∷ rest) (inl refl))) (λ x r k g j. no_file g)
+    adds ds firsts found f (child_at (y ∷ n) (File l)) b (subst (IsIn (child_at (y ∷ n) (File l))) (sym e) (in_back (child_at (y ∷ n) (File l)) firsts (child_at (y ∷ n) (File l) ∷ rest) (inl refl))) (λ k g. no_name (sym g)) (λ x r k g j. no_file g)
 seen_one ds firsts rest found n Directory e b a f = by (has_file found n) refl
   where
     d : DirEntry
@@ -316,7 +321,7 @@ seen_one ds firsts rest found n Directory e b a f = by (has_file found n) refl
     by true h =
         subst (λ c. Found ds (firsts ++ d ∷ []) (added found (dir_named c n))) (sym h)
         (skips ds firsts found f d b (λ x r l g. no_file g) (λ m g. subst (λ v. HasNamed v found) (sym (same_name g)) (named h)))
-    by false h = subst (λ c. Found ds (firsts ++ d ∷ []) (added found (dir_named c n))) (sym h) (adds ds firsts found f d b at (never h))
+    by false h = subst (λ c. Found ds (firsts ++ d ∷ []) (added found (dir_named c n))) (sym h) (adds ds firsts found f d b at (λ k g. no_file g) (never h))
 
 -- children in order, of which the first is greater than those before it
 abbrev Ordered : List DirEntry → Type 0
@@ -427,12 +432,48 @@ module _ (p : List ℕ) (z : Objects) where
         let at : Q ++ (n ++ 47 ∷ s.0) ≡ marker_of (below p n) ++ s.0 = sym (append_assoc Q n (47 ∷ s.0)) ∙ ap (λ k. k ++ 47 ∷ s.0) (below_is p n) ∙ sym (append_assoc (below p n) (47 ∷ []) s.0) in
         (no_file_at (below p n) z (no_file_of n h i), has_dir_at (below p n) z long (Q ++ (n ++ 47 ∷ s.0), ap (begins (marker_of (below p n))) at ∙ begins_more (marker_of (below p n)) s.0, s.1, s.2))
 
-    child_is : (e : DirEntry) → IsIn e found → IsName e.name → IsStatus z (below p e.name) e.status
-    child_is e i h = by e.status refl
+    name_of : (n : List ℕ) → NoSlash n → is_element n ≡ true → IsName n
+    name_of n s h = ap (λ b. b && list_all (is_other 47) n) h ∙ s
+
+    path_of : (k : List ℕ) → is_key k ≡ true → is_key_path k ≡ true
+    path_of k h = (both (is_utf8 k) (is_key_path k) h).1
+
+    abbrev Entry : List ℕ → Status → Type 0
+    Entry n s = (IsName n × IsStatus z (below p n) s) ⊎ HasOddKey z (below p n) s
+
+    file_entry : (n : List ℕ) (l : ℕ) → IsIn (child_at n (File l)) found → NoSlash n → Standing Q z n (File l) → Entry n (File l)
+    file_entry [] l i s g = absurd (f.named l i)
+    file_entry (x ∷ n) l i s g = by (is_key (below p (x ∷ n))) refl
       where
-        by : (s : Status) → e.status ≡ s → IsStatus z (below p e.name) s
-        by Directory k = child_dir e.name h (subst (λ d. IsIn d found) (λ j. child_at e.name (k j)) i)
-        by (File l) k = child_file e.name l h (subst (λ d. IsIn d ds) (λ j. child_at e.name (k j)) (f.sub e i))
+        by : (b : Bool) → is_key (below p (x ∷ n)) ≡ b → Entry (x ∷ n) (File l)
+        by true e =
+            let h = name_of (x ∷ n) s (file_element p x n s (path_of (below p (x ∷ n)) e)) in
+            inl (h, child_file (x ∷ n) l h (f.sub (child_at (x ∷ n) (File l)) i))
+        by false e = inr ((g.0, ap (fin.get z) (sym (below_is p (x ∷ n))) ∙ g.1), e)
+
+    dir_entry : (n : List ℕ) → IsIn (child_at n Directory) found → NoSlash n → Standing Q z n Directory → Entry n Directory
+    dir_entry n i s g = by (is_key (below p n ++ 47 ∷ g.0)) refl
+      where
+        at : Q ++ (n ++ 47 ∷ g.0) ≡ below p n ++ 47 ∷ g.0
+        at = sym (append_assoc Q n (47 ∷ g.0)) ∙ ap (λ k. k ++ 47 ∷ g.0) (below_is p n)
+
+        behind_it : begins (marker_of (below p n)) (below p n ++ 47 ∷ g.0) ≡ true
+        behind_it = ap (begins (marker_of (below p n))) (sym (append_assoc (below p n) (47 ∷ []) g.0)) ∙ begins_more (marker_of (below p n)) g.0
+
+        by : (b : Bool) → is_key (below p n ++ 47 ∷ g.0) ≡ b → Entry n Directory
+        by true e = let h = name_of n s (dir_element p n g.0 s (path_of (below p n ++ 47 ∷ g.0) e)) in inl (h, child_dir n h i)
+        by false e = inr (below p n ++ 47 ∷ g.0, behind_it, (g.1, ap (fin.get z) (sym at) ∙ g.2), e)
+
+    -- each is a child, or made of a text that is no key
+    child_is : (e : DirEntry) → IsIn e found → Entry e.name e.status
+    child_is e i = by e.status refl
+      where
+        own : (s : Status) → e.status ≡ s → IsIn (child_at e.name s) found
+        own s k = subst (λ d. IsIn d found) (λ j. child_at e.name (k j)) i
+
+        by : (s : Status) → e.status ≡ s → Entry e.name s
+        by Directory k = let c = are (child_at e.name Directory) (f.sub (child_at e.name Directory) (own Directory k)) in dir_entry e.name (own Directory k) c.plain c.stands
+        by (File l) k = let c = are (child_at e.name (File l)) (f.sub (child_at e.name (File l)) (own (File l) k)) in file_entry e.name l (own (File l) k) c.plain c.stands
 
     file_there : (n : List ℕ) (l : ℕ) → IsName n → IsStatus z (below p n) (File l) → IsIn (child_at n (File l)) found
     file_there n l h s = by n h (subst (λ l. IsIn (child_at n (File l)) ds) s.2 (file_of n s.0 h (file_stands (below p n) z s.0 s.1)))

@@ -1,22 +1,23 @@
 -- The paths above a path.
-use Rattle.std.proofs.Common.{◌≡◌, ◌⊎◌, inl, inr, ℕ, zero, suc, ◌<◌, ◌&&◌, ◌==◌, not, nat_eq, Bool, true, false, List, [], ◌∷◌, ◌++◌, map, length, refl, sym, ap, subst, ◌∙◌, arith, length-append}
+use Rattle.std.proofs.Common.{◌≡◌, ◌⊎◌, inl, inr, ℕ, zero, suc, ◌<◌, ◌&&◌, ◌==◌, not, nat_eq, nat_le, Bool, true, false, List, [], ◌∷◌, ◌++◌, map, length, refl, sym, ap, subst, ◌∙◌, arith, length-append, append_assoc}
 use Rattle.std.specs.List.{list_all, join_with_byte}
 use Rattle.std.proofs.lemmas.Bool.{false≢true, eqb-true}
 use Rattle.std.proofs.lemmas.List.Folds.{list_all-append}
 use Rattle.words.specs.Parts.{parts_of, is_other}
 use Rattle.words.proofs.Pieces.{one_part, parts_append}
-use Rattle.s3_types.specs.Names.{is_element}
+use Rattle.s3_types.specs.Names.{is_element, are_elements, is_key_path, trimmed}
 use Rattle.s3_types.specs.Pages.{begins}
-use Rattle.path_keys.specs.Paths.{is_key}
+use Rattle.path_keys.specs.Paths.{is_key, below}
+use Rattle.path_keys.proofs.Ends.{no_end}
 use Rattle.path_keys.proofs.Keys.{some_key}
 use Rattle.path_keys.proofs.Last.{parts_round, before_slash, before_none}
 use Rattle.dir_markers.specs.Markers.{marker_of, fronts, keys_above}
-use Rattle.dir_markers.proofs.Above.{above_more}
+use Rattle.dir_markers.proofs.Above.{above_more, trimmed_marker}
 use Rattle.request_frame.specs.Members.{IsIn}
 use Rattle.request_frame.proofs.Members.{eq_nat, in_append, in_front, in_last}
 use Rattle.fs_tree.specs.Tree.{is_marker}
 use Rattle.fs_tree.specs.Changes.{parent}
-use Rattle.fs_tree.proofs.Begins.{both, begins_more, begins_all, begins_trans, begins_marker, marker_at, no_empty}
+use Rattle.fs_tree.proofs.Begins.{both, begins_more, begins_all, begins_trans, begins_marker, marker_is, marker_at, no_empty}
 
 -- ---- a text cut at its last `/`
 
@@ -149,3 +150,70 @@ key_no_marker x p k = by (is_marker (x ∷ p)) refl
         let parts = ap (parts_of 47) w.1 ∙ parts_append 47 w.0 [] ∙ ap (λ (l : List (List ℕ)). parts_of 47 w.0 ++ l) (one_part 47 [] refl) in
         let all : (list_all is_element (parts_of 47 w.0) && false) ≡ true = sym (ap (list_all is_element) parts ∙ list_all-append is_element (parts_of 47 w.0) ([] ∷ [])) ∙ (some_key (x ∷ p) (omega arith) k).0 in
         absurd (false≢true (both (list_all is_element (parts_of 47 w.0)) false all).1)
+
+-- ---- the elements of an object's key
+
+pub marker_behind : (a : List ℕ) (x : ℕ) (r : List ℕ) → is_marker (a ++ x ∷ r) ≡ is_marker (x ∷ r)
+marker_behind [] x r = refl
+marker_behind (y ∷ []) x r = refl
+marker_behind (y ∷ z ∷ a) x r = marker_behind (z ∷ a) x r
+
+pub other_end : (t : List ℕ) → is_marker t ≡ false → t ≡ trimmed t
+other_end t h = no_end t (λ front e. false≢true (sym h ∙ ap is_marker e ∙ marker_is front))
+
+pub marker_elements : (t front : List ℕ) → t ≡ front ++ 47 ∷ [] → are_elements (trimmed t) ≡ are_elements front
+marker_elements t front e = ap (λ t. are_elements (trimmed t)) e ∙ ap are_elements (trimmed_marker front)
+
+pub key_elements : (k : List ℕ) → is_key_path k ≡ true → are_elements (trimmed k) ≡ true
+key_elements k h = (both (nat_le 1 (length k) && nat_le (length k) 1024) (are_elements (trimmed k)) h).1
+
+-- before a `/` and behind it
+pub cut_elements : (a r : List ℕ) → are_elements (a ++ 47 ∷ r) ≡ true → (are_elements a ≡ true) × (are_elements r ≡ true)
+cut_elements a r h =
+    both (are_elements a) (are_elements r) (sym (ap (list_all is_element) (parts_append 47 a r) ∙ list_all-append is_element (parts_of 47 a) (parts_of 47 r)) ∙ h)
+
+-- before one that may be its last byte
+pub front_elements : (a r : List ℕ) → are_elements (trimmed (a ++ 47 ∷ r)) ≡ true → are_elements a ≡ true
+front_elements a r h = by (is_marker (47 ∷ r)) refl
+  where
+    ended : (f : List ℕ) → 47 ∷ r ≡ f ++ 47 ∷ [] → are_elements a ≡ true
+    ended [] e = sym (marker_elements (a ++ 47 ∷ r) a (ap (λ l. a ++ l) e)) ∙ h
+    ended (y ∷ f) e =
+        let s : 47 ≡ y = cc in
+        let k : 47 ∷ r ≡ (47 ∷ f) ++ 47 ∷ [] = e ∙ ap (λ y. y ∷ f ++ 47 ∷ []) (sym s) in
+        (cut_elements a f (sym (marker_elements (a ++ 47 ∷ r) (a ++ 47 ∷ f) (ap (λ l. a ++ l) k ∙ sym (append_assoc a (47 ∷ f) (47 ∷ [])))) ∙ h)).0
+
+    by : (b : Bool) → is_marker (47 ∷ r) ≡ b → are_elements a ≡ true
+    by true i = let w = marker_ends (47 ∷ r) i in ended w.0 w.1
+    by false i = (cut_elements a r (ap are_elements (other_end (a ++ 47 ∷ r) (marker_behind a 47 r ∙ i)) ∙ h)).0
+
+-- ---- the name of what is below a path
+
+pub plain_end : (n : List ℕ) → NoSlash n → is_marker n ≡ false
+plain_end [] s = refl
+plain_end (x ∷ []) s = by (x == 47) refl
+  where
+    by : (b : Bool) → (x == 47) ≡ b → (x == 47) ≡ false
+    by true e = absurd (false≢true (sym (ap (λ b. not b && true) e) ∙ s))
+    by false e = e
+plain_end (x ∷ y ∷ n) s = plain_end (y ∷ n) (both (not (x == 47)) (list_all (is_other 47) (y ∷ n)) s).1
+
+pub name_element : (p n : List ℕ) → NoSlash n → are_elements (below p n) ≡ true → is_element n ≡ true
+name_element p n s h = (both (is_element n) true (sym (ap (list_all is_element) (one_part 47 n s)) ∙ behind p h)).0
+  where
+    behind : (p : List ℕ) → are_elements (below p n) ≡ true → are_elements n ≡ true
+    behind [] h = h
+    behind (x ∷ p) h = (cut_elements (x ∷ p) n h).1
+
+below_marker : (p : List ℕ) (x : ℕ) (n : List ℕ) → is_marker (below p (x ∷ n)) ≡ is_marker (x ∷ n)
+below_marker [] x n = refl
+below_marker (y ∷ p) x n = marker_behind (y ∷ p) 47 (x ∷ n)
+
+-- of a file, and of a directory in which something stands
+pub file_element : (p : List ℕ) (x : ℕ) (n : List ℕ) → NoSlash (x ∷ n) → is_key_path (below p (x ∷ n)) ≡ true → is_element (x ∷ n) ≡ true
+file_element p x n s h =
+    let k = below p (x ∷ n) in
+    name_element p (x ∷ n) s (ap are_elements (other_end k (below_marker p x n ∙ plain_end (x ∷ n) s)) ∙ key_elements k h)
+
+pub dir_element : (p n r : List ℕ) → NoSlash n → is_key_path (below p n ++ 47 ∷ r) ≡ true → is_element n ≡ true
+dir_element p n r s h = name_element p n s (front_elements (below p n) r (key_elements (below p n ++ 47 ∷ r) h))

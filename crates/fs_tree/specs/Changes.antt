@@ -5,7 +5,7 @@ use Rattle.std.specs.List.Sorted.{IsStrictlySortedBy}
 use Rattle.std.specs.FinMap as fin
 use Rattle.proof_base.specs.Order.{text_cmp}
 use Rattle.words.specs.Parts.{parts_of, is_other}
-use Rattle.s3_types.specs.Names.{is_element}
+use Rattle.s3_types.specs.Names.{is_element, is_key}
 use Rattle.s3_types.specs.Store.{Objects}
 use Rattle.s3_types.specs.Pages.{begins}
 use Rattle.path_keys.specs.Paths.{without_last, below}
@@ -14,7 +14,7 @@ use Rattle.dir_markers.specs.declared.status.Status.{Status}
 use Rattle.dir_markers.specs.declared.status.Status.TheVariants.{Directory, File}
 use Rattle.request_frame.specs.Members.{IsIn}
 use Rattle.fs_tree.specs.declared.answers.DirEntry.{DirEntry}
-use Rattle.fs_tree.specs.Tree.{SomeBelow, NoneBelow, is_marker, marker, HasDir, IsStatus}
+use Rattle.fs_tree.specs.Tree.{Stands, SomeBelow, NoneBelow, is_marker, marker, HasDir, IsStatus}
 
 -- every file is as it was, header included
 abbrev pub SameFiles : Objects → Objects → Type 0
@@ -65,9 +65,14 @@ text_by n (File length) = n
 abbrev pub text_of : DirEntry → List ℕ
 text_of e = text_by e.name e.status
 
--- each child of a directory once, a file where it is one, and nothing else of a child's name
+-- what an entry is made of is no key: a file's own text, or one below a directory
+abbrev pub HasOddKey : Objects → List ℕ → Status → Type 0
+HasOddKey z p Directory = (k : List ℕ) × (begins (marker_of p) k ≡ true) × Stands z k × (is_key k ≡ false)
+HasOddKey z p (File length) = Stands z p × (is_key p ≡ false)
+
+-- each child of a directory once, a file where it is one, and nothing else but what is made of a text that is no key
 pub record HasEntries (p : List ℕ) (z : Objects) (es : List DirEntry) : Type 0 where
-  pub child : (e : DirEntry) → IsIn e es → IsName e.name → IsStatus z (below p e.name) e.status
+  pub child : (e : DirEntry) → IsIn e es → (IsName e.name × IsStatus z (below p e.name) e.status) ⊎ HasOddKey z (below p e.name) e.status
   pub all : (n : List ℕ) (s : Status) → IsName n → IsStatus z (below p n) s → IsIn (record { name = n; status = s }) es
   pub rises : IsStrictlySortedBy text_cmp (map text_of es)
 
