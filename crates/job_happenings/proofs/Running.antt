@@ -35,7 +35,7 @@ use Rattle.job_happenings.specs.Running.{Ahead, IsRun, operation_of}
 use Rattle.job_happenings.proofs.RunningNumbers.{begun_next, unbegun, legal_event}
 use Rattle.job_happenings.proofs.RunningStages.{DriverAt, begins_so, memory_dies, may_end, driver_stops, driver_restarts, restarted_new, driver_ends}
 use Rattle.job_happenings.proofs.RunningTasks.{AttemptAt, attempt_dies, attempt_ends}
-use Rattle.job_happenings.proofs.RunningAlong.{Along, told_known, driver_state, attempt_state, shell_state, driver_sent, attempt_sent}
+use Rattle.job_happenings.proofs.RunningAlong.{Along, told_known, set_up, driver_state, attempt_state, shell_state, driver_sent, attempt_sent}
 use Rattle.job_happenings.proofs.RunningSteps.{still, begins}
 
 -- the number of the event that goes on, or of the last one
@@ -266,4 +266,5 @@ module _ (g : Setting) (opening : Content) (j : IsLegal g.script) (is_opening : 
         attempts = h.attempts;
         knows = λ a. sym (told_known g opening (commit_event w ends) j is_opening x.journal h.stand h.runs a);
         last = h.last;
+        set_up = λ n. set_up g opening (commit_event w ends) j is_opening (is_begun (commit_event w ends) (number x.now (length x.ends))) x.journal x.running x.live.state h n;
       }

@@ -1,5 +1,5 @@
 -- That what happens in a run is one of the job's runs, whose every moment is known.
-use Rattle.std.specs.Prelude.{◌≡◌, ℕ, false, List, ◌∷◌, ◌++◌, Option, Some, None}
+use Rattle.std.specs.Prelude.{◌≡◌, ℕ, true, false, List, ◌∷◌, ◌++◌, Option, Some, None}
 use Rattle.s3_types.specs.Store.{Content}
 use Rattle.s3_types.specs.declared.request.Actor.TheVariants.{Driver}
 use Rattle.job_model.specs.Attempts.{Who, actor_of}
@@ -7,9 +7,9 @@ use Rattle.job_model.specs.Legal.{IsLegal}
 use Rattle.job_model.specs.declared.events.Event.{Event}
 use Rattle.job_model.specs.declared.ends.EventEnd.{EventEnd}
 use Rattle.job_operations.specs.Operations.{Setting, Operation, Running}
-use Rattle.job_promise.specs.States.{commit_event, is_refused}
+use Rattle.job_promise.specs.States.{is_new, commit_event, is_refused}
 use Rattle.job_facts.specs.Told.{known}
-use Rattle.job_facts.specs.Runs.{Stand, Runs, IsOpening}
+use Rattle.job_facts.specs.Runs.{Stand, Runs, IsOpening, is_set}
 use Rattle.job_happenings.specs.Happenings.{Play, Happened, knows_now}
 
 -- the ends go on so, and the event that goes on is not to be refused
@@ -32,6 +32,8 @@ pub record IsRun (g : Setting) (opening : Content) (x : Play) (k : Option ℕ) :
   -- what each attempt knows, and what it knew as it last sent
   pub knows : (a : Who) → knows_now g x (actor_of a) ≡ known stand.told a
   pub last : (a : Who) (m : Running) → x.running (actor_of a) ≡ Some m → m.known ≡ known stand.told a
+  -- a driver behind its first stage has set the job up
+  pub set_up : is_new (x.live.state Driver).stage ≡ false → is_set stand.driver ≡ true
 
 abbrev pub HappeningsRun : Type 0
 HappeningsRun = (g : Setting) (opening : Content) (x : Play) → IsLegal g.script → IsOpening g opening → Happened g opening x → (ends : List EventEnd) → Ahead x ends → IsRun g opening x (commit_event g.script ends)

@@ -10,4 +10,5 @@ pub mod Tasks
 pub mod After
 pub mod Commits
 pub mod Owned
+pub mod Facts
 pub mod Kept

@@ -17,7 +17,9 @@ use Rattle.job_happenings.specs.Happenings.{Play, knows_now}
 use Rattle.job_happenings.specs.Laws.{IsPlayed}
 use Rattle.job_happenings.specs.Running.{Ahead}
 use Rattle.job_happenings.proofs.Played.{happenings_play}
+use Rattle.job_kept.specs.Laws.{FactsHold}
 use Rattle.job_kept.proofs.Ending.{ahead_none}
+use Rattle.job_kept.proofs.Facts.{runs_hold_facts}
 use Rattle.job_kept.proofs.Kept.{runs_are_kept}
 use Rattle.job_kept.proofs.Owned.{runs_are_own}
 use Rattle.job_works.specs.Picks.{HasPicked, is_committing, is_job_commit}
@@ -120,8 +122,14 @@ module _ {W : Type 0} (wants : W → Option Request) (is_of : Setting → Actor 
     own : AreOwn b.journal.entries
     own = subst AreOwn (sym q.holds.journal) (runs_are_own (setting_of b) b.opening play q.holds.legal q.holds.opens q.holds.happened idle)
 
+    facts : FactsHold b.script b.opening b.journal.entries b.ends.items
+    facts =
+        subst (λ es. FactsHold b.script b.opening es b.ends.items) (sym q.holds.journal)
+        (subst (λ xs. FactsHold b.script b.opening play.journal xs) (sym q.holds.ends)
+        (runs_hold_facts (setting_of b) b.opening play q.holds.legal q.holds.opens q.holds.happened idle))
+
     pub keeps : (stuck : Bool) → Keeps (run_of picks_of b stuck)
-    keeps stuck = record { promised = promised; own = own; sent = sent }
+    keeps stuck = record { promised = promised; own = own; sent = sent; facts = facts }
 
     whole : lacked_memory (past b.script b.ends.items).commit ≡ false → picks_in picks_of b.picks (slice_get b.hands.items 0) ≡ all_picks b.script b.opening b.journal.entries b.ends.items
     whole l =

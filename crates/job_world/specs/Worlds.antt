@@ -14,6 +14,7 @@ use Rattle.job_operations.specs.Operations.{Setting, Running}
 use Rattle.job_operations.specs.AtWork.{task_of}
 use Rattle.job_promise.specs.Entries.{AreOwn}
 use Rattle.job_promise.specs.Promise.{Promised, Sent}
+use Rattle.job_kept.specs.Laws.{FactsHold}
 use Rattle.acting.specs.declared.plan.Plan.TheVariants.{Task}
 use Rattle.job_world.specs.Holds.{Quiet}
 use Rattle.job_world.specs.declared.hands.Hand.{Hand}
@@ -59,11 +60,12 @@ pub record IsBegun {W : Type 0} (wants : W → Option Request) (is_of : Setting 
   pub quiet : Quiet wants is_of running picks_of b
   pub is : run_of picks_of b false ≡ begun w opening
 
--- the run keeps what is promised of its job, its entries are of the job's actors, and each sending has the outcome that was due and foretold
+-- the run keeps what is promised of its job, its entries are of the job's actors, each sending has the outcome that was due and foretold, and the facts of the job hold
 pub record Keeps (r : Run) : Type 0 where
   pub promised : Promised r.script r.opening r.journal r.picks r.ends
   pub own : AreOwn r.journal
   pub sent : Sent r.script r.opening r.journal
+  pub facts : FactsHold r.script r.opening r.journal r.ends
 
 -- the script's next event has its end, and what was sent in it has its number
 pub record WentOn (r s : Run) : Type 0 where
