@@ -52,9 +52,9 @@ use Rattle.job_answers.proofs.HeldSets.{set_is, same_read}
 
 pub setup_due : (w : Script) (s : Scene) (t : Setup) → SetsUp w s.content t → FitsDue setup_wants setups.FitsDriving (driving w t) s
 setup_due w s setup.Heading up r e repeated = tt
-setup_due w s (setup.Checking keys) up r e repeated = subst (λ q. setups.FitsSetup (setup.Checking keys) (answer s q)) (some_is e) (page_fits w s up (dest_prefix w) keys)
+setup_due w s (setup.Checking keys) up r e repeated = subst (λ q. setups.FitsSetup (setup.Checking keys) (answer s q)) (some_is e) (inl (page_fits w s up (dest_prefix w) keys))
 setup_due w s setup.Clearing up r e repeated = tt
-setup_due w s (setup.Sweeping v) up r e repeated = subst (λ q. setups.FitsSetup (setup.Sweeping v) (answer s q)) (some_is e) (sweep_fits w s up.0 (magic_prefix w.dest.key w.job) v)
+setup_due w s (setup.Sweeping v) up r e repeated = subst (λ q. setups.FitsSetup (setup.Sweeping v) (answer s q)) (some_is e) (inl (sweep_fits w s up.0 (magic_prefix w.dest.key w.job) v))
 setup_due w s (setup.SetupOver end) up r e repeated = tt
 
 pub clean_due : (w : Script) (s : Scene) → HasBucket s.content w.dest.bucket → (t : Clean) → FitsDue clean_wants cleans.FitsDriving (driving w t) s

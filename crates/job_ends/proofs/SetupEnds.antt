@@ -15,12 +15,16 @@ use Rattle.s3_types.specs.declared.request.Actor.{Actor}
 use Rattle.s3_types.specs.declared.request.Committer.{Committer}
 use Rattle.s3_types.specs.declared.request.Committer.TheVariants.{Magic, Directory, Partitioned}
 use Rattle.s3_types.specs.declared.request.Request.{Request}
-use Rattle.s3_types.specs.declared.request.Request.TheVariants.{HeadObject}
+use Rattle.s3_types.specs.declared.request.Request.TheVariants.{HeadObject, DeleteObject}
 use Rattle.s3_types.specs.declared.reply.Reply.{Reply}
-use Rattle.s3_types.specs.declared.reply.Reply.TheVariants.{Page}
+use Rattle.s3_types.specs.declared.reply.Reply.TheVariants.{Page, Deleted, Refused}
+use Rattle.s3_types.specs.declared.reply.Refusal.TheVariants.{TooManyKeys}
 use Rattle.s3_types.specs.declared.reply.PageEntry.{PageEntry}
 use Rattle.s3_types.specs.declared.journal.Entry.{Entry}
+use Rattle.s3_types.specs.declared.journal.Outcome.TheVariants.{Answered, ReplyLost}
+use Rattle.s3_types.specs.declared.limits.TheConstants.{MOST_ENTRIES}
 use Rattle.path_keys.specs.Paths.{below}
+use Rattle.magic_paths.specs.Layout.{magic_prefix, success_key}
 use Rattle.sendings.specs.Operation.{run, Follows}
 use Rattle.sendings.specs.Retries.{fresh, step, wants_of, worn_in}
 use Rattle.sendings.specs.Worn.{WornFirst}
@@ -30,10 +34,11 @@ use Rattle.job_model.specs.JobScript.{Script}
 use Rattle.job_model.specs.Known.{Known}
 use Rattle.job_model.specs.declared.ends.OpEnd.TheVariants as op_ends
 use Rattle.job_model.specs.declared.ends.SetupEnd.{SetupEnd}
+use Rattle.job_model.specs.declared.ends.SetupEnd.TheVariants as setups
 use Rattle.job_operations.specs.View.{view, is_file_path}
 use Rattle.job_operations.specs.Conflicts.{checks_all}
-use Rattle.job_operations.specs.Walks.{Sweep, walked_by, keys_on, last_of, page_after, sweep_hears, all_go}
-use Rattle.job_operations.specs.Setup.{Setup, Heading, Checking, Clearing, Sweeping, SetupOver, dest_prefix, headed, checked, checked_on, checked_by, first_shown, cleared, sweeping, setup_start, setup_asks, setup_hears, setup_after, setup_over}
+use Rattle.job_operations.specs.Walks.{Sweep, Listing, Deleting, sweep_asks, walked_by, keys_on, last_of, page_after, sweep_hears, all_go}
+use Rattle.job_operations.specs.Setup.{Setup, Heading, Checking, Clearing, Sweeping, SetupOver, dest_prefix, lacks_bucket, if_bucket, headed, checked, checked_on, checked_by, first_shown, cleared, sweeping, setup_start, setup_asks, setup_hears, setup_after, setup_over}
 use Rattle.job_operations.specs.Operations.{Setting, wants, advance, over}
 use Rattle.job_promise.specs.OperationEnds.{IsLeastShown, IsFree, SetupIs}
 use Rattle.request_frame.specs.Members.{last_from}
@@ -43,7 +48,7 @@ use Rattle.request_frame.proofs.Flat.{page_rises, page_begins, page_covers, page
 use Rattle.request_frame.proofs.Reading.{reads_nothing}
 use Rattle.job_facts.specs.Stores.{at_key}
 use Rattle.job_facts.specs.Emptying.{ThoseOrBehind}
-use Rattle.job_facts.proofs.Emptying.{last_so}
+use Rattle.job_facts.proofs.Emptying.{last_so, still_there}
 use Rattle.job_facts.proofs.Shapes.{key_before, answer_is}
 use Rattle.job_facts.proofs.JobCommitting.{dest_below}
 use Rattle.job_ends.specs.SetupEnds.{setting_up, SetupEnds}
@@ -106,8 +111,8 @@ module _ (w : Script) (j : IsLegal w) (first : Scene) where
   abbrev Holds : Scene → Setup → Type 0
   Holds s Heading = s ≡ first
   Holds s (Checking keys) = (s ≡ first) × (checks_all w.committer w.mode ≡ true) × IsFree w c × Looked keys
-  Holds s Clearing = Passed
-  Holds s (Sweeping t) = Passed
+  Holds s Clearing = Passed × HasBucket s.content w.dest.bucket
+  Holds s (Sweeping t) = Passed × HasBucket s.content w.dest.bucket
   Holds s (SetupOver end) = SetupIs w c None end
 
   -- ---- the destination's own key
@@ -115,26 +120,29 @@ module _ (w : Script) (j : IsLegal w) (first : Scene) where
   nothing_yet : Looked []
   nothing_yet = record { cover = λ k x b go e. inr (some_text w.dest.key k b); unseen = refl }
 
+  has_bucket : (s : Scene) → s ≡ first → IsFree w c → HasBucket s.content w.dest.bucket
+  has_bucket s is free = subst (λ (u : Scene). HasBucket u.content w.dest.bucket) (sym is) (some_of (fin.get c.buckets w.dest.bucket) free.0)
+
   from_here : (s : Scene) → s ≡ first → IsFree w c → (b : Bool) → checks_all w.committer w.mode ≡ b → Holds s (cond b (Checking []) Clearing)
   from_here s is free true e = (is, e, free, nothing_yet)
-  from_here s is free false e = (free, λ h. absurd (false≢true (sym e ∙ h)))
+  from_here s is free false e = ((free, λ h. absurd (false≢true (sym e ∙ h))), has_bucket s is free)
 
   abbrev head_request : Request
   head_request = HeadObject w.dest.bucket w.dest.key
 
-  headed_by : (s : Scene) → s ≡ first → (o : Option BucketContent) → fin.get c.buckets w.dest.bucket ≡ o → Holds s (headed w (answer_at o c.next c.minimum head_request))
+  headed_by : (s : Scene) → s ≡ first → (o : Option BucketContent) → fin.get c.buckets w.dest.bucket ≡ o → let x = answer_at o c.next c.minimum head_request in Holds s (if_bucket x (headed w x))
   headed_by s is None e = e
   headed_by s is (Some b) e = by (fin.get b.objects w.dest.key) refl
     where
       at : at_key w c w.dest.key ≡ fin.get b.objects w.dest.key
       at = key_before w first b e w.dest.key
 
-      by : (x : Option Object) → fin.get b.objects w.dest.key ≡ x → Holds s (headed w (head x))
+      by : (x : Option Object) → fin.get b.objects w.dest.key ≡ x → Holds s (if_bucket (head x) (headed w (head x)))
       by None f = from_here s is (ap is_some e, at ∙ f) (checks_all w.committer w.mode) refl
       by (Some x) f = ap is_some (at ∙ f)
 
-  headed_now : (s : Scene) → s ≡ first → (x : Reply) → x ≡ answer first head_request → Holds s (headed w x)
-  headed_now s is x e = subst (λ y. Holds s (headed w y)) (sym e) (headed_by s is (fin.get c.buckets w.dest.bucket) refl)
+  headed_now : (s : Scene) → s ≡ first → (x : Reply) → x ≡ answer first head_request → Holds s (if_bucket x (headed w x))
+  headed_now s is x e = subst (λ y. Holds s (if_bucket y (headed w y))) (sym e) (headed_by s is (fin.get c.buckets w.dest.bucket) refl)
 
   -- ---- a page
 
@@ -195,28 +203,43 @@ module _ (w : Script) (j : IsLegal w) (first : Scene) where
 
     on_by : first_shown w new ≡ None → (more : Bool) → nat_lt 1000 (length rest) ≡ more → Holds s (checked_on (walked_by more (keys ++ new)))
     on_by none true e = (same, checks, free, record { cover = cover_more; unseen = unseen_more w j keys new looked.unseen none })
-    on_by none false e = (free, λ h. nothing_shown (all_looked e none))
+    on_by none false e = ((free, λ h. nothing_shown (all_looked e none)), has_bucket s same free)
 
     checked_so : (o : Option (List ℕ)) → first_shown w new ≡ o → (more : Bool) → nat_lt 1000 (length rest) ≡ more → Holds s (checked_by o (walked_by more (keys ++ new)))
     checked_so (Some p) e more f = (free, checks, least_shown p e)
     checked_so None e more f = on_by e more f
 
-    checked_now : (x : Reply) → x ≡ answer first (page_after w.dest.bucket (dest_prefix w) keys) → Holds s (checked w keys x)
+    checked_now : (x : Reply) → x ≡ answer first (page_after w.dest.bucket (dest_prefix w) keys) → Holds s (if_bucket x (checked w keys x))
     checked_now x e =
         let q = page_after w.dest.bucket (dest_prefix w) keys in
         let due : answer first q ≡ Page (take 1000 rest) (nat_lt 1000 (length rest)) = answer_is w first there.0 there.1 q refl in
-        subst (λ y. Holds s (checked w keys y)) (sym (e ∙ due)) (checked_so (first_shown w new) refl (nat_lt 1000 (length rest)) refl)
+        subst (λ y. Holds s (if_bucket y (checked w keys y))) (sym (e ∙ due)) (checked_so (first_shown w new) refl (nat_lt 1000 (length rest)) refl)
 
   -- ---- every answer
 
-  cleared_so : (s : Scene) (k : Committer) → Passed → Holds s (cleared k)
+  cleared_so : (s : Scene) (k : Committer) → Passed × HasBucket s.content w.dest.bucket → Holds s (cleared k)
   cleared_so s Magic h = h
-  cleared_so s Directory h = h
-  cleared_so s Partitioned h = h
+  cleared_so s Directory h = h.0
+  cleared_so s Partitioned h = h.0
 
-  swept_so : (s : Scene) (t : Option Sweep) → Passed → Holds s (sweeping t)
+  swept_so : (s : Scene) (t : Option Sweep) → Passed × HasBucket s.content w.dest.bucket → Holds s (sweeping t)
   swept_so s (Some t) h = h
-  swept_so s None h = h
+  swept_so s None h = h.0
+
+  -- where the bucket is there no answer says that it is not
+  found_bucket : (s : Scene) (q r : Request) → q ≡ r → lacks_bucket (answer s q) ≡ false → (x : Reply) → x ≡ answer s r → (next : Setup) → Holds (apply s r) next → Holds (apply s r) (if_bucket x next)
+  found_bucket s q r is has x e next h = subst (λ b. Holds (apply s r) (cond b (SetupOver setups.NoSuchBucket) next)) (sym (ap lacks_bucket (e ∙ ap (answer s) (sym is)) ∙ has)) h
+
+  abbrev sweep_request : Sweep → Request
+  sweep_request t = sweep_asks w.dest.bucket (magic_prefix w.dest.key w.job) t
+
+  sweep_has : (s : Scene) → HasBucket s.content w.dest.bucket → (t : Sweep) → lacks_bucket (answer s (sweep_request t)) ≡ false
+  sweep_has s b (Listing keys) = ap lacks_bucket (answer_is w s b.0 b.1 (sweep_request (Listing keys)) refl)
+  sweep_has s b (Deleting k ks) = ap lacks_bucket (answer_is w s b.0 b.1 (sweep_request (Deleting k ks)) refl) ∙ by (nat_lt MOST_ENTRIES (length (take 1000 (k ∷ ks))))
+    where
+      by : (many : Bool) → lacks_bucket (cond many (Refused TooManyKeys) Deleted) ≡ false
+      by true = refl
+      by false = refl
 
   heard : (s : Scene) (m : Setup) → Holds s m → (r : Request) → setup_asks w m ≡ Some r → (x : Reply) (repeated : Bool) → x ≡ answer s r → Holds (apply s r) (setup_hears w m x)
   heard s Heading h r asked x repeated e =
@@ -226,15 +249,18 @@ module _ (w : Script) (j : IsLegal w) (first : Scene) where
       let q = page_after w.dest.bucket (dest_prefix w) keys in
       let is : q ≡ r = some_is asked in
       checked_now (apply s r) (ap (apply s) (sym is) ∙ reads_nothing s q refl ∙ h.0) h.1 h.2 keys h.3 x (e ∙ ap (answer s) (sym is) ∙ ap (λ v. answer v q) h.0)
-  heard s Clearing h r asked x repeated e = cleared_so (apply s r) w.committer h
-  heard s (Sweeping t) h r asked x repeated e = swept_so (apply s r) (sweep_hears all_go t x) h
+  heard s Clearing h r asked x repeated e =
+      let q = DeleteObject w.dest.bucket (success_key w.dest.key) in
+      found_bucket s q r (some_is asked) (ap lacks_bucket (answer_is w s h.1.0 h.1.1 q refl)) x e (cleared w.committer) (cleared_so (apply s r) w.committer (h.0, still_there w s r (Answered x) h.1))
+  heard s (Sweeping t) h r asked x repeated e =
+      found_bucket s (sweep_request t) r (some_is asked) (sweep_has s h.1 t) x e (sweeping (sweep_hears all_go t x)) (swept_so (apply s r) (sweep_hears all_go t x) (h.0, still_there w s r (Answered x) h.1))
   heard s (SetupOver end) h r asked x repeated e = absurd (none_some refl asked)
 
   still : (s : Scene) (m : Setup) → Holds s m → (r : Request) → setup_asks w m ≡ Some r → Holds (apply s r) m
   still s Heading h r asked = ap (apply s) (sym (some_is asked)) ∙ reads_nothing s head_request refl ∙ h
   still s (Checking keys) h r asked = (ap (apply s) (sym (some_is asked)) ∙ reads_nothing s (page_after w.dest.bucket (dest_prefix w) keys) refl ∙ h.0, h.1, h.2, h.3)
-  still s Clearing h r asked = h
-  still s (Sweeping t) h r asked = h
+  still s Clearing h r asked = (h.0, still_there w s r ReplyLost h.1)
+  still s (Sweeping t) h r asked = (h.0, still_there w s r ReplyLost h.1)
   still s (SetupOver end) h r asked = h
 
   over_so : (s : Scene) (m : Setup) → Holds s m → (e : SetupEnd) → setup_over m ≡ Some e → SetupIs w c None e

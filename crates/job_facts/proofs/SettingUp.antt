@@ -31,8 +31,9 @@ use Rattle.job_model.specs.Known.{Drawn}
 use Rattle.job_model.specs.declared.ends.SetupEnd.TheVariants as ends
 use Rattle.job_operations.specs.Conflicts.{checks_all}
 use Rattle.job_operations.specs.View.{view, is_folder, is_file_path}
-use Rattle.job_operations.specs.Setup.{Setup, Heading, Checking, Clearing, Sweeping, SetupOver, dest_prefix, headed, checked, checked_on, checked_by, first_shown, cleared, sweeping, setup_asks, setup_hears, setup_after}
+use Rattle.job_operations.specs.Setup.{Setup, Heading, Checking, Clearing, Sweeping, SetupOver, dest_prefix, if_bucket, headed, checked, checked_on, checked_by, first_shown, cleared, sweeping, setup_asks, setup_hears, setup_after}
 use Rattle.job_operations.specs.Walks.{Sweep, Listing, Deleting, Walked, More, Whole, walked, keys_on, page_after, sweep_asks, sweep_hears, all_go}
+use Rattle.job_operations.proofs.Faults.{if_bucket_so}
 use Rattle.job_promise.specs.Headline.{Same}
 use Rattle.job_promise.specs.Scope.{NoClusterFile}
 use Rattle.job_promise.specs.Seen.{is_magic, is_staging}
@@ -82,6 +83,9 @@ module _ (w : Script) (c : Content) (there : HasBucket c w.dest.bucket) where
   sets_checked keys (Page entries more) = sets_by (first_shown w (keys_on entries)) (walked keys (Page entries more))
   sets_checked keys _ = there
 
+sets_if : (w : Script) (c : Content) (x : Reply) (next : Setup) → SetsUp w c next → SetsUp w c (if_bucket x next)
+sets_if w c x next h = if_bucket_so (SetsUp w c) x next (λ d. absurd cc) h
+
 magic_is : (k : Committer) → is_magic k ≡ true → k ≡ Magic
 magic_is Magic e = refl
 magic_is Directory e = absurd (false≢true e)
@@ -91,11 +95,11 @@ module _ (w : Script) (s : Scene) where
   abbrev head_request : Request
   head_request = HeadObject w.dest.bucket w.dest.key
 
-  sets_headed : (o : Option BucketContent) → fin.get s.content.buckets w.dest.bucket ≡ o → SetsUp w s.content (headed w (answer_at o s.content.next s.content.minimum head_request))
+  sets_headed : (o : Option BucketContent) → fin.get s.content.buckets w.dest.bucket ≡ o → let x = answer_at o s.content.next s.content.minimum head_request in SetsUp w s.content (if_bucket x (headed w x))
   sets_headed None e = λ d. absurd cc
   sets_headed (Some b) e = by (fin.get b.objects w.dest.key)
     where
-      by : (x : Option Object) → SetsUp w s.content (headed w (head x))
+      by : (x : Option Object) → SetsUp w s.content (if_bucket (head x) (headed w (head x)))
       by None = sets_from w s.content (b, e) (checks_all w.committer w.mode)
       by (Some x) = λ d. absurd cc
 
@@ -117,19 +121,20 @@ module _ (w : Script) (s : Scene) where
     setup_goes Heading h r e o =
         subst (After Heading o) (some_is e)
         (goes_by Heading head_request o
-        (λ x a. subst (λ (u : Scene). SetsUp w u.content (headed w x)) (sym (reads_nothing s head_request refl)) (subst (λ y. SetsUp w s.content (headed w y)) (sym a) (sets_headed (fin.get s.content.buckets w.dest.bucket) refl))) tt)
+        (λ x a. subst (λ (u : Scene). SetsUp w u.content (if_bucket x (headed w x))) (sym (reads_nothing s head_request refl)) (subst (λ y. SetsUp w s.content (if_bucket y (headed w y))) (sym a) (sets_headed (fin.get s.content.buckets w.dest.bucket) refl))) tt)
     setup_goes (Checking keys) h r e o =
         let q = page_after w.dest.bucket (dest_prefix w) keys in
         subst (After (Checking keys) o) (some_is e)
-        (goes_by (Checking keys) q o (λ x a. sets_checked w (apply s q).content (still_there w s q (Answered x) h) keys x) (still_there w s q o h))
+        (goes_by (Checking keys) q o (λ x a. sets_if w (apply s q).content x (checked w keys x) (sets_checked w (apply s q).content (still_there w s q (Answered x) h) keys x)) (still_there w s q o h))
     setup_goes Clearing h r e o =
         let q = DeleteObject w.dest.bucket (success_key w.dest.key) in
         subst (After Clearing o) (some_is e)
-        (goes_by Clearing q o (λ x a. sets_cleared w (apply s q).content (still_there w s q (Answered x) h) w.committer (magic_is w.committer)) (still_there w s q o h))
+        (goes_by Clearing q o (λ x a. sets_if w (apply s q).content x (cleared w.committer) (sets_cleared w (apply s q).content (still_there w s q (Answered x) h) w.committer (magic_is w.committer))) (still_there w s q o h))
     setup_goes (Sweeping t) h r e o =
         let q = sweep_asks w.dest.bucket (magic_prefix w.dest.key w.job) t in
         subst (After (Sweeping t) o) (some_is e)
-        (goes_by (Sweeping t) q o (λ x a. sets_sweeping w (apply s q).content (still_there w s q (Answered x) h.0) (sweep_hears all_go t x) (sweep_empties w s h.0 t h.1 h.2 x a))
+        (goes_by (Sweeping t) q o
+        (λ x a. sets_if w (apply s q).content x (sweeping (sweep_hears all_go t x)) (sets_sweeping w (apply s q).content (still_there w s q (Answered x) h.0) (sweep_hears all_go t x) (sweep_empties w s h.0 t h.1 h.2 x a)))
         (still_there w s q o h.0, h.1, sweep_still w s h.0 t h.1 h.2 o))
     setup_goes (SetupOver end) h r e o = absurd cc
 

@@ -8,7 +8,7 @@ use Rattle.s3_types.specs.declared.request.Request.{Request}
 use Rattle.s3_types.specs.declared.request.UploadRef.{UploadRef}
 use Rattle.s3_types.specs.declared.reply.Reply.{Reply}
 use Rattle.s3_types.specs.declared.reply.Reply.TheVariants.{Head, Page, ClusterNames, Refused}
-use Rattle.s3_types.specs.declared.reply.Refusal.TheVariants.{NoSuchBucket, NoSuchKey, NoSuchFile}
+use Rattle.s3_types.specs.declared.reply.Refusal.TheVariants.{NoSuchKey, NoSuchFile}
 use Rattle.s3_types.specs.declared.journal.Outcome.{Outcome}
 use Rattle.s3_types.specs.declared.journal.Outcome.TheVariants.{Answered, Slow, RequestLost, ReplyLost}
 use Rattle.s3_types.specs.declared.journal.Entry.{Entry}
@@ -20,6 +20,7 @@ use Rattle.job_model.specs.Attempts.{Who}
 use Rattle.job_model.specs.JobScript.{Script}
 use Rattle.job_model.specs.declared.ends.OpEnd.{OpEnd}
 use Rattle.job_model.specs.declared.ends.OpEnd.TheVariants as ends
+use Rattle.job_model.specs.declared.ends.SetupEnd.TheVariants as setups
 use Rattle.job_operations.specs.Outputs.{files}
 use Rattle.job_operations.specs.Conflicts.{checks_all}
 use Rattle.job_operations.specs.Walks.{Walked, More, Whole, walked, walked_uploads, Sweep, sweep_hears, all_go, keys_on}
@@ -37,6 +38,14 @@ use Rattle.job_operations.proofs.Wearing.{false_true, step_again, stays_serial}
 
 -- ---- no answer is a fault
 
+-- a set-up goes on, or ends where the bucket is not there
+pub if_bucket_so : (P : setup.Setup → Type 0) (r : Reply) (next : setup.Setup) → P (setup.SetupOver setups.NoSuchBucket) → P next → P (setup.if_bucket r next)
+if_bucket_so P r next over on = by (setup.lacks_bucket r)
+  where
+    by : (b : Bool) → P (cond b (setup.SetupOver setups.NoSuchBucket) next)
+    by true = over
+    by false = on
+
 abbrev SetupCalm : setup.Setup → Type 0
 SetupCalm s = is_fault (option_map ends.Setup (setup.setup_over s)) ≡ false
 
@@ -45,7 +54,6 @@ checks_calm true = refl
 checks_calm false = refl
 
 headed_calm : (w : Script) (r : Reply) → SetupCalm (setup.headed w r)
-headed_calm w (Refused NoSuchBucket) = refl
 headed_calm w (Head len header) = refl
 headed_calm w _ = checks_calm (checks_all w.committer w.mode)
 
@@ -68,10 +76,10 @@ swept_calm (Some s) = refl
 swept_calm None = refl
 
 setup_calm : (w : Script) (s : setup.Setup) (r : Reply) → SetupCalm s → SetupCalm (setup.setup_hears w s r)
-setup_calm w setup.Heading r h = headed_calm w r
-setup_calm w (setup.Checking keys) r h = checked_calm w keys r
-setup_calm w setup.Clearing r h = cleared_calm w.committer
-setup_calm w (setup.Sweeping s) r h = swept_calm (sweep_hears all_go s r)
+setup_calm w setup.Heading r h = if_bucket_so SetupCalm r (setup.headed w r) refl (headed_calm w r)
+setup_calm w (setup.Checking keys) r h = if_bucket_so SetupCalm r (setup.checked w keys r) refl (checked_calm w keys r)
+setup_calm w setup.Clearing r h = if_bucket_so SetupCalm r (setup.cleared w.committer) refl (cleared_calm w.committer)
+setup_calm w (setup.Sweeping s) r h = if_bucket_so SetupCalm r (setup.sweeping (sweep_hears all_go s r)) refl (swept_calm (sweep_hears all_go s r))
 setup_calm w (setup.SetupOver end) r h = h
 
 abbrev WriteCalm : writes.Write → Type 0

@@ -20,9 +20,8 @@ use Rattle.job_operations.specs.Records.{record_key, set_text}
 use Rattle.job_operations.specs.Walks.{Walked, More, Whole, walked, keys_on}
 use Rattle.job_operations.specs.Uploading.{Creating, Sending}
 use Rattle.path_keys.specs.Paths.{relative_in}
-use Rattle.s3_types.specs.declared.reply.Reply.TheVariants.{Head, Refused}
-use Rattle.s3_types.specs.declared.reply.Refusal.TheVariants.{NoSuchBucket}
-use Rattle.job_operations.specs.Setup.{Setup, Heading, Checking, Clearing, Sweeping, SetupOver, setup_asks, setup_after, headed, checked, checked_by, first_shown, or_next, shown_path}
+use Rattle.s3_types.specs.declared.reply.Reply.TheVariants.{Head}
+use Rattle.job_operations.specs.Setup.{Setup, Heading, Checking, Clearing, Sweeping, SetupOver, setup_asks, setup_after, if_bucket, headed, checked, checked_by, first_shown, or_next, shown_path}
 use Rattle.job_operations.specs.Writes as writes
 use Rattle.job_operations.specs.TaskCommits as commits
 use Rattle.job_operations.specs.TaskAborts as aborts
@@ -168,13 +167,12 @@ checked_on_same w keys _ = refl
 setup_goes_same : (w : Script) (o : Setup) (i : Item) → setup_after (job_script (job_of w)) o i ≡ setup_after w o i
 setup_goes_same w o WornOut = refl
 setup_goes_same w o OutOfMemory = refl
-setup_goes_same w Heading (Got r b) = headed_same w r
+setup_goes_same w Heading (Got r b) = ap (if_bucket r) (headed_same w r)
   where
     headed_same : (w : Script) (r : Reply) → headed (job_script (job_of w)) r ≡ headed w r
-    headed_same w (Refused NoSuchBucket) = refl
     headed_same w (Head len header) = refl
     headed_same w _ = refl
-setup_goes_same w (Checking keys) (Got r b) = checked_on_same w keys r
+setup_goes_same w (Checking keys) (Got r b) = ap (if_bucket r) (checked_on_same w keys r)
 setup_goes_same w Clearing (Got r b) = refl
 setup_goes_same w (Sweeping s) (Got r b) = refl
 setup_goes_same w (SetupOver e) (Got r b) = refl

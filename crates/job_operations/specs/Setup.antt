@@ -1,5 +1,5 @@
 -- The driver's set-up of a job (Hadoop, S3A committers: job setup; fs.s3a.committer.staging.conflict-mode).
-use Rattle.std.specs.Prelude.{ℕ, cond, List, [], ◌∷◌, ◌++◌, codes, Option, Some, None}
+use Rattle.std.specs.Prelude.{ℕ, Bool, true, false, cond, List, [], ◌∷◌, ◌++◌, codes, Option, Some, None}
 use Rattle.s3_types.specs.declared.request.Request.{Request}
 use Rattle.s3_types.specs.declared.request.Request.TheVariants.{HeadObject, DeleteObject}
 use Rattle.s3_types.specs.declared.request.Committer.{Committer}
@@ -42,9 +42,8 @@ setup_asks w Clearing = Some (DeleteObject w.dest.bucket (layout.success_key w.d
 setup_asks w (Sweeping s) = Some (sweep_asks w.dest.bucket (layout.magic_prefix w.dest.key w.job) s)
 setup_asks w (SetupOver end) = None
 
--- an object at the destination's key, or no bucket, ends it
+-- an object at the destination's key ends it
 abbrev pub headed : Script → Reply → Setup
-headed w (Refused NoSuchBucket) = SetupOver ends.NoSuchBucket
 headed w (Head len header) = SetupOver ends.DestIsFile
 headed w _ = cond (checks_all w.committer w.mode) (Checking []) Clearing
 
@@ -83,11 +82,19 @@ abbrev pub sweeping : Option Sweep → Setup
 sweeping (Some s) = Sweeping s
 sweeping None = SetupOver ends.Done
 
+abbrev pub lacks_bucket : Reply → Bool
+lacks_bucket (Refused NoSuchBucket) = true
+lacks_bucket _ = false
+
+-- a bucket that is not there ends it, whatever was asked
+abbrev pub if_bucket : Reply → Setup → Setup
+if_bucket r next = cond (lacks_bucket r) (SetupOver ends.NoSuchBucket) next
+
 abbrev pub setup_hears : Script → Setup → Reply → Setup
-setup_hears w Heading r = headed w r
-setup_hears w (Checking keys) r = checked w keys r
-setup_hears w Clearing r = cleared w.committer
-setup_hears w (Sweeping s) r = sweeping (sweep_hears all_go s r)
+setup_hears w Heading r = if_bucket r (headed w r)
+setup_hears w (Checking keys) r = if_bucket r (checked w keys r)
+setup_hears w Clearing r = if_bucket r (cleared w.committer)
+setup_hears w (Sweeping s) r = if_bucket r (sweeping (sweep_hears all_go s r))
 setup_hears w (SetupOver end) r = SetupOver end
 
 abbrev pub setup_over : Setup → Option SetupEnd

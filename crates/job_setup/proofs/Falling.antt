@@ -1,5 +1,5 @@
 -- What a set-up has left falls.
-use Rattle.std.proofs.Common.{◌≡◌, ℕ, ◌+◌, ◌<◌, ◌≤◌, Bool, true, false, cond, List, [], ◌++◌, Option, Some, None, refl, sym, ap, subst, ◌∙◌, arith}
+use Rattle.std.proofs.Common.{◌≡◌, ℕ, ◌+◌, ◌<◌, ◌≤◌, inl, inr, Bool, true, false, cond, List, [], ◌++◌, Option, Some, None, refl, sym, ap, subst, ◌∙◌, arith}
 use Rattle.std.specs.Prelude.{codes}
 use Rattle.proof_base.proofs.Options.{some_is}
 use Rattle.s3_types.specs.Store.{Scene}
@@ -9,14 +9,15 @@ use Rattle.s3_types.specs.declared.request.Committer.TheVariants.{Magic, Directo
 use Rattle.s3_types.specs.declared.request.Request.{Request}
 use Rattle.s3_types.specs.declared.request.Request.TheVariants.{HeadObject, DeleteObject}
 use Rattle.s3_types.specs.declared.reply.Reply.{Reply}
-use Rattle.s3_types.specs.declared.reply.Reply.TheVariants.{Head, Page, Refused}
-use Rattle.s3_types.specs.declared.reply.Refusal.TheVariants.{NoSuchBucket}
+use Rattle.s3_types.specs.declared.reply.Reply.TheVariants.{Head, Page}
 use Rattle.magic_paths.specs.Layout as layout
 use Rattle.job_model.specs.Jobs.{Job}
+use Rattle.job_model.specs.declared.ends.SetupEnd.TheVariants as ends
 use Rattle.job_operations.specs.AtWork.{job_script}
 use Rattle.job_operations.specs.Conflicts.{checks_all}
 use Rattle.job_operations.specs.Walks.{Walked, More, Whole, keys_on, walked, page_after, Sweep, sweep_start, sweep_asks, sweep_hears, all_go}
-use Rattle.job_operations.specs.Setup.{Setup, Heading, Checking, Clearing, Sweeping, SetupOver, setup_asks, setup_hears, headed, first_shown, checked_on, checked_by, checked, cleared, sweeping}
+use Rattle.job_operations.specs.Setup.{Setup, Heading, Checking, Clearing, Sweeping, SetupOver, setup_asks, setup_hears, lacks_bucket, if_bucket, headed, first_shown, checked_on, checked_by, checked, cleared, sweeping}
+use Rattle.job_operations.proofs.Faults.{if_bucket_so}
 use Rattle.sweep.specs.Fitting.{FitsPage, FitsSweep}
 use Rattle.sweep.specs.Left.{walk_left, left_of, adds_key, one_if}
 use Rattle.sweep.specs.Laws.{LessWalk}
@@ -50,7 +51,6 @@ nothing_left j s true = omega arith
 nothing_left j s false = omega arith
 
 headed_left : (j : Job) (s : Scene) (r : Reply) → left_at j (headed (job_script j) r) s ≤ 1 + walk_left j.dest.bucket (j.dest.key ++ codes "/") [] s + cleared_left j.committer j s
-headed_left j s (Refused NoSuchBucket) = omega arith
 headed_left j s (Head len header) = omega arith
 headed_left j s _ = nothing_left j s (checks_all j.committer j.mode)
 
@@ -99,22 +99,35 @@ sweeping_falls j w s h =
 none_some : {r : Request} → None ≡ Some r → ⊥
 none_some e = cc
 
-falls_at : (j : Job) (c : Setup) (s : Scene) (r : Request) → setup_asks (job_script j) c ≡ Some r → FitsSetup c (answer s r) → left_at j (setup_hears (job_script j) c (answer s r)) (apply s r) < left_at j c s
-falls_at j Heading s r e h =
-    subst (λ r. left_at j (headed (job_script j) (answer s r)) (apply s r) < left_at j Heading s) (some_is _ _ e) (heading_falls j s (answer s (HeadObject j.dest.bucket j.dest.key)))
-falls_at j (Checking keys) s r e h =
-    subst (λ r. FitsPage (answer s r) → left_at j (checked (job_script j) keys (answer s r)) (apply s r) < left_at j (Checking keys) s) (some_is _ _ e) (checking_falls j keys s) h
-falls_at j Clearing s r e h = subst (λ r. left_at j (cleared j.committer) (apply s r) < left_at j Clearing s) (some_is _ _ e) (clearing_falls j s)
-falls_at j (Sweeping w) s r e h =
-    subst (λ r. FitsSweep w (answer s r) → left_at j (sweeping (sweep_hears all_go w (answer s r))) (apply s r) < left_at j (Sweeping w) s) (some_is _ _ e) (sweeping_falls j w s) h
-falls_at j (SetupOver end) s r e h = absurd (none_some e)
-
 some_left : (j : Job) (c : Setup) (s : Scene) (r : Request) → setup_asks (job_script j) c ≡ Some r → 0 < left_at j c s
 some_left j Heading s r e = omega arith
 some_left j (Checking keys) s r e = omega arith
 some_left j Clearing s r e = omega arith
 some_left j (Sweeping w) s r e = sweep_laws.some j.dest.bucket (layout.magic_prefix j.dest.key j.job) w s
 some_left j (SetupOver end) s r e = absurd (none_some e)
+
+-- as it goes on, and where it ends since the bucket is not there
+falls_if : (j : Job) (c : Setup) (s : Scene) (r : Request) (next : Setup) → setup_asks (job_script j) c ≡ Some r → left_at j next (apply s r) < left_at j c s → left_at j (if_bucket (answer s r) next) (apply s r) < left_at j c s
+falls_if j c s r next e h = if_bucket_so (λ m. left_at j m (apply s r) < left_at j c s) (answer s r) next (some_left j c s r e) h
+
+falls_lost : (j : Job) (c : Setup) (s : Scene) (r : Request) (next : Setup) → setup_asks (job_script j) c ≡ Some r → lacks_bucket (answer s r) ≡ true → left_at j (if_bucket (answer s r) next) (apply s r) < left_at j c s
+falls_lost j c s r next e h = subst (λ b. left_at j (cond b (SetupOver ends.NoSuchBucket) next) (apply s r) < left_at j c s) (sym h) (some_left j c s r e)
+
+falls_at : (j : Job) (c : Setup) (s : Scene) (r : Request) → setup_asks (job_script j) c ≡ Some r → FitsSetup c (answer s r) → left_at j (setup_hears (job_script j) c (answer s r)) (apply s r) < left_at j c s
+falls_at j Heading s r e h =
+    falls_if j Heading s r (headed (job_script j) (answer s r)) e
+    (subst (λ r. left_at j (headed (job_script j) (answer s r)) (apply s r) < left_at j Heading s) (some_is _ _ e) (heading_falls j s (answer s (HeadObject j.dest.bucket j.dest.key))))
+falls_at j (Checking keys) s r e (inl h) =
+    falls_if j (Checking keys) s r (checked (job_script j) keys (answer s r)) e
+    (subst (λ r. FitsPage (answer s r) → left_at j (checked (job_script j) keys (answer s r)) (apply s r) < left_at j (Checking keys) s) (some_is _ _ e) (checking_falls j keys s) h)
+falls_at j (Checking keys) s r e (inr h) = falls_lost j (Checking keys) s r (checked (job_script j) keys (answer s r)) e h
+falls_at j Clearing s r e h =
+    falls_if j Clearing s r (cleared j.committer) e (subst (λ r. left_at j (cleared j.committer) (apply s r) < left_at j Clearing s) (some_is _ _ e) (clearing_falls j s))
+falls_at j (Sweeping w) s r e (inl h) =
+    falls_if j (Sweeping w) s r (sweeping (sweep_hears all_go w (answer s r))) e
+    (subst (λ r. FitsSweep w (answer s r) → left_at j (sweeping (sweep_hears all_go w (answer s r))) (apply s r) < left_at j (Sweeping w) s) (some_is _ _ e) (sweeping_falls j w s) h)
+falls_at j (Sweeping w) s r e (inr h) = falls_lost j (Sweeping w) s r (sweeping (sweep_hears all_go w (answer s r))) e h
+falls_at j (SetupOver end) s r e h = absurd (none_some e)
 
 heading_keeps : (j : Job) (s : Scene) → left_at j Heading (apply s (HeadObject j.dest.bucket j.dest.key)) ≤ left_at j Heading s
 heading_keeps j s =

@@ -5,8 +5,7 @@ use Rattle.s3_types.specs.declared.request.Committer.{Committer}
 use Rattle.s3_types.specs.declared.request.Committer.TheVariants.{Magic, Directory, Partitioned}
 use Rattle.s3_types.specs.declared.request.Request.{Request}
 use Rattle.s3_types.specs.declared.reply.Reply.{Reply}
-use Rattle.s3_types.specs.declared.reply.Reply.TheVariants.{Head, Page, Refused}
-use Rattle.s3_types.specs.declared.reply.Refusal.TheVariants.{NoSuchBucket}
+use Rattle.s3_types.specs.declared.reply.Reply.TheVariants.{Head, Page}
 use Rattle.asking.specs.Asks.{AskLaws}
 use Rattle.machine.specs.Standing.{Fine}
 use Rattle.job_model.specs.Jobs.{Job}
@@ -14,7 +13,8 @@ use Rattle.job_model.specs.JobScript.{Script}
 use Rattle.job_operations.specs.AtWork.{job_script, setup_wants, setup_told}
 use Rattle.job_operations.specs.Conflicts.{checks_all}
 use Rattle.job_operations.specs.Walks.{Walked, More, Whole, keys_on, walked, Sweep, sweep_hears, all_go}
-use Rattle.job_operations.specs.Setup.{Setup, Heading, Checking, Clearing, Sweeping, SetupOver, setup_asks, setup_hears, headed, first_shown, checked_on, checked_by, checked, cleared, sweeping}
+use Rattle.job_operations.specs.Setup.{Setup, Heading, Checking, Clearing, Sweeping, SetupOver, setup_asks, setup_hears, if_bucket, headed, first_shown, checked_on, checked_by, checked, cleared, sweeping}
+use Rattle.job_operations.proofs.Faults.{if_bucket_so}
 use Rattle.job_setup.specs.Fits.{FitsDriving, standing, standing_of}
 
 fine_nothing : (b : Bool) → standing_of (cond b (Checking []) Clearing) ≡ Fine
@@ -22,7 +22,6 @@ fine_nothing true = refl
 fine_nothing false = refl
 
 fine_headed : (w : Script) (r : Reply) → standing_of (headed w r) ≡ Fine
-fine_headed w (Refused NoSuchBucket) = refl
 fine_headed w (Head len header) = refl
 fine_headed w _ = fine_nothing (checks_all w.committer w.mode)
 
@@ -47,11 +46,15 @@ fine_sweeping : (o : Option Sweep) → standing_of (sweeping o) ≡ Fine
 fine_sweeping (Some s) = refl
 fine_sweeping None = refl
 
+-- also where the bucket is not there
+fine_if : (r : Reply) (next : Setup) → standing_of next ≡ Fine → standing_of (if_bucket r next) ≡ Fine
+fine_if r next h = if_bucket_so (λ c. standing_of c ≡ Fine) r next refl h
+
 goes_on : (j : Job) (c : Setup) (r : Request) (a : Reply) → setup_asks (job_script j) c ≡ Some r → standing_of (setup_hears (job_script j) c a) ≡ standing_of c
-goes_on j Heading r a e = fine_headed (job_script j) a
-goes_on j (Checking keys) r a e = fine_checked (job_script j) keys a
-goes_on j Clearing r a e = fine_cleared j.committer
-goes_on j (Sweeping s) r a e = fine_sweeping (sweep_hears all_go s a)
+goes_on j Heading r a e = fine_if a (headed (job_script j) a) (fine_headed (job_script j) a)
+goes_on j (Checking keys) r a e = fine_if a (checked (job_script j) keys a) (fine_checked (job_script j) keys a)
+goes_on j Clearing r a e = fine_if a (cleared j.committer) (fine_cleared j.committer)
+goes_on j (Sweeping s) r a e = fine_if a (sweeping (sweep_hears all_go s a)) (fine_sweeping (sweep_hears all_go s a))
 goes_on j (SetupOver end) r a e = refl
 
 pub setup_laws : AskLaws setup_wants setup_told FitsDriving standing

@@ -1,19 +1,19 @@
 -- The replies that fit a set-up, and how it stands.
-use Rattle.std.specs.Prelude.{Bool}
+use Rattle.std.specs.Prelude.{◌≡◌, ◌⊎◌, Bool, true}
 use Rattle.s3_types.specs.declared.reply.Reply.{Reply}
 use Rattle.job_model.specs.declared.ends.SetupEnd.{SetupEnd}
 use Rattle.job_model.specs.declared.ends.SetupEnd.TheVariants.{StoreFault, NoMemory}
 use Rattle.machine.specs.Standing.{Standing, Fine, Faulted, Broken}
 use Rattle.job_operations.specs.AtWork.{Driving}
-use Rattle.job_operations.specs.Setup.{Setup, Heading, Checking, Clearing, Sweeping, SetupOver}
+use Rattle.job_operations.specs.Setup.{Setup, Heading, Checking, Clearing, Sweeping, SetupOver, lacks_bucket}
 use Rattle.sweep.specs.Fitting.{FitsPage, FitsSweep}
 
--- once the destination was looked at the bucket is there, and a page that is not folded has keys alone
+-- a page that is not folded has keys alone; that the bucket is not there fits at each request
 abbrev pub FitsSetup : Setup → Reply → Type 0
 FitsSetup Heading r = Unit {0}
-FitsSetup (Checking keys) r = FitsPage r
+FitsSetup (Checking keys) r = FitsPage r ⊎ (lacks_bucket r ≡ true)
 FitsSetup Clearing r = Unit {0}
-FitsSetup (Sweeping s) r = FitsSweep s r
+FitsSetup (Sweeping s) r = FitsSweep s r ⊎ (lacks_bucket r ≡ true)
 FitsSetup (SetupOver end) r = Unit {0}
 
 abbrev pub FitsDriving : Driving Setup → Reply → Bool → Type 0

@@ -1,10 +1,7 @@
 -- A set-up as it is kept.
 use Rattle.std.specs.Prelude.{ℕ, cond, List, []}
-use Rattle.s3_types.specs.declared.reply.Refusal.{Refusal}
-use Rattle.s3_types.specs.declared.reply.Refusal.TheVariants.{NoSuchBucket}
 use Rattle.job_model.specs.JobScript.{Script}
 use Rattle.job_model.specs.declared.ends.SetupEnd.{SetupEnd}
-use Rattle.job_model.specs.declared.ends.SetupEnd.TheVariants as ends
 use Rattle.job_operations.specs.Conflicts.{checks_all}
 use Rattle.job_operations.specs.Walks.{Sweep}
 use Rattle.job_operations.specs.Setup.{Setup, Heading, Checking, Clearing, Sweeping, SetupOver}
@@ -26,7 +23,3 @@ setup_of h = setup_at h.stage h.walk h.sweep h.end
 -- nothing stands at the destination's own key
 abbrev pub found_nothing : Script → Setup
 found_nothing w = cond (checks_all w.committer w.mode) (Checking []) Clearing
-
-abbrev pub refused : Script → Refusal → Setup
-refused w NoSuchBucket = SetupOver ends.NoSuchBucket
-refused w _ = found_nothing w

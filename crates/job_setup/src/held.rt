@@ -1,9 +1,10 @@
-ghost use Rattle.std.specs.Prelude.{◌≡◌, IfOk, OnOk};
+ghost use Rattle.std.specs.Prelude.{◌≡◌, false, IfOk, OnOk};
 ghost use Rattle.job_operations.specs.AtWork.{job_script};
 ghost use Rattle.job_operations.specs.Conflicts.{checks_all};
 ghost use Rattle.job_operations.specs.Walks.{sweep_hears, all_go};
-ghost use Rattle.job_operations.specs.Setup.{SetupOver, setup_start, setup_asks, setup_hears, headed, checked, cleared, sweeping};
-ghost use Rattle.job_setup.specs.Held.{setup_of, found_nothing, refused};
+ghost use Rattle.job_operations.specs.Setup.{SetupOver, setup_start, setup_asks, setup_hears, lacks_bucket, headed, checked, cleared, sweeping};
+ghost use Rattle.job_setup.specs.Held.{setup_of, found_nothing};
+ghost use Rattle.sweep.specs.Fitting.{FitsPage, FitsSweep};
 ghost use Rattle.job_setup.specs.Fits.{FitsSetup};
 
 use crate::files::first_shown;
@@ -48,6 +49,19 @@ fn checks_all(committer: Committer, mode: Mode) -> bool
             Mode::Replace => false,
         },
         Committer::Partitioned => false,
+    }
+}
+
+/// Whether a reply says that the bucket is not there.
+fn lacks_bucket(reply: &Reply) -> bool
+    ensures { result ≡ lacks_bucket reply.now }
+{
+    match reply {
+        Reply::Refused(refusal) => match refusal {
+            Refusal::NoSuchBucket => true,
+            _ => false,
+        },
+        _ => false,
     }
 }
 
@@ -97,20 +111,10 @@ impl Held {
         }
     }
 
-    fn hear_refusal(&mut self, alloc: Global, plan: &JobPlan, refusal: Refusal)
-        ensures { setup_of self.new ≡ refused (job_script plan.now) refusal }
-    {
-        match refusal {
-            Refusal::NoSuchBucket => self.finish(SetupEnd::NoSuchBucket),
-            _ => self.find_nothing(alloc, plan),
-        }
-    }
-
     fn hear_head(&mut self, alloc: Global, plan: &JobPlan, reply: &Reply)
         ensures { setup_of self.new ≡ headed (job_script plan.now) reply.now }
     {
         match reply {
-            Reply::Refused(refusal) => self.hear_refusal(alloc, plan, *refusal),
             Reply::Head { .. } => self.finish(SetupEnd::DestIsFile),
             _ => self.find_nothing(alloc, plan),
         }
@@ -118,7 +122,7 @@ impl Held {
 
     fn hear_page(&mut self, alloc: Global, plan: &JobPlan, reply: &Reply) -> Result<(), AllocError>
         requires stage { self.old.stage ≡ Stage.Checking }
-        requires fits { FitsSetup (setup_of self.old) reply.now }
+        requires fits { FitsPage reply.now }
         ensures { OnOk result (setup_of self.new ≡ checked (job_script plan.now) self.old.walk reply.now) }
     {
         let Reply::Page { entries, .. } = reply else {
@@ -151,7 +155,7 @@ impl Held {
 
     fn hear_sweep(&mut self, alloc: Global, reply: &Reply) -> Result<(), AllocError>
         requires stage { self.old.stage ≡ Stage.Sweeping }
-        requires fits { FitsSetup (setup_of self.old) reply.now }
+        requires fits { FitsSweep self.old.sweep reply.now }
         ensures { OnOk result (setup_of self.new ≡ sweeping (sweep_hears all_go self.old.sweep reply.now)) }
     {
         if self.sweep.hear(alloc, &AllKeys, reply)? {
@@ -161,9 +165,10 @@ impl Held {
         Ok(())
     }
 
-    /// Takes the reply to its present request.
-    pub fn hear(&mut self, alloc: Global, plan: &JobPlan, reply: &Reply) -> Result<(), AllocError>
-        requires { FitsSetup (setup_of self.old) reply.now }
+    /// Takes a reply where the bucket is there.
+    fn hear_there(&mut self, alloc: Global, plan: &JobPlan, reply: &Reply) -> Result<(), AllocError>
+        requires fits { FitsSetup (setup_of self.old) reply.now }
+        requires there { lacks_bucket reply.now ≡ false }
         ensures { OnOk result (setup_of self.new ≡ setup_hears (job_script plan.now) (setup_of self.old) reply.now) }
     {
         match self.stage {
@@ -178,6 +183,23 @@ impl Held {
             }
             Stage::Sweeping => self.hear_sweep(alloc, reply),
             Stage::Over => Ok(()),
+        }
+    }
+
+    /// Takes the reply to its present request.
+    pub fn hear(&mut self, alloc: Global, plan: &JobPlan, reply: &Reply) -> Result<(), AllocError>
+        requires { FitsSetup (setup_of self.old) reply.now }
+        ensures { OnOk result (setup_of self.new ≡ setup_hears (job_script plan.now) (setup_of self.old) reply.now) }
+    {
+        match self.stage {
+            Stage::Over => Ok(()),
+            _ => {
+                if lacks_bucket(reply) {
+                    self.finish(SetupEnd::NoSuchBucket);
+                    return Ok(());
+                }
+                self.hear_there(alloc, plan, reply)
+            }
         }
     }
 }

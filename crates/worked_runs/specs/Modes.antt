@@ -57,6 +57,9 @@ sets_up committer mode os = course (setting (with_files committer mode [])) Driv
 pub record SetupsRun : Type 0 where
   pub file : sets_up Magic Append (answers (Head 1 None) ∷ []) ≡ record { requests = Some (HeadObject lake (codes "out")) ∷ []; end = Some (ends.Setup setups.DestIsFile) }
   pub bucket : sets_up Magic Append (answers (Refused NoSuchBucket) ∷ []) ≡ record { requests = Some (HeadObject lake (codes "out")) ∷ []; end = Some (ends.Setup setups.NoSuchBucket) }
+  -- the bucket is not there, as the magic directory is listed
+  pub gone : sets_up Magic Append (answers (Refused NoSuchKey) ∷ answers Deleted ∷ answers (Refused NoSuchBucket) ∷ [])
+      ≡ record { requests = Some (HeadObject lake (codes "out")) ∷ Some (DeleteObject lake (codes "out/_SUCCESS")) ∷ Some (ListPage lake (codes "out/__magic/job-j1/") false [] 1000) ∷ []; end = Some (ends.Setup setups.NoSuchBucket) }
   -- keys left in the magic directory are deleted
   pub magic : sets_up Magic Append (answers (Refused NoSuchKey) ∷ answers Deleted ∷ page (codes "out/__magic/job-j1/x" ∷ []) ∷ answers Deleted ∷ [])
       ≡ record { requests = Some (HeadObject lake (codes "out")) ∷ Some (DeleteObject lake (codes "out/_SUCCESS")) ∷ Some (ListPage lake (codes "out/__magic/job-j1/") false [] 1000) ∷ Some (DeleteObjects lake (codes "out/__magic/job-j1/x" ∷ [])) ∷ []; end = Some (ends.Setup setups.Done) }

@@ -4,7 +4,7 @@ use Rattle.s3_types.specs.Blocks.{block_of, parts_of}
 use Rattle.worked_runs.proofs.committers.Goals as goal
 
 pub returns-clause-setups : goal.returns-clause-setups
-returns-clause-setups c = record { file = refl; bucket = refl; magic = refl; conflict = refl; empty = refl; append = refl; worn = refl }
+returns-clause-setups c = record { file = refl; bucket = refl; gone = refl; magic = refl; conflict = refl; empty = refl; append = refl; worn = refl }
 
 pub returns-clause-staging : goal.returns-clause-staging
 unfolding block_of parts_of
