@@ -1,3 +1,4 @@
 pub mod Journals
 pub mod Standing
 pub mod Leaving
+pub mod Imaged

@@ -1,7 +1,7 @@
 -- The laws of this crate.
 use Rattle.std.specs.Prelude.{◌≡◌, ◌⊎◌, ℕ, ◌<◌, ◌≤◌, ◌^◌, true, false, List, ◌++◌, length, take, Option}
 use Rattle.std.specs.List.{AllByRecursion}
-use Rattle.s3_types.specs.Store.{Content, Scene}
+use Rattle.s3_types.specs.Store.{Content, Scene, new_content}
 use Rattle.s3_types.specs.Answer.{apply, apply_store}
 use Rattle.s3_types.specs.Moment.{moment}
 use Rattle.s3_types.specs.declared.request.Request.{Request}
@@ -10,8 +10,9 @@ use Rattle.log_format.specs.Change.{is_changing}
 use Rattle.log_format.specs.declared.held.Held.{Held}
 use Rattle.shelf.specs.Logged.{Holding, Stored, fresh, IsDurable, LeavesOnly}
 use Rattle.store_image.specs.Image.{image}
-use Rattle.store_image.specs.Content.{IsContent}
+use Rattle.store_image.specs.Content.{is_minimum, IsContent}
 use Rattle.kept_runs.specs.Changes.{changes, content_after, Begins}
+use Rattle.kept_runs.specs.Made.{IsMade, KeepsImages}
 use Rattle.kept_runs.specs.Kept.{Unfolds, StandsFor, IsMoment, kept, Holds, HasEarlier, HoldsPart, HoldsGrownBy, HoldsSome}
 use Rattle.kept_runs.specs.Crashes.{WhereTold, IsBetween, IsLast, AreAppended}
 
@@ -25,6 +26,15 @@ pub record ChangesFollow : Type 0 where
   pub joined : (es fs : List Entry) → changes (es ++ fs) ≡ changes es ++ changes fs
   -- the first ones of a journal are those of its first entries
   pub cut : (es : List Entry) (rs : List Request) → Begins rs (changes es) → (m : ℕ) × (m ≤ length es) × (rs ≡ changes (take m es))
+
+pub record ContentStays : Type 0 where
+  -- a new store can have an image
+  pub new : (minimum : ℕ) → is_minimum minimum ≡ true → IsContent (new_content minimum)
+  -- and so can a store behind requests, up to the most of its counter
+  pub one : (c : Content) (r : Request) → IsContent c → IsMade r → (apply_store c r).next ≤ 2 ^ 62 → IsContent (apply_store c r)
+  pub all : (c : Content) (rs : List Request) → IsContent c → AllByRecursion IsMade rs → (content_after c rs).next ≤ 2 ^ 62 → IsContent (content_after c rs)
+  -- and behind each entry of a journal
+  pub moments : (opening : Content) (es : List Entry) → AllByRecursion IsMade (changes es) → KeepsImages opening es
 
 pub record KeptStands : Type 0 where
   -- the changes of the first entries stand for the moment behind these, and the first changes for a moment

@@ -1,4 +1,5 @@
 pub mod Changes
+pub mod Made
 pub mod Kept
 pub mod Crashes
 pub mod Laws

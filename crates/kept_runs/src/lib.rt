@@ -1,14 +1,19 @@
-//! What a shelf keeps of a run: the changes of its journal, what a base with changes after it stands for, and
-//! that a crash leaves a moment of the run, in `specs/`.
+//! What a shelf keeps of a run: the changes of its journal, that they keep a store one that an image can have,
+//! what a base with changes after it stands for, and that a crash leaves a moment of the run, in `specs/`.
 #![tactic(auto)]
 
-ghost use Rattle.kept_runs.specs.Laws.{ChangesFollow, KeptStands, CrashesLeaveMoments, RunsSurvive};
+ghost use Rattle.kept_runs.specs.Laws.{ChangesFollow, ContentStays, KeptStands, CrashesLeaveMoments, RunsSurvive};
 
 use shelf::kept::Shelf;
 
 /// The changes of a journal.
 pub fn changes()
     ensures follow { ChangesFollow }
+{}
+
+/// What changes keep of a store that an image can have.
+pub fn contents()
+    ensures stay { ContentStays }
 {}
 
 /// What a shelf holds that takes the changes of a journal.

@@ -1,14 +1,14 @@
 -- What changes leave of a store.
-use Rattle.std.proofs.Common.{◌≡◌, ℕ, ◌+◌, ◌<◌, ◌≤◌, ◌^◌, Bool, true, false, cond, List, [], ◌∷◌, Option, Some, None, refl, ap, ◌∙◌, arith}
+use Rattle.std.proofs.Common.{◌≡◌, ◌<◌, ◌^◌, true, false, List, [], Option, Some, None, refl, ap, ◌∙◌, arith}
 use Rattle.std.specs.FinMap as fin
-use Rattle.s3_types.specs.Names.{is_bucket}
-use Rattle.s3_types.specs.Store.{BucketContent, Content, new_bucket, opening}
+use Rattle.s3_types.specs.Store.{BucketContent, Content, opening}
 use Rattle.s3_types.specs.Requests.{is_cluster}
-use Rattle.s3_types.specs.Answer.{apply_store, apply_at, made, bucket_of, draws}
+use Rattle.s3_types.specs.Answer.{apply_store, apply_at}
 use Rattle.s3_types.specs.declared.request.Request.{Request}
-use Rattle.s3_types.specs.declared.request.Request.TheVariants.{MakeBucket, GetObject, HeadObject, ListPage, ListParts, ListUploads, ClusterPut, ClusterRename, ClusterGet, ClusterDelete, ClusterList}
+use Rattle.s3_types.specs.declared.request.Request.TheVariants.{GetObject, HeadObject, ListPage, ListParts, ListUploads, ClusterPut, ClusterRename, ClusterGet, ClusterDelete, ClusterList}
 use Rattle.log_format.specs.Change.{is_changing}
 use Rattle.kept_runs.specs.Changes.{content_after}
+use Rattle.kept_runs.proofs.Imaged.{on_and_on}
 use Rattle.kept_runs.proofs.Journals.{others_leave}
 
 -- ---- one request
@@ -48,43 +48,6 @@ of_store (ClusterGet path) h = absurd (cc)
 of_store (ClusterDelete path) h = absurd (cc)
 of_store (ClusterList p) h = absurd (cc)
 of_store _ h = refl
-
--- from one store to another the counter does not fall, and the least size of a part stays
-pub record GoesOn (c d : Content) : Type 0 where
-  pub later : c.next ≤ d.next
-  pub least : d.minimum ≡ c.minimum
-
-same : (c : Content) → GoesOn c c
-same c = record { later = omega arith; least = refl }
-
-on_at : (c : Content) (r : Request) (o : Option BucketContent) → GoesOn c (apply_at o c r)
-on_at c r None = same c
-on_at c r (Some b) = record { later = by (draws r); least = refl }
-  where
-    by : (t : Bool) → c.next ≤ cond t (c.next + 1) c.next
-    by true = omega arith
-    by false = omega arith
-
-on_made : (c : Content) (name : List ℕ) (o : Option BucketContent) → GoesOn c (made c name o)
-on_made c name None = by (is_bucket name)
-  where
-    by : (t : Bool) → GoesOn c (cond t (record { buckets = fin.insert c.buckets name new_bucket; next = c.next; minimum = c.minimum }) c)
-    by true = record { later = omega arith; least = refl }
-    by false = same c
-on_made c name (Some b) = same c
-
-on : (c : Content) (r : Request) → GoesOn c (apply_store c r)
-on c (MakeBucket name) = on_made c name (fin.get c.buckets name)
-on c r = on_at c r (fin.get c.buckets (bucket_of r))
-
--- ---- requests in order
-
-pub on_and_on : (c : Content) (rs : List Request) → GoesOn c (content_after c rs)
-on_and_on c [] = same c
-on_and_on c (r ∷ rs) =
-    let first = on c r in
-    let others = on_and_on (apply_store c r) rs in
-    record { later = omega (arith, first.later, others.later); least = others.least ∙ first.least }
 
 -- a counter that is too high stays so
 pub high : (c d : Content) (rs : List Request) → content_after c rs ≡ d → 2 ^ 62 < c.next → 2 ^ 62 < d.next

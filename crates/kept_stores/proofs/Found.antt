@@ -1,7 +1,11 @@
 -- What is found on a shelf, by what was loaded.
-use Rattle.std.proofs.Common.{◌≡◌, ◌⊎◌, inl, inr, ℕ, ◌<◌, ◌≤◌, ◌^◌, ◌||◌, nat_lt, nat_le, Bool, true, false, cond, List, Option, Some, None, Result, Ok, Err, IfOk, refl, sym, ap, subst, ◌∙◌, arith}
+use Rattle.std.proofs.Common.{◌≡◌, ◌⊎◌, inl, inr, ℕ, ◌<◌, ◌≤◌, ◌^◌, ◌||◌, nat_lt, nat_le, Bool, true, false, cond, List, Option, Some, None, Result, Ok, Err, IfOk, length, refl, sym, ap, subst, ◌∙◌, arith}
 use Rattle.std.proofs.lemmas.Bool.Decides.{nat_tests}
 use Rattle.std.proofs.lemmas.Bool.{and_parts, leb-true}
+use Rattle.std.specs.FinMap as fin
+use Rattle.std.specs.List.{AllByRecursion}
+use Rattle.proof_base.specs.Order.{text_cmp, text_total}
+use Rattle.s3_types.specs.Names.{is_bucket, is_key}
 use Rattle.s3_types.specs.Store.{Content}
 use Rattle.s3_types.specs.declared.request.Request.{Request}
 use Rattle.s3_types.specs.declared.limits.TheConstants.{MOST_MINIMUM}
@@ -9,14 +13,17 @@ use Rattle.log_format.specs.declared.held.Held as logs
 use Rattle.shelf.specs.Logged.{Stored, most_base, most_file, IsSmall, IsLoaded, IsTooLarge, IsBad}
 use Rattle.shelf.specs.Logged.Holding.{Stands}
 use Rattle.store_image.specs.Image.{image}
-use Rattle.store_image.specs.Content.{IsContent}
+use Rattle.store_image.specs.Content.{IsObject, IsBucket, IsContent}
+use Rattle.store_image.proofs.Whole as images
 use Rattle.store_image.specs.Reading.{content_in}
 use Rattle.kept_runs.specs.Changes.{content_after}
+use Rattle.kept_runs.specs.Made.{IsMade}
+use Rattle.kept_runs.proofs.Imaged.{on_and_on, all, at}
 use Rattle.kept_stores.specs.declared.held.Held.{Held}
 use Rattle.kept_stores.specs.declared.held.Held.TheVariants.{Nothing, Store, Faulty}
 use Rattle.kept_stores.specs.Stores.{counted, unfolded, read_as, found}
-use Rattle.kept_stores.specs.Outcomes.{IsSound, IsOf}
-use Rattle.kept_stores.proofs.Following.{on_and_on}
+use Rattle.kept_runs.specs.Kept.{kept}
+use Rattle.kept_stores.specs.Outcomes.{IsSound, HasImage, AreAtKeys, IsOf}
 
 -- ---- the store that is unfolded
 
@@ -62,6 +69,14 @@ pub sound_if : {E : Type 0} (r : Result Held E) (c : Content) (rs : List Request
 sound_if (Ok h) c rs is e = subst IsSound (sym e) (opened c rs is)
 sound_if (Err fault) c rs is e = tt
 
+-- and it can have an image
+pub imaged : (c d : Content) (rs : List Request) → d ≡ content_after c rs → AllByRecursion IsMade rs → (content_after c rs).next ≤ 2 ^ 62 → IsContent c → HasImage (Store d)
+imaged c d rs same m few is = subst IsContent (sym same) (all c rs is m few)
+
+pub image_if : {E : Type 0} (r : Result Held E) (c : Content) → IsContent c → IfOk r (λ h. IsContent c → HasImage h) → IfOk r HasImage
+image_if (Ok h) c is f = f is
+image_if (Err fault) c is f = tt
+
 -- ---- the whole
 
 small : (s : Stored) → IsSmall s → found s ≡ read_as s.holding
@@ -69,6 +84,15 @@ unfolding found
 small s h =
     let test : (nat_lt most_base s.base_length || nat_lt most_file s.file_length) ≡ false = grind (arith, nat_tests) in
     rw test refl
+
+pub again : (s : Stored) (c : Content) (rs : List Request) → s.holding ≡ kept c rs → IsSmall s → length (image c) < 2 ^ 64 → IsContent c → (content_after c rs).next ≤ 2 ^ 62 → found s ≡ Store (content_after c rs)
+again s c rs h sm fits is less = small s sm ∙ ap read_as h ∙ ap (λ r. unfolded r rs) (images.read_again (image c) c fits is refl) ∙ sym (few (content_after c rs) less)
+
+pub at_keys : (c : Content) → IsContent c → AreAtKeys c
+at_keys c is n k b o g h =
+    let exact : fin.IsAntisymmetric text_cmp = fin.slice_cmp-IsAntisymmetric fin.nat_cmp-IsAntisymmetric in
+    let bucket = at text_total exact is_bucket (IsBucket c.next) c.buckets n b is.buckets g in
+    (at text_total exact is_key IsObject b.objects k o bucket.value.objects h).key
 
 -- nothing was loaded
 pub found_nothing : (o : Option Stored) (s : Stored) → IsLoaded o None → o ≡ Some s → Nothing ≡ found s

@@ -1,15 +1,22 @@
 -- What comes of a load and of a command, beside what the shelf holds.
-use Rattle.std.specs.Prelude.{◌≡◌, ◌≢◌, ℕ, ◌<◌, ◌≤◌, ◌^◌, ◌⊎◌, List, [], Option, Result, Ok, Err}
-use Rattle.s3_types.specs.Store.{Content}
+use Rattle.std.specs.Prelude.{◌≡◌, ◌≢◌, ℕ, ◌<◌, ◌≤◌, ◌^◌, ◌⊎◌, true, List, [], length, Option, Some, Result, Ok, Err}
+use Rattle.std.specs.FinMap as fin
+use Rattle.s3_types.specs.Names.{is_key}
+use Rattle.s3_types.specs.Store.{BucketContent, Content}
+use Rattle.s3_types.specs.declared.object.Object.{Object}
 use Rattle.s3_types.specs.declared.journal.Entry.{Entry}
+use Rattle.s3_types.specs.declared.request.Request.{Request}
 use Rattle.s3_types.specs.declared.limits.TheConstants.{MOST_MINIMUM}
-use Rattle.shelf.specs.Logged.{Holding, Stored, fresh, IsDurable, LeavesOnly}
+use Rattle.shelf.specs.Logged.{Holding, Stored, fresh, IsSmall, IsDurable, LeavesOnly}
 use Rattle.shelf.specs.Logged.Holding.{Nothing as Absent}
 use Rattle.store_image.specs.Image.{image}
-use Rattle.kept_runs.specs.Changes.{changes}
-use Rattle.kept_runs.specs.Kept.{StandsFor, IsMoment, Holds, HoldsPart}
+use Rattle.store_image.specs.Content.{IsContent}
+use Rattle.kept_runs.specs.Changes.{changes, content_after}
+use Rattle.kept_runs.specs.Made.{KeepsImages}
+use Rattle.kept_runs.specs.Kept.{StandsFor, IsMoment, kept, Holds, HoldsPart}
 use Rattle.kept_runs.specs.Crashes.{WhereTold}
 use Rattle.kept_appends.specs.Appends.{AreCalled, AreCut}
+use Rattle.kept_stores.specs.Stores.{found}
 use Rattle.kept_stores.specs.Works.{Work, Says, Saves}
 use Rattle.kept_stores.specs.declared.held.Held.{Held}
 use Rattle.kept_stores.specs.declared.held.Held.TheVariants.{Nothing, Store, Faulty}
@@ -34,6 +41,21 @@ abbrev pub IsSound : Held → Type 0
 IsSound Nothing = Unit {0}
 IsSound (Store c) = IsOpen c
 IsSound (Faulty number place) = Unit {0}
+
+-- the store that was found can have an image
+abbrev pub HasImage : Held → Type 0
+HasImage Nothing = Unit {0}
+HasImage (Store c) = IsContent c
+HasImage (Faulty number place) = Unit {0}
+
+-- the objects of a store stand at keys
+abbrev pub AreAtKeys : Content → Type 0
+AreAtKeys c = (n k : List ℕ) (b : BucketContent) (o : Object) → fin.get c.buckets n ≡ Some b → fin.get b.objects k ≡ Some o → is_key k ≡ true
+
+-- a store that can have an image is found again behind its changes, where it is small and its counter is at most 2^62
+pub record LoadsAgain : Type 0 where
+  pub found_again : (s : Stored) (c : Content) (rs : List Request) → s.holding ≡ kept c rs → IsSmall s → length (image c) < 2 ^ 64
+      → IsContent c → (content_after c rs).next ≤ 2 ^ 62 → found s ≡ Store (content_after c rs)
 
 -- the store that was found is what is held stands for
 abbrev pub IsOf : Held → Holding → Type 0
@@ -76,6 +98,11 @@ pub data IsAnswer : Work → (due : ℕ) (text : List ℕ) (sent : List Entry) �
 abbrev pub IsHeld : Work → (due : ℕ) (before after : Option Stored) → Type 0
 IsHeld (Says d text es) due before after = after ≡ before
 IsHeld (Saves c text es) due before after = (due ≡ 0 → Holds after c (changes es)) × (due ≢ 0 → (after ≡ before) ⊎ HoldsPart after c es)
+
+-- what is saved leads through stores that can have an image
+abbrev pub HasImages : Work → Type 0
+HasImages (Says d text es) = Unit {0}
+HasImages (Saves c text es) = KeepsImages c es
 
 -- what a crash since the command began might have left: what one before it may leave, or a moment of what was saved
 abbrev pub MightLeave : Work → (told : Option Stored) (at_first : Holding → Type 0) → Holding → Type 0

@@ -1,13 +1,15 @@
 ghost use Rattle.std.specs.Prelude.{◌≡◌, ◌<◌, ◌-◌, ◌^◌, [], cond, nat_eq};
 ghost use Rattle.std.specs.List.{AllByRecursion};
 ghost use Rattle.shelf.specs.Logged.{LeavesOnly};
+ghost use Rattle.kept_runs.specs.Made.{KeepsImages};
 ghost use Rattle.kept_stores.specs.Works as works;
 ghost use Rattle.kept_stores.specs.Doing.{work_in};
-ghost use Rattle.kept_stores.specs.Outcomes.{status_of, IsAnswer, IsHeld, MightLeave, IsDurableNow, CallsBy, Tells};
+ghost use Rattle.kept_stores.specs.Outcomes.{status_of, IsAnswer, IsHeld, HasImages, MightLeave, IsDurableNow, CallsBy, Tells};
 
 use crate::held::ShelfStop;
 use crate::saving::save;
 use crate::work::Work;
+use kept_appends::keeps_images;
 use s3_service::Service;
 use s3_types::{Bytes, Journal, let_go};
 use shelf::kept::Shelf;
@@ -61,11 +63,13 @@ fn keep<F: Shelf>(
     requires one_event { AllByRecursion (λ e. e.event ≡ 0) sent.entries }
     ensures answer { IsAnswer (works.Saves opening.now text sent.entries) result.due result.text result.sent.entries }
     ensures held { IsHeld (works.Saves opening.now text sent.entries) result.due (F.held shelf.old) (F.held shelf.new) }
+    ensures images { KeepsImages opening.now sent.entries }
     ensures calls { CallsBy F.answers F.fails (works.Saves opening.now text sent.entries) result.due shelf.old shelf.new }
     ensures any_moment { LeavesOnly F.moment F.left_since shelf.old shelf.new (MightLeave (works.Saves opening.now text sent.entries) (F.held shelf.new) (F.may_leave shelf.old)) }
     ensures durable { IsDurableNow (works.Saves opening.now text sent.entries) result.due (F.held shelf.new) (F.may_leave shelf.new) }
     ensures counted { Tells 5 result.due (F.faults shelf.old) (F.faults shelf.new) }
 {
+    keeps_images(&sent);
     let due = status_of(save(alloc, shelf, opening, &sent));
     Answer {
         due,
@@ -82,6 +86,7 @@ pub fn obey<F: Shelf>(alloc: Global, shelf: &mut F, work: Work) -> Answer
     requires plain { works.IsPlain (work_in work) }
     ensures answer { IsAnswer (work_in work) result.due result.text result.sent.entries }
     ensures held { IsHeld (work_in work) result.due (F.held shelf.old) (F.held shelf.new) }
+    ensures images { HasImages (work_in work) }
     ensures calls { CallsBy F.answers F.fails (work_in work) result.due shelf.old shelf.new }
     ensures any_moment { LeavesOnly F.moment F.left_since shelf.old shelf.new (MightLeave (work_in work) (F.held shelf.new) (F.may_leave shelf.old)) }
     ensures durable { IsDurableNow (work_in work) result.due (F.held shelf.new) (F.may_leave shelf.new) }

@@ -1,7 +1,10 @@
 ghost use Rattle.std.specs.Prelude.{◌≡◌, ◌<◌, ◌≤◌, ◌^◌, true, false, IfOk, OnOk};
+ghost use Rattle.std.specs.List.{AllByRecursion};
 ghost use Rattle.s3_types.specs.Answer.{apply_store};
 ghost use Rattle.kept_runs.specs.Changes.{content_after};
+ghost use Rattle.kept_runs.specs.Made.{IsMade};
 
+use kept_appends::made;
 use log_format::is_changing;
 use s3_service::Service;
 use s3_types::{Request, let_go};
@@ -41,12 +44,14 @@ pub fn follow_all(service: &mut Service, changes: &[Request]) -> Result<bool, Al
     ensures done { IfOk result (λ few. few ≡ true → service.new ≡ content_after service.old changes.now) }
     ensures few { IfOk result (λ few. few ≡ true → (content_after service.old changes.now).next ≤ 2 ^ 62) }
     ensures many { IfOk result (λ few. few ≡ false → 2 ^ 62 < (content_after service.old changes.now).next) }
+    ensures made { IfOk result (λ few. few ≡ true → AllByRecursion IsMade changes.now) }
 {
     for change in changes {
         if !is_few(service) {
             return Ok(false);
         }
         follow(service, change)?;
+        made(change);
     }
     Ok(is_few(service))
 }

@@ -3,9 +3,11 @@ ghost use Rattle.shelf.specs.Logged.{Stored, IsDurable, LeavesOnly};
 ghost use Rattle.shelf.specs.Logged.Holding.{Stands};
 ghost use Rattle.store_image.specs.Fault.{number_of, place_in};
 ghost use Rattle.store_image.specs.Reading.{content_in};
+ghost use Rattle.s3_types.specs.Store.{Content};
+ghost use Rattle.store_image.specs.Content.{IsContent};
 ghost use Rattle.kept_runs.specs.Changes.{content_after};
 ghost use Rattle.kept_stores.specs.Stores.{counted, unfolded, found};
-ghost use Rattle.kept_stores.specs.Outcomes.{Counts, IsSound, IsOf, WhereSound};
+ghost use Rattle.kept_stores.specs.Outcomes.{Counts, IsSound, HasImage, LoadsAgain, AreAtKeys, IsOf, WhereSound};
 
 use crate::folding::follow_all;
 use s3_service::Service;
@@ -57,7 +59,8 @@ fn faulty(fault: ImageFault) -> Result<Held, AllocError>
 
 /// The store behind the changes, unless its counter is too high there.
 fn followed(mut service: Service, changes: &[Request]) -> Result<Held, AllocError>
-    ensures { IfOk result (λ held. held ≡ counted (content_after service changes.now)) }
+    ensures exact { IfOk result (λ held. held ≡ counted (content_after service changes.now)) }
+    ensures image { IfOk result (λ held. IsContent service → HasImage held) }
 {
     match follow_all(&mut service, changes) {
         Ok(true) => Ok(Held::Store(service)),
@@ -80,6 +83,7 @@ fn unfolded(alloc: Global, kept: &Kept) -> Result<Held, AllocError>
     ensures exact { IfOk result (λ held. held ≡ unfolded (content_in kept.now.base) kept.now.changes) }
     ensures stands { IfOk result (λ held. IsOf held (Stands kept.now)) }
     ensures sound { IfOk result IsSound }
+    ensures image { IfOk result HasImage }
 {
     match decode(alloc, kept.base.as_slice()) {
         Ok(service) => followed(service, kept.changes.as_slice()),
@@ -96,6 +100,7 @@ pub fn load<F: Shelf>(alloc: Global, shelf: &mut F) -> Result<Held, ShelfStop>
     ensures exact { IfOk result (λ held. (s : Stored) → F.held shelf.old ≡ Some s → held ≡ found s) }
     ensures stands { IfOk result (λ held. (s : Stored) → F.held shelf.old ≡ Some s → IsOf held s.holding) }
     ensures sound { IfOk result IsSound }
+    ensures image { IfOk result HasImage }
     ensures same { F.held shelf.new ≡ F.held shelf.old }
     ensures any_moment { LeavesOnly F.moment F.left_since shelf.old shelf.new (F.may_leave shelf.old) }
     ensures durable { IfOk result (λ held. WhereSound held (IsDurable (F.held shelf.new) (F.may_leave shelf.new))) }
@@ -121,3 +126,9 @@ pub fn load<F: Shelf>(alloc: Global, shelf: &mut F) -> Result<Held, ShelfStop>
         Err(LoadFault::NoMemory) => Err(ShelfStop::NoMemory),
     }
 }
+
+/// What a store keeps that can have an image: it is loaded again, and its objects stand at keys.
+pub fn loads()
+    ensures again { LoadsAgain }
+    ensures keys { (c : Content) → IsContent c → AreAtKeys c }
+{}

@@ -8,6 +8,6 @@ mod saving;
 mod work;
 
 pub use answers::{Answer, obey};
-pub use held::{Held, ShelfStop, load};
+pub use held::{Held, ShelfStop, load, loads};
 pub use saving::save;
 pub use work::{Work, fault_text};
