@@ -76,6 +76,11 @@ pub record HasEntries (p : List ℕ) (z : Objects) (es : List DirEntry) : Type 0
   pub all : (n : List ℕ) (s : Status) → IsName n → IsStatus z (below p n) s → IsIn (record { name = n; status = s }) es
   pub rises : IsStrictlySortedBy text_cmp (map text_of es)
 
+-- where objects stand at keys alone each entry is a child
+pub record ListChildren : Type 0 where
+  pub children : (p : List ℕ) (z : Objects) (es : List DirEntry) → ((k : List ℕ) → Stands z k → is_key k ≡ true) → HasEntries p z es
+      → (e : DirEntry) → IsIn e es → IsName e.name × IsStatus z (below p e.name) e.status
+
 -- the last element of a path
 abbrev pub last_of : List (List ℕ) → List ℕ
 last_of [] = []

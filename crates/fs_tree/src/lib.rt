@@ -1,10 +1,17 @@
 //! The tree of files and directories that a bucket's objects are, and what each file operation answers and
-//! leaves of it, in `specs/`; with the plain data that operations answer. (Hadoop FileSystem specification;
-//! Hadoop, S3A: directory markers.)
+//! leaves of it, in `specs/`; with a law on listings, and the plain data that operations answer. (Hadoop
+//! FileSystem specification; Hadoop, S3A: directory markers.)
 #![tactic(auto)]
+
+ghost use Rattle.fs_tree.specs.Changes.{ListChildren};
 
 mod answers;
 mod rename;
 
 pub use answers::{DirEntry, DirList, FsRefusal};
 pub use rename::RenameRefusal;
+
+/// What a listing shows.
+pub fn listings()
+    ensures list { ListChildren }
+{}

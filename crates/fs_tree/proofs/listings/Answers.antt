@@ -1,0 +1,22 @@
+use Rattle.std.proofs.Common.{◌≡◌, ◌⊎◌, inl, inr, true, false, List, ℕ, sym, ◌∙◌}
+use Rattle.std.proofs.lemmas.Bool.{false≢true}
+use Rattle.s3_types.specs.Names.{is_key}
+use Rattle.s3_types.specs.Store.{Objects}
+use Rattle.path_keys.specs.Paths.{below}
+use Rattle.dir_markers.specs.declared.status.Status.{Status}
+use Rattle.dir_markers.specs.declared.status.Status.TheVariants.{Directory, File}
+use Rattle.fs_tree.specs.Tree.{Stands, IsStatus}
+use Rattle.fs_tree.specs.Changes.{IsName, HasOddKey}
+use Rattle.fs_tree.proofs.listings.Goals as goal
+
+module _ (z : Objects) (keys : (k : List ℕ) → Stands z k → is_key k ≡ true) where
+  none_odd : (p : List ℕ) (s : Status) → HasOddKey z p s → ⊥
+  none_odd p Directory h = false≢true (sym h.3 ∙ keys h.0 h.2)
+  none_odd p (File n) h = false≢true (sym h.1 ∙ keys p h.0)
+
+  one : (n p : List ℕ) (s : Status) → (IsName n × IsStatus z p s) ⊎ HasOddKey z p s → IsName n × IsStatus z p s
+  one n p s (inl h) = h
+  one n p s (inr h) = absurd (none_odd p s h)
+
+pub returns : goal.returns
+returns c = record { list = record { children = λ p z es keys has e i. one z keys e.name (below p e.name) e.status (has.child e i) } }
