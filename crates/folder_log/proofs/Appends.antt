@@ -14,7 +14,7 @@ use Rattle.shelf.specs.Logged.{Holding, Stored, most_file, grown, told, fresh, L
 use Rattle.shelf.specs.Logged.Holding.{Stands}
 use Rattle.folder_log.specs.Disk.{File, file_length, IsRead, IsWithin, Only, Settles, ShowsNow, Elapses}
 use Rattle.folder_log.proofs.Moments.{started, goes_on}
-use Rattle.folder_log.specs.Kept.{as_holding, holding_of, stored_of, stored, Leaves, IsAtRest, IsSettled, IsClosed, IsLeftOf, IsPrepared}
+use Rattle.folder_log.specs.Kept.{as_holding, holding_of, stored_of, stored, Leaves, IsAtRest, IsSettled, TakesAppends, IsClosed, IsLeftOf, IsPrepared}
 
 -- ---- what files hold
 
@@ -158,8 +158,13 @@ pub on_ok_all : {T E P : Type 0} (r : Result T E) → P → OnOk r P
 on_ok_all (Ok x) p = p
 on_ok_all (Err e) p = tt
 
-pub settled_on : (seen now : Option File) (leaves left : File → Type 0) (gate : ℕ) → now ≡ seen → ((c : File) → left c → leaves c) → IsSettled seen leaves gate → IsSettled now left gate
-settled_on seen now leaves left gate same f s = subst (λ (o : Option File). IsSettled o left gate) (sym same) (fewer seen s)
+-- what is settled where appends are taken
+pub settled_at : (seen : Option File) (leaves : File → Type 0) (place : Option ℕ) (gate : ℕ) → place ≡ Some gate → TakesAppends seen leaves place → IsSettled seen leaves gate
+settled_at seen leaves place gate is s = subst (TakesAppends seen leaves) is s
+
+pub takes_on : (seen now : Option File) (leaves left : File → Type 0) (gate : Option ℕ) → now ≡ seen → ((c : File) → left c → leaves c) → TakesAppends seen leaves gate → TakesAppends now left gate
+takes_on seen now leaves left None same f s = absurd s
+takes_on seen now leaves left (Some gate) same f s = subst (λ (o : Option File). IsSettled o left gate) (sym same) (fewer seen s)
   where
     fewer : (seen : Option File) → IsSettled seen leaves gate → IsSettled seen left gate
     fewer None s = tt

@@ -1,7 +1,17 @@
 -- How a run of calls goes on.
-use Rattle.std.proofs.Common.{inl, inr, ⊎_elim, ℕ, arith}
+use Rattle.std.proofs.Common.{◌≡◌, inl, inr, ⊎_elim, ℕ, ◌+◌, ◌≤◌, arith, ap, ◌∙◌}
 use Rattle.shelf.specs.Logged.{LeavesOnly}
-use Rattle.folder_log.specs.Disk.{File, Elapses}
+use Rattle.folder_log.specs.Disk.{File, Elapses, more, FewMore}
+
+-- counts of calls, one run behind another
+pub more_more : (m n c : ℕ) → more n (more m c) ≡ more (m + n) c
+more_more m n c = omega arith
+
+pub few_more : (m most all c d e : ℕ) → d ≡ more m c → m + most ≤ all → FewMore most d e → FewMore all c e
+few_more m most all c d e is le few = (m + few.0, omega (arith, few.1), omega (arith, few.2, le), few.3 ∙ ap (more few.0) is ∙ more_more m few.0 c)
+
+pub fewer : (most all c d : ℕ) → most ≤ all → FewMore most c d → FewMore all c d
+fewer most all c d le few = (few.0, few.1, omega (arith, few.2, le), few.3)
 
 module _ {D : Type 0} (moment : D → ℕ) (left_since : D → ℕ → File → Type 0) where
   -- before the first call

@@ -1,5 +1,5 @@
 -- What a disk of one file holds, what its calls do to that, and what a crash may do between two syncs.
-use Rattle.std.specs.Prelude.{◌≡◌, ◌⊎◌, ℕ, ◌+◌, ◌<◌, ◌≤◌, max, List, ◌++◌, length, take, drop, Option, Some, None}
+use Rattle.std.specs.Prelude.{◌≡◌, ◌⊎◌, ℕ, ◌+◌, ◌-◌, ◌^◌, ◌<◌, ◌≤◌, min, max, List, ◌++◌, length, take, drop, Option, Some, None}
 use Rattle.shelf.specs.Logged.{most_file}
 
 -- the bytes of the file, or none where there is no file
@@ -73,6 +73,19 @@ Only file leaves = (c : File) → leaves c → c ≡ file
 abbrev pub Settles : Option File → (File → Type 0) → Type 0
 Settles None leaves = Unit {0}
 Settles (Some file) leaves = Only file leaves
+
+-- a count of calls after so many more, at most 2^64 - 1
+abbrev pub more : ℕ → ℕ → ℕ
+more n count = min (count + n) (2 ^ 64 - 1)
+
+-- some calls more were made, at most so many
+abbrev pub FewMore : (most before after : ℕ) → Type 0
+FewMore most before after = (n : ℕ) × (1 ≤ n) × (n ≤ most) × (after ≡ more n before)
+
+-- a folder's file as a disk: how many calls were made of it, and how many of them failed
+pub record Counts : Type 0 where
+  pub calls : ℕ
+  pub faults : ℕ
 
 -- time goes on: a crash since t might have left what it might have left before, or what it may leave now
 pub record Elapses (before now : ℕ) (past since : ℕ → File → Type 0) (may_leave : File → Type 0) : Type 0 where

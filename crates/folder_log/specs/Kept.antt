@@ -51,6 +51,11 @@ IsSettled None leaves gate = Unit {0}
 IsSettled (Some None) leaves gate = ⊥
 IsSettled (Some (Some bytes)) leaves gate = IsAtRest gate bytes × Only (Some bytes) leaves
 
+-- the same at the place of the gate, which is kept while appends are taken
+abbrev pub TakesAppends : Option File → (File → Type 0) → Option ℕ → Type 0
+TakesAppends seen leaves None = ⊥
+TakesAppends seen leaves (Some gate) = IsSettled seen leaves gate
+
 -- a front with a closed gate behind it is all that a disk has
 pub record IsClosed (front : List ℕ) (gate : ℕ) (seen : Option File) (leaves : File → Type 0) : Type 0 where
   pub at : length front ≡ gate

@@ -1,5 +1,6 @@
 ghost use Rattle.std.specs.Prelude.{◌≡◌, ℕ, ◌≤◌, ◌⊎◌, ◌++◌, List, Option, Some, None, is_some, length, IfOk, OnOk, OnErr, IsErrOf};
 ghost use Rattle.shelf.specs.Devices.{Rose};
+ghost use Rattle.shelf.specs.Calls.{one_more};
 ghost use Rattle.folder_log.specs.Disk.{File, IsRead, IsTooLong, ShowsNow, IsWithin, Writes, IsTorn, Follows, Only, Settles, Elapses};
 
 use s3_types::Bytes;
@@ -30,7 +31,10 @@ pub trait LogDisk {
     /// What a crash at some moment from that one on might have left, during a call or between two.
     ghost left_since: { Self → ℕ → File → Type 0 };
 
-    /// How many calls failed so far, at most 2^64 - 1.
+    /// How many calls were made of it so far, at most 2^64 - 1.
+    ghost calls: { Self → ℕ };
+
+    /// How many of them failed, at most 2^64 - 1.
     ghost faults: { Self → ℕ };
 
     /// What a call that did not fail may make of it, where it says which of its calls fail.
@@ -47,6 +51,7 @@ pub trait LogDisk {
         ensures seen { seen self.new ≡ seen self.old }
         ensures crash { (c : File) → may_leave self.new c → may_leave self.old c }
         ensures time { Elapses (moment self.old) (moment self.new) (left_since self.old) (left_since self.new) (may_leave self.new) }
+        ensures counted { calls self.new ≡ one_more (calls self.old) }
         ensures failed { IsErrOf result DiskFault.Failed → Rose (faults self.old) (faults self.new) }
         ensures answered { (IsErrOf result DiskFault.Failed → ⊥) → answers self.old self.new }
         ensures broken { IsErrOf result DiskFault.Failed → fails self.old self.new }
@@ -60,6 +65,7 @@ pub trait LogDisk {
         ensures durable { OnOk result (Only (Some (head.now ++ (body.now ++ tail.now))) (may_leave self.new)) }
         ensures kept { OnErr result ((c : File) → may_leave self.new c → may_leave self.old c) }
         ensures time { Elapses (moment self.old) (moment self.new) (left_since self.old) (left_since self.new) (λ c. may_leave self.new c ⊎ (c ≡ Some (head.now ++ (body.now ++ tail.now)))) }
+        ensures counted { calls self.new ≡ one_more (calls self.old) }
         ensures failed { OnErr result (Rose (faults self.old) (faults self.new)) }
         ensures answered { OnOk result (answers self.old self.new) }
         ensures broken { OnErr result (fails self.old self.new) }
@@ -72,6 +78,7 @@ pub trait LogDisk {
         ensures told { is_some (seen self.new) ≡ is_some (seen self.old) }
         ensures crash { Follows (IsTorn place (length bytes.now)) (may_leave self.old) (may_leave self.new) }
         ensures time { Elapses (moment self.old) (moment self.new) (left_since self.old) (left_since self.new) (may_leave self.new) }
+        ensures counted { calls self.new ≡ one_more (calls self.old) }
         ensures failed { OnErr result (Rose (faults self.old) (faults self.new)) }
         ensures answered { OnOk result (answers self.old self.new) }
         ensures broken { OnErr result (fails self.old self.new) }
@@ -83,6 +90,7 @@ pub trait LogDisk {
         ensures durable { OnOk result (Settles (seen self.old) (may_leave self.new)) }
         ensures crash { (c : File) → may_leave self.new c → may_leave self.old c }
         ensures time { Elapses (moment self.old) (moment self.new) (left_since self.old) (left_since self.new) (may_leave self.new) }
+        ensures counted { calls self.new ≡ one_more (calls self.old) }
         ensures failed { OnErr result (Rose (faults self.old) (faults self.new)) }
         ensures answered { OnOk result (answers self.old self.new) }
         ensures broken { OnErr result (fails self.old self.new) }

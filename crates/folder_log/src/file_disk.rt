@@ -1,5 +1,6 @@
 ghost use Rattle.std.specs.Prelude.{◌≡◌, ℕ, ◌≤◌, None, IfOk, OnOk, OnErr, vec_len};
 ghost use Rattle.shelf.specs.Devices.{Rose};
+ghost use Rattle.shelf.specs.Calls.{one_more};
 ghost use Rattle.shelf.specs.Logged.{most_file};
 ghost use Rattle.folder_log.specs.Disk.{file_length, untold};
 
@@ -27,16 +28,17 @@ pub struct FileDisk<R: Files> {
     file: Option<R::File>,
     /// That the folder has the file under its name is on the disk.
     is_named: bool,
+    calls: u64,
     faults: u64,
     alloc: Global,
 }
 
 impl<R: Files> Model for FileDisk<R> {
-    ghost use Rattle.std.specs.Prelude.{ℕ};
+    ghost use Rattle.folder_log.specs.Disk.{Counts};
 
-    ghost Value = { ℕ };
+    ghost Value = { Counts };
 
-    ghost view = { λ d. d.faults };
+    ghost view = { λ d. record { calls = d.calls; faults = d.faults } };
 }
 
 /// Reads a file to its end, in memory for its bytes.
@@ -119,7 +121,7 @@ impl<R: Files + Drop> FileDisk<R> {
     /// The disk of a folder, by its path. Touches nothing. Its one error is want of memory, and none of its
     /// calls takes memory but `read`, for the file's bytes.
     pub fn new(alloc: Global, rt: R, folder: String) -> Result<FileDisk<R>, AllocError>
-        ensures { IfOk result (λ disk. disk ≡ 0) }
+        ensures { IfOk result (λ disk. disk ≡ record { calls = 0; faults = 0 }) }
     {
         let image = format!(in alloc; "{}/store.img", folder.as_str())?;
         let fresh = format!(in alloc; "{}/store.tmp", folder.as_str())?;
@@ -130,6 +132,7 @@ impl<R: Files + Drop> FileDisk<R> {
             fresh,
             file: None,
             is_named: false,
+            calls: 0,
             faults: 0,
             alloc,
         })
@@ -210,11 +213,13 @@ impl<R: Files + Drop> FileDisk<R> {
         self.sync_folder()
     }
 
-    /// What a call answers, of which a fault is counted.
+    /// What a call answers, which is counted, and its fault.
     fn counted(&mut self, done: io::Result<()>) -> Result<(), Failed>
-        ensures calm { OnOk result (self.new ≡ self.old) }
-        ensures failed { OnErr result (Rose self.old self.new) }
+        ensures counted { self.new.calls ≡ one_more self.old.calls }
+        ensures calm { OnOk result (self.new.faults ≡ self.old.faults) }
+        ensures failed { OnErr result (Rose self.old.faults self.new.faults) }
     {
+        self.calls = self.calls.saturating_add(1);
         match done {
             Ok(()) => Ok(()),
             Err(_) => {
@@ -234,7 +239,9 @@ impl<R: Files + Drop> LogDisk for FileDisk<R> {
 
     ghost left_since = { λ d t c. ⊥ };
 
-    ghost faults = { λ d. d };
+    ghost calls = { λ d. d.calls };
+
+    ghost faults = { λ d. d.faults };
 
     ghost answers = { λ d e. Unit {0} };
 
@@ -248,6 +255,7 @@ impl<R: Files + Drop> LogDisk for FileDisk<R> {
 
     /// A file that is not there is none.
     fn read(&mut self) -> Result<Option<Bytes>, DiskFault> {
+        self.calls = self.calls.saturating_add(1);
         match self.read_file() {
             Err(DiskFault::Failed) => {
                 self.faults = self.faults.saturating_add(1);

@@ -3,9 +3,9 @@ ghost use Rattle.log_format.specs.Change.{is_changing};
 ghost use Rattle.shelf.specs.Devices.{Rose};
 ghost use Rattle.shelf.specs.Causes.{IfBadLog};
 ghost use Rattle.shelf.specs.Logged.{LeavesOnly, most_file, IsLoaded, IsTooLarge, IsBad};
-ghost use Rattle.folder_log.specs.Disk.{File, IsWithin, Writes, IsTorn, Only, Settles};
-ghost use Rattle.folder_log.specs.Kept.{IsClosed, IsLeftOf, IsPrepared, stored_of, stored, Leaves, IsSettled};
-ghost use Rattle.folder_log.specs.Parts.{disk_of};
+ghost use Rattle.folder_log.specs.Disk.{File, IsWithin, Writes, IsTorn, Only, Settles, more, FewMore};
+ghost use Rattle.folder_log.specs.Kept.{IsClosed, IsLeftOf, IsPrepared, stored_of, stored, Leaves, TakesAppends};
+ghost use Rattle.folder_log.specs.Parts.{disk_of, IsUnused, Answers, Fails};
 
 use crate::disk::{DiskFault, LogDisk};
 use log_format::{LogFault, base_length, can_write, head_of, read_log, record_of};
@@ -22,6 +22,8 @@ fn write_synced<D: LogDisk>(disk: &mut D, place: u64, bytes: &[u8]) -> Result<()
     ensures told { is_some (D.seen disk.new) ≡ is_some (D.seen disk.old) }
     ensures later { D.moment disk.old ≤ D.moment disk.new }
     ensures torn { (file : File) → Only file (D.may_leave disk.old) → LeavesOnly D.moment D.left_since disk.old disk.new (λ c. (c ≡ file) ⊎ IsTorn place (length bytes.now) file c) }
+    ensures made { OnOk result (D.calls disk.new ≡ more 2 (D.calls disk.old)) }
+    ensures few { OnErr result (FewMore 2 (D.calls disk.old) (D.calls disk.new)) }
     ensures failed { OnErr result (Rose (D.faults disk.old) (D.faults disk.new)) }
     ensures calm { OnOk result (D.faults disk.new ≡ D.faults disk.old) }
 {
@@ -40,6 +42,8 @@ fn open_record<D: LogDisk>(disk: &mut D, gate: u64, written: &[u8]) -> Result<()
     ensures told { is_some (D.seen disk.new) ≡ is_some (D.seen disk.old) }
     ensures later { D.moment disk.old ≤ D.moment disk.new }
     ensures crash { (front : List ℕ) → IsClosed front gate (D.seen disk.old) (D.may_leave disk.old) → LeavesOnly D.moment D.left_since disk.old disk.new (IsLeftOf front written.now) }
+    ensures made { OnOk result (D.calls disk.new ≡ more 4 (D.calls disk.old)) }
+    ensures few { OnErr result (FewMore 4 (D.calls disk.old) (D.calls disk.new)) }
     ensures failed { OnErr result (Rose (D.faults disk.old) (D.faults disk.new)) }
     ensures calm { OnOk result (D.faults disk.new ≡ D.faults disk.old) }
 {
@@ -91,18 +95,23 @@ fn loaded(alloc: Global, file: &Bytes) -> Result<Option<Held>, LoadFault>
 #[derive(Drop)]
 pub struct LogShelf<D: LogDisk> {
     disk: D,
-    gate: u64,
+    /// How many calls were made of it, at most 2^64 - 1.
+    calls: u64,
+    /// Where the last gate is, from a `replace` that answers Ok until a call fails.
+    gate: Option<u64>,
     alloc: Global,
 }
 
 impl<D: LogDisk + Drop> LogShelf<D> {
     /// Touches nothing. It takes no appends before a `replace`.
     pub fn new(alloc: Global, disk: D) -> LogShelf<D>
-        ensures { disk_of result ≡ disk }
+        ensures disk { disk_of result ≡ disk }
+        ensures unused { IsUnused result }
     {
         LogShelf {
             disk,
-            gate: 0,
+            calls: 0,
+            gate: None,
             alloc,
         }
     }
@@ -120,11 +129,11 @@ impl<D: LogDisk + Drop> Shelf for LogShelf<D> {
 
     ghost faults = { λ s. D.faults s.disk };
 
-    ghost answers = { λ s t. Unit {0} };
+    ghost answers = { λ s t. Answers D.calls s t };
 
-    ghost fails = { λ s t. Unit {0} };
+    ghost fails = { λ s t. Fails D.calls s t };
 
-    ghost takes_appends = { λ s. IsSettled (D.seen s.disk) (D.may_leave s.disk) s.gate };
+    ghost takes_appends = { λ s. TakesAppends (D.seen s.disk) (D.may_leave s.disk) s.gate };
 
     ghost may_leave = { λ s h. Leaves (D.may_leave s.disk) h };
 
@@ -138,14 +147,21 @@ impl<D: LogDisk + Drop> Shelf for LogShelf<D> {
 
     /// Syncs, and then reads the file once: O(bytes), in memory for the file, its base and its changes.
     fn load(&mut self) -> Result<Option<Held>, LoadFault> {
+        self.calls = self.calls.saturating_add(1);
         match self.disk.sync() {
             Ok(()) => {}
-            Err(_) => return Err(LoadFault::Failed),
+            Err(_) => {
+                self.gate = None;
+                return Err(LoadFault::Failed);
+            }
         }
         match self.disk.read() {
             Ok(Some(file)) => loaded(self.alloc, &file),
             Ok(None) => Ok(None),
-            Err(DiskFault::Failed) => Err(LoadFault::Failed),
+            Err(DiskFault::Failed) => {
+                self.gate = None;
+                Err(LoadFault::Failed)
+            }
             Err(DiskFault::TooLarge) => Err(LoadFault::TooLarge),
             Err(DiskFault::NoMemory) => Err(LoadFault::NoMemory),
         }
@@ -153,20 +169,27 @@ impl<D: LogDisk + Drop> Shelf for LogShelf<D> {
 
     /// Swaps the file for a log of this base with a closed gate behind it.
     fn replace(&mut self, bytes: &[u8]) -> Result<(), Failed> {
+        self.calls = self.calls.saturating_add(1);
+        self.gate = None;
         let head = head_of(bytes.len() as u64);
         self.disk.swap(&head, bytes, &[0])?;
-        self.gate = 16 + bytes.len() as u64;
+        self.gate = Some(16 + bytes.len() as u64);
         Ok(())
     }
 
     /// Writes the record and two gates, whatever the file's length.
     fn append(&mut self, change: &Request) -> Result<(), AppendFault> {
-        let Some((written, end)) = prepared(self.alloc, self.gate, change) else {
+        self.calls = self.calls.saturating_add(1);
+        let Some(gate) = self.gate else {
+            unreachable!();
+        };
+        let Some((written, end)) = prepared(self.alloc, gate, change) else {
             return Err(AppendFault::NoMemory);
         };
-        match open_record(&mut self.disk, self.gate, written.as_slice()) {
+        self.gate = None;
+        match open_record(&mut self.disk, gate, written.as_slice()) {
             Ok(()) => {
-                self.gate = end;
+                self.gate = Some(end);
                 Ok(())
             }
             Err(_) => Err(AppendFault::Failed),

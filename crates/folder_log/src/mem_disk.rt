@@ -168,6 +168,8 @@ impl LogDisk for MemDisk {
 
     ghost left_since = { λ d t c. LeftSince d.first d.calls t c };
 
+    ghost calls = { λ d. d.turns.made };
+
     ghost faults = { λ d. d.turns.faults };
 
     ghost answers = { λ d e. told.Answers d.turns e.turns };

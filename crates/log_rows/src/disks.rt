@@ -38,7 +38,10 @@ const FAULTS: [(Fault, &str); 8] = [
 /// Two calls of one disk, each with what goes wrong with it.
 const PAIRS: [([(Call, Fault); 2], &str, &str); 3] = [
     (
-        [(Call::Sync, Fault::Nothing), (Call::Swap, Fault::FolderSync)],
+        [
+            (Call::Sync, Fault::Nothing),
+            (Call::Swap, Fault::FolderSync),
+        ],
         "sync and swap",
         "no folder is synced from the second on",
     ),
@@ -48,7 +51,10 @@ const PAIRS: [([(Call, Fault); 2], &str, &str); 3] = [
         "no file is synced from the second on",
     ),
     (
-        [(Call::Sync, Fault::FolderSync), (Call::Sync, Fault::FolderSync)],
+        [
+            (Call::Sync, Fault::FolderSync),
+            (Call::Sync, Fault::FolderSync),
+        ],
         "sync and sync",
         "no folder is synced",
     ),

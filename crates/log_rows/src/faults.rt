@@ -101,7 +101,11 @@ impl<'r, F: OpenFile + Drop> OpenFile for FaultyFile<'r, F> {
     }
 
     fn sync_all(&self) -> io::Result<()> {
-        let stops = if self.is_folder { Fault::FolderSync } else { Fault::Sync };
+        let stops = if self.is_folder {
+            Fault::FolderSync
+        } else {
+            Fault::Sync
+        };
         if self.fault.get() == stops {
             return Err(failed());
         }

@@ -1,7 +1,7 @@
-use Rattle.std.proofs.Common.{◌≡◌, ◌⊎◌, ℕ, ◌+◌, List, [], ◌∷◌, ◌++◌, length, Option, Some, subst, ◌∙◌, ap}
-use Rattle.folder_log.specs.Disk.{File, Writes, IsTorn, Only, Settles}
+use Rattle.std.proofs.Common.{◌≡◌, ◌⊎◌, ℕ, ◌+◌, List, [], ◌∷◌, ◌++◌, length, Option, Some, Result, Ok, Err, OnErr, subst, ◌∙◌, ap, arith}
+use Rattle.folder_log.specs.Disk.{File, Writes, IsTorn, Only, Settles, more, FewMore}
 use Rattle.folder_log.specs.Kept.{IsLeftOf}
-use Rattle.folder_log.proofs.Moments.{then_on, widened}
+use Rattle.folder_log.proofs.Moments.{then_on, widened, few_more}
 use Rattle.folder_log.proofs.Crash.{left_behind, left_opened, written_behind}
 use Rattle.folder_log.proofs.log_shelf.open_record.Goals as goal
 
@@ -24,3 +24,11 @@ returns-clause-crash g c front closed =
     then_on g.D.LogDisk.moment g.D.LogDisk.left_since c.args.disk.now c.write_synced.new.disk c.write_synced-2.new.disk P Q (IsLeftOf front c.args.written.now)
     (c.write_synced.ensures.torn rest_at closed.durable) (c.write_synced-2.ensures.torn staged only)
     (left_behind front c.args.gate closed.at c.args.written.now) (left_opened front c.args.gate closed.at c.args.written.now)
+
+-- a second write's calls behind a first one's
+few_behind : {T E : Type 0} (r : Result T E) (before between now : ℕ) → between ≡ more 2 before → OnErr r (FewMore 2 between now) → OnErr r (FewMore 4 before now)
+few_behind (Ok x) before between now is few = tt
+few_behind (Err e) before between now is few = few_more 2 2 4 before between now is (omega arith) few
+
+pub returns-clause-few : goal.returns-clause-few
+returns-clause-few g c = few_behind c.write_synced-2.result _ _ _ c.in_ok-write_synced.ensures.made c.write_synced-2.ensures.few
