@@ -1,5 +1,5 @@
 -- What is left once uploads were aborted one by one.
-use Rattle.std.specs.Prelude.{◌≡◌, ◌⊎◌, ℕ, ◌+◌, List, [], ◌∷◌, length, drop, Option, Some, None, option_map}
+use Rattle.std.specs.Prelude.{◌≡◌, ◌⊎◌, ℕ, ◌+◌, List, [], ◌∷◌, ◌++◌, length, take, Option, Some, None, option_map}
 use Rattle.std.proofs.Common.{refl, sym, ap, subst, ◌∙◌, inl, inr}
 use Rattle.std.specs.FinMap as fin
 use Rattle.s3_types.specs.Store.{Upload, Uploads, BucketContent, Scene}
@@ -16,7 +16,11 @@ use Rattle.list_walk.specs.Kinds.{uploads_from}
 use Rattle.request_frame.proofs.Members.{some_is}
 use Rattle.s3a_shell.specs.declared.said.Said.{Said}
 use Rattle.s3a_shell.specs.Texts.{fine}
-use Rattle.s3a_shell.specs.Uploading.{AreEnded, after_aborts, aborted_line, AbortedIn, DidAbort}
+use Rattle.list_walk.specs.Walks.{IsStill}
+use Rattle.s3a_shell.specs.declared.session.Session.{Session}
+use Rattle.s3a_shell.specs.Sendings.{Sent, AppliedOrNot}
+use Rattle.s3a_shell.specs.Uploading.{AreEnded, after_aborts, AfterSome, aborted_line, AbortedIn, EndedSome, AbortedSome, DidAbort}
+use Rattle.s3a_shell.proofs.Joining.{sent_as, sent_both}
 
 abbrev without_all : Uploads → List UploadRef → Uploads
 without_all m [] = m
@@ -81,9 +85,45 @@ are_ended z b c rs s e h = record {
 }
 
 -- one more is aborted
-pub more_aborted : (z mid s : Scene) (b : List ℕ) (us : List UploadRef) (i : ℕ) (x : UploadRef) → drop i us ≡ x ∷ drop (i + 1) us → s ≡ apply mid (AbortUpload b x.key x.upload) → after_aborts mid b (drop i us) ≡ after_aborts z b us
-    → after_aborts s b (drop (i + 1) us) ≡ after_aborts z b us
-more_aborted z mid s b us i x front is so_far = ap (λ (v : Scene). after_aborts v b (drop (i + 1) us)) is ∙ (ap (after_aborts mid b) (sym front) ∙ so_far)
+after_more : (z : Scene) (b : List ℕ) (rs : List UploadRef) (x : UploadRef) → after_aborts z b (rs ++ x ∷ []) ≡ apply (after_aborts z b rs) (AbortUpload b x.key x.upload)
+after_more z b [] x = refl
+after_more z b (r ∷ rs) x = after_more (apply z (AbortUpload b r.key r.upload)) b rs x
+
+pub more_aborted : (z mid s : Scene) (b : List ℕ) (us : List UploadRef) (i : ℕ) (x : UploadRef) → take (i + 1) us ≡ take i us ++ x ∷ [] → s ≡ apply mid (AbortUpload b x.key x.upload) → mid ≡ after_aborts z b (take i us)
+    → s ≡ after_aborts z b (take (i + 1) us)
+more_aborted z mid s b us i x front is so_far = is ∙ (ap (λ (v : Scene). apply v (AbortUpload b x.key x.upload)) so_far ∙ (sym (after_more z b (take i us) x) ∙ ap (after_aborts z b) (sym front)))
+
+-- and at any moment of it some are
+pub sent_more : (z : Scene) (b : List ℕ) (us : List UploadRef) (i : ℕ) (x : UploadRef) (a c d : Session) → take (i + 1) us ≡ take i us ++ x ∷ [] → c.store.scene ≡ after_aborts z b (take i us) → Sent (AfterSome b us z) a c
+    → Sent (AppliedOrNot (AbortUpload b x.key x.upload) c.store.scene) c d → Sent (AfterSome b us z) a d
+sent_more z b us i x a c d front so_far h g = sent_both (AfterSome b us z) a c d h (sent_as (AppliedOrNot (AbortUpload b x.key x.upload) c.store.scene) (AfterSome b us z) c d by g)
+  where
+    by : (s : Scene) → AppliedOrNot (AbortUpload b x.key x.upload) c.store.scene s → AfterSome b us z s
+    by s (inl e) = (i, e ∙ so_far)
+    by s (inr e) = (i + 1, more_aborted z c.store.scene s b us i x front e so_far)
+
+-- of the uploads below a path
+pub sent_some : (path : Path) (z : Scene) (o : Option (List UploadRef)) (rs us : List UploadRef) (b : List ℕ) (a c d : Session) → o ≡ uploads_from z path.bucket (below path.key []) None → o ≡ Some rs → us ≡ rs → b ≡ path.bucket → c.store.scene ≡ z
+    → a.store.scene ≡ z → Sent (IsStill a.store.scene) a c → Sent (AfterSome b us c.store.scene) c d → Sent (AbortedSome path z) a d
+sent_some path z o rs us b a c d found is same at still first h g =
+    sent_both (AbortedSome path z) a c d (sent_as (IsStill a.store.scene) (AbortedSome path z) a c (λ s e. none_ended s (e ∙ first)) h) (sent_as (AfterSome b us c.store.scene) (AbortedSome path z) c d some_ended g)
+  where
+    none_ended : (s : Scene) → s ≡ z → AbortedSome path z s
+    none_ended s e = by (fin.get z.content.buckets path.bucket) refl
+      where
+        by : (v : Option BucketContent) → fin.get z.content.buckets path.bucket ≡ v → EndedSome v path z s
+        by None f = e
+        by (Some k) f = (0, are_ended z path.bucket k [] s f e)
+
+    some_ended : (s : Scene) → AfterSome b us c.store.scene s → AbortedSome path z s
+    some_ended s k = by (fin.get z.content.buckets path.bucket) refl (sym is ∙ found)
+      where
+        ended : s ≡ after_aborts z path.bucket (take k.0 rs)
+        ended = k.1 ∙ (ap (λ (v : Scene). after_aborts v b (take k.0 us)) still ∙ (ap (λ (n : List ℕ). after_aborts z n (take k.0 us)) at ∙ ap (λ (l : List UploadRef). after_aborts z path.bucket (take k.0 l)) same))
+
+        by : (v : Option BucketContent) → fin.get z.content.buckets path.bucket ≡ v → Some rs ≡ option_map (λ c. listed (below path.key []) None c.uploads) v → EndedSome v path z s
+        by None f h = absurd (cc)
+        by (Some l) f h = (k.0, subst (λ (q : List UploadRef). AreEnded path.bucket l (take k.0 q) z s) (some_is h) (are_ended z path.bucket l (take k.0 rs) s f ended))
 
 -- what is said of it
 pub did_abort : (path : Path) (z mid s : Scene) (o : Option (List UploadRef)) (rs us : List UploadRef) (b line : List ℕ) (count : ℕ) (what : Said) → o ≡ uploads_from z path.bucket (below path.key []) None → o ≡ Some rs → us ≡ rs → b ≡ path.bucket → mid ≡ z

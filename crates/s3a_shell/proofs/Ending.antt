@@ -17,7 +17,7 @@ use Rattle.s3a_shell.proofs.Staying.{does_only}
 use Rattle.s3a_shell.proofs.Unchanged.{no_change}
 use Rattle.s3a_shell.proofs.Undone.{does_keeps}
 
-module _ (c : Content) (old es : List Entry) (z s : Scene) (first : old ≡ []) (begun : z ≡ opening c) (h : Sends old z es s) where
+module _ (always : Scene → Type 0) (c : Content) (old es : List Entry) (z s : Scene) (first : old ≡ []) (begun : z ≡ opening c) (h : Sends always old z es s) where
   whole : es ≡ h.part
   whole = h.appended ∙ ap (λ (l : List Entry). l ++ h.part) first
 
@@ -26,6 +26,9 @@ module _ (c : Content) (old es : List Entry) (z s : Scene) (first : old ≡ []) 
   at_last =
       let all : take (length es) es ≡ es = take_all (length es) es (omega arith) in
       h.scene ∙ ap (λ (v : Scene). after_all v h.part) begun ∙ ap (after_all (opening c)) (sym whole ∙ sym all)
+
+  pub all_moments : (m : ℕ) → always (moment c es m)
+  all_moments m = subst (λ (l : List Entry). always (after_all (opening c) (take m l))) (sym whole) (subst (λ (v : Scene). always (after_all v (take m h.part))) begun (h.moments m))
 
   pub all_by : AreBy Shell 0 es
   all_by = subst (λ (l : List Entry). AreBy Shell 0 l) (sym whole) h.by

@@ -1,6 +1,6 @@
 -- Sendings after sendings.
-use Rattle.std.specs.Prelude.{◌≡◌, ℕ, ◌+◌, List, [], ◌∷◌, ◌++◌, length}
-use Rattle.std.proofs.Common.{refl, sym, ap, subst, ◌∙◌, arith, append_assoc, append-nil, length-append}
+use Rattle.std.specs.Prelude.{◌≡◌, ℕ, zero, suc, ◌+◌, true, List, [], ◌∷◌, ◌++◌, length, take}
+use Rattle.std.proofs.Common.{refl, sym, ap, subst, ◌∙◌, inl, inr, arith, append_assoc, append-nil, length-append}
 use Rattle.s3_types.specs.Store.{Scene}
 use Rattle.s3_types.specs.declared.request.Actor.TheVariants.{Shell}
 use Rattle.s3_types.specs.Answer.{answer, apply}
@@ -11,7 +11,10 @@ use Rattle.s3_types.specs.declared.journal.Entry.{Entry}
 use Rattle.machine.specs.Counted.{AreAnswered}
 use Rattle.machine.specs.Turns.{AreBy}
 use Rattle.s3a_shell.specs.declared.session.Session.{Session}
-use Rattle.s3a_shell.specs.Sendings.{Sends, Sent, IsCounted, answered_by}
+use Rattle.s3_types.specs.Requests.{only_reads}
+use Rattle.request_frame.proofs.Reading.{reads_nothing}
+use Rattle.list_walk.specs.Walks.{IsStill}
+use Rattle.s3a_shell.specs.Sendings.{Sends, Sent, IsCounted, AppliedOrNot, answered_by}
 
 after_both : (s : Scene) (es fs : List Entry) → after_all s (es ++ fs) ≡ after_all (after_all s es) fs
 after_both s [] fs = refl
@@ -29,37 +32,88 @@ honest_both : (s : Scene) (es fs : List Entry) → AreHonest s es → AreHonest 
 honest_both s [] fs h g = g
 honest_both s (e ∷ es) fs h g = (h.0, honest_both (effect s e.request e.outcome) es fs h.1 g)
 
+-- what is so before and after them
+module _ (always : Scene → Type 0) where
+  at_none : (z : Scene) (m : ℕ) → always z → always (after_all z (take m []))
+  at_none z zero h = h
+  at_none z (suc m) h = h
+
+  at_both : (z : Scene) (es fs : List Entry) → ((m : ℕ) → always (after_all z (take m es))) → ((m : ℕ) → always (after_all (after_all z es) (take m fs))) → (m : ℕ) → always (after_all z (take m (es ++ fs)))
+  at_both z [] fs h g m = g m
+  at_both z (e ∷ es) fs h g zero = h 0
+  at_both z (e ∷ es) fs h g (suc m) = at_both (effect z e.request e.outcome) es fs (λ k. h (suc k)) g m
+
 -- no sendings
-pub sent_none : (a : Session) → IsCounted a → Sent a a
-sent_none a counted = record {
-  sends = record { part = []; appended = sym (append-nil a.journal.entries); by = tt; answered = tt; honest = tt; scene = refl };
+pub sent_none : (always : Scene → Type 0) (a : Session) → IsCounted a → always a.store.scene → Sent always a a
+sent_none always a counted h = record {
+  sends = record { part = []; appended = sym (append-nil a.journal.entries); by = tt; answered = tt; honest = tt; scene = refl; moments = λ m. at_none always a.store.scene m h };
   counted = counted;
 }
 
+one_moment : (z : Scene) (r : Request) (m : ℕ) → AppliedOrNot r z (after_all z (take m (answered_by r (answer z r) ∷ [])))
+one_moment z r zero = inl refl
+one_moment z r (suc m) = at_none (AppliedOrNot r z) (apply z r) m (inr refl)
+
 -- one that was answered as was due
 pub sent_one : (a b : Session) (r : Request) → IsCounted a → b.store.scene ≡ apply a.store.scene r → b.store.requests ≡ a.store.requests + 1
-    → b.journal.entries ≡ a.journal.entries ++ answered_by r (answer a.store.scene r) ∷ [] → Sent a b
+    → b.journal.entries ≡ a.journal.entries ++ answered_by r (answer a.store.scene r) ∷ [] → Sent (AppliedOrNot r a.store.scene) a b
 sent_one a b r counted scene requests entries =
     let one = length-append a.journal.entries (answered_by r (answer a.store.scene r) ∷ []) in
     let long : length b.journal.entries ≡ length a.journal.entries + 1 = ap length entries ∙ one in
     record {
-      sends = record { part = answered_by r (answer a.store.scene r) ∷ []; appended = entries; by = (refl, refl, tt); answered = (refl, tt); honest = (refl, tt); scene = scene };
+      sends = record {
+        part = answered_by r (answer a.store.scene r) ∷ [];
+        appended = entries;
+        by = (refl, refl, tt);
+        answered = (refl, tt);
+        honest = (refl, tt);
+        scene = scene;
+        moments = one_moment a.store.scene r;
+      };
       counted = omega (arith, counted, requests, long);
     }
 
-sends_both : (a b c : List Entry) (z s t : Scene) → Sends a z b s → Sends b s c t → Sends a z c t
-sends_both a b c z s t h g = record {
+sends_both : (always : Scene → Type 0) (a b c : List Entry) (z s t : Scene) → Sends always a z b s → Sends always b s c t → Sends always a z c t
+sends_both always a b c z s t h g = record {
   part = h.part ++ g.part;
   appended = g.appended ∙ (ap (λ (l : List Entry). l ++ g.part) h.appended ∙ append_assoc a h.part g.part);
   by = by_both Shell 0 h.part g.part h.by g.by;
   answered = answered_both h.part g.part h.answered g.answered;
   honest = honest_both z h.part g.part h.honest (subst (λ (v : Scene). AreHonest v g.part) h.scene g.honest);
   scene = g.scene ∙ (ap (λ (v : Scene). after_all v g.part) h.scene ∙ sym (after_both z h.part g.part));
+  moments = at_both always z h.part g.part h.moments (subst (λ (v : Scene). (m : ℕ) → always (after_all v (take m g.part))) h.scene g.moments);
 }
 
 -- these and then those
-pub sent_both : (a b c : Session) → Sent a b → Sent b c → Sent a c
-sent_both a b c h g = record {
-  sends = sends_both a.journal.entries b.journal.entries c.journal.entries a.store.scene b.store.scene c.store.scene h.sends g.sends;
+pub sent_both : (always : Scene → Type 0) (a b c : Session) → Sent always a b → Sent always b c → Sent always a c
+sent_both always a b c h g = record {
+  sends = sends_both always a.journal.entries b.journal.entries c.journal.entries a.store.scene b.store.scene c.store.scene h.sends g.sends;
   counted = g.counted;
 }
+
+-- what follows is so at each moment too
+pub sent_as : (P Q : Scene → Type 0) (a b : Session) → ((s : Scene) → P s → Q s) → Sent P a b → Sent Q a b
+sent_as P Q a b f h = record {
+  sends = record {
+    part = h.sends.part;
+    appended = h.sends.appended;
+    by = h.sends.by;
+    answered = h.sends.answered;
+    honest = h.sends.honest;
+    scene = h.sends.scene;
+    moments = λ m. f (after_all a.store.scene (take m h.sends.part)) (h.sends.moments m);
+  };
+  counted = h.counted;
+}
+
+-- one that only reads
+pub sent_read : (a b : Session) (r : Request) → only_reads r ≡ true → Sent (AppliedOrNot r a.store.scene) a b → Sent (IsStill a.store.scene) a b
+sent_read a b r reads h = sent_as (AppliedOrNot r a.store.scene) (IsStill a.store.scene) a b by h
+  where
+    by : (s : Scene) → AppliedOrNot r a.store.scene s → s ≡ a.store.scene
+    by s (inl e) = e
+    by s (inr e) = e ∙ reads_nothing a.store.scene r reads
+
+-- nothing changes by either
+pub still_both : (a b c : Session) → b.store.scene ≡ a.store.scene → Sent (IsStill a.store.scene) a b → Sent (IsStill b.store.scene) b c → Sent (IsStill a.store.scene) a c
+still_both a b c same h g = sent_both (IsStill a.store.scene) a b c h (sent_as (IsStill b.store.scene) (IsStill a.store.scene) b c (λ s e. e ∙ same) g)

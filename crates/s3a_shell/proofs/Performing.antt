@@ -1,9 +1,9 @@
 -- What performing an operation over a store that answers every request sends.
-use Rattle.std.specs.Prelude.{◌≡◌, ℕ, ◌+◌, ◌<◌, ◌≤◌, nat_lt, Bool, true, false, List, [], ◌∷◌, length, codes, Option, Some, None, Result, Ok, Err, IfOk, OnOk}
-use Rattle.std.proofs.Common.{refl, sym, ap, subst, ◌∙◌, arith}
+use Rattle.std.specs.Prelude.{◌≡◌, ◌⊎◌, ℕ, ◌+◌, ◌<◌, ◌≤◌, nat_lt, Bool, true, false, List, [], ◌∷◌, length, codes, Option, Some, None, Result, Ok, Err, IfOk, OnOk}
+use Rattle.std.proofs.Common.{refl, sym, ap, subst, ◌∙◌, inl, inr, arith}
 use Rattle.std.proofs.lemmas.Bool.Decides.{nat_tests}
 use Rattle.std.specs.FinMap as fin
-use Rattle.s3_types.specs.Store.{Objects, Scene}
+use Rattle.s3_types.specs.Store.{Objects, BucketContent, Scene}
 use Rattle.s3_types.specs.Answer.{answer, apply}
 use Rattle.s3_types.specs.Moment.{is_unanswered}
 use Rattle.s3_types.specs.declared.request.Request.TheVariants.{MakeBucket}
@@ -14,24 +14,29 @@ use Rattle.s3_types.specs.declared.journal.Outcome.{Outcome}
 use Rattle.s3_types.specs.declared.journal.Outcome.TheVariants.{Answered, Slow, RequestLost, ReplyLost}
 use Rattle.s3_types.specs.declared.journal.Entry.{Entry}
 use Rattle.path_keys.specs.Paths.{Path, is_key}
+use Rattle.list_walk.specs.Walks.{IsStill}
 use Rattle.machine.specs.Counted.{AreAnswered}
 use Rattle.machine.specs.declared.driving.DriveStop.{DriveStop}
 use Rattle.operations.specs.Performed.{Performed}
-use Rattle.bucket_ops.specs.Phases.{GivesIn}
+use Rattle.bucket_ops.specs.Phases.{InScene, GivesIn, AlwaysIn}
+use Rattle.bucket_ops.specs.Asks.{objects_at, with_objects}
+use Rattle.bucket_ops.specs.AskLaws.{with_same}
 use Rattle.dir_markers.specs.declared.marker.MarkerPolicy.TheVariants.{Keep}
 use Rattle.fs_tree.specs.Answers.{Creates, Deletes}
 use Rattle.fs_tree.specs.declared.answers.FsRefusal.{FsRefusal}
 use Rattle.fs_tree.specs.declared.answers.FsRefusal.TheVariants.{NoSuchBucket}
 use Rattle.fs_ops.specs.Delete.{Deletion, gives}
 use Rattle.fs_ops.specs.Deleting.{deletes_in}
-use Rattle.fs_files.specs.Placed.{InFile}
-use Rattle.fs_files.specs.Create.{IsUndone, GivesFile}
+use Rattle.fs_files.specs.Placed.{InFile, IsFileOrNot, object_of}
+use Rattle.fs_files.specs.Create.{IsUndone, GivesFile, always_in, AlwaysFile}
+use Rattle.fs_files.specs.WritingLaws.{placed_same}
 use Rattle.fs_files.specs.Creation.{Creation}
 use Rattle.s3a_shell.specs.declared.said.Said.{Said}
 use Rattle.s3a_shell.specs.Texts.{said, nothing, refusing}
 use Rattle.s3a_shell.specs.declared.session.Session.{Session}
 use Rattle.s3a_shell.specs.Sendings.{Sent, IsCounted}
-use Rattle.s3a_shell.specs.Doings.{Did, most_input, Created, CreatedUnless, DidPut, refusal_word, refused_or_fine, DidMake}
+use Rattle.s3a_shell.proofs.Joining.{sent_as}
+use Rattle.s3a_shell.specs.Doings.{Did, most_input, Created, CreatedUnless, FileOrNot, DidPut, refusal_word, refused_or_fine, DidMake}
 
 one : (o : Outcome) → fate_of o ≡ Answer → is_unanswered o ≡ false
 one (Answered r) h = refl
@@ -45,7 +50,7 @@ answered n [] h = tt
 answered n (e ∷ es) h = (one e.outcome h.0, answered (n + 1) es h.1)
 
 pub sent : {A : Type 0} (always : Scene → Type 0) (a b : Session) (result : Result A DriveStop) → IsCounted a
-    → Performed Shell 0 0 always a.store.scene b.store.scene a.journal.entries b.journal.entries a.store.requests b.store.requests 0 0 (λ n. Some Answer) (λ n. Some Answer) result → Sent a b
+    → Performed Shell 0 0 always a.store.scene b.store.scene a.journal.entries b.journal.entries a.store.requests b.store.requests 0 0 (λ n. Some Answer) (λ n. Some Answer) result → Sent always a b
 sent always a b result counted h = record {
   sends = record {
     part = h.part;
@@ -54,9 +59,22 @@ sent always a b result counted h = record {
     answered = answered (a.store.requests + 1) h.part h.foretold;
     honest = h.honest;
     scene = h.scene;
+    moments = h.moments;
   };
   counted = omega (arith, counted, h.counts.made);
 }
+
+-- nothing changed at any moment of an operation that only reads
+pub sent_still : (b : List ℕ) (a c : Session) → Sent (AlwaysIn b (λ m n. n ≡ m) a.store.scene) a c → Sent (IsStill a.store.scene) a c
+sent_still b a c h = sent_as (AlwaysIn b (λ m n. n ≡ m) a.store.scene) (IsStill a.store.scene) a c (λ s g. by s (objects_at a.store.scene b) refl g) h
+  where
+    by : (s : Scene) (o : Option Objects) → objects_at a.store.scene b ≡ o → InScene o (λ m n. n ≡ m) (Unit {0}) a.store.scene b s → s ≡ a.store.scene
+    by s None e g = g.0
+    by s (Some m) e g = g.1 ∙ (ap (with_objects a.store.scene b) g.2 ∙ with_same a.store.scene b m e)
+
+-- what may stand at any moment of an operation, by what it names
+pub sent_of : {O : Type 0} (b : List ℕ) (always : O → Objects → Objects → Type 0) (a c : Session) (o p : O) → o ≡ p → Sent (AlwaysIn b (always o) a.store.scene) a c → Sent (AlwaysIn b (always p) a.store.scene) a c
+sent_of b always a c o p e h = subst (λ o. Sent (AlwaysIn b (always o) a.store.scene) a c) e h
 
 -- what holds, holds where a call returned
 pub on_ok : {T E : Type 0} {P : Type 0} (r : Result T E) → P → OnOk r P
@@ -97,6 +115,32 @@ file_if path bytes copy block overwrite z s file a r same is least gives told =
     let of_copy = subst (λ (o : Creation). GivesFile o z a s) is gives least in
     created_if path bytes overwrite z s a r
     (subst (λ (b : List ℕ). InFile (fin.get z.content.buckets path.bucket) (λ m n. Creates path b overwrite Keep m a n) (a ≡ Err NoSuchBucket) z path.bucket s × IsUndone a z s) same of_copy) told
+
+-- and at any moment of it
+file_or_not : (path : Path) (bytes : List ℕ) (block : ℕ) (overwrite : Bool) (z m : Objects) → always_in (record { path = path; bytes = bytes; block = block; overwrite = overwrite; policy = Keep }) z m → IsFileOrNot z path.key bytes m
+file_or_not path bytes block overwrite z m (inl e) = inl e
+file_or_not path bytes block overwrite z m (inr h) = by h.1
+  where
+    by : (m ≡ fin.insert z path.key (object_of bytes)) ⊎ (m ≡ fin.insert z path.key (object_of bytes)) → IsFileOrNot z path.key bytes m
+    by (inl e) = inr e
+    by (inr e) = inr e
+
+pub file_stands : (path : Path) (bytes copy : List ℕ) (block : ℕ) (overwrite : Bool) (z s : Scene) (file : Creation) → copy ≡ bytes → file ≡ record { path = path; bytes = copy; block = block; overwrite = overwrite; policy = Keep } → z.content.minimum ≤ block → AlwaysFile file z s
+    → FileOrNot path bytes z s
+file_stands path bytes copy block overwrite z s file same is least h =
+    subst (λ (b : List ℕ). FileOrNot path b z s) same (by (fin.get z.content.buckets path.bucket) (subst (λ (o : Creation). AlwaysFile o z s) is h least))
+  where
+    by : (o : Option BucketContent) → InFile o (always_in (record { path = path; bytes = copy; block = block; overwrite = overwrite; policy = Keep })) (Unit {0}) z path.bucket s → InFile o (λ m n. IsFileOrNot m path.key copy n) (Unit {0}) z path.bucket s
+    by None g = g
+    by (Some c) g = record { content = g.content; next = g.next; scene = g.scene; later = g.later; objects = file_or_not path copy block overwrite c.objects g.content.objects g.objects }
+
+-- before all
+pub none_stands : (path : Path) (bytes : List ℕ) (z : Scene) → FileOrNot path bytes z z
+none_stands path bytes z = by (fin.get z.content.buckets path.bucket) refl
+  where
+    by : (o : Option BucketContent) → fin.get z.content.buckets path.bucket ≡ o → InFile o (λ m n. IsFileOrNot m path.key bytes n) (Unit {0}) z path.bucket z
+    by None e = (refl, tt)
+    by (Some c) e = record { content = c; next = z.content.next; scene = sym (placed_same z path.bucket c e); later = record { drawn = omega arith; uploads = λ id l. refl }; objects = inl refl }
 
 -- ---- the making of a bucket
 

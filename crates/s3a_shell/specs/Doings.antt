@@ -8,19 +8,23 @@ use Rattle.s3_types.specs.declared.reply.Reply.{Reply}
 use Rattle.s3_types.specs.declared.reply.Reply.TheVariants.{Refused}
 use Rattle.s3_types.specs.declared.reply.Refusal.TheVariants.{BadName, BucketExists}
 use Rattle.path_keys.specs.Paths.{Path}
-use Rattle.bucket_ops.specs.Phases.{GivesIn}
+use Rattle.bucket_ops.specs.Phases.{GivesIn, AlwaysIn}
 use Rattle.dir_markers.specs.declared.marker.MarkerPolicy.TheVariants.{Keep}
 use Rattle.fs_tree.specs.Answers.{Stats, Reads, Lists, Creates, Makes, Deletes}
 use Rattle.fs_tree.specs.declared.answers.FsRefusal.{FsRefusal}
 use Rattle.fs_tree.specs.declared.answers.FsRefusal.TheVariants.{NoSuchBucket}
-use Rattle.fs_files.specs.Placed.{InFile}
+use Rattle.fs_ops.specs.Delete as delete
+use Rattle.fs_ops.specs.Make as make
+use Rattle.fs_files.specs.Placed.{InFile, IsFileOrNot}
 use Rattle.fs_files.specs.Create.{IsUndone}
+use Rattle.fs_rename.specs.Public.{StandsWhole}
 use Rattle.s3a_words.specs.declared.command.Command.{Command}
 use Rattle.s3a_words.specs.declared.command.Command.TheVariants.{Mb, Ls, Stat, Cat, Put, PutForce, Mkdir, Mv, Rm, Rmr, Uploads, AbortUploads}
 use Rattle.s3a_shell.specs.declared.said.Said.{Said}
 use Rattle.s3a_shell.specs.Texts.{status_line, entry_lines, bytes_alone, nothing, fine, refusing, said}
-use Rattle.s3a_shell.specs.Moving.{DidMove}
-use Rattle.s3a_shell.specs.Uploading.{DidList, DidAbort}
+use Rattle.s3a_shell.specs.Sendings.{AppliedOrNot}
+use Rattle.s3a_shell.specs.Moving.{renaming, DidMove}
+use Rattle.s3a_shell.specs.Uploading.{DidList, DidAbort, AbortedSome}
 
 -- ---- on a path
 
@@ -47,6 +51,10 @@ pub record Created (path : Path) (bytes : List ℕ) (overwrite : Bool) (z : Scen
 abbrev pub CreatedUnless : Bool → Path → List ℕ → Bool → Scene → Said → Scene → Type 0
 CreatedUnless true path bytes overwrite z what s = (what ≡ refusing (codes "too-large") None) × (s ≡ z)
 CreatedUnless false path bytes overwrite z what s = Created path bytes overwrite z what s
+
+-- at any moment the objects are as they were, or the file stands whole
+abbrev pub FileOrNot : Path → List ℕ → Scene → Scene → Type 0
+FileOrNot path bytes z s = InFile (fin.get z.content.buckets path.bucket) (λ m n. IsFileOrNot m path.key bytes n) (Unit {0}) z path.bucket s
 
 abbrev pub DidPut : Path → List ℕ → Bool → Scene → Said → Scene → Type 0
 DidPut path bytes overwrite z what s = CreatedUnless (nat_lt most_input (length bytes)) path bytes overwrite z what s
@@ -100,3 +108,19 @@ Does (Rmr path) bytes z what s = Did path (Deletes true path.key) nothing z what
 Does (Uploads path) bytes z what s = DidList path z what s
 Does (AbortUploads path) bytes z what s = DidAbort path z what s
 Does _ bytes z what s = ⊥
+
+-- a path is deleted in part
+abbrev pub DeletedSome : Bool → Path → Scene → Scene → Type 0
+DeletedSome recursive path z s = AlwaysIn path.bucket (delete.always (record { path = path.key; recursive = recursive })) z s
+
+-- what may stand at any moment of a command that was begun in the scene z, with the bytes of its input: wherever it stops, this is left
+abbrev pub MayStandAt : Command → List ℕ → Scene → Scene → Type 0
+MayStandAt (Mb name) bytes z s = AppliedOrNot (MakeBucket name) z s
+MayStandAt (Put path) bytes z s = FileOrNot path bytes z s
+MayStandAt (PutForce path) bytes z s = FileOrNot path bytes z s
+MayStandAt (Mkdir path) bytes z s = AlwaysIn path.bucket (make.always path.key) z s
+MayStandAt (Mv from to) bytes z s = StandsWhole (renaming from to) z s
+MayStandAt (Rm path) bytes z s = DeletedSome false path z s
+MayStandAt (Rmr path) bytes z s = DeletedSome true path z s
+MayStandAt (AbortUploads path) bytes z s = AbortedSome path z s
+MayStandAt _ bytes z s = s ≡ z

@@ -1,8 +1,9 @@
 -- What the shell sends.
-use Rattle.std.specs.Prelude.{◌≡◌, ◌≤◌, ◌&&◌, Bool, true, false, not, List, ◌++◌, length}
+use Rattle.std.specs.Prelude.{◌≡◌, ◌⊎◌, ℕ, ◌≤◌, ◌&&◌, Bool, true, false, not, List, ◌++◌, length, take}
 use Rattle.std.specs.List.{list_any}
 use Rattle.s3_types.specs.Store.{Scene}
 use Rattle.s3_types.specs.Moment.{AreHonest, after_all}
+use Rattle.s3_types.specs.Answer.{apply}
 use Rattle.s3_types.specs.declared.request.Actor.TheVariants.{Shell}
 use Rattle.s3_types.specs.declared.request.Request.{Request}
 use Rattle.s3_types.specs.declared.reply.Reply.{Reply}
@@ -16,22 +17,28 @@ use Rattle.log_format.specs.Change.{is_changing}
 use Rattle.s3a_shell.specs.declared.session.Session.{Session}
 
 -- a journal gained sendings by the shell, in event 0, each with the answer that was due, which lead from the scene z to s
-pub record Sends (old : List Entry) (z : Scene) (new : List Entry) (s : Scene) : Type 0 where
+pub record Sends (always : Scene → Type 0) (old : List Entry) (z : Scene) (new : List Entry) (s : Scene) : Type 0 where
   pub part : List Entry
   pub appended : new ≡ old ++ part
   pub by : AreBy Shell 0 part
   pub answered : AreAnswered part
   pub honest : AreHonest z part
   pub scene : s ≡ after_all z part
+  -- this is so before the first of them and after each
+  pub moments : (m : ℕ) → always (after_all z (take m part))
 
 -- each request that the store was asked is in the journal
 abbrev pub IsCounted : Session → Type 0
 IsCounted a = a.store.requests ≤ length a.journal.entries
 
 -- a session went on by such sendings alone
-pub record Sent (a b : Session) : Type 0 where
-  pub sends : Sends a.journal.entries a.store.scene b.journal.entries b.store.scene
+pub record Sent (always : Scene → Type 0) (a b : Session) : Type 0 where
+  pub sends : Sends always a.journal.entries a.store.scene b.journal.entries b.store.scene
   pub counted : IsCounted b
+
+-- a request has had its effect, or not yet
+abbrev pub AppliedOrNot : Request → Scene → Scene → Type 0
+AppliedOrNot r z s = (s ≡ z) ⊎ (s ≡ apply z r)
 
 -- a sending by the shell that was answered
 abbrev pub answered_by : Request → Reply → Entry

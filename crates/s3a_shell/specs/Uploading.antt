@@ -1,11 +1,12 @@
 -- What the commands on uploads do and say (Amazon S3 API: ListMultipartUploads, ListParts, AbortMultipartUpload).
-use Rattle.std.specs.Prelude.{◌≡◌, ℕ, List, [], ◌∷◌, ◌++◌, length, codes, Option, Some, None}
+use Rattle.std.specs.Prelude.{◌≡◌, ℕ, List, [], ◌∷◌, ◌++◌, length, take, codes, Option, Some, None}
 use Rattle.std.specs.FinMap as fin
 use Rattle.std.specs.Fmt.{decimal}
 use Rattle.std.specs.List.{flat_map, sum_by}
 use Rattle.s3_types.specs.Store.{Upload, BucketContent, Scene}
 use Rattle.s3_types.specs.Multipart.{live, listed, sizes}
 use Rattle.s3_types.specs.Answer.{answer, apply}
+use Rattle.s3_types.specs.declared.request.Request.{Request}
 use Rattle.s3_types.specs.declared.request.Request.TheVariants.{ListParts, AbortUpload}
 use Rattle.s3_types.specs.declared.request.UploadRef.{UploadRef}
 use Rattle.s3_types.specs.declared.reply.Reply.{Reply}
@@ -69,6 +70,15 @@ AbortedIn (Some c) path z what s = (what ≡ fine (aborted_line (length (uploads
 abbrev pub DidAbort : Path → Scene → Said → Scene → Type 0
 DidAbort path z what s = AbortedIn (fin.get z.content.buckets path.bucket) path z what s
 
+-- of these uploads the first so many are gone
+abbrev pub EndedSome : Option BucketContent → Path → Scene → Scene → Type 0
+EndedSome None path z s = s ≡ z
+EndedSome (Some c) path z s = (n : ℕ) × AreEnded path.bucket c (take n (uploads_below path c)) z s
+
+-- so it is at any moment while uploads are aborted
+abbrev pub AbortedSome : Path → Scene → Scene → Type 0
+AbortedSome path z s = EndedSome (fin.get z.content.buckets path.bucket) path z s
+
 -- ---- as it is asked
 
 -- the parts that a reply tells
@@ -83,7 +93,15 @@ asked_line z b r = upload_line r (sizes_in (answer z (ListParts b r.key r.upload
 abbrev pub asked_lines : Scene → List ℕ → List UploadRef → List ℕ
 asked_lines z b rs = flat_map (asked_line z b) rs
 
+-- the abort of an upload
+abbrev pub aborts : List ℕ → UploadRef → Request
+aborts b r = AbortUpload b r.key r.upload
+
 -- the scene after these were aborted one by one
 abbrev pub after_aborts : Scene → List ℕ → List UploadRef → Scene
 after_aborts s b [] = s
 after_aborts s b (r ∷ rs) = after_aborts (apply s (AbortUpload b r.key r.upload)) b rs
+
+-- the first so many of them were aborted
+abbrev pub AfterSome : List ℕ → List UploadRef → Scene → Scene → Type 0
+AfterSome b rs z s = (n : ℕ) × (s ≡ after_aborts z b (take n rs))

@@ -1,6 +1,6 @@
 ghost use Rattle.std.specs.Prelude.{◌≡◌, ◌≤◌, length, IfOk, OnOk};
 ghost use Rattle.s3a_shell.specs.Sendings.{IsCounted, Sent};
-ghost use Rattle.s3a_shell.specs.Doings.{most_input, Created, DidPut};
+ghost use Rattle.s3a_shell.specs.Doings.{most_input, Created, FileOrNot, DidPut};
 
 use crate::said::{Said, nothing_said, refusing};
 use crate::session::{EVENT, RETRIES, Session, wanting};
@@ -21,7 +21,7 @@ impl Session {
         requires few { length bytes.now ≤ most_input }
         requires counted { IsCounted self.old }
         ensures did { IfOk result (λ what. Created path.now bytes.now overwrite self.old.store.scene what self.new.store.scene) }
-        ensures sent { OnOk result (Sent self.old self.new) }
+        ensures sent { OnOk result (Sent (FileOrNot path.now bytes.now self.old.store.scene) self.old self.new) }
     {
         let alloc = self.alloc;
         let minimum = self.store.service().minimum();
@@ -45,7 +45,7 @@ impl Session {
     ) -> Result<Said, AllocError>
         requires { IsCounted self.old }
         ensures did { IfOk result (λ what. DidPut path.now bytes.now overwrite self.old.store.scene what self.new.store.scene) }
-        ensures sent { OnOk result (Sent self.old self.new) }
+        ensures sent { OnOk result (Sent (FileOrNot path.now bytes.now self.old.store.scene) self.old self.new) }
     {
         if bytes.as_slice().len() > MOST_INPUT {
             return refusing(self.alloc, "too-large", None);

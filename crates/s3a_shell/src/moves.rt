@@ -1,5 +1,6 @@
 ghost use Rattle.std.specs.Prelude.{◌≡◌, IfOk, OnOk, option_map};
-ghost use Rattle.s3a_shell.specs.Moving.{word_of_move, kept_of_move, said_of_move, DidMove};
+ghost use Rattle.fs_rename.specs.Public.{StandsWhole};
+ghost use Rattle.s3a_shell.specs.Moving.{word_of_move, kept_of_move, said_of_move, renaming, DidMove};
 ghost use Rattle.s3a_shell.specs.Sendings.{IsCounted, Sent};
 
 use crate::said::{Said, fine, refusing};
@@ -51,7 +52,7 @@ impl Session {
     pub(crate) fn rename(&mut self, from: &S3Path, to: &S3Path) -> Result<Said, AllocError>
         requires { IsCounted self.old }
         ensures did { IfOk result (λ what. DidMove from.now to.now self.old.store.scene what self.new.store.scene) }
-        ensures sent { OnOk result (Sent self.old self.new) }
+        ensures sent { OnOk result (Sent (StandsWhole (renaming from.now to.now) self.old.store.scene) self.old self.new) }
     {
         let alloc = self.alloc;
         let rename = Rename::new(alloc, from, to)?;

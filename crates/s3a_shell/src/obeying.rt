@@ -1,11 +1,11 @@
-ghost use Rattle.std.specs.Prelude.{◌≡◌, ◌≤◌, ◌^◌, true, false, length, IfOk, OnOk};
+ghost use Rattle.std.specs.Prelude.{◌≡◌, ℕ, ◌≤◌, ◌^◌, true, false, length, IfOk, OnOk};
 ghost use Rattle.s3_types.specs.Store.{opening};
 ghost use Rattle.s3_types.specs.Moment.{moment, IsHonest};
 ghost use Rattle.s3_types.specs.declared.request.Actor.TheVariants as actors;
 ghost use Rattle.machine.specs.Counted.{AreAnswered};
 ghost use Rattle.machine.specs.Turns.{AreBy};
 ghost use Rattle.s3a_shell.specs.Sendings.{IsCounted, Sent, is_refusal, is_taken, is_change, has_changed};
-ghost use Rattle.s3a_shell.specs.Doings.{is_of_shell, Does};
+ghost use Rattle.s3a_shell.specs.Doings.{is_of_shell, Does, MayStandAt};
 ghost use Rattle.s3a_shell.specs.Stays.{OnlyIn, bucket_in, ended_by};
 
 use crate::said::Said;
@@ -65,7 +65,7 @@ impl Session {
         requires one { is_of_shell command.now ≡ true }
         requires counted { IsCounted self.old }
         ensures did { IfOk result (λ what. Does command.now bytes.now self.old.store.scene what self.new.store.scene) }
-        ensures sent { OnOk result (Sent self.old self.new) }
+        ensures sent { OnOk result (Sent (MayStandAt command.now bytes.now self.old.store.scene) self.old self.new) }
     {
         match command {
             Command::Mb { name } => self.make_bucket(name),
@@ -110,7 +110,8 @@ impl Session {
 /// Does a command of the shell on a store, where `bytes` are its input. `text` is what it says, or the line of its
 /// refusal: `refused WORD`, and behind a blank the value that is kept. `changed` tells whether some request was
 /// answered that is no read and no list and was not refused; where it is false, the store is as it was, and so it is
-/// where the command was refused. Markers are kept, and each request is sent once. (Hadoop FileSystem specification.)
+/// where the command was refused. At any moment, wherever it stops, there stands what may stand then of the command
+/// (`MayStandAt`). Markers are kept, and each request is sent once. (Hadoop FileSystem specification.)
 pub fn shell(
     alloc: Global,
     command: &Command,
@@ -124,6 +125,7 @@ pub fn shell(
     ensures by { IfOk result (λ end. AreBy actors.Shell 0 end.journal.entries) }
     ensures answered { IfOk result (λ end. AreAnswered end.journal.entries) }
     ensures honest { IfOk result (λ end. IsHonest service end.journal.entries) }
+    ensures moments { IfOk result (λ end. (m : ℕ) → MayStandAt command.now bytes (opening service) (moment service end.journal.entries m)) }
     ensures changed { IfOk result (λ end. end.changed ≡ has_changed end.journal.entries) }
     ensures same { IfOk result (λ end. end.changed ≡ false → end.service ≡ service) }
     ensures refused { IfOk result (λ end. end.refused ≡ true → end.service ≡ service) }

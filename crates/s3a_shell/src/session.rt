@@ -1,7 +1,7 @@
 ghost use Rattle.std.specs.Prelude.{◌≡◌, ◌≢◌, ◌≤◌, ◌<◌, ◌+◌, ◌^◌, ◌++◌, ◌∷◌, [], length, IfOk, OnOk};
 ghost use Rattle.s3_types.specs.Store.{opening};
 ghost use Rattle.s3_types.specs.Answer.{answer, apply};
-ghost use Rattle.bucket_ops.specs.Phases.{GivesIn};
+ghost use Rattle.bucket_ops.specs.Phases.{GivesIn, AlwaysIn};
 ghost use Rattle.s3a_shell.specs.Sendings.{IsCounted, Sent, answered_by};
 
 use bucket_ops::{Phases, perform_in};
@@ -57,7 +57,7 @@ impl Session {
     ) -> Result<O::Answer, AllocError>
         requires counted { IsCounted self.old }
         ensures given { IfOk result (λ answer. GivesIn path.now.bucket (O.gives operation) O.absent self.old.store.scene answer self.new.store.scene) }
-        ensures sent { OnOk result (Sent self.old self.new) }
+        ensures sent { OnOk result (Sent (AlwaysIn path.now.bucket (O.always operation) self.old.store.scene) self.old self.new) }
     {
         let bucket = path.bucket().clone()?;
         match perform_in(

@@ -2,8 +2,10 @@ ghost use Rattle.std.specs.Prelude.{◌≡◌, ◌++◌, [], None, IfOk, OnOk, s
 ghost use Rattle.s3_types.specs.Answer.{apply};
 ghost use Rattle.path_keys.specs.Paths.{below};
 ghost use Rattle.list_walk.specs.Kinds.{uploads_from};
-ghost use Rattle.s3a_shell.specs.Sendings.{IsCounted, Sent};
-ghost use Rattle.s3a_shell.specs.Uploading.{bytes_in, upload_line, aborted_line, sizes_in, asked_line, asked_lines, after_aborts, DidList, DidAbort};
+ghost use Rattle.list_walk.specs.Walks.{IsStill};
+ghost use Rattle.s3a_shell.specs.Sendings.{IsCounted, Sent, AppliedOrNot};
+ghost use Rattle.s3a_shell.specs.Uploading.{bytes_in, upload_line, aborted_line, sizes_in, asked_line, asked_lines};
+ghost use Rattle.s3a_shell.specs.Uploading.{aborts, after_aborts, AfterSome, DidList, DidAbort, AbortedSome};
 
 use crate::said::{Said, fine, refusing};
 use crate::session::{EVENT, RETRIES, Session, wanting};
@@ -68,7 +70,7 @@ impl Session {
         requires { IsCounted self.old }
         ensures found { IfOk result (λ found. found ≡ uploads_from self.old.store.scene path.now.bucket (below path.now.key []) None) }
         ensures same { OnOk result (self.new.store.scene ≡ self.old.store.scene) }
-        ensures sent { OnOk result (Sent self.old self.new) }
+        ensures sent { OnOk result (Sent (IsStill self.old.store.scene) self.old self.new) }
     {
         let bucket = path.bucket().clone()?;
         let prefix = prefix_of(self.alloc, path)?;
@@ -98,7 +100,7 @@ impl Session {
         requires { IsCounted self.old }
         ensures line { OnOk result (string_bytes lines.new ≡ string_bytes lines.old ++ asked_line self.old.store.scene bucket.now upload.now) }
         ensures same { OnOk result (self.new.store.scene ≡ self.old.store.scene) }
-        ensures sent { OnOk result (Sent self.old self.new) }
+        ensures sent { OnOk result (Sent (IsStill self.old.store.scene) self.old self.new) }
     {
         let request = Request::list_parts(bucket, &upload.key, upload.upload)?;
         match self.answered(&request) {
@@ -119,7 +121,7 @@ impl Session {
         requires { IsCounted self.old }
         ensures lines { IfOk result (λ lines. lines ≡ asked_lines self.old.store.scene bucket.now uploads.now) }
         ensures same { OnOk result (self.new.store.scene ≡ self.old.store.scene) }
-        ensures sent { OnOk result (Sent self.old self.new) }
+        ensures sent { OnOk result (Sent (IsStill self.old.store.scene) self.old self.new) }
     {
         let mut lines = String::new(self.alloc);
         for upload in uploads {
@@ -132,7 +134,7 @@ impl Session {
     pub(crate) fn uploads(&mut self, path: &S3Path) -> Result<Said, AllocError>
         requires { IsCounted self.old }
         ensures did { IfOk result (λ what. DidList path.now self.old.store.scene what self.new.store.scene) }
-        ensures sent { OnOk result (Sent self.old self.new) }
+        ensures sent { OnOk result (Sent (IsStill self.old.store.scene) self.old self.new) }
     {
         match self.live_uploads(path)? {
             None => refusing(self.alloc, "no-such-bucket", None),
@@ -144,7 +146,7 @@ impl Session {
     fn abort(&mut self, bucket: &Bucket, upload: &UploadRef) -> Result<(), AllocError>
         requires { IsCounted self.old }
         ensures scene { OnOk result (self.new.store.scene ≡ apply self.old.store.scene (Request.AbortUpload bucket.now upload.now.key upload.now.upload)) }
-        ensures sent { OnOk result (Sent self.old self.new) }
+        ensures sent { OnOk result (Sent (AppliedOrNot (aborts bucket.now upload.now) self.old.store.scene) self.old self.new) }
     {
         let request = Request::abort_upload(bucket, &upload.key, upload.upload)?;
         match self.answered(&request) {
@@ -163,7 +165,7 @@ impl Session {
     fn abort_all(&mut self, bucket: &Bucket, uploads: &[UploadRef]) -> Result<(), AllocError>
         requires { IsCounted self.old }
         ensures scene { OnOk result (self.new.store.scene ≡ after_aborts self.old.store.scene bucket.now uploads.now) }
-        ensures sent { OnOk result (Sent self.old self.new) }
+        ensures sent { OnOk result (Sent (AfterSome bucket.now uploads.now self.old.store.scene) self.old self.new) }
     {
         for upload in uploads {
             self.abort(bucket, upload)?;
@@ -175,7 +177,7 @@ impl Session {
     pub(crate) fn abort_uploads(&mut self, path: &S3Path) -> Result<Said, AllocError>
         requires { IsCounted self.old }
         ensures did { IfOk result (λ what. DidAbort path.now self.old.store.scene what self.new.store.scene) }
-        ensures sent { OnOk result (Sent self.old self.new) }
+        ensures sent { OnOk result (Sent (AbortedSome path.now self.old.store.scene) self.old self.new) }
     {
         match self.live_uploads(path)? {
             None => refusing(self.alloc, "no-such-bucket", None),

@@ -10,7 +10,7 @@ use Rattle.machine.specs.Turns.{AreBy}
 use Rattle.s3a_words.specs.declared.command.Command.{Command}
 use Rattle.s3a_words.specs.declared.command.Command.TheVariants.{Init, Put, PutForce, Job, Gen}
 use Rattle.s3a_shell.specs.declared.said.Said.{Said}
-use Rattle.s3a_shell.specs.Doings.{Does}
+use Rattle.s3a_shell.specs.Doings.{Does, MayStandAt}
 use Rattle.s3a_shell.specs.Sendings.{has_changed}
 use Rattle.s3a_shell.specs.Stays.{OnlyIn, bucket_in, ended_by}
 use Rattle.s3a_shell.specs.Texts.{refused_line}
@@ -58,6 +58,8 @@ pub record Done (command : Command) (bytes : List ℕ) (c : Content) (work : Wor
   pub by : AreBy Shell 0 sent
   pub answered : AreAnswered sent
   pub honest : IsHonest c sent
+  -- at each moment, wherever it stops, there stands what may stand then of the command
+  pub moments : (m : ℕ) → MayStandAt command bytes (opening c) (moment c sent m)
   -- other buckets stand, and so do the uploads that it does not end
   pub stays : OnlyIn (bucket_in command) (ended_by command c) c (moment c sent (length sent)).content
   -- one that was refused, or that sent no change, left the store as it was

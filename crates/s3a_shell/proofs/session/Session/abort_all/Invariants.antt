@@ -1,10 +1,10 @@
-use Rattle.std.proofs.Common.{◌≡◌, drop}
+use Rattle.std.proofs.Common.{◌≡◌, take}
 use Rattle.s3a_shell.specs.Sendings.{Sent}
-use Rattle.s3a_shell.specs.Uploading.{after_aborts}
+use Rattle.s3a_shell.specs.Uploading.{after_aborts, AfterSome}
 use Rattle.s3a_shell.proofs.session.Session.abort_all.Given as goal
 
 abbrev pub invariant-loop-upload : goal.invariant-loop-upload
 invariant-loop-upload l = record {
-  scene : after_aborts l.self.store.scene l.bucket (drop l.upload-index l.uploads) ≡ after_aborts l.fn.self.store.scene l.bucket l.uploads;
-  sent : Sent l.fn.self l.self;
+  scene : l.self.store.scene ≡ after_aborts l.fn.self.store.scene l.bucket (take l.upload-index l.uploads);
+  sent : Sent (AfterSome l.bucket l.uploads l.fn.self.store.scene) l.fn.self l.self;
 }

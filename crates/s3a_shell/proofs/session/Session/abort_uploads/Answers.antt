@@ -1,5 +1,5 @@
-use Rattle.s3a_shell.proofs.Aborting.{did_abort}
-use Rattle.s3a_shell.proofs.Joining.{sent_both}
+use Rattle.std.proofs.Common.{refl}
+use Rattle.s3a_shell.proofs.Aborting.{did_abort, sent_some}
 use Rattle.s3a_shell.proofs.session.Session.abort_uploads.Goals as goal
 
 pub returns-in_ok-aborted_line-in-Some-clause-did :
@@ -11,4 +11,7 @@ returns-in_ok-aborted_line-in-Some-clause-did c =
 
 pub returns-in_ok-aborted_line-in-Some-clause-sent :
     goal.returns-in_ok-aborted_line-in-Some-clause-sent
-returns-in_ok-aborted_line-in-Some-clause-sent c = sent_both _ _ _ c.in_ok-live_uploads.ensures.sent c.in_ok-abort_all-in-Some.ensures.sent
+returns-in_ok-aborted_line-in-Some-clause-sent c =
+    let e = c.in_ok-live_uploads.ensures in
+    sent_some c.args.path.now c.args.self.now.store.scene c.in_ok-live_uploads.field-0 c.in-Some.found c.as_slice.result.now c.bucket.result.now c.args.self.now c.live_uploads.new.self c.abort_all.new.self
+    e.found c.in-Some.is c.as_slice.ensures c.bucket.ensures e.same refl e.sent c.in_ok-abort_all-in-Some.ensures.sent

@@ -1,7 +1,10 @@
 use Rattle.std.proofs.Common.{◌≤◌, ◌*◌, ◌∙◌, ℕ, List, length, sym, ap, subst}
 use Rattle.s3_types.specs.Store.{Content}
 use Rattle.s3a_shell.proofs.Blocks.{some_block, least_block, has_room}
-use Rattle.s3a_shell.proofs.Performing.{sent, on_ok, file_if}
+use Rattle.fs_files.specs.Create.{AlwaysFile}
+use Rattle.s3a_shell.specs.Doings.{FileOrNot}
+use Rattle.s3a_shell.proofs.Joining.{sent_as}
+use Rattle.s3a_shell.proofs.Performing.{sent, on_ok, file_if, file_stands}
 use Rattle.s3a_shell.proofs.session.Session.create.Goals as goal
 
 pub new-requires-clause-some : goal.new-requires-clause-some
@@ -18,4 +21,11 @@ returns-in-Ok-clause-did c =
     c.in_ok-file.ensures.file least c.in-Ok.ensures.given c.nothing_said.ensures
 
 pub returns-in-Ok-clause-sent : goal.returns-in-Ok-clause-sent
-returns-in-Ok-clause-sent c = on_ok c.nothing_said.result (sent _ _ _ _ c.requires.counted c.in-Ok.ensures.performed)
+returns-in-Ok-clause-sent c =
+    let z = c.args.self.now.store.scene in
+    let least = subst (λ (n : ℕ). n ≤ c.block_of-block.result) (c.minimum-minimum.ensures ∙ ap (λ (d : Content). d.minimum) c.service.ensures) (least_block _ _ _ c.block_of-block.ensures) in
+    let file = c.in_ok-file.file.file in
+    on_ok c.nothing_said.result
+    (sent_as (AlwaysFile file z) (FileOrNot c.args.path.now c.args.bytes.now z) _ _
+    (λ s h. file_stands c.args.path.now c.args.bytes.now c.in_ok-bytes.bytes c.block_of-block.result c.args.overwrite z s file c.in_ok-bytes.ensures.cases c.in_ok-file.ensures.file least h)
+    (sent _ _ _ _ c.requires.counted c.in-Ok.ensures.performed))

@@ -1,7 +1,10 @@
 use Rattle.fs_tree.specs.Answers.{Lists}
 use Rattle.s3a_shell.specs.Texts.{entry_lines}
-use Rattle.s3a_shell.proofs.Performing.{did_at}
+use Rattle.s3a_shell.proofs.Performing.{did_at, on_ok, sent_still}
 use Rattle.s3a_shell.proofs.session.Session.ls.Goals as goal
 
 pub returns-clause-did : goal.returns-clause-did
 returns-clause-did c = did_at c.args.path.now Lists entry_lines _ _ _ c.in_ok-answer.answer c.list_said.result c.in_ok-dir.ensures c.in_ok-answer.ensures.given c.list_said.ensures
+
+pub returns-clause-sent : goal.returns-clause-sent
+returns-clause-sent c = on_ok c.list_said.result (sent_still c.args.path.now.bucket _ _ c.in_ok-answer.ensures.sent)

@@ -1,7 +1,11 @@
 use Rattle.fs_tree.specs.Answers.{Makes}
+use Rattle.fs_ops.specs.Make as make
 use Rattle.s3a_shell.specs.Texts.{nothing}
-use Rattle.s3a_shell.proofs.Performing.{did_at}
+use Rattle.s3a_shell.proofs.Performing.{did_at, on_ok, sent_of}
 use Rattle.s3a_shell.proofs.session.Session.mkdir.Goals as goal
 
 pub returns-clause-did : goal.returns-clause-did
 returns-clause-did c = did_at c.args.path.now Makes nothing _ _ _ c.in_ok-answer.answer c.nothing_said.result c.in_ok-dirs.ensures c.in_ok-answer.ensures.given c.nothing_said.ensures
+
+pub returns-clause-sent : goal.returns-clause-sent
+returns-clause-sent c = on_ok c.nothing_said.result (sent_of c.args.path.now.bucket make.always _ _ _ _ c.in_ok-dirs.ensures c.in_ok-answer.ensures.sent)

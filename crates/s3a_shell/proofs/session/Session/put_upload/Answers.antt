@@ -1,9 +1,22 @@
-use Rattle.std.proofs.Common.{ap, ◌∙◌}
+use Rattle.std.proofs.Common.{List, [], ◌∷◌, ◌++◌, ap, ◌∙◌}
 use Rattle.s3_types.specs.Requests.{only_reads}
+use Rattle.s3_types.specs.declared.journal.Entry.{Entry}
+use Rattle.s3_types.specs.declared.reply.Reply.{Reply}
 use Rattle.request_frame.proofs.Reading.{reads_nothing}
+use Rattle.s3a_shell.specs.Sendings.{answered_by}
 use Rattle.s3a_shell.proofs.Performing.{on_ok}
+use Rattle.s3a_shell.proofs.Joining.{sent_read, sent_one}
 use Rattle.s3a_shell.proofs.session.Session.put_upload.Goals as goal
 
 pub returns-in-Ok-clause-same : goal.returns-in-Ok-clause-same
 returns-in-Ok-clause-same c =
     on_ok c.put_reply-put.result (ap (λ x. x.scene) c.write_down.ensures.store ∙ (c.in-Ok.ensures.scene ∙ reads_nothing c.args.self.now.store.scene c.in_ok-request.request (ap only_reads c.in_ok-request.ensures)))
+
+pub returns-in-Ok-clause-sent : goal.returns-in-Ok-clause-sent
+returns-in-Ok-clause-sent c =
+    let r = c.in_ok-request.request in
+    let old = c.args.self.now.journal.entries in
+    let entries = c.write_down.ensures.entries ∙ (ap (λ (l : List Entry). l ++ answered_by r c.in-Ok.reply ∷ []) c.in-Ok.ensures.entries ∙ ap (λ (a : Reply). old ++ answered_by r a ∷ []) c.in-Ok.ensures.reply) in
+    on_ok c.put_reply-put.result
+    (sent_read _ _ r (ap only_reads c.in_ok-request.ensures)
+    (sent_one c.args.self.now c.write_down.new.self r c.requires (ap (λ x. x.scene) c.write_down.ensures.store ∙ c.in-Ok.ensures.scene) (ap (λ x. x.requests) c.write_down.ensures.store ∙ c.in-Ok.ensures.requests) entries))

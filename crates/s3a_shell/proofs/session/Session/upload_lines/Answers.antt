@@ -1,7 +1,7 @@
 use Rattle.std.proofs.Common.{◌+◌, ◌∷◌, ◌∙◌, drop, ap, sym, string_bytes}
 use Rattle.std.proofs.lemmas.List.{drop_more}
 use Rattle.s3_types.specs.declared.request.UploadRef.{UploadRef}
-use Rattle.s3a_shell.proofs.Joining.{sent_both}
+use Rattle.s3a_shell.proofs.Joining.{still_both}
 use Rattle.s3a_shell.proofs.Listing.{more_lines}
 use Rattle.s3a_shell.proofs.session.Session.upload_lines.Goals as goal
 
@@ -15,6 +15,6 @@ loop-upload-preserved c =
     let v = c.loop-upload.invariant in
     record {
       same = e.same ∙ v.same;
-      sent = sent_both _ _ _ v.sent e.sent;
+      sent = still_both _ _ _ v.same v.sent e.sent;
       text = more_lines c.args.self.now.store.scene c.loop-upload.self.store.scene c.args.bucket.now (string_bytes c.loop-upload.lines) (string_bytes c.put_upload.new.lines) us i x front v.same e.line v.text;
     }

@@ -1,4 +1,4 @@
-use Rattle.s3a_shell.proofs.Joining.{sent_both}
+use Rattle.s3a_shell.proofs.Joining.{still_both}
 use Rattle.s3a_shell.proofs.Listing.{did_list}
 use Rattle.s3a_shell.proofs.session.Session.uploads.Goals as goal
 
@@ -12,4 +12,4 @@ returns-in_ok-upload_lines-in-Some-clause-did c =
 
 pub returns-in_ok-upload_lines-in-Some-clause-sent :
     goal.returns-in_ok-upload_lines-in-Some-clause-sent
-returns-in_ok-upload_lines-in-Some-clause-sent c = sent_both _ _ _ c.in_ok-live_uploads.ensures.sent c.in_ok-upload_lines-in-Some.ensures.sent
+returns-in_ok-upload_lines-in-Some-clause-sent c = still_both _ _ _ c.in_ok-live_uploads.ensures.same c.in_ok-live_uploads.ensures.sent c.in_ok-upload_lines-in-Some.ensures.sent
