@@ -42,7 +42,7 @@ use Rattle.job_facts.specs.Facts.{AreCommits, Facts}
 use Rattle.job_facts.specs.Fits.{Begun, FitsWrite, FitsCommit}
 use Rattle.job_facts.proofs.Cut.{parts_few}
 use Rattle.job_facts.proofs.Emptying.{last_so}
-use Rattle.job_facts.proofs.Legible.{plain_so, drawn_is, legal_record}
+use Rattle.job_facts.proofs.Legible.{plain_so, drawn_is, legal_record, written_sizes}
 use Rattle.job_facts.proofs.Replies.{record_there}
 use Rattle.job_facts.proofs.Shapes.{answer_is}
 use Rattle.job_facts.proofs.Uploads.{drop_more, number_fits}
@@ -112,8 +112,7 @@ module _ (w : Script) (minimum : ℕ) (s : Scene) (last : ℕ → Option ℕ) (m
         let x = are.written g i in
         let same : drawn_in k.drawn (file_key w g) ≡ drawn_in (m.drawn a) (file_key w g) = ap (λ ds. drawn_in ds (file_key w g)) knows in
         let is : drawn_in k.drawn (file_key w g) ≡ x.drawn = same ∙ ap (drawn_in (m.drawn a)) (sym x.key) ∙ drawn_is f a x.drawn x.known in
-        let legal = legal_record j f few a g i x in
-        let pending : IsPending x.drawn (length g.1) = (legal.tags, legal.sizes) in
+        let pending : IsPending x.drawn (length g.1) = ((legal_record j f few a g i x).tags, written_sizes j f a g i x) in
         subst (FitsRecord w a k g) (sym there.1) (ap (record_text w a g) (sym same), subst (λ d. IsPending d (length g.1)) (sym is) pending)
   ]
 

@@ -13,6 +13,7 @@ use Rattle.md5.specs.Md5.{md5, digest_bytes}
 use Rattle.etag.proofs.Digits.{encoded_hex, plain_tag_length}
 use Rattle.serde_json.specs.Written.{compact_text}
 use Rattle.s3_types.specs.Tags.{plain_tag, is_plain_tag, is_hex}
+use Rattle.pending_json.specs.Pending.{are_sizes}
 use Rattle.pending_json.specs.Records.{IsPending}
 use Rattle.pending_json.specs.Reading as reading
 use Rattle.pending_json.specs.Trees.{pending_tree, set_tree}
@@ -27,6 +28,7 @@ use Rattle.job_model.specs.Known.{Drawn}
 use Rattle.job_operations.specs.Knowledge.{drawn_in}
 use Rattle.job_operations.specs.Records.{file_key, file_record, files_set}
 use Rattle.job_operations.specs.Uploading.{file_parts}
+use Rattle.job_operations.proofs.Sizes.{sizes_told}
 use Rattle.s3_types.specs.Store.{Scene}
 use Rattle.request_frame.specs.Members.{IsIn}
 use Rattle.request_frame.proofs.Members.{nat_true, text_true, text_false, same_or_other}
@@ -146,6 +148,15 @@ module _ {w : Script} {minimum : ℕ} {s : Scene} {last : ℕ → Option ℕ} {m
         all_sizes x.drawn (file_parts w minimum o.file) o.sizes all ∙ ap (λ v. map length (file_parts w minimum v)) same,
       )
 
+  -- which fit its record
+  pub written_sizes : (a : Who) (g : File) → IsIn g (files w a) → (x : IsWritten w minimum (m.drawn a) g) → are_sizes (Some x.drawn.sizes) x.drawn.tags (length g.1) ≡ true
+  written_sizes a g i x =
+      let both = written_tags a g i x in
+      let all : length x.drawn.tags ≡ length (file_parts w minimum g) = x.complete in
+      let many : length x.drawn.sizes ≡ length x.drawn.tags = ap length both.1 ∙ map_long length (file_parts w minimum g) ∙ sym all in
+      let total : sum x.drawn.sizes ≡ length g.1 = ap sum both.1 ∙ sum_lengths (file_parts w minimum g) ∙ ap length (parts_joined w minimum g) in
+      both_true _ _ (eq-eqb (length x.drawn.sizes) (length x.drawn.tags) many) (eq-eqb (sum x.drawn.sizes) (length g.1) total)
+
   module _ (few : s.content.next ≤ 2 ^ 64) where
     pub legal_record : (a : Who) (g : File) → IsIn g (files w a) → (x : IsWritten w minimum (m.drawn a) g) → IsPending (file_record w a g x.drawn)
     legal_record a g i x =
@@ -157,10 +168,7 @@ module _ {w : Script} {minimum : ℕ} {s : Scene} {last : ℕ → Option ℕ} {m
         let some : 1 ≤ length (file_parts w minimum g) = parts_some w minimum g in
         let most : length (file_parts w minimum g) ≤ 10000 = parts_few w minimum g in
         let all : length x.drawn.tags ≡ length (file_parts w minimum g) = x.complete in
-        let both = written_tags a g i x in
-        let plain : list_all is_plain_tag x.drawn.tags ≡ true = ap (list_all is_plain_tag) both.0 ∙ all_plain (file_parts w minimum g) in
-        let many : length x.drawn.sizes ≡ length x.drawn.tags = ap length both.1 ∙ map_long length (file_parts w minimum g) ∙ sym all in
-        let total : sum x.drawn.sizes ≡ length g.1 = ap sum both.1 ∙ sum_lengths (file_parts w minimum g) ∙ ap length (parts_joined w minimum g) in
+        let plain : list_all is_plain_tag x.drawn.tags ≡ true = ap (list_all is_plain_tag) (written_tags a g i x).0 ∙ all_plain (file_parts w minimum g) in
         record {
           task = omega arith;
           attempt = omega arith;
@@ -169,7 +177,7 @@ module _ {w : Script} {minimum : ℕ} {s : Scene} {last : ℕ → Option ℕ} {m
           upload = omega arith;
           length = short_file j a g i;
           tags = both_true _ _ (both_true _ _ (le-leb 1 (length x.drawn.tags) (omega arith)) (le-leb (length x.drawn.tags) 10000 (omega arith))) plain;
-          sizes = both_true _ _ (eq-eqb (length x.drawn.sizes) (length x.drawn.tags) many) (eq-eqb (sum x.drawn.sizes) (length g.1) total);
+          sizes = sizes_told w.committer x.drawn.sizes x.drawn.tags (length g.1) (written_sizes a g i x);
         }
 
     -- what is read of a record's text is the record

@@ -9,3 +9,4 @@ pub mod Hands
 pub mod LaneEnds
 pub mod Orders
 pub mod Told
+pub mod Sizes

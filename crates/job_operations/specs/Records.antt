@@ -1,6 +1,8 @@
 -- The records that a job's actors write (Hadoop, S3A committer architecture: SinglePendingCommit, PendingSet, SuccessData).
-use Rattle.std.specs.Prelude.{ℕ, List, ◌++◌, map, length, codes, Some}
+use Rattle.std.specs.Prelude.{ℕ, List, ◌++◌, map, length, codes, Option, Some, None}
 use Rattle.serde_json.specs.Written.{compact_text}
+use Rattle.s3_types.specs.declared.request.Committer.{Committer}
+use Rattle.s3_types.specs.declared.request.Committer.TheVariants.{Magic, Directory, Partitioned}
 use Rattle.path_keys.specs.Paths.{below}
 use Rattle.magic_paths.specs.Layout as layout
 use Rattle.pending_json.specs.Pending.{Pending}
@@ -31,6 +33,12 @@ record_key w a f = below (attempt_dir w a) (f.0 ++ codes ".pending")
 
 -- ---- what they hold
 
+-- the sizes that a record tells: magic attempts write version 2 of it, staging ones version 1, which has none
+abbrev pub sizes_by : Committer → List ℕ → Option (List ℕ)
+sizes_by Magic sizes = Some sizes
+sizes_by Directory sizes = None
+sizes_by Partitioned sizes = None
+
 -- the record of a file's upload
 abbrev pub file_record : Script → Who → File → Drawn → Pending
 file_record w a f d = record {
@@ -41,7 +49,7 @@ file_record w a f d = record {
   upload = d.upload;
   length = length f.1;
   tags = d.tags;
-  sizes = Some d.sizes;
+  sizes = sizes_by w.committer d.sizes;
 }
 
 abbrev pub record_text : Script → Who → File → Drawn → List ℕ

@@ -5,7 +5,7 @@ ghost use Rattle.pending_json.specs.Pending.{are_tags, are_sizes};
 ghost use Rattle.job_model.specs.Plans.{IsTask};
 ghost use Rattle.job_operations.specs.AtWork.{task_script, who_of, write_wants};
 ghost use Rattle.job_operations.specs.Knowledge.{drawn_last};
-ghost use Rattle.job_operations.specs.Records.{file_record, marker_key, record_key, record_text};
+ghost use Rattle.job_operations.specs.Records.{file_record, marker_key, record_key, record_text, sizes_by};
 ghost use Rattle.task_requests.specs.Writing.{dir_of, IsNamed, IsFile, HasSent, Holds, IsBehind, asks_behind, one_more, part_behind, parts_in, size_of, count_of, next_stage, seen_write};
 
 use crate::cutting::{part, part_count, part_length, part_size};
@@ -15,7 +15,7 @@ use crate::stage::WriteStage;
 use job_model::{DrawnPart, DrawnUpload, TaskPlan};
 use path_keys::S3Path;
 use pending_json::PendingUpload;
-use s3_types::{Bucket, Bytes, Key, LengthHeader, Request, SizeList, TagList, Text};
+use s3_types::{Bucket, Bytes, Committer, Key, LengthHeader, Request, SizeList, TagList, Text};
 use std::alloc::{AllocError, Global};
 
 /// The size in bytes of the parts of a file. Takes no memory.
@@ -36,6 +36,16 @@ fn count_of(plan: &TaskPlan, bytes: &Bytes) -> u64
     part_count(bytes.as_slice().len() as u64, size)
 }
 
+/// The sizes that a record tells: a magic attempt's tells them, a staging one's does not. Takes no memory.
+fn told_sizes(plan: &TaskPlan, sizes: SizeList) -> Option<SizeList>
+    ensures { result ≡ sizes_by plan.now.job.committer sizes }
+{
+    match plan.job.committer {
+        Committer::Magic => Some(sizes),
+        Committer::Directory | Committer::Partitioned => None,
+    }
+}
+
 /// The record of a file's upload with these tags and sizes of its parts.
 fn made_record(
     alloc: Global,
@@ -54,6 +64,7 @@ fn made_record(
     let destination = target(alloc, plan, path)?;
     let bucket = bucket_of(plan).clone()?;
     let length = bytes.as_slice().len() as u64;
+    let sizes = told_sizes(plan, sizes);
     Ok(PendingUpload::new(
         plan.task,
         plan.attempt,
@@ -62,7 +73,7 @@ fn made_record(
         upload,
         length,
         tags,
-        Some(sizes),
+        sizes,
     ))
 }
 

@@ -2,10 +2,12 @@
 use Rattle.std.proofs.Common.{◌≡◌, ℕ, ◌<◌, nat_lt, true, ◌^◌, List, [], ◌∷◌, ◌++◌, refl, Ok, lit<, arith, codes}
 use Rattle.std.proofs.lemmas.Bool.{and_parts}
 use Rattle.std.proofs.lemmas.Bool.Decides.{nat_tests}
+use Rattle.std.specs.Fmt.{digits}
 use Rattle.std.specs.List.{list_all, AllByRecursion}
 use Rattle.std.specs.Str.{IsAscii, is_utf8}
 use Rattle.std.proofs.lemmas.Str.{is_utf8-from_IsUtf8, IsUtf8-from_ascii}
 use Rattle.std.proofs.lemmas.Str.Ascii.{IsAscii-nil, IsAscii-cons}
+use Rattle.json.specs.Print.{escape_byte}
 use Rattle.words.specs.Parts.{parts_from}
 use Rattle.serde_json.specs.Written.{compact_text}
 use Rattle.s3_types.specs.Names.{is_key_path, is_key}
@@ -16,6 +18,7 @@ use Rattle.pending_json.specs.Reading.{set_of as read}
 use Rattle.pending_json.proofs.RoundTrip.{set_text}
 use Rattle.worked_runs.specs.OneFile.{the_record, the_set}
 use Rattle.worked_runs.specs.Runs.{Text, upload, set_of}
+use Rattle.worked_runs.specs.Modes.{staged_upload, staged_set, staged_text}
 
 small_byte : (b : ℕ) → nat_lt b 128 ≡ true → b < 128
 small_byte b h = grind (arith, nat_tests)
@@ -52,3 +55,16 @@ set_by task attempt us t a h = set_text (set_of task attempt us) (record { job =
 
 pub pending_by : (text : Text) (task attempt : ℕ) (path : List ℕ) (id : ℕ) → are_tags (text.tag ∷ []) ≡ true → task < 2 ^ 32 → attempt < 2 ^ 32 → id < 2 ^ 64 → is_key (codes "out/" ++ path) ≡ true → IsPending (upload text task attempt path id)
 pending_by text task attempt path id g t a i k = record { task = t; attempt = a; bucket = refl; destination = k; upload = i; length = lit< tt; tags = g; sizes = refl }
+
+-- ---- the set of a staging attempt, whose record is of version 1
+
+staged_path : is_key_path (codes "out/d=1/x") ≡ true
+unfolding parts_from
+staged_path = refl
+
+staged_record : IsPending staged_upload
+staged_record = record { task = lit< tt; attempt = lit< tt; bucket = refl; destination = key_by (codes "out/d=1/x") refl staged_path; upload = lit< tt; length = lit< tt; tags = refl; sizes = refl }
+
+pub staged_is_read : read staged_text ≡ Ok staged_set
+unfolding digits escape_byte
+staged_is_read = set_text staged_set (record { job = small_utf8 (codes "j1") refl; task = lit< tt; attempt = lit< tt; commits = (staged_record, tt) })

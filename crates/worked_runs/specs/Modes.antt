@@ -1,11 +1,10 @@
 -- What conflict modes and committers make of operations.
-use Rattle.std.specs.Prelude.{◌≡◌, ℕ, true, false, List, [], ◌∷◌, Option, Some, None, codes}
-use Rattle.serde_json.specs.Written.{compact_text}
+use Rattle.std.specs.Prelude.{◌≡◌, ℕ, true, false, List, [], ◌∷◌, ◌++◌, Option, Some, None, codes}
 use Rattle.s3_types.specs.declared.request.Actor.TheVariants.{Driver}
 use Rattle.s3_types.specs.declared.request.Request.{Request}
-use Rattle.s3_types.specs.declared.request.Request.TheVariants.{HeadObject, DeleteObject, DeleteObjects, ListPage, CreateUpload, UploadPart, CompleteUpload, AbortUpload, ListUploads, ClusterPut, ClusterRename, ClusterDelete, ClusterList}
+use Rattle.s3_types.specs.declared.request.Request.TheVariants.{HeadObject, PutObject, DeleteObject, DeleteObjects, ListPage, CreateUpload, UploadPart, CompleteUpload, AbortUpload, ListUploads, ClusterPut, ClusterGet, ClusterRename, ClusterDelete, ClusterList}
 use Rattle.s3_types.specs.declared.reply.Reply.{Reply}
-use Rattle.s3_types.specs.declared.reply.Reply.TheVariants.{Head, Deleted, Page, Upload, Part, Completed, Aborted, Uploads, ClusterDone, ClusterNames, Refused}
+use Rattle.s3_types.specs.declared.reply.Reply.TheVariants.{Head, Stored, Deleted, Page, Upload, Part, Completed, Aborted, Uploads, ClusterDone, ClusterBytes, ClusterNames, Refused}
 use Rattle.s3_types.specs.declared.reply.Refusal.TheVariants.{NoSuchBucket, NoSuchKey, NoSuchUpload, NoSuchFile}
 use Rattle.s3_types.specs.declared.reply.PageEntry.{PageEntry}
 use Rattle.s3_types.specs.declared.reply.PageEntry.TheVariants.{Object as Listed}
@@ -16,7 +15,6 @@ use Rattle.s3_types.specs.declared.request.Committer.TheVariants.{Magic, Directo
 use Rattle.s3_types.specs.declared.request.Mode.{Mode}
 use Rattle.s3_types.specs.declared.request.Mode.TheVariants.{Fail, Append, Replace}
 use Rattle.pending_json.specs.Pending.{Pending}
-use Rattle.pending_json.specs.Trees.{set_tree}
 use Rattle.pending_json.specs.declared.records.PendingSet.{PendingSet}
 use Rattle.job_model.specs.Files.{File}
 use Rattle.job_model.specs.JobScript.{Script}
@@ -81,10 +79,18 @@ abbrev pub staged : Mode → Script
 staged mode = with_files Partitioned mode ((codes "d=1/x", codes "hello") ∷ [])
 
 abbrev pub staged_upload : Pending
-staged_upload = record { task = 0; attempt = 0; bucket = lake; destination = codes "out/d=1/x"; upload = 7; length = 5; tags = hello_tag ∷ []; sizes = Some (5 ∷ []) }
+staged_upload = record { task = 0; attempt = 0; bucket = lake; destination = codes "out/d=1/x"; upload = 7; length = 5; tags = hello_tag ∷ []; sizes = None }
 
 abbrev pub staged_set : PendingSet
 staged_set = record { job = codes "j1"; task = 0; attempt = 0; commits = staged_upload ∷ [] }
+
+-- the text of that set, by the format: its record is of version 1, which tells no sizes
+abbrev pub staged_text : List ℕ
+staged_text =
+    codes "{\"attempt\":0,\"commits\":["
+    ++ codes "{\"attempt\":0,\"bucket\":\"lake\",\"destination\":\"out/d=1/x\",\"etags\":[\"5d41402abc4b2a76b9719d911017c592\"],"
+    ++ codes "\"kind\":\"pending\",\"length\":5,\"task\":0,\"upload\":7,\"version\":1}"
+    ++ codes "],\"job\":\"j1\",\"kind\":\"pendingset\",\"task\":0,\"version\":1}"
 
 abbrev pub commits_task : Mode → List Outcome → Course
 commits_task mode os = course (setting (staged mode)) worker (start_of (setting (staged mode)) worker Commit None nothing_known) nothing_known os
@@ -96,7 +102,7 @@ abbrev pub renames : Option Request
 renames = Some (ClusterRename (codes "jobs/j1/tmp/0_0.pendingset") (codes "jobs/j1/sets/task_0.pendingset"))
 
 abbrev pub publishes : List (Option Request)
-publishes = Some (CreateUpload lake (codes "out/d=1/x")) ∷ Some (UploadPart lake (codes "out/d=1/x") 7 1 (codes "hello")) ∷ Some (ClusterPut (codes "jobs/j1/tmp/0_0.pendingset") (compact_text (set_tree staged_set))) ∷ renames ∷ []
+publishes = Some (CreateUpload lake (codes "out/d=1/x")) ∷ Some (UploadPart lake (codes "out/d=1/x") 7 1 (codes "hello")) ∷ Some (ClusterPut (codes "jobs/j1/tmp/0_0.pendingset") staged_text) ∷ renames ∷ []
 
 -- what the attempt knows where its commit was cut short
 abbrev pub knows_upload : Known
@@ -135,6 +141,17 @@ replaces committer mode os = course_of (setting (with_files committer mode ((cod
 abbrev pub completes : Option Request
 completes = Some (CompleteUpload lake (codes "out/d=1/x") 7 (record { number = 1; tag = hello_tag } ∷ []))
 
+-- its commit, where no task is missing
+abbrev pub commits_job : List Outcome → Course
+commits_job os = course (setting (staged Append)) Driver (start_of (setting (staged Append)) Driver Commit None nothing_known) nothing_known os
+
+-- the put of its marker, whose text is by the format
+abbrev pub marks : Option Request
+marks = Some (PutObject lake (codes "out/_SUCCESS") mark None)
+  where
+    mark : List ℕ
+    mark = codes "{\"committer\":\"partitioned\",\"files\":[\"d=1/x\"],\"job\":\"j1\",\"kind\":\"success\",\"version\":1}"
+
 -- two tasks that write `p`, and one of them `a`
 abbrev pub shared : Script
 shared = job Magic Append 2 3 1 (attempt 0 0 ((codes "p", codes "x") ∷ []) ∷ attempt 1 0 ((codes "p", codes "y") ∷ (codes "a", codes "y") ∷ []) ∷ []) []
@@ -149,6 +166,9 @@ pub record DriversRun : Type 0 where
   pub partitioned : (replaces Partitioned Replace (page (codes "out/d=1/a" ∷ []) ∷ answers Deleted ∷ answers (Completed hello_tag) ∷ [])).requests
       ≡ Some (ListPage lake (codes "out/d=1/") false [] 1000) ∷ Some (DeleteObjects lake (codes "out/d=1/a" ∷ [])) ∷ completes ∷ []
   pub append : (replaces Partitioned Append (answers (Completed hello_tag) ∷ [])).requests ≡ completes ∷ []
+  -- it reads the set that the staging attempt put, whose record is of version 1
+  pub reads : commits_job (answers (ClusterBytes staged_text) ∷ answers (Completed hello_tag) ∷ answers (Stored hello_tag) ∷ [])
+      ≡ record { requests = Some (ClusterGet (codes "jobs/j1/sets/task_0.pendingset")) ∷ completes ∷ marks ∷ []; end = Some (ends.Commit commits.Committed) }
   -- the least path that two picks write, with the tasks
   pub same : same_path shared (λ t. Some 0) ≡ Some (commits.SamePath (codes "p") 0 1)
   pub apart : same_path shared (λ t. None) ≡ None
