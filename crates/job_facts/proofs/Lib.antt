@@ -48,6 +48,7 @@ pub mod EndedGone
 pub mod FoundKeys
 pub mod FilingLaws
 pub mod FilePaths
+pub mod FinalPaths
 pub mod Agreeing
 pub mod Running
 pub mod Replacing

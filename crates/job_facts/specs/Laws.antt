@@ -17,7 +17,7 @@ use Rattle.job_model.specs.Files.{File}
 use Rattle.job_operations.specs.Outputs.{files}
 use Rattle.job_model.specs.Known.{Drawn, Known}
 use Rattle.job_operations.specs.Knowledge.{knows, drawn_in}
-use Rattle.job_operations.specs.Records.{file_key, record_key, file_record, record_text, files_set}
+use Rattle.job_operations.specs.Records.{file_key, marker_key, record_key, file_record, record_text, files_set}
 use Rattle.job_operations.specs.Uploading.{file_parts}
 use Rattle.job_model.specs.declared.ends.TaskEnd.TheVariants as tasks
 use Rattle.job_operations.specs.Writes.{WriteOver, write_start}
@@ -27,7 +27,9 @@ use Rattle.job_operations.specs.JobCommits.{Commit, commit_start, commit_asks, c
 use Rattle.request_frame.specs.Members.{IsIn}
 use Rattle.sendings.specs.Retries.{Retried, step}
 use Rattle.request_frame.specs.Held.{HasBucket}
+use Rattle.path_keys.specs.Paths.{Path}
 use Rattle.magic_paths.specs.Layout.{magic_prefix, cluster_prefix}
+use Rattle.magic_paths.specs.Finals as finals
 use Rattle.s3_types.specs.Moment.{IsHonestOutcome}
 use Rattle.s3_types.specs.Answer.{answer}
 use Rattle.s3_types.specs.declared.request.Request.{Request}
@@ -103,6 +105,20 @@ pub record AttemptNames : Type 0 where
   pub own : (g : Setting) → IsLegal g.script → (m : Told) (a : Who) → IsAttempt g.script a → (op : Operation) → Fits g.script g.minimum a m op → (r : Request) → asks g a (known m a) op ≡ Some r → IsOwn g.script (m.drawn a) r
   pub adds : (g : Setting) → IsLegal g.script → (m : Told) (a : Who) → IsAttempt g.script a → (op : Operation) → Fits g.script g.minimum a m op → (r : Request) → asks g a (known m a) op ≡ Some r → m.publish_sent a ≡ true → undoes r ≡ false
   pub shows : (w : Script) → IsLegal w → (s : Scene) → HasBucket s.content w.dest.bucket → (m : Told) (a : Who) (r : Request) → IsOwn w (m.drawn a) r → (o : Outcome) → Same (view w.dest (effect s r o).content) (view w.dest s.content)
+
+-- `final_path` answers this path: `__magic` is an element, something is kept behind it, and these are the final elements
+pub record LeadsTo (from to : Path) : Type 0 where
+  pub bucket : to.bucket ≡ from.bucket
+  pub magic : finals.has_magic (finals.elements from) ≡ true
+  pub kept : finals.kept (finals.after_magic (finals.elements from)) ≡ [] → ⊥
+  pub elements : finals.elements to ≡ finals.final_elements (finals.elements from)
+
+abbrev pub at_dest : Script → List ℕ → Path
+at_dest w key = record { bucket = w.dest.bucket; key = key }
+
+-- a file's upload goes where the magic path of its marker leads
+abbrev pub MarkersLead : Type 0
+MarkersLead = (w : Script) (a : Who) (f : File) → IsLegal w → IsIn f (files w a) → LeadsTo (at_dest w (marker_key w a f)) (at_dest w (file_key w f))
 
 -- ---- the driver
 

@@ -2,7 +2,7 @@
 //! two requests, in `specs/`: kept by every request of the job and by every stranger's.
 #![tactic(auto)]
 
-ghost use Rattle.job_facts.specs.Laws.{AnswersFit, AttemptBegins, AttemptGoes, AttemptNames, CleanGoes, CommitGoes, DrivingKeeps, FactsBegin, ForeignKeeps, ReadsKeep, ToldIsSaid};
+ghost use Rattle.job_facts.specs.Laws.{AnswersFit, AttemptBegins, AttemptGoes, AttemptNames, CleanGoes, CommitGoes, DrivingKeeps, FactsBegin, ForeignKeeps, MarkersLead, ReadsKeep, ToldIsSaid};
 ghost use Rattle.job_facts.specs.SetupLaws.{SetupGoes};
 ghost use Rattle.job_facts.specs.Clearing.{CleanClears};
 ghost use Rattle.job_facts.specs.Turning.{CommitTurns};
@@ -33,6 +33,7 @@ pub fn attempts()
     ensures begins { AttemptBegins }
     ensures goes { AttemptGoes }
     ensures names { AttemptNames }
+    ensures markers { MarkersLead }
 {}
 
 /// The driver's requests once its set-up is done: its commit, and its abort or clean of the job.
