@@ -79,7 +79,7 @@ read_taken w es zero h = tt
 read_taken w [] (suc m) h = tt
 read_taken w (e ∷ es) (suc m) h = (h.0, read_taken w es m h.1)
 
-see_parts : (w : Script) (k : Option ℕ) (s : Seen) (es fs : List Entry) → see_all w k s (es ++ fs) ≡ see_all w k (see_all w k s es) fs
+pub see_parts : (w : Script) (k : Option ℕ) (s : Seen) (es fs : List Entry) → see_all w k s (es ++ fs) ≡ see_all w k (see_all w k s es) fs
 see_parts w k s [] fs = refl
 see_parts w k s (e ∷ es) fs = see_parts w k (see w k s e) es fs
 
@@ -151,7 +151,7 @@ module _ (g : Setting) (j : IsLegal g.script) (k : Option ℕ) (opening : Conten
   late_driver (Some (TheTaskCommit t)) s m es y op e = absurd y
   late_driver (Some (TheTaskAbort t)) s m es y op e = absurd y
 
-  no_driver : (es : List Entry) (x : Stand) → Runs g k opening es x → (op : Operation) → x.driver ≡ Some op → (IsDriver op → ⊥) → ⊥
+  pub no_driver : (es : List Entry) (x : Stand) → Runs g k opening es x → (op : Operation) → x.driver ≡ Some op → (IsDriver op → ⊥) → ⊥
   no_driver es x run op d none = elim (good g k opening j is_opening es x run) [
     | inl early ↦ elim early.setup [
       | inl nothing ↦ none_some nothing d

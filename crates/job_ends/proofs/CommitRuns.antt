@@ -54,7 +54,7 @@ use Rattle.job_ends.proofs.Picks.{after_entry}
 some_lane : {a : ℕ} → 1 ≤ a → 0 < a
 some_lane y = omega arith
 
-commit_is : {c d : Commit} → Some (TheCommit c) ≡ Some (TheCommit d) → c ≡ d
+pub commit_is : {c d : Commit} → Some (TheCommit c) ≡ Some (TheCommit d) → c ≡ d
 commit_is e = cc
 
 no_setup : {t : Retried Setup} {c : Commit} → Some (TheSetup t) ≡ Some (TheCommit c) → ⊥
@@ -192,7 +192,7 @@ module _ (g : Setting) (j : IsLegal g.script) (k : Option ℕ) (opening : Conten
 
 -- ---- the end
 
-no_entry : (w : Script) (end : CommitEnd) (es : List Entry) → Follows (commit_asks w) (commit_tells w) (CommitOver end) es → es ≡ []
+pub no_entry : (w : Script) (end : CommitEnd) (es : List Entry) → Follows (commit_asks w) (commit_tells w) (CommitOver end) es → es ≡ []
 no_entry w end [] f = refl
 no_entry w end (e ∷ es) f = absurd (none_some refl f.0)
 

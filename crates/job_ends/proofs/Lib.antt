@@ -11,4 +11,5 @@ pub mod Gone
 pub mod CleanEnds
 pub mod RunEntries
 pub mod CommitMoments
+pub mod Served
 pub mod EventRows

@@ -158,7 +158,7 @@ module _ (g : Setting) (j : IsLegal g.script) (k : Option ℕ) (s : Seen) (m : T
     refused_none y (inl e) = ap set_read e
     refused_none y (inr e) = ap set_read e
 
-    brings : Brings (answer s.scene r)
+    pub brings : Brings (answer s.scene r)
     brings = elim (set_answered j h few (length sets) low) [
       | inl none ↦ elim (none_or_some (sets_at w s.scene (length sets))) [
         | inl gone ↦ inl (refused_none (answer s.scene r) none, none_published gone)
@@ -204,7 +204,7 @@ module _ (g : Setting) (j : IsLegal g.script) (k : Option ℕ) (s : Seen) (m : T
   is_fetching (Fetching sets x) = true
   is_fetching _ = false
 
-  other_unread : (c : Commit) → is_fetching c ≡ false → D c → (r : Request) → commit_asks w c ≡ Some r → (t : ℕ) → is_reading w t r ≡ false
+  pub other_unread : (c : Commit) → is_fetching c ≡ false → D c → (r : Request) → commit_asks w c ≡ Some r → (t : ℕ) → is_reading w t r ≡ false
   other_unread (Fetching sets x) z d r e t = absurd (false_true z refl)
   other_unread (Replacing sets p ps x y) z d r e t = ap (is_reading w t) (sym (some_is e)) ∙ sweep_unread p x t
   other_unread (Completing sets x xs finished) z d r e t = ap (is_reading w t) (sym (some_is e))

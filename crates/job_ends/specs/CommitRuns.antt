@@ -1,10 +1,16 @@
 -- The driver's commit in a run: by which entries it came where it stands, the sets that it holds and the picks that are seen; and how it ends.
-use Rattle.std.specs.Prelude.{◌≡◌, ℕ, ◌<◌, ◌≤◌, ◌^◌, ◌⊎◌, true, List, [], ◌∷◌, ◌++◌, length, Option, Some, None}
+use Rattle.std.specs.Prelude.{◌≡◌, ℕ, ◌<◌, ◌≤◌, ◌^◌, ◌⊎◌, true, List, [], ◌∷◌, ◌++◌, length, Option, Some, None, IsSome}
 use Rattle.s3_types.specs.Store.{Content}
 use Rattle.s3_types.specs.Answer.{answer}
 use Rattle.s3_types.specs.Moment.{IsHonestOutcome}
+use Rattle.s3_types.specs.declared.request.Actor.TheVariants.{Driver}
 use Rattle.s3_types.specs.declared.request.Request.{Request}
+use Rattle.s3_types.specs.declared.reply.Refusal.{Refusal}
+use Rattle.s3_types.specs.declared.reply.Refusal.TheVariants.{NoSuchUpload}
+use Rattle.s3_types.specs.declared.reply.Reply.{Reply}
+use Rattle.s3_types.specs.declared.reply.Reply.TheVariants.{Refused}
 use Rattle.s3_types.specs.declared.journal.Outcome.{Outcome}
+use Rattle.s3_types.specs.declared.journal.Outcome.TheVariants.{Answered}
 use Rattle.s3_types.specs.declared.journal.Entry.{Entry}
 use Rattle.pending_json.specs.declared.records.PendingSet.{PendingSet}
 use Rattle.sendings.specs.Operation.{run, Follows}
@@ -16,14 +22,15 @@ use Rattle.job_model.specs.declared.ends.CommitEnd.{CommitEnd}
 use Rattle.job_model.specs.declared.ends.CommitEnd.TheVariants as commits
 use Rattle.job_model.specs.declared.ends.Stage.TheVariants as stages
 use Rattle.job_operations.specs.Outputs.{Picks}
-use Rattle.job_operations.specs.JobCommits.{Sets, picks_of, Commit, Fetching, Replacing, Completing, Marking, Reverting, CommitOver, commit_start, commit_asks, commit_tells, fetching}
+use Rattle.job_operations.specs.JobCommits.{Sets, picks_of, Commit, Fetching, Replacing, Completing, Marking, Reverting, CommitOver, commit_start, commit_asks, commit_tells, fetching, set_request, set_read, stage_of}
 use Rattle.job_operations.specs.Setup.{Setup, setup_asks}
 use Rattle.job_operations.specs.Cleanups.{Clean, clean_asks}
 use Rattle.job_operations.specs.LaneTable.{AllSound}
 use Rattle.job_operations.specs.Operations.{Setting, TheCommit}
+use Rattle.job_promise.specs.OperationEnds.{was_lost}
 use Rattle.job_promise.specs.Ends.{commit_due, is_mark_answered, CommitEnded}
 use Rattle.job_promise.specs.Promise.{picks_below, picked}
-use Rattle.job_promise.specs.Seen.{Seen, see, is_marked}
+use Rattle.job_promise.specs.Seen.{Seen, see, see_all, nothing_seen, is_marked}
 use Rattle.job_facts.specs.Told.{entry, driver_entry}
 use Rattle.job_facts.specs.Runs.{Stand, Runs, IsOpening, IsTimely}
 
@@ -81,6 +88,10 @@ pub record PicksOneMore (w : Script) (before now : Picks) (c d : Commit) : Type 
 abbrev pub PicksGrow : Script → Picks → Picks → Commit → Commit → Type 0
 PicksGrow w before now c d = ((t : ℕ) → t < w.tasks → now t ≡ before t) ⊎ PicksOneMore w before now c d
 
+-- some task of the job has no last publisher behind these entries
+abbrev pub Unpublished : Script → Option ℕ → Content → List Entry → Type 0
+Unpublished w k opening es = (t : ℕ) × (t < w.tasks) × ((see_all w k (nothing_seen opening) es).last t ≡ None)
+
 -- the end that is due by these picks, by the first of these entries' requests that wore out
 abbrev pub EndsDue : Script → Picks → Option ℕ → List Entry → CommitEnd → Type 0
 EndsDue w picks missing es end = (worn : Option Request) × WornFirst w.retries es worn × (end ≡ commit_due w picks missing worn)
@@ -106,3 +117,16 @@ pub record CommitRuns : Type 0 where
   pub attempts : (w : Script) (k : Option ℕ) (s : Seen) (a : Who) (n : ℕ) (r : Request) (o : Outcome) → (see w k s (entry a n r o)).picks ≡ s.picks
   pub setup : (w : Script) (k : Option ℕ) (s : Seen) (n : ℕ) (c : Setup) (r : Request) (o : Outcome) → setup_asks w c ≡ Some r → (t : ℕ) → (see w k s (driver_entry n r o)).picks t ≡ s.picks t
   pub clean : (w : Script) (k : Option ℕ) (s : Seen) (n : ℕ) (c : Clean) (r : Request) (o : Outcome) → clean_asks w c ≡ Some r → (t : ℕ) → (see w k s (driver_entry n r o)).picks t ≡ s.picks t
+
+-- What it is answered in every run.
+pub record CommitAnswers : Type 0 where
+  -- a refused completion found no upload, and an earlier sending of it was lost
+  pub refused : (g : Setting) → IsLegal g.script → (k : Option ℕ) (opening : Content) → IsOpening g opening → (es : List Entry) (x : Stand)
+      → Runs g k opening es x → (c : Commit) → x.driver ≡ Some (TheCommit c) → (before : List Entry) (e : Entry) (later : List Entry) (why : Refusal)
+      → x.commit ≡ before ++ e ∷ later → stage_of e.request ≡ stages.Complete → e.outcome ≡ Answered (Refused why)
+      → (why ≡ NoSuchUpload) × (was_lost e.request before ≡ true)
+  -- a read of a set finds one where each task has a last publisher
+  pub there : (g : Setting) → IsLegal g.script → (k : Option ℕ) (opening : Content) → IsOpening g opening → (es : List Entry) (x : Stand)
+      → Runs g k opening es x → (before : List Entry) (e : Entry) (later : List Entry) (t : ℕ) (r : Reply) → es ≡ before ++ e ∷ later
+      → e.actor ≡ Driver → e.request ≡ set_request g.script.committer g.script t → e.outcome ≡ Answered r
+      → IsSome (set_read r) ⊎ Unpublished g.script k opening before

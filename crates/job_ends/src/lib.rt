@@ -1,7 +1,7 @@
 //! How the operations of a job's actors end, in its runs and by their entries alone, in `specs/`.
 #![tactic(auto)]
 
-ghost use Rattle.job_ends.specs.CommitRuns.{CommitRuns};
+ghost use Rattle.job_ends.specs.CommitRuns.{CommitRuns, CommitAnswers};
 ghost use Rattle.job_ends.specs.CommitMoments.{CommitMoments};
 ghost use Rattle.job_ends.specs.SetupEnds.{SetupEnds};
 ghost use Rattle.job_ends.specs.TaskEnds.{TaskEnds};
@@ -13,6 +13,7 @@ ghost use Rattle.job_ends.specs.EventRows.{EventRows};
 /// The driver's commit of the job, in every run.
 pub fn commits()
     ensures runs { CommitRuns }
+    ensures answers { CommitAnswers }
 {}
 
 /// The picks at each moment of a run, and what is shown where a commit ended before its first completion.

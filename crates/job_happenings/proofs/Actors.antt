@@ -14,7 +14,7 @@ same_itself Shell = refl
 pub same_true : (a b : Actor) → a ≡ b → same_actor a b ≡ true
 same_true a b e = ap (same_actor a) (sym e) ∙ same_itself a
 
-same_is : (a b : Actor) → same_actor a b ≡ true → a ≡ b
+pub same_is : (a b : Actor) → same_actor a b ≡ true → a ≡ b
 same_is Driver Driver h = refl
 same_is Driver (Attempt t n) h = absurd (false_true refl h)
 same_is Driver Shell h = absurd (false_true refl h)

@@ -9,3 +9,5 @@ pub mod RunningTasks
 pub mod RunningAlong
 pub mod RunningSteps
 pub mod Running
+pub mod RunningCommits
+pub mod Reported

@@ -213,11 +213,14 @@ module _ (g : Setting) (opening : Content) (x : Play) (h : Told g opening x) whe
             runs_over g a d (by_actor a x.journal) (length x.ends + 1) (x.running a) _ r r.led.at ∙ ok.going a _ busy r.led.at;
         over = λ i y e.
             let f = h.finish i y (ap (λ ys. slice_get ys i) (sym ok.told_is) ∙ e) in
-            let r = h.runs y.actor f.doing f.does in
-            (f.doing, ap (λ (p : Past). p.doing y.actor) after_past ∙ f.does, elim f.end [
-              | inl wanting ↦ inl wanting
-              | inr q ↦ inr (runs_over g y.actor f.doing (by_actor y.actor x.journal) (length x.ends + 1) (x.running y.actor) q.0 r q.1 ∙ q.2)
-            ]);
+            let r = h.runs y.actor f.doing f.does in (
+              f.doing,
+              ap (λ (p : Past). p.doing y.actor) after_past ∙ f.does,
+              elim f.end [
+                | inl wanting ↦ inl wanting
+                | inr q ↦ inr (runs_over g y.actor f.doing (by_actor y.actor x.journal) (length x.ends + 1) (x.running y.actor) q.0 r q.1 ∙ q.2)
+              ],
+            );
       } in
       let below : length x.ends + 1 ≤ length (x.ends ++ end ∷ []) + 1 = omega (arith, longer) in
       let there : length x.ends < length w.events = slice_get_within w.events (length x.ends) ok.event o.next in

@@ -1,12 +1,14 @@
 -- How the driver's commit ends in a run, and what it leaves.
-use Rattle.std.proofs.Common.{◌≡◌, ℕ, zero, suc, ◌+◌, ◌<◌, ◌≤◌, ◌⊎◌, inl, inr, Bool, true, false, cond, List, [], ◌++◌, filter, length, take, Option, Some, None, refl, sym, ap, subst, ◌∙◌, arith}
+use Rattle.std.proofs.Common.{◌≡◌, ℕ, zero, suc, ◌+◌, ◌<◌, ◌≤◌, ◌⊎◌, inl, inr, Bool, true, false, cond, List, [], ◌∷◌, ◌++◌, filter, length, take, Option, Some, None, IsSome, append_assoc, refl, sym, ap, subst, ◌∙◌, arith}
 use Rattle.std.specs.Option.{option_map}
 use Rattle.s3_types.specs.Store.{Content, Scene}
 use Rattle.s3_types.specs.Store as store
 use Rattle.s3_types.specs.Moment.{moment, after_all}
 use Rattle.s3_types.specs.declared.request.Actor.TheVariants.{Driver}
+use Rattle.s3_types.specs.declared.reply.Reply.{Reply}
+use Rattle.s3_types.specs.declared.journal.Outcome.TheVariants.{Answered}
 use Rattle.s3_types.specs.declared.journal.Entry.{Entry}
-use Rattle.sendings.specs.Operation.{run}
+use Rattle.sendings.specs.Operation.{run, Follows}
 use Rattle.sendings.specs.Worn.{first_worn}
 use Rattle.sendings.proofs.First.{computed, none_sent}
 use Rattle.proof_base.proofs.Numbers.{at_most_is, at_most_not}
@@ -22,34 +24,41 @@ use Rattle.job_model.specs.declared.ends.CommitEnd.TheVariants as commits
 use Rattle.job_model.specs.declared.ends.Stage.TheVariants as stages
 use Rattle.job_model.specs.declared.ends.OpEnd.TheVariants as ends
 use Rattle.job_operations.specs.View.{view}
-use Rattle.job_operations.specs.JobCommits.{Commit, Fetching, Replacing, Completing, Marking, Reverting, CommitOver, commit_start, commit_tells, commit_over}
-use Rattle.job_operations.specs.Operations.{Setting, Operation, TheSetup, TheWrite, TheTaskCommit, TheTaskAbort, TheCommit, TheClean, advance, over}
+use Rattle.job_operations.specs.JobCommits.{Commit, Fetching, Replacing, Completing, Marking, Reverting, CommitOver, commit_start, commit_asks, commit_tells, commit_over, set_request, set_read}
+use Rattle.job_operations.specs.Operations.{Setting, Operation, Running, start_of, TheSetup, TheWrite, TheTaskCommit, TheTaskAbort, TheCommit, TheClean, advance, over}
 use Rattle.job_promise.specs.Headline.{Same, Always}
 use Rattle.job_promise.specs.Seen.{see_all, nothing_seen, is_begun, is_marked}
-use Rattle.job_promise.specs.States.{refusal, Doing, missing, first_not, driver_may, commit_event}
-use Rattle.job_promise.specs.Turns.{until, by_actor}
+use Rattle.job_promise.specs.States.{same_actor, refusal, Doing, missing, first_not, driver_may, commit_event}
+use Rattle.job_promise.specs.Turns.{until, by_actor, is_wanting}
 use Rattle.job_promise.specs.Follows.{known_then}
 use Rattle.job_promise.specs.Ends.{CommitEnded}
-use Rattle.job_promise.specs.OperationEnds.{is_untouched, NoDeletionWorn, OnlyOpening}
+use Rattle.job_promise.specs.OperationEnds.{is_untouched, NoDeletionWorn, OnlyOpening, CommitServed}
 use Rattle.job_promise.specs.Promise.{seen_until, CommitEnds, CommitsEnd}
-use Rattle.request_frame.proofs.Members.{some_is, none_some, false_true}
+use Rattle.request_frame.specs.Members.{IsIn}
+use Rattle.request_frame.proofs.Members.{some_is, none_some, false_true, in_back, in_filter}
+use Rattle.job_facts.specs.Told.{Told, tell_all, nothing_told}
+use Rattle.job_facts.specs.Standing.{HasPublished}
 use Rattle.job_facts.specs.Runs.{IsOpening, is_just_set}
-use Rattle.job_facts.proofs.Entries.{take_all, sees, always, reverted_now}
+use Rattle.job_facts.proofs.Entries.{take_all, sees, tells_so, always, reverted_now}
 use Rattle.job_facts.proofs.Changes.{moment_scene}
 use Rattle.job_happenings.specs.Happenings.{Play, MayOpen, Opens, Closes, open_running, happen, Happened, happens}
 use Rattle.job_happenings.specs.Running.{Ahead, IsRun, operation_of}
 use Rattle.job_happenings.proofs.RunningStages.{Begins, begins_so, IsSettingUp, IsTimed, timed_setting, may_commit_job}
+use Rattle.job_happenings.proofs.Actors.{same_is}
+use Rattle.job_happenings.proofs.Told.{told_all}
+use Rattle.job_happenings.proofs.Reported.{last_more, none_left, reported}
 use Rattle.job_happenings.proofs.Running.{number, is_run, carried, opened_ahead, closed_ahead, not_refused}
 use Rattle.job_ends.specs.CommitRuns.{IsDue, CommitStands}
 use Rattle.job_ends.proofs.Alone.{go_alone}
-use Rattle.job_ends.proofs.CommitRuns.{commit_runs}
-use Rattle.job_ends.proofs.CommitMoments.{commit_moments}
+use Rattle.job_ends.proofs.CommitRuns.{no_entry, commit_runs}
+use Rattle.job_ends.proofs.CommitMoments.{see_parts, commit_moments}
+use Rattle.job_ends.proofs.Served.{in_commit, commit_answers}
 use Rattle.job_ends.proofs.RunEntries.{run_entries}
 use Rattle.job_kept.proofs.Cuts.{take_cut, moment_cut}
 use Rattle.job_kept.proofs.Sorts.{end_of, over_kind, kind_run, driver_commit, memory_commit}
 use Rattle.job_kept.proofs.History.{Began, IsBegin}
 use Rattle.job_kept.proofs.Ending.{Ending, ahead_none, ending, journal_until}
-use Rattle.job_kept.proofs.Spans.{start}
+use Rattle.job_kept.proofs.Spans.{start, mine}
 use Rattle.job_kept.proofs.After.{IsAfter, After, after_commit, driver_past}
 
 -- ---- plain facts
@@ -99,6 +108,20 @@ commit_number (Some m) n before now =
     let same : m ≡ n + 1 = omega arith in
     ap (λ v. Some v) same
 
+-- a commit alone is told of want of memory so
+wanting_commit : (op : Op) (e : CommitEnd) → is_wanting Driver op (ends.Commit e) ≡ true → op ≡ ops.Commit
+wanting_commit ops.Setup e h = absurd (false_true refl h)
+wanting_commit ops.Write e h = absurd (false_true refl h)
+wanting_commit ops.Commit e h = refl
+wanting_commit ops.Abort e h = absurd (false_true refl h)
+wanting_commit ops.Clean e h = absurd (false_true refl h)
+
+-- where a member stands in its list
+parted_at : {X : Type 0} (x : X) (xs : List X) → IsIn x xs → (before : List X) × (later : List X) × (xs ≡ before ++ x ∷ later)
+parted_at x [] i = absurd i
+parted_at x (y ∷ ys) (inl e) = ([], ys, ap (λ v. v ∷ ys) (sym e))
+parted_at x (y ∷ ys) (inr i) = let r = parted_at x ys i in (y ∷ r.0, r.1, ap (λ v. y ∷ v) r.2)
+
 -- what a driver begins it may begin
 begins_at : (g : Setting) (y : Play) (ev : Event) (op : Op) → MayOpen g y ev None → IsBegin ev Driver op → Begins (y.past.state Driver).stage Driver op (y.past.state Driver).life (y.past.state Driver).stage
 begins_at g y ev op may (inl is) = begins_so (y.past.state Driver).stage Driver op (y.past.state Driver).life (y.past.state Driver).stage (ap (refusal y.past.state) (sym is) ∙ may.refusal_is)
@@ -116,28 +139,42 @@ module _ (g : Setting) (opening : Content) (j : IsLegal g.script) (is_opening : 
   whole : (es : List Entry) → moment opening es (length es) ≡ after_all (store.opening opening) es
   whole es = ap (after_all (store.opening opening)) (take_all es (length es) (omega arith))
 
-  -- ---- a commit that ended otherwise than for want of memory
+  -- ---- a commit that ended
 
-  module _ (i : ℕ) (d : Doing) (e : CommitEnd) (es : List Entry) (n : Ending g opening x i Driver d (ends.Commit e) es)
-      (o : over (run (advance g Driver) (record { operation = n.op; known = known_then g Driver d (by_actor Driver n.closed.at.journal) }) es).operation ≡ Some (ends.Commit e)) where
+  module _ (i : ℕ) (d : Doing) (e : CommitEnd) (es : List Entry) (n : Ending g opening x i Driver d (ends.Commit e) es) where
     abbrev z : Play
     z = n.closed.at
 
     abbrev known : Known
     known = known_then g Driver d (by_actor Driver z.journal)
 
-    begun : (d.op ≡ ops.Commit) × (n.op ≡ TheCommit (commit_start w d.missing))
-    begun = driver_commit g d.op d.missing known n.op n.begun_is (sym (kind_run g Driver (record { operation = n.op; known = known }) es) ∙ over_kind _ (ends.Commit e) o)
+    abbrev Begun : Type 0
+    Begun = (d.op ≡ ops.Commit) × (n.op ≡ TheCommit (commit_start w d.missing))
+
+    begun_over : over (run (advance g Driver) (record { operation = n.op; known = known }) es).operation ≡ Some (ends.Commit e) → Begun
+    begun_over o = driver_commit g d.op d.missing known n.op n.begun_is (sym (kind_run g Driver (record { operation = n.op; known = known }) es) ∙ over_kind _ (ends.Commit e) o)
+
+    begun_wanting : is_wanting Driver d.op (ends.Commit e) ≡ true → Begun
+    begun_wanting h = let is = wanting_commit d.op e h in (is, sym (some_is (sym (ap (λ v. start_of g Driver v d.missing known) is) ∙ n.begun_is)))
+
+    begun : Begun
+    begun =
+        let f = (told_all g opening z n.closed.happened).finish n.place (record { actor = Driver; end = ends.Commit e }) n.finished in
+        let same : f.doing ≡ d = some_is (sym f.does ∙ n.doing) in
+        elim f.end [
+          | inl h ↦ begun_wanting (subst (λ (v : Doing). is_wanting Driver v.op (ends.Commit e) ≡ true) same h)
+          | inr q ↦ begun_over (ap (λ (m : Running). over m.operation) (some_is (sym n.running ∙ q.1)) ∙ q.2)
+        ]
 
     -- where its own entries lead
-    leads_alone : (run (advance g Driver) (record { operation = n.op; known = known }) es).operation ≡ TheCommit (run (commit_tells w) (commit_start w d.missing) es)
+    abbrev led : Commit
+    led = run (commit_tells w) (commit_start w d.missing) es
+
+    leads_alone : (run (advance g Driver) (record { operation = n.op; known = known }) es).operation ≡ TheCommit led
     leads_alone = ap (λ v. (run (advance g Driver) (record { operation = v; known = known }) es).operation) begun.1 ∙ go_alone.commit_run g Driver known (commit_start w d.missing) es
 
-    leads : run (commit_tells w) (commit_start w d.missing) es ≡ CommitOver e
-    leads = commit_back _ e (sym (ap over leads_alone) ∙ o)
-
-    driver_is : operation_of (z.running Driver) ≡ Some (TheCommit (CommitOver e))
-    driver_is = ap operation_of n.running ∙ ap (λ v. Some v) (leads_alone ∙ ap TheCommit leads)
+    driver_is : operation_of (z.running Driver) ≡ Some (TheCommit led)
+    driver_is = ap operation_of n.running ∙ ap (λ v. Some v) leads_alone
 
     -- the run at the end of the event
     ahead : Ahead (happen g z (Closes n.event_end)) x.ends
@@ -146,8 +183,8 @@ module _ (g : Setting) (opening : Content) (j : IsLegal g.script) (is_opening : 
     then : IsRun g opening (happen g z (Closes n.event_end)) k
     then = is_run g opening j is_opening (happen g z (Closes n.event_end)) (happens z (Closes n.event_end) n.closed.happened n.closed.may) x.ends ahead
 
-    at_end : then.stand.driver ≡ Some (TheCommit (CommitOver e))
-    at_end = then.driver ∙ driver_is
+    at_led : then.stand.driver ≡ Some (TheCommit led)
+    at_led = then.driver ∙ driver_is
 
     -- ---- its event
 
@@ -186,68 +223,124 @@ module _ (g : Setting) (opening : Content) (j : IsLegal g.script) (is_opening : 
     -- ---- its entries and its missing task
 
     commit_is_es : then.stand.commit ≡ es
-    commit_is_es = run_entries.commit g k opening z.journal then.stand then.runs (CommitOver e) at_end ∙ ap (λ v. filter (λ (u : Entry). is_begun v u.event) (by_actor Driver z.journal)) number_is ∙ sym n.entries_are
-
-    stands : CommitStands g then.stand (CommitOver e)
-    stands = commit_runs.stands g j k opening is_opening z.journal then.stand then.runs (CommitOver e) at_end
+    commit_is_es = run_entries.commit g k opening z.journal then.stand then.runs led at_led ∙ ap (λ v. filter (λ (u : Entry). is_begun v u.event) (by_actor Driver z.journal)) number_is ∙ sym n.entries_are
 
     commit_leads : (missing : Option ℕ) → run (commit_tells w) (commit_start w missing) then.stand.commit ≡ run (commit_tells w) (commit_start w missing) es
     commit_leads missing = ap (run (commit_tells w) (commit_start w missing)) commit_is_es
 
-    missing_is : stands.missing ≡ d.missing
-    missing_is = commit_runs.one_start w stands.missing d.missing es (sym (commit_leads stands.missing) ∙ stands.leads ∙ sym leads)
+    missing_is : (c : Commit) (h : CommitStands g then.stand c) → c ≡ led → h.missing ≡ d.missing
+    missing_is c h is = commit_runs.one_start w h.missing d.missing es (sym (commit_leads h.missing) ∙ h.leads ∙ is)
 
-    -- ---- what is seen then
+    -- ---- what it was answered
 
-    until_is : until (i + 1) x.journal ≡ z.journal
-    until_is = journal_until g opening x run_x idle i n.event_end n.closed
+    opened_commit : (ev : Event) → IsBegin ev Driver ops.Commit → operation_of (open_running g s.at ev Driver) ≡ Some (TheCommit (commit_start w (missing w s.at.past.reported)))
+    opened_commit ev (inl is) = ap (λ v. operation_of (open_running g s.at v Driver)) is
+    opened_commit ev (inr is) = ap (λ v. operation_of (open_running g s.at v Driver)) is
 
-    seen_then : then.stand.seen ≡ seen_until w opening x.journal x.ends (i + 1)
-    seen_then =
-        sees g k opening j is_opening z.journal then.stand then.runs
-        ∙ ap (see_all w k (nothing_seen opening)) (sym (ap (λ l. take (length l) x.journal) until_is ∙ ap (take (length z.journal)) n.closed.all ∙ take_cut z.journal n.closed.entries))
+    -- the driver has not cleaned up as it began
+    unclean : (tell_all w nothing_told s.at.journal).cleaned ≡ false
+    unclean =
+        let r = is_run g opening j is_opening (happen g s.at (Opens s.event)) (happens s.at (Opens s.event) s.happened s.may) x.ends ahead_opened in
+        let at : r.stand.driver ≡ Some (TheCommit (commit_start w (missing w s.at.past.reported))) = r.driver ∙ opened_commit s.event (subst (λ v. IsBegin s.event Driver v) begun.0 s.begins) in
+        sym (ap (λ (m : Told). m.cleaned) (tells_so g k opening j is_opening s.at.journal r.stand r.runs)) ∙ (in_commit g k opening j is_opening s.at.journal r.stand r.runs (commit_start w (missing w s.at.past.reported)) at).2.uncleaned
 
-    due_so : CommitEnded w (seen_until w opening x.journal x.ends (i + 1)) d.missing es e
-    due_so =
-        subst (λ v. CommitEnded w v d.missing es e) seen_then
-        (subst (λ l. CommitEnded w then.stand.seen d.missing l e) commit_is_es (commit_runs.ended g j k opening is_opening z.journal then.stand then.runs e at_end d.missing (commit_leads d.missing ∙ leads)))
+    -- where it has sent a request no task was missing, and each has a last publisher from then on
+    none_missing : (u : Entry) → IsIn u es → d.missing ≡ None
+    none_missing u i = by d.missing refl
+      where
+        by : (o : Option ℕ) → d.missing ≡ o → d.missing ≡ None
+        by None is = is
+        by (Some t) is =
+            let h = commit_runs.stands g j k opening is_opening z.journal then.stand then.runs led at_led in
+            let f = subst (λ l. Follows (commit_asks w) (commit_tells w) (CommitOver (commits.Missing t)) l) commit_is_es (subst (λ o. Follows (commit_asks w) (commit_tells w) (commit_start w o) then.stand.commit) (missing_is led h refl ∙ is) h.follows) in
+            absurd (subst (IsIn u) (no_entry w (commits.Missing t) es f) i)
 
-    marked_so : e ≡ commits.Committed → is_marked w (seen_until w opening x.journal x.ends (i + 1)) ≡ true
-    marked_so is = ap (is_marked w) (sym seen_then) ∙ (commit_runs.marked g then.stand e stands is).1
+    published : (u : Entry) → IsIn u es → (b : List Entry) (t : ℕ) → t < w.tasks → HasPublished (see_all w k (nothing_seen opening) (s.at.journal ++ b)) t
+    published u i b t low =
+        let none : missing w s.at.past.reported ≡ None = sym s.missing_is ∙ none_missing u i in
+        let told = (reported g opening j is_opening x.ends s.at s.happened (opened_ahead g s.at s.event x.ends s.may.idle ahead_opened) unclean).past t (none_left s.at.past.reported 0 w.tasks none t (omega arith) (omega (arith, low))) in
+        subst (λ v. HasPublished v t) (sym (see_parts w k (nothing_seen opening) s.at.journal b)) (last_more w k (see_all w k (nothing_seen opening) s.at.journal) b t told)
 
-    scene_then : moment opening x.journal (length (until (i + 1) x.journal)) ≡ then.stand.seen.scene
-    scene_then =
-        ap (λ l. moment opening x.journal (length l)) until_is ∙ ap (λ l. moment opening l (length z.journal)) n.closed.all ∙ moment_cut opening z.journal n.closed.entries
-        ∙ sym (whole z.journal) ∙ moment_scene g k opening j is_opening z.journal then.stand then.runs
+    read_there : (before : List Entry) (u : Entry) (later : List Entry) (t : ℕ) (r : Reply) → es ≡ before ++ u ∷ later → u.request ≡ set_request w.committer w t → u.outcome ≡ Answered r → IsSome (set_read r)
+    read_there before u later t r is asks got =
+        let one : IsIn u es = subst (IsIn u) (sym is) (in_back u before (u ∷ later) (inl refl)) in
+        let own = in_filter (λ (v : Entry). same_actor v.actor Driver) u s.entries (subst (IsIn u) (mine g opening x i Driver d (ends.Commit e) es n) one) in
+        let at = parted_at u s.entries own.0 in
+        let all : z.journal ≡ (s.at.journal ++ at.0) ++ u ∷ at.1 = s.all ∙ ap (λ l. s.at.journal ++ l) at.2 ∙ sym (append_assoc s.at.journal at.0 (u ∷ at.1)) in
+        elim (commit_answers.there g j k opening is_opening z.journal then.stand then.runs (s.at.journal ++ at.0) u at.1 t r all (same_is u.actor Driver own.1) asks got) [
+          | inl some ↦ some
+          | inr none ↦ absurd (none_some none.2 (published u one at.0 none.0 none.1).1)
+        ]
 
-    reverted_so : e ≡ commits.StoreFault stages.Complete → NoDeletionWorn w.retries es → OnlyOpening w opening (moment opening x.journal (length (until (i + 1) x.journal))).content
-    reverted_so is none =
-        let d : then.stand.driver ≡ Some (TheCommit (CommitOver (commits.StoreFault stages.Complete))) = at_end ∙ ap (λ v. Some (TheCommit (CommitOver v))) is in
-        subst (λ (v : Scene). OnlyOpening w opening v.content) (sym scene_then) (reverted_now g k opening j is_opening z.journal then.stand then.runs d (subst (NoDeletionWorn w.retries) (sym commit_is_es) none))
+    served_so : CommitServed w es
+    served_so = record {
+      sets = read_there;
+      completions = λ before u later why is stage got. commit_answers.refused g j k opening is_opening z.journal then.stand then.runs led at_led before u later why (commit_is_es ∙ is) stage got;
+    }
 
-    -- ---- where it ended before its first completion
+    -- ---- one that ended otherwise than for want of memory
 
-    missed_below : (t : ℕ) → e ≡ commits.Missing t → t < w.tasks
-    missed_below t is =
-        let at : IsDue w stands.missing stands.sets (commits.Missing t) = subst (IsDue w stands.missing stands.sets) is stands.at in
-        missing_below w s.at.past.reported t (sym s.missing_is ∙ sym missing_is ∙ at.0)
+    module _ (o : over (run (advance g Driver) (record { operation = n.op; known = known }) es).operation ≡ Some (ends.Commit e)) where
+      leads : led ≡ CommitOver e
+      leads = commit_back led e (sym (ap over leads_alone) ∙ o)
 
-    -- what came behind it
-    behind : After g opening j is_opening (happen g z (Closes n.event_end)) x
-    behind = after_commit g opening j is_opening (happen g z (Closes n.event_end)) x n.closed.since_then (subst IsAfter (sym driver_is) tt)
+      at_end : then.stand.driver ≡ Some (TheCommit (CommitOver e))
+      at_end = at_led ∙ ap (λ c. Some (TheCommit c)) leads
 
-    untouched_so : is_untouched e ≡ true → (m : ℕ) → m ≤ length x.journal → Same (view w.dest (moment opening x.journal m).content) (view w.dest opening)
-    untouched_so u m l =
-        let now = is_run g opening j is_opening x run_x x.ends (ahead_none x idle) in
-        let all : Always w k opening (z.journal ++ behind.more) = subst (Always w k opening) behind.all (always g k opening j is_opening x.journal now.stand now.runs) in
-        subst (λ v. m ≤ length v → Same (view w.dest (moment opening v m).content) (view w.dest opening)) (sym behind.all)
-        (commit_moments.untouched g j k opening is_opening z.journal then.stand then.runs e at_end u missed_below behind.more behind.none all m) l
+      stands : CommitStands g then.stand (CommitOver e)
+      stands = commit_runs.stands g j k opening is_opening z.journal then.stand then.runs (CommitOver e) at_end
+
+      -- ---- what is seen then
+
+      until_is : until (i + 1) x.journal ≡ z.journal
+      until_is = journal_until g opening x run_x idle i n.event_end n.closed
+
+      seen_then : then.stand.seen ≡ seen_until w opening x.journal x.ends (i + 1)
+      seen_then =
+          sees g k opening j is_opening z.journal then.stand then.runs
+          ∙ ap (see_all w k (nothing_seen opening)) (sym (ap (λ l. take (length l) x.journal) until_is ∙ ap (take (length z.journal)) n.closed.all ∙ take_cut z.journal n.closed.entries))
+
+      due_so : CommitEnded w (seen_until w opening x.journal x.ends (i + 1)) d.missing es e
+      due_so =
+          subst (λ v. CommitEnded w v d.missing es e) seen_then
+          (subst (λ l. CommitEnded w then.stand.seen d.missing l e) commit_is_es (commit_runs.ended g j k opening is_opening z.journal then.stand then.runs e at_end d.missing (commit_leads d.missing ∙ leads)))
+
+      marked_so : e ≡ commits.Committed → is_marked w (seen_until w opening x.journal x.ends (i + 1)) ≡ true
+      marked_so is = ap (is_marked w) (sym seen_then) ∙ (commit_runs.marked g then.stand e stands is).1
+
+      scene_then : moment opening x.journal (length (until (i + 1) x.journal)) ≡ then.stand.seen.scene
+      scene_then =
+          ap (λ l. moment opening x.journal (length l)) until_is ∙ ap (λ l. moment opening l (length z.journal)) n.closed.all ∙ moment_cut opening z.journal n.closed.entries
+          ∙ sym (whole z.journal) ∙ moment_scene g k opening j is_opening z.journal then.stand then.runs
+
+      reverted_so : e ≡ commits.StoreFault stages.Complete → NoDeletionWorn w.retries es → OnlyOpening w opening (moment opening x.journal (length (until (i + 1) x.journal))).content
+      reverted_so is none =
+          let d : then.stand.driver ≡ Some (TheCommit (CommitOver (commits.StoreFault stages.Complete))) = at_end ∙ ap (λ v. Some (TheCommit (CommitOver v))) is in
+          subst (λ (v : Scene). OnlyOpening w opening v.content) (sym scene_then) (reverted_now g k opening j is_opening z.journal then.stand then.runs d (subst (NoDeletionWorn w.retries) (sym commit_is_es) none))
+
+      -- ---- where it ended before its first completion
+
+      missed_below : (t : ℕ) → e ≡ commits.Missing t → t < w.tasks
+      missed_below t is =
+          let at : IsDue w stands.missing stands.sets (commits.Missing t) = subst (IsDue w stands.missing stands.sets) is stands.at in
+          missing_below w s.at.past.reported t (sym s.missing_is ∙ sym (missing_is (CommitOver e) stands (sym leads)) ∙ at.0)
+
+      -- what came behind it
+      behind : After g opening j is_opening (happen g z (Closes n.event_end)) x
+      behind = after_commit g opening j is_opening (happen g z (Closes n.event_end)) x n.closed.since_then (subst IsAfter (sym (driver_is ∙ ap (λ c. Some (TheCommit c)) leads)) tt)
+
+      untouched_so : is_untouched e ≡ true → (m : ℕ) → m ≤ length x.journal → Same (view w.dest (moment opening x.journal m).content) (view w.dest opening)
+      untouched_so u m l =
+          let now = is_run g opening j is_opening x run_x x.ends (ahead_none x idle) in
+          let all : Always w k opening (z.journal ++ behind.more) = subst (Always w k opening) behind.all (always g k opening j is_opening x.journal now.stand now.runs) in
+          subst (λ v. m ≤ length v → Same (view w.dest (moment opening v m).content) (view w.dest opening)) (sym behind.all)
+          (commit_moments.untouched g j k opening is_opening z.journal then.stand then.runs e at_end u missed_below behind.more behind.none all m) l
 
   -- ---- any end
 
   -- for want of memory
-  memory_ends : (i : ℕ) (d : Doing) (e : CommitEnd) (es : List Entry) → e ≡ commits.NoMemory → CommitEnds w opening x.journal x.ends i d e es
-  memory_ends i d e es is = record {
+  memory_ends : (i : ℕ) (d : Doing) (e : CommitEnd) (es : List Entry) → CommitServed w es → e ≡ commits.NoMemory → CommitEnds w opening x.journal x.ends i d e es
+  memory_ends i d e es served is = record {
     due = λ own. record {
       worn = first_worn w.retries es;
       first = computed w.retries [] es (none_sent w.retries);
@@ -257,17 +350,19 @@ module _ (g : Setting) (opening : Content) (j : IsLegal g.script) (is_opening : 
     marked = λ c own. let no : commits.NoMemory ≡ commits.Committed = sym is ∙ c in absurd cc;
     untouched = λ u own. absurd (false_true (ap is_untouched is) u);
     reverted = λ c none own. let no : commits.NoMemory ≡ commits.StoreFault stages.Complete = sym is ∙ c in absurd cc;
+    served = λ own. served;
   }
 
   pub commits_kept : CommitsEnd w opening x.journal x.ends
   commits_kept i d e es h =
       let n = ending g opening x run_x idle i Driver d (ends.Commit e) es h in
       elim n.ended [
-        | inl memory ↦ memory_ends i d e es (memory_commit e memory)
+        | inl memory ↦ memory_ends i d e es (served_so i d e es n) (memory_commit e memory)
         | inr o ↦ record {
           due = λ own. due_so i d e es n o;
           marked = λ is own. marked_so i d e es n o is;
           untouched = λ u own. untouched_so i d e es n o u;
           reverted = λ is none own. reverted_so i d e es n o is none;
+          served = λ own. served_so i d e es n;
         }
       ]

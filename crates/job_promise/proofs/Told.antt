@@ -1,5 +1,5 @@
 -- the folds and the journal in one job's eyes
-use Rattle.std.proofs.Common.{◌≡◌, ℕ, zero, suc, ◌+◌, ◌-◌, ◌≤◌, refl, ap, sym, subst, ◌∙◌, Bool, true, false, cond, arith, List, [], ◌∷◌, take, Option}
+use Rattle.std.proofs.Common.{◌≡◌, ℕ, zero, suc, ◌+◌, ◌-◌, ◌≤◌, refl, ap, sym, subst, ◌∙◌, Bool, true, false, cond, arith, nat_eq, ◌&&◌, List, [], ◌∷◌, take, Option, Some}
 use Rattle.s3_types.specs.Store.{Content, Scene, opening}
 use Rattle.s3_types.specs.Moment.{effect, after_all, moment, AreHonest, IsHonest}
 use Rattle.s3_types.specs.declared.request.Actor.{Actor}
@@ -9,7 +9,7 @@ use Rattle.s3_types.specs.declared.journal.Outcome.{Outcome}
 use Rattle.s3_types.specs.declared.journal.Outcome.TheVariants.{Answered, Slow, RequestLost, ReplyLost}
 use Rattle.s3_types.specs.declared.journal.Entry.{Entry}
 use Rattle.job_model.specs.JobScript.{Script}
-use Rattle.job_promise.specs.Seen.{Seen, see, see_by, see_driver, see_attempt, see_all, nothing_seen, seen}
+use Rattle.job_promise.specs.Seen.{Seen, see, see_by, see_driver, see_attempt, see_all, nothing_seen, seen, is_publishing}
 use Rattle.job_promise.specs.Turns.{AllFrom, IsRising}
 use Rattle.job_promise.specs.Eyes.{number_in, entry_in, in_eyes}
 
@@ -100,3 +100,24 @@ eyes_from mine n (e ∷ es) h = (number_grows mine n e.event h.0, eyes_from mine
 pub eyes_rising : (mine : ℕ → Bool) (es : List Entry) → IsRising es → IsRising (in_eyes mine es)
 eyes_rising mine [] h = tt
 eyes_rising mine (e ∷ es) h = (eyes_from mine e.event es h.0, eyes_rising mine es h.1)
+
+-- ---- last publishers
+
+one_more : (last : Option ℕ) (attempt : ℕ) (b : Bool) → (n : ℕ) × (last ≡ Some n) → (n : ℕ) × (cond b (Some attempt) last ≡ Some n)
+one_more last attempt true h = (attempt, refl)
+one_more last attempt false h = h
+
+-- a task that has one has one ever after
+pub last_still : (w : Script) (k : Option ℕ) (s : Seen) (e : Entry) (t : ℕ) → (n : ℕ) × (s.last t ≡ Some n) → (n : ℕ) × ((see w k s e).last t ≡ Some n)
+last_still w k s e t h = by e.actor e.outcome
+  where
+    by : (a : Actor) (o : Outcome) → (n : ℕ) × ((see_by w k s e.event e.request o a).last t ≡ Some n)
+    by Driver (Answered x) = h
+    by Driver Slow = h
+    by Driver RequestLost = h
+    by Driver ReplyLost = h
+    by (Attempt task attempt) (Answered x) = one_more (s.last t) attempt (nat_eq t task && is_publishing w s.scene task e.request) h
+    by (Attempt task attempt) Slow = h
+    by (Attempt task attempt) RequestLost = h
+    by (Attempt task attempt) ReplyLost = one_more (s.last t) attempt (nat_eq t task && is_publishing w s.scene task e.request) h
+    by Shell o = h

@@ -1,7 +1,7 @@
 -- The causes of the ends of operations, and what holds at them.
-use Rattle.std.specs.Prelude.{◌≡◌, ℕ, ◌≤◌, Bool, true, false, List, [], ◌∷◌, ◌++◌, slice_get, Option, Some, None, IsSome}
+use Rattle.std.specs.Prelude.{◌≡◌, ℕ, ◌≤◌, ◌&&◌, Bool, true, false, List, [], ◌∷◌, ◌++◌, slice_get, Option, Some, None, IsSome}
 use Rattle.std.specs.FinMap as fin
-use Rattle.std.specs.List.{All, Contains}
+use Rattle.std.specs.List.{All, Contains, list_any}
 use Rattle.std.specs.Ordering.{is_lt}
 use Rattle.proof_base.specs.Order.{text_cmp}
 use Rattle.s3_types.specs.Store.{Content, Scene}
@@ -10,9 +10,14 @@ use Rattle.s3_types.specs.declared.request.Actor.TheVariants.{Attempt}
 use Rattle.s3_types.specs.declared.request.Request.{Request}
 use Rattle.s3_types.specs.declared.request.Request.TheVariants.{DeleteObject, ListPage}
 use Rattle.s3_types.specs.declared.reply.PageEntry.{PageEntry}
-use Rattle.s3_types.specs.declared.reply.Reply.TheVariants.{Page}
-use Rattle.s3_types.specs.declared.journal.Outcome.TheVariants.{Answered}
+use Rattle.s3_types.specs.declared.reply.Refusal.{Refusal}
+use Rattle.s3_types.specs.declared.reply.Refusal.TheVariants.{NoSuchUpload}
+use Rattle.s3_types.specs.declared.reply.Reply.{Reply}
+use Rattle.s3_types.specs.declared.reply.Reply.TheVariants.{Page, Refused}
+use Rattle.s3_types.specs.declared.journal.Outcome.{Outcome}
+use Rattle.s3_types.specs.declared.journal.Outcome.TheVariants.{Answered, RequestLost, ReplyLost}
 use Rattle.s3_types.specs.declared.journal.Entry.{Entry}
+use Rattle.sendings.specs.Same.{same_request}
 use Rattle.sendings.specs.Worn.{IsWorn}
 use Rattle.job_model.specs.Attempts.{Who}
 use Rattle.job_model.specs.JobScript.{Script}
@@ -31,6 +36,7 @@ use Rattle.job_operations.specs.View.{view, object_at}
 use Rattle.job_operations.specs.Outputs.{files, paths_of}
 use Rattle.job_operations.specs.Conflicts.{partitions, checks_all, checks_partitions}
 use Rattle.job_operations.specs.TaskCommits.{partition_prefix}
+use Rattle.job_operations.specs.JobCommits.{set_request, set_read, stage_of}
 use Rattle.job_promise.specs.Headline.{Same}
 use Rattle.job_promise.specs.Seen.{is_publishing}
 use Rattle.job_promise.specs.Scope.{NothingLeft}
@@ -128,3 +134,22 @@ NoDeletionWorn retries es = (bucket key : List ℕ) → IsWorn retries (DeleteOb
 -- each path that is shown has its opening bytes
 abbrev pub OnlyOpening : Script → Content → Content → Type 0
 OnlyOpening w opening c = (p b : List ℕ) → view w.dest c p ≡ Some b → view w.dest opening p ≡ Some b
+
+-- the request was lost, or its reply
+abbrev pub is_lost : Outcome → Bool
+is_lost RequestLost = true
+is_lost ReplyLost = true
+is_lost _ = false
+
+-- a sending of this request was lost, before its effect or after it
+abbrev pub was_lost : Request → List Entry → Bool
+was_lost r es = list_any (λ e. same_request r e.request && is_lost e.outcome) es
+
+-- what these entries of it were answered
+pub record CommitServed (w : Script) (es : List Entry) : Type 0 where
+  -- each answered read of a task's set gave a set
+  pub sets : (before : List Entry) (e : Entry) (later : List Entry) (t : ℕ) (r : Reply) → es ≡ before ++ e ∷ later
+      → e.request ≡ set_request w.committer w t → e.outcome ≡ Answered r → IsSome (set_read r)
+  -- a refused completion found no upload, and an earlier sending of it was lost
+  pub completions : (before : List Entry) (e : Entry) (later : List Entry) (why : Refusal) → es ≡ before ++ e ∷ later
+      → stage_of e.request ≡ stages.Complete → e.outcome ≡ Answered (Refused why) → (why ≡ NoSuchUpload) × (was_lost e.request before ≡ true)

@@ -32,7 +32,7 @@ use Rattle.job_promise.specs.Turns.{until, before, since, by_actor, until_last, 
 use Rattle.job_promise.specs.Follows.{Plays, known_then}
 use Rattle.job_promise.specs.Ends.{EndedIn, CommitEnded, has_cleaned}
 use Rattle.job_promise.specs.Entries.{ZeroRename, OutsideStays, AreOwn}
-use Rattle.job_promise.specs.OperationEnds.{SetupIs, TaskIs, WasPublished, CleanIs, Cleaned, is_untouched, NoDeletionWorn, OnlyOpening}
+use Rattle.job_promise.specs.OperationEnds.{SetupIs, TaskIs, WasPublished, CleanIs, Cleaned, is_untouched, NoDeletionWorn, OnlyOpening, CommitServed}
 
 -- ---- the picks of a report
 
@@ -93,6 +93,8 @@ pub record CommitEnds (w : Script) (opening : Content) (journal : List Entry) (x
   pub untouched : is_untouched e ≡ true → AreOwn journal → (m : ℕ) → m ≤ length journal → Same (view w.dest (moment opening journal m).content) (view w.dest opening)
   -- a revert leaves no file of the job
   pub reverted : e ≡ commits.StoreFault stages.Complete → NoDeletionWorn w.retries es → AreOwn journal → OnlyOpening w opening (moment opening journal (length (until (j + 1) journal))).content
+  -- a set that it read was there, and a completion was refused only where an earlier sending of it was lost
+  pub served : AreOwn journal → CommitServed w es
 
 abbrev pub CommitsEnd : Script → Content → List Entry → List EventEnd → Type 0
 CommitsEnd w opening journal xs = (j : ℕ) (d : Doing) (e : CommitEnd) (es : List Entry) → EndedIn w xs journal j Driver d (ends.Commit e) es → CommitEnds w opening journal xs j d e es

@@ -1,5 +1,5 @@
 -- The operations of the run of one attempt with one file end as is due, and the run is finished.
-use Rattle.std.proofs.Common.{◌≡◌, ◌⊎◌, ℕ, zero, suc, ◌+◌, Bool, true, ◌&&◌, List, [], ◌∷◌, length, take, Option, Some, None, is_some, refl, sym, ap, subst, ◌∙◌, codes, inr, arith}
+use Rattle.std.proofs.Common.{◌≡◌, ◌⊎◌, ℕ, zero, suc, ◌+◌, Bool, true, ◌&&◌, List, [], ◌∷◌, ◌++◌, length, take, Option, Some, None, is_some, refl, sym, ap, subst, ◌∙◌, codes, inr, arith}
 use Rattle.std.specs.Fmt.{digits}
 use Rattle.json.specs.Print.{escape_byte}
 use Rattle.std.specs.List.{slice_get}
@@ -9,7 +9,12 @@ use Rattle.proof_base.specs.Order.{text_cmp}
 use Rattle.s3_types.specs.Moment.{moment}
 use Rattle.s3_types.specs.declared.request.Actor.{Actor}
 use Rattle.s3_types.specs.declared.request.Actor.TheVariants.{Driver, Attempt}
+use Rattle.s3_types.specs.declared.request.Committer.TheVariants.{Magic}
 use Rattle.s3_types.specs.declared.request.Request.{Request}
+use Rattle.s3_types.specs.declared.reply.Refusal.{Refusal}
+use Rattle.s3_types.specs.declared.reply.Reply.{Reply}
+use Rattle.s3_types.specs.declared.reply.Reply.TheVariants.{Refused}
+use Rattle.s3_types.specs.declared.journal.Outcome.TheVariants.{Answered}
 use Rattle.s3_types.specs.declared.journal.Entry.{Entry}
 use Rattle.sendings.specs.Worn.{WornFirst, first_worn}
 use Rattle.sendings.proofs.First.{computed, none_sent}
@@ -22,22 +27,25 @@ use Rattle.job_model.specs.declared.ends.SetupEnd.TheVariants as setups
 use Rattle.job_model.specs.declared.ends.TaskEnd.{TaskEnd}
 use Rattle.job_model.specs.declared.ends.TaskEnd.TheVariants as tasks
 use Rattle.job_model.specs.declared.ends.CommitEnd.TheVariants as commits
+use Rattle.job_model.specs.declared.ends.Stage.TheVariants as stages
 use Rattle.job_model.specs.declared.ends.OpEnd.{OpEnd}
 use Rattle.job_model.specs.declared.ends.OpEnd.TheVariants as ends
 use Rattle.job_model.specs.declared.ends.ActorEnd.{ActorEnd}
 use Rattle.job_model.specs.declared.ends.EventEnd.TheVariants.{Ended}
+use Rattle.job_operations.specs.JobCommits.{set_request, set_read, ok_set, stage_of}
 use Rattle.job_promise.specs.States.{Doing, past, after_event, told}
 use Rattle.job_promise.specs.Seen.{seen, see_all, is_marked}
 use Rattle.job_promise.specs.Turns.{until, since, before, by_actor, until_last}
 use Rattle.job_promise.specs.Ends.{EndedIn, is_mark_answered, has_cleaned}
 use Rattle.job_promise.specs.Follows.{known_then}
-use Rattle.job_promise.specs.OperationEnds.{SetupIs, TaskIs, IsFree, WasPublished}
+use Rattle.job_promise.specs.OperationEnds.{SetupIs, TaskIs, IsFree, WasPublished, CommitServed}
 use Rattle.job_promise.specs.Promise.{SetupsEnd, TasksEnd, Publishes, CleansEnd, CommitEnds, CommitsEnd, Promised, seen_until, setting, all_picks}
 use Rattle.worked_runs.specs.Jobs.{worker}
-use Rattle.worked_runs.specs.OneFile.{script, opening, journal, the_publishing}
+use Rattle.worked_runs.specs.OneFile.{script, opening, journal, commit_entries, the_publishing}
 use Rattle.worked_runs.specs.OneFinished.{the_ends, the_picks, OneFileFinished}
 use Rattle.worked_runs.proofs.Books.{content_of, at_bucket}
 use Rattle.worked_runs.proofs.Checks.{objects_at}
+use Rattle.worked_runs.proofs.OneSet.{set_is_read}
 use Rattle.worked_runs.proofs.Sights.{Saw, opens, saw_all, sees}
 use Rattle.worked_runs.proofs.Refusals.{empty_book, opening_is, opens_is}
 use Rattle.worked_runs.proofs.OneMoments.{kept}
@@ -191,6 +199,45 @@ commit_worn : first_worn 3 (since 4 (by_actor Driver (until 4 journal))) ≡ Non
 unfolding digits escape_byte
 commit_worn = refl
 
+-- what the commit was answered: its read gave the set, and its completion was not refused
+abbrev EachOf : (Entry → Type 0) → List Entry → Type 0
+EachOf P [] = Unit {0}
+EachOf P (e ∷ es) = P e × EachOf P es
+
+each_at : (P : Entry → Type 0) (es : List Entry) → EachOf P es → (before : List Entry) (e : Entry) (later : List Entry) → es ≡ before ++ e ∷ later → P e
+each_at P [] h [] e later q = absurd (cc)
+each_at P [] h (x ∷ before) e later q = absurd (cc)
+each_at P (y ∷ ys) h [] e later q = let is : y ≡ e = cc in subst P is h.0
+each_at P (y ∷ ys) h (x ∷ before) e later q = let rest : ys ≡ before ++ e ∷ later = cc in each_at P ys h.1 before e later rest
+
+abbrev Reads : Entry → Type 0
+Reads e = (t : ℕ) (r : Reply) → e.request ≡ set_request Magic script t → e.outcome ≡ Answered r → IsSome (set_read r)
+
+abbrev Unrefused : Entry → Type 0
+Unrefused e = (why : Refusal) → stage_of e.request ≡ stages.Complete → e.outcome ≡ Answered (Refused why) → ⊥
+
+answer_is : {x y : Reply} → Answered x ≡ Answered y → x ≡ y
+answer_is e = cc
+
+reads_set : EachOf Reads commit_entries
+reads_set = (
+  λ t r asks got. ap (λ v. is_some (set_read v)) (sym (answer_is got)) ∙ ap (λ v. is_some (ok_set v)) set_is_read,
+  (λ t r asks got. absurd (cc), (λ t r asks got. absurd (cc), tt)),
+)
+
+unrefused : EachOf Unrefused commit_entries
+unrefused = (λ why stage got. cc, (λ why stage got. let no = answer_is got in cc, (λ why stage got. cc, tt)))
+
+commit_sent : since 4 (by_actor Driver (until 4 journal)) ≡ commit_entries
+unfolding digits escape_byte
+commit_sent = refl
+
+served : (es : List Entry) → es ≡ since 4 (by_actor Driver (until 4 journal)) → CommitServed script es
+served es g = record {
+  sets = λ before e later t r is. each_at Reads commit_entries reads_set before e later (sym (g ∙ commit_sent) ∙ is) t r;
+  completions = λ before e later why is stage got. absurd (each_at Unrefused commit_entries unrefused before e later (sym (g ∙ commit_sent) ∙ is) why stage got);
+}
+
 commit_so : (es : List Entry) → es ≡ since 4 (by_actor Driver (until 4 journal)) → CommitEnds script opening journal the_ends 3 commit_doing commits.Committed es
 unfolding digits
 commit_so es g = record {
@@ -203,6 +250,7 @@ commit_so es g = record {
   marked = λ e own. is_marked_last;
   untouched = λ e. absurd (cc);
   reverted = λ e. absurd (cc);
+  served = λ own. served es g;
 }
 
 commits_end : CommitsEnd script opening journal the_ends
