@@ -19,7 +19,7 @@ use Rattle.job_model.specs.JobScript.{Script}
 use Rattle.job_model.specs.declared.ends.OpEnd.{OpEnd}
 use Rattle.job_model.specs.declared.ends.EventEnd.{EventEnd}
 use Rattle.job_promise.specs.States.{Doing, same_actor}
-use Rattle.job_promise.specs.Turns.{until, since, by_actor}
+use Rattle.job_promise.specs.Turns.{until, by_actor}
 use Rattle.job_promise.specs.Ends.{EndedIn}
 use Rattle.job_promise.specs.Promise.{Sent}
 

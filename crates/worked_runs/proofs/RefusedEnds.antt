@@ -1,5 +1,5 @@
 -- Ends that are not due.
-use Rattle.std.proofs.Common.{◌≡◌, ◌⊎◌, ℕ, zero, suc, ◌+◌, Bool, true, false, cond, ◌&&◌, List, [], ◌∷◌, Option, Some, None, is_some, refl, sym, ap, subst, ◌∙◌, codes, inl, inr, arith}
+use Rattle.std.proofs.Common.{◌≡◌, ◌⊎◌, ℕ, zero, suc, ◌+◌, ◌≤◌, Bool, true, false, cond, ◌&&◌, List, [], ◌∷◌, Option, Some, None, is_some, refl, sym, ap, subst, ◌∙◌, codes, inl, inr, arith}
 use Rattle.std.specs.List.{slice_get}
 use Rattle.std.specs.FinMap.Entries.{find}
 use Rattle.std.specs.Fmt.{digits}
@@ -11,23 +11,27 @@ use Rattle.s3_types.specs.declared.journal.Entry.{Entry}
 use Rattle.job_model.specs.declared.events.Op.TheVariants as ops
 use Rattle.job_model.specs.declared.events.Event.TheVariants.{Do}
 use Rattle.job_model.specs.declared.ends.CommitEnd.TheVariants as commits
+use Rattle.job_model.specs.declared.ends.CleanEnd.TheVariants as cleans
 use Rattle.job_model.specs.declared.ends.Stage.TheVariants as stages
+use Rattle.job_model.specs.declared.ends.OpEnd.{OpEnd}
 use Rattle.job_model.specs.declared.ends.OpEnd.TheVariants as ends
 use Rattle.job_model.specs.declared.ends.EventEnd.TheVariants.{Ended}
 use Rattle.job_operations.specs.View.{view}
 use Rattle.job_promise.specs.Seen.{is_marked}
+use Rattle.job_promise.specs.Follows.{op_over, Plays}
 use Rattle.job_promise.specs.Headline.{Always}
 use Rattle.job_promise.specs.Ends.{EndedIn, commit_due}
 use Rattle.job_promise.specs.OperationEnds.{NoDeletionWorn}
 use Rattle.job_promise.specs.Promise.{CommitsEnd}
 use Rattle.job_promise.specs.States.{Doing}
-use Rattle.job_promise.specs.Turns.{until, since, by_actor}
-use Rattle.worked_runs.specs.OneFile.{opening}
-use Rattle.worked_runs.specs.RefusedEnds.{both_script, both_attempts, revert_script, half_reverted, revert_ends, anew_script, anew_ends, Misended}
+use Rattle.job_promise.specs.Turns.{until, since, by_actor, is_wanting}
+use Rattle.worked_runs.specs.OneFile.{opening, setting}
+use Rattle.worked_runs.specs.RefusedEnds.{both_script, both_attempts, revert_script, half_reverted, revert_ends, anew_script, anew_ends, strange_ends, Misended}
 use Rattle.worked_runs.proofs.Books.{content_of}
 use Rattle.worked_runs.proofs.Checks.{views, objects_at, moment_is, book_after}
 use Rattle.worked_runs.proofs.Sights.{Saw, seen_of, opens, saw_all}
 use Rattle.worked_runs.proofs.Refusals.{empty_book, opening_is, at_end, not_none, owns_all}
+use Rattle.worked_runs.proofs.OnePlays.{same_some, commit_doing}
 
 -- ---- two attempts of one task
 
@@ -108,9 +112,26 @@ left_in h =
     ∙ views (book_after empty_book half_reverted) (codes "a")
     ))
 
+-- ---- whose want of memory it is
+
+abbrev memory : OpEnd
+memory = ends.Clean cleans.NoMemory
+
+not_told : (d : Doing) → Some commit_doing ≡ Some d → (is_wanting Driver d.op memory ≡ true) ⊎ (op_over setting Driver d [] ≡ Some memory) → ⊥
+not_told d e h = by (subst (λ (v : Doing). (is_wanting Driver v.op memory ≡ true) ⊎ (op_over setting Driver v [] ≡ Some memory)) (sym (same_some commit_doing d e)) h)
+  where
+    by : (is_wanting Driver ops.Commit memory ≡ true) ⊎ (op_over setting Driver commit_doing [] ≡ Some memory) → ⊥
+    by (inl w) = cc
+    by (inr o) = cc
+
+strange_in : Plays setting strange_ends [] → ⊥
+strange_in p = let o = (p.obeyed 3 (Do Driver ops.Commit) (Ended memory) refl refl).over 0 (record { actor = Driver; end = memory }) refl in not_told o.0 o.1 o.2
+
 pub misended : Misended
 misended = record {
   both = λ a. both_in (subst (λ c. Always both_script (Some 6) c both_attempts) (sym opening_is) a);
   left = left_in;
   anew = anew_in;
+  beyond = λ p. let h : 5 ≤ 4 = p.within in absurd (omega arith);
+  strange = strange_in;
 }

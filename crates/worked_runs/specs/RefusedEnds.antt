@@ -1,4 +1,4 @@
--- Two runs whose ends are not those that are due, and one that shows two attempts of one task.
+-- Ends that are not those that are due, and a run that shows two attempts of one task.
 use Rattle.std.specs.Prelude.{ℕ, List, [], ◌∷◌, ◌++◌, Some, None, codes}
 use Rattle.serde_json.specs.Written.{compact_text}
 use Rattle.s3_types.specs.Tags.{plain_tag, joined_tag}
@@ -20,14 +20,17 @@ use Rattle.job_model.specs.declared.events.Event.TheVariants.{Do, Kill, Restart}
 use Rattle.job_model.specs.declared.ends.SetupEnd.TheVariants as setups
 use Rattle.job_model.specs.declared.ends.TaskEnd.TheVariants as tasks
 use Rattle.job_model.specs.declared.ends.CommitEnd.TheVariants as commits
+use Rattle.job_model.specs.declared.ends.CleanEnd.TheVariants as cleans
 use Rattle.job_model.specs.declared.ends.Stage.TheVariants as stages
 use Rattle.job_model.specs.declared.ends.OpEnd.TheVariants as ends
 use Rattle.job_model.specs.declared.ends.EventEnd.{EventEnd}
 use Rattle.job_model.specs.declared.ends.EventEnd.TheVariants.{Done, Ended}
+use Rattle.job_promise.specs.Follows.{Plays}
 use Rattle.job_promise.specs.Headline.{Always}
 use Rattle.job_promise.specs.Promise.{CommitsEnd}
 use Rattle.worked_runs.specs.Jobs.{lake, job, attempt, worker, entry, said, hello_tag}
-use Rattle.worked_runs.specs.OneFile.{opening}
+use Rattle.worked_runs.specs.OneFile.{opening, journal, setting}
+use Rattle.worked_runs.specs.OneFinished.{the_ends}
 
 abbrev pub done_setup : EventEnd
 done_setup = Ended (ends.Setup setups.Done)
@@ -103,6 +106,11 @@ anew_script = job Magic Append 1 3 1 (attempt 0 0 ((codes "part-00000", codes "h
 abbrev pub anew_ends : List EventEnd
 anew_ends = done_setup ∷ done_task ∷ Done ∷ Done ∷ done_task ∷ Ended (ends.Commit (commits.Missing 0)) ∷ []
 
+-- ---- whose want of memory it is
+
+abbrev pub strange_ends : List EventEnd
+strange_ends = done_setup ∷ done_task ∷ done_task ∷ Ended (ends.Clean cleans.NoMemory) ∷ []
+
 pub record Misended : Type 0 where
   -- the marker stands over the files of two attempts of one task
   pub both : Always both_script (Some 6) opening both_attempts → ⊥
@@ -110,3 +118,7 @@ pub record Misended : Type 0 where
   pub left : CommitsEnd revert_script opening half_reverted revert_ends → ⊥
   -- a task is missing that was reported after the restart
   pub anew : CommitsEnd anew_script opening [] anew_ends → ⊥
+  -- an end stands behind that of the last event
+  pub beyond : Plays setting (the_ends ++ Done ∷ []) journal → ⊥
+  -- a job's commit that found no memory is told as a clean that found none
+  pub strange : Plays setting strange_ends [] → ⊥
