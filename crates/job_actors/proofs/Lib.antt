@@ -5,7 +5,6 @@ pub mod Telling
 pub mod Beside
 pub mod Picking
 pub mod WorksTasks
-pub mod WorksStages
 pub mod WorksReported
 pub mod WorksFew
 pub mod WorksStand

@@ -155,7 +155,7 @@ module _ (g : Setting) (opening : Content) (x : Play) where
         let k = t.machine.plan.known in
         let own = own_now g opening x at.legal at.opens at.happened b m.operation here in
         let drawn = drawn_is task_commit_wants t (known publishing.told b) ((run g opening x at.legal at.opens at.happened).last b m at.at) in
-        let h = commit_due g.script g.minimum publishing.seen.scene publishing.seen.last publishing.told at.legal l.hold b k drawn (few_now g opening x (actor_of b) (CommitTask t) at) t.machine.operation (l.fine b m.operation here).1.1 own.0 in
+        let h = commit_due g.script g.minimum publishing.seen.scene publishing.seen.last publishing.told at.legal l.hold b k drawn (few_now g opening x (actor_of b) (CommitTask t) at) t.machine.operation (l.fine b m.operation here).1.1 own in
         let plan = attempting_by task_commit_wants task_commit_fits t.machine (task_of g.script g.minimum b k) publishing.seen.scene at.goes_by.plan h in
         outcome_fits task_commit_wants task_commit_fits t (scene_of opening x) (subst (FitsDue task_commit_wants task_commit_fits t.machine) (scene_is g opening x at.legal at.opens at.happened) plan) r o e honest
 

@@ -9,7 +9,7 @@ use Rattle.s3_types.specs.declared.journal.Outcome.{Outcome}
 use Rattle.job_model.specs.Known.{Known}
 use Rattle.job_operations.specs.JobCommits.{commit_asks}
 use Rattle.job_operations.specs.Operations as operations
-use Rattle.job_operations.specs.Operations.{Setting, Running, advance, over}
+use Rattle.job_operations.specs.Operations.{Setting, advance, over}
 use Rattle.job_operations.specs.AtWork.{Committing}
 use Rattle.job_happenings.specs.Happenings.{Play, scene_of, knows_now}
 use Rattle.job_works.specs.Works.{IsAt}

@@ -28,9 +28,9 @@ use Rattle.job_facts.proofs.Changes.{moment_scene}
 use Rattle.job_happenings.specs.Happenings.{Play, Happened, scene_of}
 use Rattle.job_happenings.specs.Running.{IsRun, operation_of}
 use Rattle.job_happenings.proofs.Running.{is_run}
+use Rattle.job_happenings.proofs.RunningCommits.{goes_on}
 use Rattle.job_answers.specs.Due.{SetStands}
 use Rattle.job_answers.proofs.Kept.{set_stands}
-use Rattle.job_actors.proofs.WorksStages.{goes_on}
 use Rattle.job_actors.proofs.WorksTasks.{OwnTask, own_task}
 use Rattle.job_actors.proofs.WorksReported.{AllRead, DriverReads, driver_reads}
 

@@ -1,37 +1,26 @@
 -- What is to be known of operations beside the facts is kept.
-use Rattle.std.proofs.Common.{◌≡◌, ℕ, nat_eq, nat_lt, ◌&&◌, Bool, true, false, cond, List, [], ◌∷◌, ◌++◌, map, length, Option, Some, None, refl, subst, sym, inr}
-use Rattle.std.proofs.lemmas.Bool.{false≢true}
-use Rattle.s3_types.specs.declared.request.Actor.{Actor}
-use Rattle.s3_types.specs.declared.request.Actor.TheVariants.{Driver, Attempt, Shell}
-use Rattle.s3_types.specs.declared.request.Request.{Request}
+use Rattle.std.proofs.Common.{◌≡◌, ℕ, Bool, false, List, [], ◌∷◌, map, length, Option, Some, None, inr}
 use Rattle.s3_types.specs.declared.request.Committer.{Committer}
 use Rattle.s3_types.specs.declared.request.Committer.TheVariants.{Magic, Directory, Partitioned}
-use Rattle.s3_types.specs.declared.request.Mode.{Mode}
 use Rattle.s3_types.specs.declared.reply.Reply.{Reply}
 use Rattle.s3_types.specs.declared.reply.Reply.TheVariants.{Page, Refused}
 use Rattle.s3_types.specs.declared.reply.Refusal.TheVariants.{NoSuchKey, NoSuchFile}
 use Rattle.s3_types.specs.declared.journal.Outcome.{Outcome}
-use Rattle.s3_types.specs.declared.journal.Outcome.TheVariants.{Answered, Slow, RequestLost, ReplyLost}
-use Rattle.s3_types.specs.declared.journal.Entry.{Entry}
-use Rattle.pending_json.specs.declared.records.PendingSet.{PendingSet}
 use Rattle.sendings.specs.Retries.{Retried, step}
 use Rattle.request_frame.specs.Members.{IsIn}
 use Rattle.job_model.specs.Files.{File}
 use Rattle.job_model.specs.Attempts.{Who}
 use Rattle.job_model.specs.JobScript.{Script}
-use Rattle.job_model.specs.declared.ends.CommitEnd.{CommitEnd}
-use Rattle.job_operations.specs.Outputs.{Picks, files, same_path}
+use Rattle.job_operations.specs.Outputs.{files}
 use Rattle.job_operations.specs.Records.{record_key}
 use Rattle.job_operations.specs.Uploading.{Uploaded, GoesOn, AllSent, IsGone, upload_hears}
 use Rattle.job_operations.specs.Walks.{Walked, More, Whole, walked}
 use Rattle.job_operations.specs.TaskCommits.{TaskCommit, Looking, Reading, Publishing, Checking, Uploads, Storing, Renaming, TaskCommitOver, to_check, storing, checking, checked, reading, looked, looked_at, read_record, uploaded, renamed, least_missing, in_order, task_commit_start, task_commit_start_by, task_commit_hears, task_commit_after}
-use Rattle.job_operations.specs.Lanes.{Turn, again, follow, dealt, revert}
-use Rattle.job_operations.specs.JobCommits.{Sets, picks_of, all_commits, set_read, Commit, Fetching, Replacing, Completing, Marking, Reverting, CommitOver, completing, replaced, replacing, decided, fetching, fetched, reverting, worn_completion, commit_start, commit_misses, commit_tells}
-use Rattle.job_promise.specs.Seen.{Seen, see, see_by, is_publishing, is_magic}
+use Rattle.job_operations.specs.JobCommits.{Commit, Fetching, Replacing, Completing, Marking, Reverting, CommitOver}
+use Rattle.job_promise.specs.Seen.{Seen}
 use Rattle.job_facts.specs.Told.{Told}
 use Rattle.job_facts.specs.Facts.{Hold}
 use Rattle.job_facts.specs.Driver.{FitsJobCommit}
-use Rattle.job_facts.specs.Standing.{HasPublished}
 use Rattle.job_facts.proofs.Going.{step_so}
 use Rattle.job_facts.proofs.Ordered.{order_each}
 use Rattle.job_answers.specs.Due.{ReadsOwn, SetStands, AllPublished}
@@ -107,23 +96,3 @@ set_stands w minimum s m (Completing sets x xs finished) h fits cleaned all = tt
 set_stands w minimum s m (Marking sets n) h fits cleaned all = tt
 set_stands w minimum s m (Reverting r rs n) h fits cleaned all = tt
 set_stands w minimum s m (CommitOver end) h fits cleaned all = tt
-
--- ---- publishers
-
-one_more : (last : Option ℕ) (attempt : ℕ) (b : Bool) → (n : ℕ) × (last ≡ Some n) → (n : ℕ) × (cond b (Some attempt) last ≡ Some n)
-one_more last attempt true h = (attempt, refl)
-one_more last attempt false h = h
-
-pub published_still : (w : Script) (k : Option ℕ) (s : Seen) (e : Entry) (t : ℕ) → HasPublished s t → HasPublished (see w k s e) t
-published_still w k s e t h = by e.actor e.outcome
-  where
-    by : (a : Actor) (o : Outcome) → HasPublished (see_by w k s e.event e.request o a) t
-    by Driver (Answered x) = h
-    by Driver Slow = h
-    by Driver RequestLost = h
-    by Driver ReplyLost = h
-    by (Attempt task attempt) (Answered x) = one_more (s.last t) attempt (nat_eq t task && is_publishing w s.scene task e.request) h
-    by (Attempt task attempt) Slow = h
-    by (Attempt task attempt) RequestLost = h
-    by (Attempt task attempt) ReplyLost = one_more (s.last t) attempt (nat_eq t task && is_publishing w s.scene task e.request) h
-    by Shell o = h

@@ -1,7 +1,8 @@
+use Rattle.job_promise.proofs.Told.{last_still}
 use Rattle.job_answers.proofs.Attempts.{write_due, commit_due, abort_due}
 use Rattle.job_answers.proofs.Drivers.{setup_due, clean_due, job_due}
 use Rattle.job_answers.proofs.Committed.{commits_begin, commits_go, still_unclean, commits_beside, commits_foreign}
-use Rattle.job_answers.proofs.Kept.{reads_begin, reads_go, set_stands, published_still}
+use Rattle.job_answers.proofs.Kept.{reads_begin, reads_go, set_stands}
 use Rattle.job_answers.proofs.answers.Goals as goal
 
 pub returns : goal.returns
@@ -18,7 +19,7 @@ returns c = record {
     reads_begin = reads_begin;
     reads_go = reads_go;
     stands = set_stands;
-    published = published_still;
+    published = last_still;
   };
   commits = record { begins = commits_begin; goes = commits_go; unclean = still_unclean; attempts = commits_beside; strangers = commits_foreign };
 }
