@@ -1,5 +1,10 @@
 //! Tags of parts and of completed uploads, as S3 makes them of MD5 digests. (Amazon S3, common response
 //! headers: ETag; checking object integrity: MD5 digests of multipart uploads.)
+//!
+//! # What is proved
+//!
+//! `part_tag`, `joined_tag`: The MD5 of the bytes in hex, and that of the joined digests with the
+//! number of parts. Left open: that different parts have different tags.
 #![tactic(auto)]
 
 ghost use Rattle.std.specs.Prelude.{◌≡◌, ◌≤◌, [], length, true};

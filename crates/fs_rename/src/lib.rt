@@ -1,6 +1,18 @@
 //! The renaming of a file or of a directory: its source's keys are copied to the new place and then deleted,
 //! so that at any stop each file stands whole at its old or at its new place, whatever the store loses. (Hadoop
 //! FileSystem specification, rename; Hadoop, S3A: renaming.)
+//!
+//! # What is proved
+//!
+//! `Rename`: Refused, with nothing changed, by the first that is so: OtherBucket, NoSuchBucket,
+//! SourceRoot, SourceMissing, UnderSource, TargetFile, TargetExists, ParentIsFile, ParentMissing,
+//! TooLong with the first key that would be over its limit. At Ok the file, or the directory with all
+//! below it, stands at the new place with the same bytes and headers and no longer at the old one,
+//! every other file and directory is as it was, and the marker of the directory above the source is put
+//! exactly where that is no root and is left empty (`renames`). At any moment, whatever is lost and
+//! wherever it stops, each file of the source stands whole at its old or its new place; they come there
+//! in the order of their keys, and only when all are there does one leave; and every other file is as
+//! it was, header included (`performed`).
 #![tactic(auto)]
 
 mod names;

@@ -1,6 +1,12 @@
 //! The tree of files and directories that a bucket's objects are, and what each file operation answers and
 //! leaves of it, in `specs/`; with a law on listings, and the plain data that operations answer. (Hadoop
 //! FileSystem specification; Hadoop, S3A: directory markers.)
+//!
+//! # What is proved
+//!
+//! `listings`: The tree of files and directories that a bucket's objects are, and what each file
+//! operation answers and leaves of it. Where objects stand at keys alone, each entry of a listing is a
+//! child.
 #![tactic(auto)]
 
 ghost use Rattle.fs_tree.specs.Changes.{ListChildren};

@@ -1,5 +1,12 @@
 //! What happens in a run of a job, one thing after another: events, sendings and ends of operations; and what
 //! follows of it for the journal and the ends, in `specs/`.
+//!
+//! # What is proved
+//!
+//! What may happen in a run among no strangers: an event is refused or begins, a request is sent, an
+//! operation ends, an event is over. Wherever no event goes on, the run is as its script says, by its
+//! journal and the ends of its events alone (`plays`), and is one of the runs of `job_facts`, request
+//! by request (`runs`).
 #![tactic(auto)]
 
 ghost use Rattle.job_happenings.specs.Laws.{HappeningsPlay};

@@ -1,4 +1,10 @@
 //! That every run of a job keeps what is promised of it, in `specs/`.
+//!
+//! # What is proved
+//!
+//! Wherever no event goes on, all that is promised of a job holds of what happened in its run among no
+//! strangers, for every committer, mode and number of lanes, with losses, retries, several attempts,
+//! kills, mixes and restarts (`kept`); and each entry is of one of the job's actors (`own`).
 #![tactic(auto)]
 
 ghost use Rattle.job_kept.specs.Laws.{RunsAreKept, RunsAreOwn, RunsHoldFacts};

@@ -1,5 +1,12 @@
 //! The plain data of a job: its script, what its actors are to do, how their operations end, and their
 //! states.
+//!
+//! # What is proved
+//!
+//! scripts, plans and their parts: Attempts and files keep their order and each name once. A script
+//! keeps the bounds of `Legal.antt`, plans those of `Plans.antt`. Events, ends and states are written
+//! by the words of `Words.antt`. The paths of a script's files keep the bounds of the layout's places
+//! (`paths_are_places`).
 #![tactic(auto)]
 
 mod attempts;

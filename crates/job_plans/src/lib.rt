@@ -1,5 +1,11 @@
 //! What a job's actors are given to go by, made from a script: the driver's plan, and an attempt's with its
 //! files at the paths where they go.
+//!
+//! # What is proved
+//!
+//! `job_plan`, `task_plan`, `unique_name`: The plan that a script gives its driver, and that of the
+//! attempt which it declares behind so many others, with its files at the paths where they go; both
+//! keep the bounds of plans. A path made unique to a job.
 #![tactic(auto)]
 
 mod files;

@@ -1,4 +1,15 @@
 //! The reader and the printer of job scripts: a job's head, its attempts with their files, and the events of its run.
+//!
+//! # What is proved
+//!
+//! `read_script`: It reads a script of the whole format. Its definition goes line by line, one small
+//! definition a kind of line, in the order of its checks. The error is the first fault of that order,
+//! with its line (`exact`); what is read is what the definition gives (`found`), and where that gives a
+//! script it is read (`only`).
+//!
+//! `print_script`: It gives exactly the text that `Print.antt` defines (`text`), and what that text
+//! means is the script again, where it has at most 67,108,864 bytes and names at most 10,000 sendings
+//! (`again`). The program does not call it.
 #![tactic(auto)]
 
 mod attempts;

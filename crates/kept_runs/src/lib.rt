@@ -1,5 +1,13 @@
 //! What a shelf keeps of a run: the changes of its journal, that they keep a store one that an image can have,
 //! what a base with changes after it stands for, and that a crash leaves a moment of the run, in `specs/`.
+//!
+//! # What is proved
+//!
+//! `changes`, `contents`, `moments`, `crashes`: A journal's changes, done on the opening content, give
+//! the content of each moment, and its first changes are those of its first entries. Requests whose
+//! keys are keys keep a store one that an image can have. The opening image with them stands for that
+//! moment, and for that content alone where the base is the image of a content that can have one. Over
+//! every shelf that keeps its trait, a crash of a run that is kept so leaves moments of it.
 #![tactic(auto)]
 
 ghost use Rattle.kept_runs.specs.Laws.{ChangesFollow, ContentStays, KeptStands, CrashesLeaveMoments, RunsSurvive};

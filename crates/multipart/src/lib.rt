@@ -1,6 +1,11 @@
 //! The multipart uploads of a bucket that have not ended: their parts, what a completion joins, and
 //! listings. (Amazon S3 API: CreateMultipartUpload, UploadPart, CompleteMultipartUpload,
 //! AbortMultipartUpload, ListParts, ListMultipartUploads.)
+//!
+//! # What is proved
+//!
+//! `Uploads`: The same of live uploads, with the checks of a completion in their order, and the listing
+//! of uploads and of an upload's parts.
 #![tactic(auto)]
 
 mod fault;

@@ -1,5 +1,14 @@
 //! Operations that are told by their phases, each of which asks one request: as machines, and performed
 //! alone.
+//!
+//! # What is proved
+//!
+//! `Operation`: An operation that is told by its phases is a machine, for every plan that keeps
+//! `IsCourse`; where each of its requests may be made twice it is proved as if nothing were ever lost
+//! (`IsPlan`).
+//!
+//! `perform`: Alone: the answer means what the plan gives (`given`), what the plan keeps holds before
+//! and after each sending, and the entries, tries and counts are as with `drive` (`Performed`).
 #![tactic(auto)]
 
 mod operation;

@@ -1,4 +1,9 @@
 //! Paths `s3a://BUCKET/KEY` of files and directories in a bucket.
+//!
+//! # What is proved
+//!
+//! `S3Path`: `read`, `join`, `parent` and `relative` give what their definitions give, with each fault
+//! in the order of the checks.
 #![tactic(auto)]
 
 mod elements;

@@ -1,6 +1,14 @@
 //! The records that a committer keeps as JSON: a pending upload, a task's set of them, and the marker
 //! of a committed job. (Hadoop, S3A committer architecture: `SinglePendingCommit`, `PendingSet` and
 //! `SuccessData`; the fields are this profile's.)
+//!
+//! # What is proved
+//!
+//! the three records' `print` and `read`: `print` is the one JSON text of the record's tree, a pending
+//! upload's in version 2 exactly where it tells the lengths of its parts. `read` gives a record whose
+//! tree is what `serde_json` reads from the bytes (`found`), gives every record of which that is the
+//! tree (`only`), and else the first fault in the order of the checks (`exact`). What a record prints
+//! is read as that record; the field that ExtraField names is the least of its kind.
 #![tactic(auto)]
 
 ghost use Rattle.std.specs.Prelude.{◌≡◌, ℕ, List, Ok, Err, Some};

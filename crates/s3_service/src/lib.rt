@@ -1,5 +1,11 @@
 //! The modelled S3 service: buckets with their objects and multipart uploads, behind one call for every
 //! request.
+//!
+//! # What is proved
+//!
+//! `Service`: `apply` answers `answer_store` and leaves `apply_store`, for all store requests; after
+//! want of memory all is as before. `copy` gives a store with the same content, which shares bytes and
+//! keys' texts.
 #![tactic(auto)]
 
 mod bucket;

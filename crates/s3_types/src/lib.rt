@@ -1,5 +1,12 @@
 //! The types of the modelled S3 store and of the cluster file system beside it, and what their
 //! requests mean: `answer`, `apply` and the moments of a journal, in `specs/`.
+//!
+//! # What is proved
+//!
+//! `Key::read`, `Bucket::read`, types: BadName exactly where the rule of such names fails. Bytes and
+//! texts are what they were made of, and clones are equal. Its `specs/` define what every request is
+//! answered and leaves (`answer`, `apply`), what a journal leads through (`moment`), and when it is
+//! honest.
 #![tactic(auto)]
 
 mod bytes;

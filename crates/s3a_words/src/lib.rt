@@ -1,4 +1,8 @@
 //! The words of the program: which command they are.
+//!
+//! # What is proved
+//!
+//! `read_words`: Exactly the command that the words are, or Usage exactly where they are none.
 #![tactic(auto)]
 
 mod command;

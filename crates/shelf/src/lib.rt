@@ -1,6 +1,16 @@
 //! The outside of the program: where its input comes from, where its text goes and where its store is
 //! kept. Each device counts its faults. The objects in memory tell their bytes; those over the system's
 //! streams tell nothing of them.
+//!
+//! # What is proved
+//!
+//! traits `Source`, `Sink`, `kept::Shelf`, and their devices: The traits say what a call takes, gives,
+//! writes or keeps, that a count of faults rises exactly where a call fails, which calls fail, and of a
+//! shelf what a crash may leave at each moment. A sink whose `flush` answered Ok says that all that was
+//! written has gone out. The devices in memory meet them: of their calls those fail that are named, and
+//! no other but for want of memory, which they count apart. Those over the system's streams meet them
+//! too. Left open: what the system's streams give and take: they tell nothing of it. A `MemShelf` does
+//! not tell what a crash leaves.
 #![tactic(auto)]
 
 mod calls;

@@ -1,5 +1,12 @@
 //! Walks over listings page by page, and sweeps, which list all keys below a prefix and then delete those
 //! that are to go: plain data that operations hold, and what they have left among others that send.
+//!
+//! # What is proved
+//!
+//! `KeyWalk`, `UploadWalk`, `Sweep` and laws: They ask what `job_operations` has a walk or a sweep ask,
+//! and go where it has it go, for any test on keys. What they have left among others that send falls by
+//! the answer that is due (`walks_end`, `sweeps_end`, `upload_walks_end`). `fits_page` is true exactly
+//! where a reply fits a walk over keys.
 #![tactic(auto)]
 
 mod below;

@@ -1,6 +1,11 @@
 //! What an attempt sends to upload its files and to publish them, made from its plan: the uploads and their
 //! parts, the records and the task's set, and of the magic committer the markers. (Hadoop, S3A committer
 //! architecture.)
+//!
+//! # What is proved
+//!
+//! `ask`, `publish_request`: What a magic attempt sends, made from its plan: what a write asks at each
+//! stage of a file, and the put of the set of the uploads that it knows.
 #![tactic(auto)]
 
 mod cutting;

@@ -1,5 +1,10 @@
 //! The lines of a text, the parts of a line or a path between separators, the words of a line by how many
 //! there are, and the numbers that words write.
+//!
+//! # What is proved
+//!
+//! `next_part`, `next_line`, `number` and their kin: The first part and the first line of a text; the
+//! words of a line by how many there are; the number that 1 to 18 digits write.
 #![tactic(auto)]
 
 mod lines;

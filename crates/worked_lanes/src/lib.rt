@@ -1,5 +1,12 @@
 //! Runs of a job with four files and of two jobs written out as data, and what the definitions of a
 //! job's operations and of its promise say of them.
+//!
+//! # What is proved
+//!
+//! Runs of a job with four files keep what a reader is shown: with a revert, with two lanes and a lost
+//! reply, with kills in one lane and in two, and with a restart. Of two jobs at one destination each
+//! one's own entries copy nothing and leave all outside, and its commit is committed; the second one's
+//! keys outlast the first one's clean.
 #![tactic(auto)]
 
 ghost use Rattle.worked_lanes.specs.LanesKilled.{LanesKilled};

@@ -1,5 +1,15 @@
 //! Whole runs written out as data, and what the definitions of a job's operations and of its promise
 //! say of them.
+//!
+//! # What is proved
+//!
+//! The run of one file is finished, with every part of the promise; with its last put lost it keeps
+//! what a reader is shown, and so do runs with two tasks that write one path, a set whose put is lost,
+//! a driver killed in its commit, two attempts of one task with a clean, the same where a new driver
+//! misses the task, and a partition that has a file in the mode fail. There is what a reader is shown
+//! at each moment, operations with their requests and ends, and verdicts; and what operations ask for
+//! in lanes, reverts, modes, staging and cleans. Thirteen journals that break one part each are
+//! refused, entries of nobody's turn among them.
 #![tactic(auto)]
 
 ghost use Rattle.worked_runs.specs.Decisions.{DecidesSo, RestartsSo};
