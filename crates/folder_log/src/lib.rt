@@ -7,10 +7,10 @@
 //! an `append` leaves the changes before it, with the new one or without (`any_moment`), and once it
 //! answered Ok with the new one (`durable`); one that failed leaves them as before or grown by it
 //! (`one_of`). `replace` leaves the old file or the new base, and `load` nothing else than before. Over
-//! every disk each of its calls is counted, and makes two calls of the disk to load, one to replace and
-//! four to append, or none where an append finds no memory before the first (`answered`); after one
-//! that failed it takes no appends (`broken`), nor before a `replace` (`unused`). Which of its calls
-//! fail its disk says.
+//! every disk each of its calls is counted, and one that did not fail made two calls of the disk, as a
+//! load does, one, as a replace, or four, as an append, or none where an append found no memory before
+//! the first (`answered`); after one that failed it takes no appends (`broken`), nor before a `replace`
+//! (`unused`). Which of its calls fail its disk says.
 //!
 //! `MemDisk`: Such a disk in memory. It tells what a crash at any moment might have left, and which of
 //! its calls fail. `crash` gives the file that one leaves by what becomes of the ranges that were not

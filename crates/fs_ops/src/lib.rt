@@ -6,18 +6,19 @@
 //! # What is proved
 //!
 //! `Stat`, `ReadFile`, `ListDir`, `MakeDirs`, `DeletePath`: What `perform_in` gives of each is in the
-//! words of the tree (`given`), with `performed` and `fault` as above; a refused operation changes
-//! nothing, and NoSuchBucket comes first. `Stat`: the status of a path, and NotFound exactly where
-//! nothing stands there. `ReadFile`: the bytes of a file, else IsDirectory or NotFound. `ListDir`: what
-//! a directory holds, each child once, a file where it is one, in the order of their names with a `/`
-//! behind a directory's, and the directory's own marker as none; of a file its own entry; else
-//! NotFound. `MakeDirs`: the path and the paths above it are directories, no other is new, every file
-//! is as it was; the marker is put exactly where nothing stood at the path, and is all that changed;
-//! AlreadyExists where a file stands, NotDirectory with the first file above. `DeletePath`: IsRoot,
-//! NotFound, and NotEmpty exactly where something else than the marker stands below a directory and the
-//! deletion is not recursive; else the file, or the directory with all below it, is no more, all else
-//! is as it was, and the marker of the directory above is put exactly where that is no root and is left
-//! empty; at each moment every key is as it was, or at or below the path and gone, or that marker.
+//! words of the tree (`given`), with `performed` and `fault` as `bucket_ops` has them; a refused
+//! operation changes nothing, and NoSuchBucket comes first. `Stat`: the status of a path, and NotFound
+//! exactly where nothing stands there. `ReadFile`: the bytes of a file, else IsDirectory or NotFound.
+//! `ListDir`: what a directory holds, each child once, a file where it is one, in the order of their
+//! names with a `/` behind a directory's, and the directory's own marker as none; of a file its own
+//! entry; else NotFound. `MakeDirs`: the path and the paths above it are directories, no other is new,
+//! every file is as it was; the marker is put exactly where nothing stood at the path, and is all that
+//! changed; AlreadyExists where a file stands, NotDirectory with the first file above. `DeletePath`:
+//! IsRoot, NotFound, and NotEmpty exactly where something else than the marker stands below a directory
+//! and the deletion is not recursive; else the file, or the directory with all below it, is no more,
+//! all else is as it was, and the marker of the directory above is put exactly where that is no root
+//! and is left empty; at each moment every key is as it was, or at or below the path and gone, or that
+//! marker.
 #![tactic(auto)]
 
 mod above;

@@ -4,9 +4,7 @@
 //!
 //! # What is proved
 //!
-//! `listings`: The tree of files and directories that a bucket's objects are, and what each file
-//! operation answers and leaves of it. Where objects stand at keys alone, each entry of a listing is a
-//! child.
+//! `listings`: Where objects stand at keys alone, each entry of a listing is a child (`list`).
 #![tactic(auto)]
 
 ghost use Rattle.fs_tree.specs.Changes.{ListChildren};

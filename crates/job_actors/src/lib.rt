@@ -3,11 +3,11 @@
 //!
 //! # What is proved
 //!
-//! `Act`: The operations of a job's actors as one enum, of every committer, which keeps these laws and
-//! those of `acting`. What it begins from a plan is that operation as the script begins it, and it
-//! asks, goes on and ends as the script's operation does, in what its attempt knows too (`ActorsGo`).
-//! What an attempt has left is not raised by a request that puts nothing below its directory
-//! (`AttemptsStay`).
+//! `Act`: The operations of a job's actors as one enum, of every committer, which keeps the laws of
+//! `job_works` and of `acting`. What it begins from a plan is that operation as the script begins it,
+//! and it asks, goes on and ends as the script's operation does, in what its attempt knows too
+//! (`ActorsGo`). What an attempt has left is not raised by a request that puts nothing below its
+//! directory (`AttemptsStay`).
 #![tactic(auto)]
 
 mod act;

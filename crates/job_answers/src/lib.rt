@@ -3,11 +3,12 @@
 //!
 //! # What is proved
 //!
-//! Where these facts hold, for every committer: the answer that is due to what each machine asks is one
-//! that it takes, whether or not an earlier sending was lost (`answers`). The script that the driver's
-//! commit tells from the sets that it read asks and leads on as the job's own does, and the attempts
-//! that it picked are those that are seen (`sets`). Each machine wants what its operation asks by the
-//! job's script and goes where that is told; what others send leaves it (`machines`).
+//! Where the facts of `job_facts` hold, for every committer: the answer that is due to what each
+//! machine asks is one that it takes, whether or not an earlier sending was lost (`answers`). The
+//! script that the driver's commit tells from the sets that it read asks and leads on as the job's own
+//! does, and the attempts that it picked are those that are seen (`sets`). Each machine wants what its
+//! operation asks by the job's script and goes where that is told; what others send leaves it
+//! (`machines`).
 #![tactic(auto)]
 
 ghost use Rattle.job_answers.specs.Laws.{CommitsKeep, DueFits, MachinesTell, OthersLeave, PicksTell, PremisesKeep, ReadsTell};

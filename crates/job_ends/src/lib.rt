@@ -4,12 +4,12 @@
 //!
 //! The driver's commit ends as is due by the task that it missed, by the first of its requests that
 //! wore out, and by the picks that are seen, which are those of the sets that it read; where it ends
-//! committed its marker stands, and a completion is refused only where an earlier sending of it was
-//! lost (`commits`); where it ends before its first completion the opening files are shown at each
-//! moment (`moments`). By their entries alone a set-up ends as the store had it when it began
-//! (`setups`), an attempt's operation as its table says (`attempts`), and an abort or clean done or at
-//! fault (`cleans`). What a write or commit finds gone is gone only where an abort or clean has begun;
-//! one that is done, while nobody else sends, has left nothing and hidden nothing.
+//! committed its marker stands, each set that it reads is there, and a completion is refused only where
+//! an earlier sending of it was lost (`commits`); where it ends before its first completion the opening
+//! files are shown at each moment (`moments`). By their entries alone a set-up ends as the store had it
+//! when it began (`setups`), an attempt's operation as its table says (`attempts`), and an abort or
+//! clean done or at fault (`cleans`). What a write or commit finds gone is gone only where an abort or
+//! clean has begun; one that is done, while nobody else sends, has left nothing and hidden nothing.
 #![tactic(auto)]
 
 ghost use Rattle.job_ends.specs.CommitRuns.{CommitRuns, CommitAnswers};

@@ -7,19 +7,19 @@
 //! own, for every committer. The facts begin where a set-up is done: it leaves nothing in the job's
 //! magic directory, and changes nothing else but the marker of a committed job; of a staging job's
 //! cluster files that is to be so before. Each request of an attempt, of the driver's commit and of its
-//! abort or clean keeps them, by every outcome. An attempt names only what is its own, and takes
-//! nothing back once it has sent its publishing request; neither it nor a clean changes what a reader
-//! is shown. Until an abort or clean of the job begins, no write or commit of an attempt finds anything
-//! of its own gone, and the set of a task whose commit is done stands. A set that the driver reads is
-//! absent or that of the last publisher, and is read as that; a record likewise; a part of a live
-//! upload is taken and a whole one completed. While the driver's commit completes, the uploads of its
-//! sets and their keys are apart, and a completion is refused only where an earlier sending of it was
-//! lost; an upload that the driver has ended never comes back; what stands at a wanted path is what was
-//! there, nothing, or the whole file, by how far the commit has come, and after a revert the file only
-//! where its deletion wore out (`wanted_files`). An abort or clean that is done, while nobody else
-//! sends, leaves nothing. Each request of the job's actors leaves all that is outside the destination.
-//! Every run among no strangers, with its requests in any order, keeps the headline at each of its
-//! moments (`whole_runs`).
+//! abort or clean keeps them, by every outcome. A file's upload goes where the magic path of its marker
+//! leads, and an attempt names only what is its own (`attempts`); it takes nothing back once it has
+//! sent its publishing request; neither it nor a clean changes what a reader is shown. Until an abort
+//! or clean of the job begins, no write or commit of an attempt finds anything of its own gone, and the
+//! set of a task whose commit is done stands. A set that the driver reads is absent or that of the last
+//! publisher, and is read as that; a record likewise; a part of a live upload is taken and a whole one
+//! completed. While the driver's commit completes, the uploads of its sets and their keys are apart,
+//! and a completion is refused only where an earlier sending of it was lost; an upload that the driver
+//! has ended never comes back; what stands at a wanted path is what was there, nothing, or the whole
+//! file, by how far the commit has come, and after a revert the file only where its deletion wore out
+//! (`wanted_files`). An abort or clean that is done, while nobody else sends, leaves nothing. Each
+//! request of the job's actors leaves all that is outside the destination. Every run among no
+//! strangers, with its requests in any order, keeps the headline at each of its moments (`whole_runs`).
 #![tactic(auto)]
 
 ghost use Rattle.job_facts.specs.Laws.{AnswersFit, AttemptBegins, AttemptGoes, AttemptNames, CleanGoes, CommitGoes, DrivingKeeps, FactsBegin, ForeignKeeps, MarkersLead, ReadsKeep, ToldIsSaid};

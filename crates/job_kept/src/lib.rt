@@ -4,7 +4,8 @@
 //!
 //! Wherever no event goes on, all that is promised of a job holds of what happened in its run among no
 //! strangers, for every committer, mode and number of lanes, with losses, retries, several attempts,
-//! kills, mixes and restarts (`kept`); and each entry is of one of the job's actors (`own`).
+//! kills, mixes and restarts (`kept`); each entry is of one of the job's actors (`own`); and from a
+//! set-up's end on the facts of `job_facts` hold (`facts`).
 #![tactic(auto)]
 
 ghost use Rattle.job_kept.specs.Laws.{RunsAreKept, RunsAreOwn, RunsHoldFacts};

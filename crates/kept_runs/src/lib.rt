@@ -5,9 +5,10 @@
 //!
 //! `changes`, `contents`, `moments`, `crashes`: A journal's changes, done on the opening content, give
 //! the content of each moment, and its first changes are those of its first entries. Requests whose
-//! keys are keys keep a store one that an image can have. The opening image with them stands for that
-//! moment, and for that content alone where the base is the image of a content that can have one. Over
-//! every shelf that keeps its trait, a crash of a run that is kept so leaves moments of it.
+//! keys are keys keep a store one that an image can have, up to the most of its counter (`contents`).
+//! The opening image with them stands for that moment, and for that content alone where the base is the
+//! image of a content that can have one. Over every shelf that keeps its trait, a crash of a run that
+//! is kept so leaves moments of it.
 #![tactic(auto)]
 
 ghost use Rattle.kept_runs.specs.Laws.{ChangesFollow, ContentStays, KeptStands, CrashesLeaveMoments, RunsSurvive};

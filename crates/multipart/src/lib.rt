@@ -4,8 +4,9 @@
 //!
 //! # What is proved
 //!
-//! `Uploads`: The same of live uploads, with the checks of a completion in their order, and the listing
-//! of uploads and of an upload's parts.
+//! `Uploads`: Every call is an equation on the finite map from ids to live uploads, for both outcomes,
+//! with the checks of a completion in their order; the listing of uploads and of an upload's parts is
+//! the definition's.
 #![tactic(auto)]
 
 mod fault;

@@ -4,11 +4,11 @@
 //! # What is proved
 //!
 //! `shell`: A command on a store does and says what the FileSystem specification has of its operation,
-//! by the tree of its bucket's objects (`Does`); `mb`, `uploads` and `abort-uploads` what the store's
-//! rules have. Its sendings are the shell's, in event 0, each with the answer that was due, and the
-//! store that it leaves is what they make of the one that it was given. Other buckets stand, and so do
-//! all uploads but those that `abort-uploads` ends (`stays`); what was refused, or sent no change,
-//! leaves the store as it was.
+//! by the tree of its bucket's objects (`Does`), and at each moment there stands what may stand then
+//! (`moments`); `mb`, `uploads` and `abort-uploads` what the store's rules have. Its sendings are the
+//! shell's, in event 0, each with the answer that was due, and the store that it leaves is what they
+//! make of the one that it was given. Other buckets stand, and so do all uploads but those that
+//! `abort-uploads` ends (`stays`); what was refused, or sent no change, leaves the store as it was.
 #![tactic(auto)]
 
 mod buckets;

@@ -4,8 +4,9 @@
 //!
 //! # What is proved
 //!
-//! `ask`, `publish_request`: What a magic attempt sends, made from its plan: what a write asks at each
-//! stage of a file, and the put of the set of the uploads that it knows.
+//! `ask`, `publish_request`: What an attempt sends, made from its plan: what a magic write asks at each
+//! stage of a file, with the record that each committer writes, and the put of the set of the uploads
+//! that it knows.
 #![tactic(auto)]
 
 mod cutting;

@@ -8,8 +8,8 @@
 //! a driver killed in its commit, two attempts of one task with a clean, the same where a new driver
 //! misses the task, and a partition that has a file in the mode fail. There is what a reader is shown
 //! at each moment, operations with their requests and ends, and verdicts; and what operations ask for
-//! in lanes, reverts, modes, staging and cleans. Thirteen journals that break one part each are
-//! refused, entries of nobody's turn among them.
+//! in lanes, reverts, modes, staging and cleans. Runs that break one part each are refused, entries of
+//! nobody's turn and ends that no operation tells among them.
 #![tactic(auto)]
 
 ghost use Rattle.worked_runs.specs.Decisions.{DecidesSo, RestartsSo};
