@@ -11,19 +11,12 @@ use Rattle.job_operations.specs.Writes.{write_start}
 use Rattle.job_operations.specs.TaskCommits.{task_commit_start}
 use Rattle.job_operations.specs.TaskAborts.{task_abort_start}
 use Rattle.job_operations.specs.Operations.{Setting, Operation, TheSetup, TheWrite, TheTaskCommit, TheTaskAbort, TheCommit, TheClean, tells}
-use Rattle.request_frame.proofs.Members.{some_is, none_some}
-use Rattle.job_facts.specs.Told.{put_who, known}
-use Rattle.job_facts.proofs.Whose.{same_or_another, who_here, who_other}
+use Rattle.request_frame.proofs.Members.{none_some}
+use Rattle.job_facts.specs.Told.{known}
+use Rattle.job_facts.proofs.Whose.{put_at}
 use Rattle.job_facts.specs.Runs.{Stand, Runs, run_begins, setup_begins, commit_begins, clean_begins, driver_sends, write_begins, publish_begins, abort_begins, attempt_sends, IsOpening}
 use Rattle.job_answers.specs.Due.{ReadsOwn}
 use Rattle.job_answers.proofs.Kept.{reads_begin, reads_go}
-
--- one attempt's operation is put, and the others are as they were
-put_at : (P : Who → Operation → Type 0) (f : Who → Option Operation) (a : Who) (op : Operation) → P a op → ((b : Who) (v : Operation) → f b ≡ Some v → P b v) → (b : Who) (v : Operation) → put_who f a (Some op) b ≡ Some v → P b v
-put_at P f a op here old b v e = elim (same_or_another b a) [
-  | inl is ↦ subst (λ c. P c v) (sym is) (subst (P a) (some_is (sym (who_here f a (Some op) b is) ∙ e)) here)
-  | inr ne ↦ old b v (sym (who_other f a (Some op) b ne) ∙ e)
-]
 
 abbrev pub OwnTask : Script → Who → Operation → Type 0
 OwnTask w a (TheSetup t) = Unit {0}

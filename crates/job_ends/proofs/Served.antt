@@ -9,7 +9,6 @@ use Rattle.s3_types.specs.Answer.{answer, complete_answer}
 use Rattle.s3_types.specs.Moment.{IsHonestOutcome}
 use Rattle.s3_types.specs.declared.request.Actor.TheVariants.{Driver}
 use Rattle.s3_types.specs.declared.request.Committer.{Committer}
-use Rattle.s3_types.specs.declared.request.Committer.TheVariants.{Magic, Directory, Partitioned}
 use Rattle.s3_types.specs.declared.request.Request.{Request}
 use Rattle.s3_types.specs.declared.reply.Refusal.{Refusal}
 use Rattle.s3_types.specs.declared.reply.Refusal.TheVariants.{NoSuchUpload}
@@ -33,6 +32,7 @@ use Rattle.job_operations.specs.Lanes.{Turn, again, follow, dealt, nth, completi
 use Rattle.job_operations.specs.LaneTable.{In, Tabled}
 use Rattle.job_operations.specs.JobCommits.{Sets, picks_of, all_commits, set_request, set_read, Commit, Fetching, Replacing, Completing, Marking, Reverting, CommitOver, is_no_magic, completing, replaced, replacing, decided, fetching, fetched, swept, reverting, worn_completion, commit_start, commit_asks, commit_hears, commit_misses, commit_tells, stage_of}
 use Rattle.job_operations.specs.Operations.{Setting, Operation, TheSetup, TheWrite, TheTaskCommit, TheTaskAbort, TheCommit, TheClean, who, asks, tells}
+use Rattle.job_operations.proofs.LaneEnds.{read_stage}
 use Rattle.job_operations.proofs.Members.{in_append, in_push}
 use Rattle.job_operations.proofs.Tables.{dealt_fresh, follow_cases}
 use Rattle.job_promise.specs.OperationEnds.{is_lost, was_lost}
@@ -218,11 +218,6 @@ module _ (w : Script) (minimum : ℕ) (s : Seen) (m : Told) (j : IsLegal w) (h :
 
 no_complete : stages.Read ≡ stages.Complete → ⊥
 no_complete e = cc
-
-read_stage : (c : Committer) (w : Script) (t : ℕ) → stage_of (set_request c w t) ≡ stages.Read
-read_stage Magic w t = refl
-read_stage Directory w t = refl
-read_stage Partitioned w t = refl
 
 module _ (g : Setting) (k : Option ℕ) (opening : Content) (j : IsLegal g.script) (is_opening : IsOpening g opening) where
   abbrev w : Script

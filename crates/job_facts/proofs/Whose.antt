@@ -1,7 +1,7 @@
 -- Attempts that are the same or not, and functions of them.
-use Rattle.std.proofs.Common.{◌≡◌, ℕ, ◌⊎◌, inl, inr, nat_eq, ◌||◌, Bool, true, false, cond, refl, sym, ap, ◌∙◌}
+use Rattle.std.proofs.Common.{◌≡◌, ℕ, ◌⊎◌, inl, inr, nat_eq, ◌||◌, Bool, true, false, cond, Option, Some, refl, sym, ap, subst, ◌∙◌}
 use Rattle.std.proofs.lemmas.Bool.{and_parts}
-use Rattle.request_frame.proofs.Members.{eq_nat, nat_true, false_true, true_or_false}
+use Rattle.request_frame.proofs.Members.{some_is, eq_nat, nat_true, false_true, true_or_false}
 use Rattle.job_model.specs.Attempts.{Who, same_name}
 use Rattle.job_facts.specs.Told.{put_who}
 
@@ -34,6 +34,13 @@ who_same {X = X} f a v e = λ i b. at b i
   where
     at : (b : Who) → put_who f a v b ≡ f b
     at b = elim (same_or_another b a) [ inl h ↦ who_here f a v b h ∙ e ∙ ap f (sym h) | inr ne ↦ who_other f a v b ne ]
+
+-- what is so of one attempt's new value and of the others' old ones is so of all
+pub put_at : {X : Type 0} (P : Who → X → Type 0) (f : Who → Option X) (a : Who) (x : X) → P a x → ((b : Who) (v : X) → f b ≡ Some v → P b v) → (b : Who) (v : X) → put_who f a (Some x) b ≡ Some v → P b v
+put_at P f a x here old b v e = elim (same_or_another b a) [
+  | inl is ↦ subst (λ c. P c v) (sym is) (subst (P a) (some_is (sym (who_here f a (Some x) b is) ∙ e)) here)
+  | inr ne ↦ old b v (sym (who_other f a (Some x) b ne) ∙ e)
+]
 
 pub or_false : (b : Bool) → (b || false) ≡ b
 or_false true = refl

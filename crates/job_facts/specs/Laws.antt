@@ -113,6 +113,7 @@ pub record LeadsTo (from to : Path) : Type 0 where
   pub kept : finals.kept (finals.after_magic (finals.elements from)) ≡ [] → ⊥
   pub elements : finals.elements to ≡ finals.final_elements (finals.elements from)
 
+-- the path of a key in the destination's bucket
 abbrev pub at_dest : Script → List ℕ → Path
 at_dest w key = record { bucket = w.dest.bucket; key = key }
 

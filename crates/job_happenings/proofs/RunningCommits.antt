@@ -54,8 +54,8 @@ use Rattle.job_operations.specs.Uploading.{Uploaded, GoesOn, AllSent, IsGone, up
 use Rattle.job_operations.specs.Walks.{Walked, More, Whole, walked}
 use Rattle.job_operations.specs.Writes.{write_start}
 use Rattle.job_operations.specs.TaskAborts.{task_abort_start}
-use Rattle.job_facts.specs.Told.{known, put_who}
-use Rattle.job_facts.proofs.Whose.{same_or_another, who_here, who_other}
+use Rattle.job_facts.specs.Told.{known}
+use Rattle.job_facts.proofs.Whose.{put_at}
 use Rattle.job_facts.proofs.Going.{step_so}
 
 -- ---- a task's commit never ends Kept
@@ -152,13 +152,6 @@ ended_tells g a (TheWrite t) o h = tt
 ended_tells g a (TheTaskAbort t) o h = tt
 ended_tells g a (TheCommit c) o h = tt
 ended_tells g a (TheClean t) o h = tt
-
--- one attempt's operation is put, and the others are as they were
-put_at : (P : Who → Operation → Type 0) (f : Who → Option Operation) (a : Who) (op : Operation) → P a op → ((b : Who) (v : Operation) → f b ≡ Some v → P b v) → (b : Who) (v : Operation) → put_who f a (Some op) b ≡ Some v → P b v
-put_at P f a op here old b v e = elim (same_or_another b a) [
-  | inl is ↦ subst (λ c. P c v) (sym is) (subst (P a) (some_is (sym (who_here f a (Some op) b is) ∙ e)) here)
-  | inr ne ↦ old b v (sym (who_other f a (Some op) b ne) ∙ e)
-]
 
 never_kept : (g : Setting) (k : Option ℕ) (opening : Content) (es : List Entry) (x : Stand) → Runs g k opening es x → (a : Who) (op : Operation) → x.attempts a ≡ Some op → CommitEnded a op
 never_kept g k opening es x (run_begins) a op e = absurd (none_some refl e)

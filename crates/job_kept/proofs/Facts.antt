@@ -1,5 +1,6 @@
 -- That the facts of one job hold of what happened in its run, from the end of its set-up on.
-use Rattle.std.proofs.Common.{◌≡◌, ℕ, not, Bool, true, false, refl, sym, ap, subst, ◌∙◌}
+use Rattle.std.proofs.Common.{◌≡◌, ℕ, false, sym, ap, subst, ◌∙◌}
+use Rattle.proof_base.proofs.Bools.{not_so}
 use Rattle.s3_types.specs.declared.request.Actor.TheVariants.{Driver}
 use Rattle.job_promise.specs.Seen.{Seen, nothing_seen, see_all}
 use Rattle.job_promise.specs.States.{Past, is_new, past, commit_event}
@@ -11,17 +12,13 @@ use Rattle.job_happenings.proofs.Running.{is_run}
 use Rattle.job_kept.specs.Laws.{RunsHoldFacts}
 use Rattle.job_kept.proofs.Ending.{ahead_none}
 
-not_new : (b : Bool) → not b ≡ true → b ≡ false
-not_new true e = sym e
-not_new false e = refl
-
 pub runs_hold_facts : RunsHoldFacts
 runs_hold_facts g opening x j is_opening run idle done =
     let w = g.script in
     let k = commit_event w x.ends in
     let r = is_run g opening j is_opening x run x.ends (ahead_none x idle) in
     let p = happenings_play g opening x j run idle in
-    let new : is_new (x.live.state Driver).stage ≡ false = ap (λ (q : Past). is_new (q.state Driver).stage) (p.live ∙ p.past) ∙ not_new (is_new ((past w x.ends).state Driver).stage) done in
+    let new : is_new (x.live.state Driver).stage ≡ false = ap (λ (q : Past). is_new (q.state Driver).stage) (p.live ∙ p.past) ∙ not_so (is_new ((past w x.ends).state Driver).stage) done in
     let hold = (late_now g k opening j is_opening x.journal r.stand r.runs (r.set_up new)).hold in
     subst (λ (n : ℕ). Hold w n (see_all w k (nothing_seen opening) x.journal) (tell_all w nothing_told x.journal)) (sym is_opening.least)
     (subst (λ (s : Seen). Hold w g.minimum s (tell_all w nothing_told x.journal)) (sees g k opening j is_opening x.journal r.stand r.runs)

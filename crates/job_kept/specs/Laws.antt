@@ -34,5 +34,6 @@ is_set_up w xs = not (is_new ((past w xs).state Driver).stage)
 abbrev pub FactsHold : Script → Content → List Entry → List EventEnd → Type 0
 FactsHold w opening journal xs = is_set_up w xs ≡ true → Hold w opening.minimum (see_all w (commit_event w xs) (nothing_seen opening) journal) (tell_all w nothing_told journal)
 
+-- and so it is wherever no event goes on
 abbrev pub RunsHoldFacts : Type 0
 RunsHoldFacts = (g : Setting) (opening : Content) (x : Play) → IsLegal g.script → IsOpening g opening → Happened g opening x → x.now ≡ None → FactsHold g.script opening x.journal x.ends

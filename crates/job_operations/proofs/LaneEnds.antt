@@ -70,7 +70,7 @@ Agreed w es (Replacing sets p ps s m) = Counted w.retries es (hand w (Replacing 
 Agreed w es (Completing sets x xs finished) = Counted w.retries es (hand w (Completing sets x xs finished))
 Agreed w es (Marking sets m) = Counted w.retries es (hand w (Marking sets m))
 
-read_stage : (c : Committer) (w : Script) (t : ℕ) → stage_of (set_request c w t) ≡ stages.Read
+pub read_stage : (c : Committer) (w : Script) (t : ℕ) → stage_of (set_request c w t) ≡ stages.Read
 read_stage Magic w t = refl
 read_stage Directory w t = refl
 read_stage Partitioned w t = refl

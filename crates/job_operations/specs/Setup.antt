@@ -82,6 +82,7 @@ abbrev pub sweeping : Option Sweep → Setup
 sweeping (Some s) = Sweeping s
 sweeping None = SetupOver ends.Done
 
+-- it says that there is no bucket
 abbrev pub lacks_bucket : Reply → Bool
 lacks_bucket (Refused NoSuchBucket) = true
 lacks_bucket _ = false

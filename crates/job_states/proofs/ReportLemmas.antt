@@ -9,6 +9,7 @@ use Rattle.std.specs.declared.cmp.Ordering.TheVariants.{Less, Equal, Greater}
 use Rattle.std.proofs.lemmas.Bool.{eqb-true}
 use Rattle.std.proofs.lemmas.Bool.Decides.{nat_tests}
 use Rattle.std.proofs.lemmas.Option.{slice_get_past}
+use Rattle.std.proofs.Math.Bool.{or-false}
 use Rattle.job_operations.specs.Outputs.{first_where}
 use Rattle.job_model.specs.Jobs.{has_task}
 use Rattle.job_promise.specs.States.{first_not}
@@ -31,10 +32,6 @@ pub length_tested : (tasks : ℕ) (f : ℕ → Bool) → length (tested tasks f)
 length_tested tasks f = length_tests f 0 tasks
 
 -- one more is true
-or_false : (b : Bool) → (b || false) ≡ b
-or_false true = refl
-or_false false = refl
-
 or_true : (b : Bool) → (b || true) ≡ true
 or_true true = refl
 or_true false = refl
@@ -43,7 +40,7 @@ others_stay : (f : ℕ → Bool) (n tasks t : ℕ) → t < n → map f (range_wi
 others_stay f n zero t lt = refl
 others_stay f n (suc tasks) t lt =
     let differs : nat_eq n t ≡ false = grind (arith, nat_tests) in
-    let first : f n ≡ (f n || nat_eq n t) = sym (ap (λ b. f n || b) differs ∙ or_false (f n)) in
+    let first : f n ≡ (f n || nat_eq n t) = sym (ap (λ b. f n || b) differs ∙ or-false (f n)) in
     let rest = others_stay f (n + 1) tasks t (omega arith) in
     λ i. first i ∷ rest i
 
@@ -56,7 +53,7 @@ told_from f n (suc tasks) zero t e lt =
     λ j. first j ∷ rest j
 told_from f n (suc tasks) (suc i) t e lt =
     let differs : nat_eq n t ≡ false = grind (arith, nat_tests) in
-    let first : f n ≡ (f n || nat_eq n t) = sym (ap (λ b. f n || b) differs ∙ or_false (f n)) in
+    let first : f n ≡ (f n || nat_eq n t) = sym (ap (λ b. f n || b) differs ∙ or-false (f n)) in
     let rest = told_from f (n + 1) tasks i t (omega arith) (omega arith) in
     λ j. first j ∷ rest j
 
@@ -69,7 +66,7 @@ none_told : (f : ℕ → Bool) (n tasks t : ℕ) → n + tasks ≤ t → map f (
 none_told f n zero t le = refl
 none_told f n (suc tasks) t le =
     let differs : nat_eq n t ≡ false = grind (arith, nat_tests) in
-    let first : f n ≡ (f n || nat_eq n t) = sym (ap (λ b. f n || b) differs ∙ or_false (f n)) in
+    let first : f n ≡ (f n || nat_eq n t) = sym (ap (λ b. f n || b) differs ∙ or-false (f n)) in
     let rest = none_told f (n + 1) tasks t (omega arith) in
     λ i. first i ∷ rest i
 

@@ -27,6 +27,7 @@ pub record ChangesFollow : Type 0 where
   -- the first ones of a journal are those of its first entries
   pub cut : (es : List Entry) (rs : List Request) → Begins rs (changes es) → (m : ℕ) × (m ≤ length es) × (rs ≡ changes (take m es))
 
+-- changes keep a store one that an image can have
 pub record ContentStays : Type 0 where
   -- a new store can have an image
   pub new : (minimum : ℕ) → is_minimum minimum ≡ true → IsContent (new_content minimum)

@@ -100,7 +100,7 @@ aborts b r = AbortUpload b r.key r.upload
 -- the scene after these were aborted one by one
 abbrev pub after_aborts : Scene → List ℕ → List UploadRef → Scene
 after_aborts s b [] = s
-after_aborts s b (r ∷ rs) = after_aborts (apply s (AbortUpload b r.key r.upload)) b rs
+after_aborts s b (r ∷ rs) = after_aborts (apply s (aborts b r)) b rs
 
 -- the first so many of them were aborted
 abbrev pub AfterSome : List ℕ → List UploadRef → Scene → Scene → Type 0

@@ -3,15 +3,15 @@ use Rattle.std.specs.Prelude.{◌≡◌, ℕ, ◌+◌, ◌≤◌, List, Option, 
 use Rattle.s3_types.specs.declared.limits.TheConstants.{MOST_SCRIPT_BYTES}
 use Rattle.shelf.specs.Devices.{Appends}
 
--- the first 67,108,865 bytes that were left were read, and the others are left, where the source tells it
-abbrev pub IsRead : Option (List ℕ) → Option (List ℕ) → List ℕ → Type 0
-IsRead None after all = after ≡ None
-IsRead (Some left) after all = (all ≡ take (MOST_SCRIPT_BYTES + 1) left) × (after ≡ Some (drop (MOST_SCRIPT_BYTES + 1) left))
-
 -- all that was left was taken, to one byte over the limit, where the source tells it
 abbrev pub IsTaken : (left rest : Option (List ℕ)) → Type 0
 IsTaken None rest = rest ≡ None
 IsTaken (Some left) rest = rest ≡ Some (drop (MOST_SCRIPT_BYTES + 1) left)
+
+-- and these bytes were read
+abbrev pub IsRead : Option (List ℕ) → Option (List ℕ) → List ℕ → Type 0
+IsRead None after all = IsTaken None after
+IsRead (Some left) after all = (all ≡ take (MOST_SCRIPT_BYTES + 1) left) × IsTaken (Some left) after
 
 -- some first bytes of that were taken
 abbrev pub TakesPart : (left rest : Option (List ℕ)) → Type 0

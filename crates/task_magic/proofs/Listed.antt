@@ -10,6 +10,7 @@ use Rattle.std.proofs.lemmas.Grind.{flat_map-append}
 use Rattle.std.proofs.lemmas.Option.{slice_get-get_or}
 use Rattle.std.proofs.lemmas.List.{append_cancel_left, append_cancel_right, map-append, drop_all, get_or-map}
 use Rattle.std.proofs.lemmas.List.Folds.{list_any-append, list_all-append}
+use Rattle.std.proofs.Math.Bool.{or-false}
 use Rattle.std.proofs.lemmas.List.Quantifiers.{position-Some}
 use Rattle.std.proofs.Math.Seq.{drop-cons}
 use Rattle.std.proofs.lemmas.Map.Keys.{IsDistinct-head, IsDistinct-tail}
@@ -206,22 +207,18 @@ or_true : (b : Bool) → (b || true) ≡ true
 or_true true = refl
 or_true false = refl
 
-or_false : (b : Bool) → (b || false) ≡ b
-or_false true = refl
-or_false false = refl
-
 seen_by : (g : File → Bool) (h : File → Bool) (x : File) (fs : List File) (b : Bool) (rest : List Bool) → h x ≡ b → map (λ f. g f || h f) fs ≡ rest → map (λ f. g f || h f) (x ∷ fs) ≡ (g x || b) ∷ rest
 seen_by g h x fs b rest e r = ap (λ (c : Bool). (g x || c) ∷ map (λ f. g f || h f) fs) e ∙ ap (λ (l : List Bool). (g x || b) ∷ l) r
 
 seen_none : (g h : File → Bool) (fs : List File) → PicksAt h fs None → map (λ f. g f || h f) fs ≡ map g fs
 seen_none g h [] p = refl
-seen_none g h (x ∷ fs) p = seen_by g h x fs false (map g fs) (p zero x refl) (seen_none g h fs (behind_none h x fs p)) ∙ ap (λ (b : Bool). b ∷ map g fs) (or_false (g x))
+seen_none g h (x ∷ fs) p = seen_by g h x fs false (map g fs) (p zero x refl) (seen_none g h fs (behind_none h x fs p)) ∙ ap (λ (b : Bool). b ∷ map g fs) (or-false (g x))
 
 seen_some : (g h : File → Bool) (fs : List File) (i : ℕ) → i < length fs → PicksAt h fs (Some i) → map (λ f. g f || h f) fs ≡ slice_set (map g fs) i true
 seen_some g h [] i w p = absurd (omega arith)
 seen_some g h (x ∷ fs) zero w p = seen_by g h x fs true (map g fs) (p zero x refl) (seen_none g h fs (behind_zero h x fs p)) ∙ ap (λ (b : Bool). b ∷ map g fs) (or_true (g x))
 seen_some g h (x ∷ fs) (suc i) w p =
-    seen_by g h x fs false (slice_set (map g fs) i true) (p zero x refl ∙ suc_zero i) (seen_some g h fs i (omega arith) (behind_suc h x fs i p)) ∙ ap (λ (b : Bool). b ∷ slice_set (map g fs) i true) (or_false (g x))
+    seen_by g h x fs false (slice_set (map g fs) i true) (p zero x refl ∙ suc_zero i) (seen_some g h fs i (omega arith) (behind_suc h x fs i p)) ∙ ap (λ (b : Bool). b ∷ slice_set (map g fs) i true) (or-false (g x))
 
 map_same : (g h : File → Bool) (fs : List File) → ((f : File) → g f ≡ h f) → map g fs ≡ map h fs
 map_same g h [] e = refl
@@ -230,7 +227,7 @@ map_same g h (x ∷ fs) e = ap (λ (b : Bool). b ∷ map g fs) (e x) ∙ ap (λ 
 seen_more : (t : Task) (keys : List (List ℕ)) (k : List ℕ) → seen_in t (keys ++ k ∷ []) ≡ map (λ f. list_any (text_eq (record_of t f)) keys || text_eq (record_of t f) k) t.files
 seen_more t keys k =
     map_same (λ f. list_any (text_eq (record_of t f)) (keys ++ k ∷ [])) (λ f. list_any (text_eq (record_of t f)) keys || text_eq (record_of t f) k) t.files
-    (λ f. list_any-append (text_eq (record_of t f)) keys (k ∷ []) ∙ ap (λ (b : Bool). list_any (text_eq (record_of t f)) keys || b) (or_false (text_eq (record_of t f) k)))
+    (λ f. list_any-append (text_eq (record_of t f)) keys (k ∷ []) ∙ ap (λ (b : Bool). list_any (text_eq (record_of t f)) keys || b) (or-false (text_eq (record_of t f) k)))
 
 none_seen : (t : Task) (keys : List (List ℕ)) (k : List ℕ) (seen : List Bool) → seen ≡ seen_in t keys → IsPlaceOf t k None → seen ≡ seen_in t (keys ++ k ∷ [])
 none_seen t keys k seen e h = e ∙ sym (seen_more t keys k ∙ seen_none (λ f. list_any (text_eq (record_of t f)) keys) (λ f. text_eq (record_of t f) k) t.files h)

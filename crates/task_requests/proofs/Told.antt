@@ -9,6 +9,7 @@ use Rattle.proof_base.proofs.Lists.{one_longer}
 use Rattle.proof_base.proofs.Numbers.{below_not}
 use Rattle.std.proofs.lemmas.List.{drop_all}
 use Rattle.std.proofs.lemmas.List.Folds.{list_all-append}
+use Rattle.std.proofs.Math.Bool.{or-false}
 use Rattle.proof_base.specs.Order.{text_eq}
 use Rattle.s3_types.specs.Tags.{Spelled, is_plain_tag}
 use Rattle.s3_types.specs.declared.reply.Reply.{Reply}
@@ -93,13 +94,9 @@ no_set w a p =
     let key = below (layout.attempt_key w.dest.key w.job a.task a.attempt) p in
     contrary (is_set_key w a.task w.dest.bucket key) (λ h. absurd (apart w.dest.key w.job p a.task a.attempt a.task ((bytes_decides key (layout.set_key w.dest.key w.job a.task)).0 (and_parts (text_eq w.dest.bucket w.dest.bucket) (text_eq key (layout.set_key w.dest.key w.job a.task)) h).1)))
 
-or_false : (b : Bool) → (b || false) ≡ b
-or_false true = refl
-or_false false = refl
-
 -- a put there teaches nothing
 pub same_known : (k : Known) (b : Bool) → b ≡ false → (let after : Known = record { drawn = k.drawn; put_sent = k.put_sent; publish_sent = k.publish_sent || b } in after ≡ k)
-same_known k b e = ap (λ c. record { drawn = k.drawn; put_sent = k.put_sent; publish_sent = c }) (ap (λ c. k.publish_sent || c) e ∙ or_false k.publish_sent)
+same_known k b e = ap (λ c. record { drawn = k.drawn; put_sent = k.put_sent; publish_sent = c }) (ap (λ c. k.publish_sent || c) e ∙ or-false k.publish_sent)
 
 -- ---- the upload is begun
 

@@ -25,7 +25,7 @@ use Rattle.job_promise.specs.OperationEnds.{NoDeletionWorn}
 use Rattle.job_promise.specs.Promise.{CommitsEnd}
 use Rattle.job_promise.specs.States.{Doing}
 use Rattle.job_promise.specs.Turns.{until, since, by_actor, is_wanting}
-use Rattle.worked_runs.specs.OneFile.{opening, setting}
+use Rattle.worked_runs.specs.OneFile.{opening, setting, attempt_entries}
 use Rattle.worked_runs.specs.RefusedEnds.{both_script, both_attempts, revert_script, half_reverted, revert_ends, anew_script, anew_ends, strange_ends, Misended}
 use Rattle.worked_runs.proofs.Books.{content_of}
 use Rattle.worked_runs.proofs.Checks.{views, objects_at, moment_is, book_after}
@@ -117,14 +117,17 @@ left_in h =
 abbrev memory : OpEnd
 memory = ends.Clean cleans.NoMemory
 
-not_told : (d : Doing) → Some commit_doing ≡ Some d → (is_wanting Driver d.op memory ≡ true) ⊎ (op_over setting Driver d [] ≡ Some memory) → ⊥
-not_told d e h = by (subst (λ (v : Doing). (is_wanting Driver v.op memory ≡ true) ⊎ (op_over setting Driver v [] ≡ Some memory)) (sym (same_some commit_doing d e)) h)
+abbrev mine : List Entry
+mine = by_actor Driver (until 4 attempt_entries)
+
+not_told : (d : Doing) → Some commit_doing ≡ Some d → (is_wanting Driver d.op memory ≡ true) ⊎ (op_over setting Driver d mine ≡ Some memory) → ⊥
+not_told d e h = by (subst (λ (v : Doing). (is_wanting Driver v.op memory ≡ true) ⊎ (op_over setting Driver v mine ≡ Some memory)) (sym (same_some commit_doing d e)) h)
   where
-    by : (is_wanting Driver ops.Commit memory ≡ true) ⊎ (op_over setting Driver commit_doing [] ≡ Some memory) → ⊥
+    by : (is_wanting Driver ops.Commit memory ≡ true) ⊎ (op_over setting Driver commit_doing mine ≡ Some memory) → ⊥
     by (inl w) = cc
     by (inr o) = cc
 
-strange_in : Plays setting strange_ends [] → ⊥
+strange_in : Plays setting strange_ends attempt_entries → ⊥
 strange_in p = let o = (p.obeyed 3 (Do Driver ops.Commit) (Ended memory) refl refl).over 0 (record { actor = Driver; end = memory }) refl in not_told o.0 o.1 o.2
 
 pub misended : Misended

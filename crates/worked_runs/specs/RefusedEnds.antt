@@ -29,7 +29,7 @@ use Rattle.job_promise.specs.Follows.{Plays}
 use Rattle.job_promise.specs.Headline.{Always}
 use Rattle.job_promise.specs.Promise.{CommitsEnd}
 use Rattle.worked_runs.specs.Jobs.{lake, job, attempt, worker, entry, said, hello_tag}
-use Rattle.worked_runs.specs.OneFile.{opening, journal, setting}
+use Rattle.worked_runs.specs.OneFile.{opening, journal, setting, attempt_entries}
 use Rattle.worked_runs.specs.OneFinished.{the_ends}
 
 abbrev pub done_setup : EventEnd
@@ -108,6 +108,7 @@ anew_ends = done_setup ∷ done_task ∷ Done ∷ Done ∷ done_task ∷ Ended (
 
 -- ---- whose want of memory it is
 
+-- the fourth event is the driver's commit
 abbrev pub strange_ends : List EventEnd
 strange_ends = done_setup ∷ done_task ∷ done_task ∷ Ended (ends.Clean cleans.NoMemory) ∷ []
 
@@ -121,4 +122,4 @@ pub record Misended : Type 0 where
   -- an end stands behind that of the last event
   pub beyond : Plays setting (the_ends ++ Done ∷ []) journal → ⊥
   -- a job's commit that found no memory is told as a clean that found none
-  pub strange : Plays setting strange_ends [] → ⊥
+  pub strange : Plays setting strange_ends attempt_entries → ⊥
