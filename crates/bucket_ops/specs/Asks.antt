@@ -1,5 +1,5 @@
 -- Requests on the objects of one bucket, and what they do there.
-use Rattle.std.specs.Prelude.{ℕ, Bool, nat_lt, cond, List, Option, Some, None, length}
+use Rattle.std.specs.Prelude.{ℕ, Bool, true, false, nat_lt, cond, List, Option, Some, None, length}
 use Rattle.std.specs.FinMap as fin
 use Rattle.s3_types.specs.Store.{Objects, BucketContent, Scene}
 use Rattle.s3_types.specs.Tags.{plain_tag}
@@ -33,6 +33,16 @@ request_of b (Put k bytes) = PutObject b k bytes None
 request_of b (Drop k) = DeleteObject b k
 request_of b (DropAll ks) = DeleteObjects b ks
 request_of b (Copy k q) = CopyObject b k q
+
+-- it only looks
+abbrev pub is_look : Ask → Bool
+is_look (Head k) = true
+is_look (Get k) = true
+is_look (Page p d q n) = true
+is_look (Put k bytes) = false
+is_look (Drop k) = false
+is_look (DropAll ks) = false
+is_look (Copy k q) = false
 
 -- what is answered where these objects stand
 abbrev pub reply_in : Objects → Ask → Reply

@@ -10,7 +10,9 @@ use Rattle.bucket_ops.specs.declared.bucket.InBucket.{InBucket}
 use Rattle.bucket_ops.specs.Asks.{Ask, request_of, reply_in, edited, reply_at, objects_at, with_objects}
 use Rattle.bucket_ops.specs.AskLaws.{answered, applied_none, applied_some, with_same, objects_with, with_with, repeats}
 use Rattle.operations.specs.Plans.{Goes, Falls, IsPlan}
-use Rattle.bucket_ops.specs.Phases.{IsPhases, InScene, request, stepped, led, Holds, Gives, Always, left_at, left_in, Starts}
+use Rattle.operations.specs.Courses.{MaySend, reached}
+use Rattle.operations.specs.PlanLaws.{sends_of}
+use Rattle.bucket_ops.specs.Phases.{IsPhases, MayAsk, InScene, request, stepped, led, Holds, Gives, Always, SendsAt, SendsIn, Sends, left_at, left_in, Starts}
 
 in_scene : (x : Option Objects) (z s : Scene) (b : List ℕ) (H G : Objects → Objects → Type 0) (N : Type 0) → ((m n : Objects) → H m n → G m n) → InScene x H N z b s → InScene x G (Unit {0}) z b s
 in_scene None z s b H G N f h = (h.0, tt)
@@ -20,8 +22,8 @@ module _ {O X A : Type 0} {first : O → X} {asks : O → X → Ask} {goes : O �
   abbrev P : Type 0
   P = InBucket O X
 
-  begin_by : (p : P) (z : Scene) (x : Option Objects) → objects_at z p.bucket ≡ x → p.stage ≡ first p.names → InScene x (λ m n. holds p.names m p.stage n) (Unit {0}) z p.bucket z
-  begin_by p z None e h = (refl, tt)
+  begin_by : (p : P) (z : Scene) (x : Option Objects) → objects_at z p.bucket ≡ x → p.stage ≡ first p.names → InScene x (λ m n. holds p.names m p.stage n) (p.stage ≡ first p.names) z p.bucket z
+  begin_by p z None e h = (refl, h)
   begin_by p z (Some m) e h = (m, sym (with_same z p.bucket m e), subst (λ v. holds p.names m v m) (sym h) (k.begin p.names m))
 
   -- the step of a phase in the bucket b of names o
@@ -43,7 +45,7 @@ module _ {O X A : Type 0} {first : O → X} {asks : O → X → Ask} {goes : O �
   -- ---- it goes on
 
   abbrev H : P → Scene → P → Scene → Type 0
-  H = Holds holds
+  H = Holds first holds
 
   abbrev G : P → Scene → A → Scene → Type 0
   G = Gives gives absent
@@ -61,10 +63,10 @@ module _ {O X A : Type 0} {first : O → X} {asks : O → X → Ask} {goes : O �
 
   step_some : (o : P) (z : Scene) (m n : Objects) (y : Step X A) (s : Scene) → objects_at z o.bucket ≡ Some m → s ≡ with_objects z o.bucket n
       → Goes (holds o.names m) (gives o.names m) y n → Goes (H o z) (G o z) (stepped o.bucket o.names y) s
-  step_some o z m n (Next x) s e h g = (refl, refl, put_in z s o.bucket (objects_at z o.bucket) m n (λ m n. holds o.names m x n) (Unit {0}) e h g)
+  step_some o z m n (Next x) s e h g = (refl, refl, put_in z s o.bucket (objects_at z o.bucket) m n (λ m n. holds o.names m x n) (x ≡ first o.names) e h g)
   step_some o z m n (End a) s e h g = put_in z s o.bucket (objects_at z o.bucket) m n (λ m n. gives o.names m a n) (a ≡ absent) e h g
 
-  goes_by : (o : P) (z : Scene) (x : X) (s : Scene) (q : Option Objects) → objects_at z o.bucket ≡ q → InScene q (λ m n. holds o.names m x n) (Unit {0}) z o.bucket s
+  goes_by : (o : P) (z : Scene) (x : X) (s : Scene) (q : Option Objects) → objects_at z o.bucket ≡ q → InScene q (λ m n. holds o.names m x n) (x ≡ first o.names) z o.bucket s
       → Goes (H o z) (G o z) (stepped o.bucket o.names (goes o.names x (answer s (request_of o.bucket (asks o.names x))))) (apply s (request_of o.bucket (asks o.names x)))
   goes_by o z x s None e h =
       let w = on_none z s o.bucket o.names x e h.0 in
@@ -80,7 +82,7 @@ module _ {O X A : Type 0} {first : O → X} {asks : O → X → Ask} {goes : O �
   fall_by b o n (Next x) s c e h = subst (λ v. left_at v left o x < c) (sym e) h
   fall_by b o n (End a) s c e h = tt
 
-  falls_by : (o : P) (z : Scene) (x : X) (s : Scene) (q : Option Objects) → objects_at z o.bucket ≡ q → InScene q (λ m n. holds o.names m x n) (Unit {0}) z o.bucket s
+  falls_by : (o : P) (z : Scene) (x : X) (s : Scene) (q : Option Objects) → objects_at z o.bucket ≡ q → InScene q (λ m n. holds o.names m x n) (x ≡ first o.names) z o.bucket s
       → Falls (left_in left) (stepped o.bucket o.names (goes o.names x (answer s (request_of o.bucket (asks o.names x))))) (apply s (request_of o.bucket (asks o.names x))) (left_at (objects_at s o.bucket) left o.names x)
   falls_by o z x s None e h =
       let w = on_none z s o.bucket o.names x e h.0 in
@@ -93,7 +95,7 @@ module _ {O X A : Type 0} {first : O → X} {asks : O → X → Ask} {goes : O �
       (fall_by o.bucket o.names _ _ _ _ there
       (subst (λ v. Falls (left o.names) (goes o.names x (reply_in h.0 (asks o.names x))) (edited (asks o.names x) h.0) (left_at v left o.names x)) (sym here) (k.falls o.names m x h.0 h.2)))
 
-  stays_by : (o : P) (z : Scene) (x : X) (s : Scene) (q : Option Objects) → objects_at z o.bucket ≡ q → InScene q (λ m n. holds o.names m x n) (Unit {0}) z o.bucket s
+  stays_by : (o : P) (z : Scene) (x : X) (s : Scene) (q : Option Objects) → objects_at z o.bucket ≡ q → InScene q (λ m n. holds o.names m x n) (x ≡ first o.names) z o.bucket s
       → left_at (objects_at (apply s (request_of o.bucket (asks o.names x))) o.bucket) left o.names x ≡ left_at (objects_at s o.bucket) left o.names x
   stays_by o z x s None e h = ap (λ v. left_at (objects_at v o.bucket) left o.names x) ((on_none z s o.bucket o.names x e h.0).1 ∙ sym h.0)
   stays_by o z x s (Some m) e h =
@@ -110,7 +112,7 @@ module _ {O X A : Type 0} {first : O → X} {asks : O → X → Ask} {goes : O �
   at_names : (o p : P) (C : List ℕ → O → Type 0) → p.bucket ≡ o.bucket → p.names ≡ o.names → C o.bucket o.names → C p.bucket p.names
   at_names o p C e f h = subst (λ b. C b p.names) (sym e) (subst (λ n. C o.bucket n) (sym f) h)
 
-  pub in_bucket : IsPlan (Starts first) (request asks) (led goes) (Holds holds) (Gives gives absent) (Always always) (left_in left)
+  pub in_bucket : IsPlan (Starts first) (request asks) (led goes) (Holds first holds) (Gives gives absent) (Always always) (left_in left)
   in_bucket = record {
     begin = λ p s h. (refl, refl, begin_by p s (objects_at s p.bucket) refl h);
     repeats = λ p. repeats p.bucket (asks p.names p.stage);
@@ -120,6 +122,17 @@ module _ {O X A : Type 0} {first : O → X} {asks : O → X → Ask} {goes : O �
         (falls_by o z p.stage s (objects_at z o.bucket) refl h.2);
     stays = λ o z p s h. at_names o p (λ b n. left_at (objects_at (apply s (request_of b (asks n p.stage))) b) left n p.stage ≡ left_at (objects_at s b) left n p.stage) h.0 h.1
         (stays_by o z p.stage s (objects_at z o.bucket) refl h.2);
-    during = λ o z p s h. in_scene (objects_at z o.bucket) z s o.bucket (λ m n. holds o.names m p.stage n) (always o.names) (Unit {0}) (λ m n g. k.during o.names m p.stage n g) h.2;
+    during = λ o z p s h. in_scene (objects_at z o.bucket) z s o.bucket (λ m n. holds o.names m p.stage n) (always o.names) (p.stage ≡ first o.names) (λ m n g. k.during o.names m p.stage n g) h.2;
     at_end = λ o z a s h. in_scene (objects_at z o.bucket) z s o.bucket (λ m n. gives o.names m a n) (always o.names) (a ≡ absent) (λ m n g. k.at_end o.names m a n g) h;
   }
+
+  -- ---- what is sent
+
+  asked_by : (sends : O → Objects → Ask → Type 0) → MayAsk asks holds sends → (o : P) (z : Scene) (x : X) (s : Scene) (q : Option Objects) → InScene q (λ m n. holds o.names m x n) (x ≡ first o.names) z o.bucket s
+      → SendsAt q o.bucket (asks o.names (first o.names)) (sends o.names) (request_of o.bucket (asks o.names x))
+  asked_by sends f o z x s None h = ap (λ y. request_of o.bucket (asks o.names y)) h.1
+  asked_by sends f o z x s (Some m) h = (asks o.names x, refl, f o.names m x h.0 h.2)
+
+  pub asked_in : (sends : O → Objects → Ask → Type 0) → MayAsk asks holds sends → MaySend (request asks) (reached (request asks) (Holds first holds)) (Sends first asks sends)
+  asked_in sends f = sends_of (request asks) (Holds first holds) (Sends first asks sends)
+      (λ o z p s h. at_names o p (λ b n. SendsIn o.bucket (asks o.names (first o.names)) (sends o.names) z (request_of b (asks n p.stage))) h.0 h.1 (asked_by sends f o z p.stage s (objects_at z o.bucket) h.2))

@@ -22,6 +22,10 @@ pub record IsPhases {O X A : Type 0} (first : O → X) (asks : O → X → Ask) 
   -- where there is no bucket
   pub missing : (o : O) (x : X) → goes o x (Refused NoSuchBucket) ≡ End absent
 
+-- what a stage asks, the operation may ask
+abbrev pub MayAsk : {O X : Type 0} → (O → X → Ask) → (O → Objects → X → Objects → Type 0) → (O → Objects → Ask → Type 0) → Type 0
+MayAsk {O = O} {X = X} asks holds sends = (o : O) (z : Objects) (x : X) (m : Objects) → holds o z x m → sends o z (asks o x)
+
 -- the scene is z with other objects in the bucket, of which something holds; or z, where there is no bucket
 abbrev pub InScene : Option Objects → (Objects → Objects → Type 0) → Type 0 → Scene → List ℕ → Scene → Type 0
 InScene None holds absent z b s = (s ≡ z) × absent
@@ -41,8 +45,8 @@ module _ {O X : Type 0} where
   abbrev pub led : {A : Type 0} → (O → X → Reply → Step X A) → InBucket O X → Reply → Step (InBucket O X) A
   led goes p r = stepped p.bucket p.names (goes p.names p.stage r)
 
-  abbrev pub Holds : (O → Objects → X → Objects → Type 0) → InBucket O X → Scene → InBucket O X → Scene → Type 0
-  Holds holds o z p s = (p.bucket ≡ o.bucket) × (p.names ≡ o.names) × InBucketHolds z o.bucket (λ m n. holds o.names m p.stage n) (Unit {0}) s
+  abbrev pub Holds : (O → X) → (O → Objects → X → Objects → Type 0) → InBucket O X → Scene → InBucket O X → Scene → Type 0
+  Holds first holds o z p s = (p.bucket ≡ o.bucket) × (p.names ≡ o.names) × InBucketHolds z o.bucket (λ m n. holds o.names m p.stage n) (p.stage ≡ first o.names) s
 
 -- in a bucket that is there an operation gives what it gives of the bucket's objects, and nothing else changes; where there is none, nothing changes
 abbrev pub GivesIn : {A : Type 0} → List ℕ → (Objects → A → Objects → Type 0) → A → Scene → A → Scene → Type 0
@@ -57,6 +61,17 @@ Gives gives absent o z a s = GivesIn o.bucket (gives o.names) absent z a s
 
 abbrev pub Always : {O X : Type 0} → (O → Objects → Objects → Type 0) → InBucket O X → Scene → Scene → Type 0
 Always always o z s = AlwaysIn o.bucket (always o.names) z s
+
+-- of a bucket that is there an operation asks what it may ask; of one that is not, its first look alone
+abbrev pub SendsAt : Option Objects → List ℕ → Ask → (Objects → Ask → Type 0) → Request → Type 0
+SendsAt None b look sends r = r ≡ request_of b look
+SendsAt (Some m) b look sends r = (a : Ask) × (r ≡ request_of b a) × sends m a
+
+abbrev pub SendsIn : List ℕ → Ask → (Objects → Ask → Type 0) → Scene → Request → Type 0
+SendsIn b look sends z r = SendsAt (objects_at z b) b look sends r
+
+abbrev pub Sends : {O X : Type 0} → (O → X) → (O → X → Ask) → (O → Objects → Ask → Type 0) → InBucket O X → Scene → Request → Type 0
+Sends first asks sends o z r = SendsIn o.bucket (asks o.names (first o.names)) (sends o.names) z r
 
 abbrev pub left_at : {O X : Type 0} → Option Objects → (O → X → Objects → ℕ) → O → X → ℕ
 left_at None left o x = 0

@@ -2,12 +2,13 @@ ghost use Rattle.std.specs.Prelude.{◌≡◌, ℕ, ◌<◌, ◌≤◌, length, 
 ghost use Rattle.s3_types.specs.Store.{Objects};
 ghost use Rattle.s3_types.specs.declared.reply.Reply.{Reply};
 ghost use Rattle.operations.specs.declared.plan.Step.{Step};
-ghost use Rattle.operations.specs.Courses.{once, reached};
+ghost use Rattle.operations.specs.Courses.{once, reached, unlost};
+ghost use Rattle.operations.specs.CourseLaws.{calm_of};
 ghost use Rattle.operations.specs.PlanLaws.{course_of};
 ghost use Rattle.operations.specs.Performed.{Performed};
 ghost use Rattle.bucket_ops.specs.Asks.{Ask, request_of};
-ghost use Rattle.bucket_ops.specs.Phases.{IsPhases, request, led, Holds, Gives, Always, GivesIn, AlwaysIn, left_in, Starts};
-ghost use Rattle.bucket_ops.specs.PhaseLaws.{in_bucket};
+ghost use Rattle.bucket_ops.specs.Phases.{IsPhases, MayAsk, request, led, Holds, Gives, Always, GivesIn, AlwaysIn, SendsIn, Sends, left_in, Starts};
+ghost use Rattle.bucket_ops.specs.PhaseLaws.{in_bucket, asked_in};
 
 use machine::DriveStop;
 use operations::{Plan, Step, perform};
@@ -38,6 +39,9 @@ pub trait Phases: Drop {
     /// Begun at those objects, these may stand at any moment.
     ghost always: { Self → Objects → Objects → Type 0 };
 
+    /// Begun at those objects, it may ask this.
+    ghost sends: { Self → Objects → Ask → Type 0 };
+
     /// At most so many stages are to come.
     ghost left: { Self → Self.Stage → Objects → ℕ };
 
@@ -62,6 +66,8 @@ pub trait Phases: Drop {
 
     /// What holds of these.
     ghost laws: { IsPhases first asks goes holds gives always left absent };
+
+    ghost asked: { MayAsk asks holds sends };
 }
 
 /// An operation in a bucket at a stage.
@@ -81,15 +87,25 @@ impl<O: Phases> Plan for InBucket<O, O::Stage> {
 
     ghost goes = { once (led O.goes) };
 
-    ghost holds = { reached (request O.asks) (Holds O.holds) };
+    ghost holds = { reached (request O.asks) (Holds O.first O.holds) };
 
     ghost gives = { Gives O.gives O.absent };
 
     ghost always = { Always O.always };
 
+    ghost sends = { Sends O.first O.asks O.sends };
+
+    ghost calm = { unlost (reached (request O.asks) (Holds O.first O.holds)) };
+
+    ghost leaves = { Gives O.gives O.absent };
+
     ghost left = { left_in O.left };
 
     ghost laws = { course_of (in_bucket O.laws) };
+
+    ghost asked = { asked_in O.laws O.sends O.asked };
+
+    ghost calms = { calm_of (course_of (in_bucket O.laws)) };
 
     fn ask(&self) -> Result<Request, AllocError> {
         self.names.ask(&self.bucket, &self.stage)
@@ -131,7 +147,7 @@ pub fn perform_in<O: Phases, S: ObjectStore>(
 ) -> Result<O::Answer, DriveStop>
     requires counted { S.requests store.old ≤ length journal.old.entries }
     ensures given { IfOk result (λ answer. GivesIn bucket (O.gives names) O.absent (S.scene store.old) answer (S.scene store.new)) }
-    ensures performed { Performed actor event retries (AlwaysIn bucket (O.always names) (S.scene store.old)) (S.scene store.old) (S.scene store.new) journal.old.entries journal.new.entries (S.requests store.old) (S.requests store.new) (S.losses store.old) (S.losses store.new) (S.foretold store.old) (S.foretold store.new) result }
+    ensures performed { Performed actor event retries (AlwaysIn bucket (O.always names) (S.scene store.old)) (SendsIn bucket (O.asks names (O.first names)) (O.sends names) (S.scene store.old)) (S.scene store.old) (S.scene store.new) journal.old.entries journal.new.entries (S.requests store.old) (S.requests store.new) (S.losses store.old) (S.losses store.new) (S.foretold store.old) (S.foretold store.new) result }
     ensures fault { IsErrOf result DriveStop.StoreFault → S.losses store.old < S.losses store.new }
 {
     let stage = names.start();

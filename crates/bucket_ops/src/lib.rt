@@ -6,8 +6,9 @@
 //! `perform_in`: An operation on the objects of one bucket, alone, whatever is lost: it gives what its
 //! stages give of these objects, and nothing else of the store or the cluster changes; where there is
 //! no bucket it answers so (`given`). Each request is sent at most `retries + 1` times, by that actor
-//! in that event; at each moment the bucket is as the operation promises always; StoreFault comes
-//! exactly where a request wore out (`performed`).
+//! in that event, and is one that the operation may ask (`sends`), or its first look where there is no
+//! bucket; at each moment the bucket is as the operation promises always; StoreFault comes exactly
+//! where a request wore out (`performed`).
 #![tactic(auto)]
 
 mod bucket;

@@ -3,6 +3,7 @@ use Rattle.std.specs.Prelude.{◌≡◌, ◌⊎◌, ℕ, ◌+◌, ◌≤◌, Boo
 use Rattle.std.specs.FinMap as fin
 use Rattle.s3_types.specs.Store.{Objects, BucketContent, Scene}
 use Rattle.s3_types.specs.Answer.{without}
+use Rattle.s3_types.specs.Requests.{only_reads}
 use Rattle.s3_types.specs.declared.request.Request.{Request}
 use Rattle.s3_types.specs.declared.reply.Reply.{Reply}
 use Rattle.operations.specs.declared.plan.Step.{Step}
@@ -22,7 +23,7 @@ use Rattle.fs_ops.specs.Make.{Passed}
 use Rattle.fs_files.specs.declared.create.CreateStage.{CreateStage}
 use Rattle.fs_files.specs.declared.create.CreateStage.TheVariants.{Here, Below, Up, Write, DropMarkers}
 use Rattle.fs_files.specs.declared.create.CreateFile.{CreateFile}
-use Rattle.fs_files.specs.Placed.{InFile, IsBeside, object_of}
+use Rattle.fs_files.specs.Placed.{InFile, IsBeside, NoneBut, NoneLeft, object_of}
 use Rattle.fs_files.specs.Writing as writing
 use Rattle.fs_files.specs.declared.writing.Heard.{Heard}
 use Rattle.fs_files.specs.declared.writing.Heard.TheVariants.{Done, On, Refusing}
@@ -113,6 +114,10 @@ pub record IsDue (o : Creation) (z : Objects) : Type 0 where
   pub allowed : IsOpen o z
   pub free : NoFiles z (keys_above o.path.key)
 
+abbrev pub SomeDue : Creation → Option BucketContent → Type 0
+SomeDue o None = ⊥
+SomeDue o (Some c) = IsDue o c.objects
+
 abbrev pub file_in : Creation → Objects → Objects
 file_in o z = fin.insert z o.path.key (object_of o.bytes)
 
@@ -176,6 +181,22 @@ gives o z a s = GivesFile o.file z a s
 
 abbrev pub always : CreateFile → Scene → Scene → Type 0
 always o z s = AlwaysFile o.file z s
+
+-- it looks, or writes where that is due
+abbrev pub sends : CreateFile → Scene → Request → Type 0
+sends o z r = (only_reads r ≡ true) ⊎ SomeDue o.file (bucket_at z o.file.path.bucket)
+
+-- the upload at hand
+abbrev pub upload_of : CreateStage → Option ℕ
+upload_of (Write w) = w.upload
+upload_of _ = None
+
+-- where each sending was answered, no other upload was begun, and at the end none is left
+abbrev pub calm : CreateFile → Scene → CreateFile → Scene → Type 0
+calm o z p s = holds o z p s false × (least o.file z → NoneBut (upload_of p.stage) z o.file.path.bucket s)
+
+abbrev pub leaves : CreateFile → Scene → Answer → Scene → Type 0
+leaves o z a s = gives o z a s × (least o.file z → NoneLeft z o.file.path.bucket s)
 
 abbrev pub write_left : Creation → ℕ
 write_left o = length o.bytes + 4

@@ -14,9 +14,10 @@ use Rattle.s3_types.specs.declared.reply.Reply.TheVariants.{Deleted, Refused}
 use Rattle.s3_types.specs.declared.reply.Refusal.TheVariants.{TooManyKeys}
 use Rattle.request_frame.proofs.Reading.{reads_nothing}
 use Rattle.path_keys.specs.Paths.{is_key}
+use Rattle.operations.specs.declared.plan.Step.{Step}
 use Rattle.operations.specs.declared.plan.Step.TheVariants.{Next, End}
 use Rattle.operations.specs.Plans.{Goes, Falls}
-use Rattle.operations.specs.Courses.{IsCourse}
+use Rattle.operations.specs.Courses.{IsCourse, MaySend, IsCalm}
 use Rattle.bucket_ops.specs.declared.look.Look.{Look}
 use Rattle.bucket_ops.specs.declared.look.Look.TheVariants.{There, Nothing, NoBucket, Other}
 use Rattle.bucket_ops.specs.Looks.{look_of}
@@ -37,7 +38,8 @@ use Rattle.fs_ops.specs.Make.{Passed}
 use Rattle.fs_files.specs.declared.create.CreateStage.{CreateStage}
 use Rattle.fs_files.specs.declared.create.CreateStage.TheVariants.{Here, Below, Up, Write, DropMarkers}
 use Rattle.fs_files.specs.declared.create.CreateFile.{CreateFile}
-use Rattle.fs_files.specs.Placed.{IsBeside, InFile, IsFileOrNot, object_of}
+use Rattle.request_frame.specs.Held.{upload_in, upload_at}
+use Rattle.fs_files.specs.Placed.{placed, IsBeside, InFile, IsFileOrNot, NoneBut, NoneLeft, object_of}
 use Rattle.fs_files.specs.Writing as writing
 use Rattle.fs_files.specs.declared.writing.Heard.{Heard}
 use Rattle.fs_files.specs.declared.writing.Heard.TheVariants.{Done, On, Refusing}
@@ -46,10 +48,10 @@ use Rattle.fs_files.specs.Hearing as hearing
 use Rattle.fs_files.specs.Hearing.{heard}
 use Rattle.fs_files.specs.Creation.{Creation, IsCreation}
 use Rattle.fs_files.specs.WritingLaws as files
-use Rattle.fs_files.specs.WritingLaws.{placed_same, placed_by, Writes, Wrote, HeardSo, LessLeft, RoomLeft, room_stays}
+use Rattle.fs_files.specs.WritingLaws.{placed_same, placed_by, Writes, Wrote, HeardSo, OwnHeard, LessLeft, RoomLeft, room_stays}
 use Rattle.fs_files.specs.Creating.{created_above, makes_file, few_created}
 use Rattle.block_stream.specs.Holds.{HasRoom}
-use Rattle.fs_files.specs.Create.{Answer, CreateStep, asks, write_at, up_from, climb, replace, here as here_at, on_here, on_below, on_up, drop_from, written, on, goes, IsOpen, IsDue, file_in, IsMade, least, HoldsIn, bucket_at, HoldsAt, holds, IsUndone, GivesFile, always_in, AlwaysFile, starts, request, stepped, led, gives, always, write_left, left_at, left}
+use Rattle.fs_files.specs.Create.{Answer, CreateStep, asks, write_at, up_from, climb, replace, here as here_at, on_here, on_below, on_up, drop_from, written, on, goes, IsOpen, IsDue, SomeDue, file_in, IsMade, least, HoldsIn, bucket_at, HoldsAt, holds, IsUndone, GivesFile, always_in, AlwaysFile, starts, request, stepped, led, gives, always, sends, upload_of, calm, leaves, write_left, left_at, left}
 
 -- where there is no bucket it ends, and else it goes on
 unless_so : {X : Type 0} (l : Look) (absent y : X) (P : X → Type 0) → (l ≡ NoBucket → P absent) → P y → P (unless l absent y)
@@ -64,6 +66,15 @@ no_parts k n h = let e : k * 0 ≡ 0 = Rattle.std.proofs.Math.Nat.mul-zero k in 
 reads_look : (b k : List ℕ) → only_reads (request_of b (look_asks k)) ≡ true
 reads_look b [] = refl
 reads_look b (x ∷ k) = refl
+
+-- of the uploads that were begun since, the one at hand alone is live
+abbrev OwnStep : Creation → Scene → CreateStep → Scene → Type 0
+OwnStep o z (Next x) s = NoneBut (upload_of x) z o.path.bucket s
+OwnStep o z (End a) s = NoneLeft z o.path.bucket s
+
+own_z : (o : Creation) (z : Scene) (y : CreateStep) → OwnStep o z y z
+own_z o z (Next x) = λ id l e ne. e
+own_z o z (End a) = λ id l e. e
 
 module _ (o : Creation) (z : Scene) (ok : IsCreation o) where
   abbrev B : List ℕ
@@ -288,6 +299,53 @@ module _ (o : Creation) (z : Scene) (ok : IsCreation o) where
     moments (Write w) s repeated h l = map_beside (IsFileOrNot Z w.key o.bytes) (always_in o Z) s (λ m e. written_so w m h.0 h.2 e) (h.4 l).beside
     moments DropMarkers s repeated h l = map_beside (IsMade o Z) (always_in o Z) s (λ m e. inr (h.0, e)) (h.1 l)
 
+    -- ---- where each sending was answered
+
+    here_own : (y : CreateStep) (s : Scene) → s ≡ z → OwnStep o z y s
+    here_own y s e = subst (OwnStep o z y) (sym e) (own_z o z y)
+
+    none_left : (ks : List (List ℕ)) (s : Scene) → NoneLeft z B s → OwnStep o z (drop_from ks) s
+    none_left [] s g = g
+    none_left (k ∷ ks) s g = λ id l e ne. g id l e
+
+    written_own : (w : Writing) (v : Heard) (s : Scene) → HeardSo z B w.key o.bytes c v s → OwnHeard z B v s → OwnStep o z (written o v) s
+    written_own w Done s h g = none_left Ks s g
+    written_own w (On v) s h g = g
+    written_own w Refusing s h g = absurd h
+
+    stream_own : (w : Writing) (s : Scene) → Writes z B o.bytes c w s false → NoneBut w.upload z B s → OwnStep o z (goes o (Write w) (answer s (writing.asks B w)) false) (apply s (writing.asks B w))
+    stream_own w s h g =
+        let a = answer s (writing.asks B w) in
+        unless_so (look_of a) (End (Err NoSuchBucket)) (written o (heard w a false)) (λ y. OwnStep o z y (apply s (writing.asks B w)))
+        (λ e. absurd (files.no_missing z B o.bytes c w s false h e))
+        (written_own w (heard w a false) (apply s (writing.asks B w)) (files.goes_on z B o.bytes c w s false h) (files.own_goes z B o.bytes c w s h g))
+
+    drop_own : (s : Scene) → IsBeside z B c (IsMade o Z) s → NoneBut None z B s → OwnStep o z (goes o DropMarkers (answer s drops) false) (apply s drops)
+    unfolding dropped
+    drop_own s h g =
+        unless_so (look_of (answer s drops)) (End (Err NoSuchBucket)) (End (Ok tt)) (λ y. OwnStep o z y (apply s drops))
+        (λ e. absurd (drop_look s h e))
+        (λ id l e. upload_there (apply s drops) (dropped s h).content (dropped s h).next id (dropped s h).scene ∙ sym (upload_there s h.content h.next id h.scene) ∙ g id l e (λ f. absurd (cc)))
+      where
+        upload_there : (s : Scene) (d : BucketContent) (n id : ℕ) → s ≡ placed z B d n → upload_at s.content B id ≡ fin.get d.uploads id
+        upload_there s d n id e = ap (λ (s : Scene). upload_at s.content B id) e ∙ ap (λ v. upload_in v id) (get_put z.content.buckets B d)
+
+    owns : (x : CreateStage) (s : Scene) → HoldsIn o z c x s false → least o z → NoneBut (upload_of x) z B s → OwnStep o z (goes o x (answer s (asks o x)) false) (apply s (asks o x))
+    owns Here s h l g = here_own (goes o Here (answer s (asks o Here)) false) (apply s (asks o Here)) (same_look (look_asks o.path.key) (reads_look B o.path.key) s h)
+    owns Below s h l g = here_own (goes o Below (answer s (asks o Below)) false) (apply s (asks o Below)) (same_look (below_asks o.path.key 1) refl s h.0)
+    owns (Up k ks) s h l g = here_own (goes o (Up k ks) (answer s (asks o (Up k ks))) false) (apply s (asks o (Up k ks))) (same_look (Head k) refl s h.0)
+    owns (Write w) s h l g = stream_own w s (h.4 l) g
+    owns DropMarkers s h l g = drop_own s (h.1 l) g
+
+    -- ---- what is sent
+
+    asked : (x : CreateStage) (s : Scene) (repeated : Bool) → HoldsIn o z c x s repeated → (only_reads (asks o x) ≡ true) ⊎ IsDue o Z
+    asked Here s repeated h = inl (reads_look B o.path.key)
+    asked Below s repeated h = inl refl
+    asked (Up k ks) s repeated h = inl refl
+    asked (Write w) s repeated h = inr h.0
+    asked DropMarkers s repeated h = inr h.0
+
   -- ---- whether there is the bucket or not
 
   abbrev Steps : Option BucketContent → CreateStage → Scene → Bool → Type 0
@@ -316,6 +374,16 @@ module _ (o : Creation) (z : Scene) (ok : IsCreation o) where
   all_moments : (v : Option BucketContent) → fin.get z.content.buckets B ≡ v → (x : CreateStage) (s : Scene) (repeated : Bool) → HoldsAt v o z x s repeated → least o z → InFile v (always_in o) (Unit {0}) z B s
   all_moments None e x s repeated h l = (h.0, tt)
   all_moments (Some c) e x s repeated h l = moments c e x s repeated h l
+
+  all_own : (v : Option BucketContent) → fin.get z.content.buckets B ≡ v → (x : CreateStage) (s : Scene) → HoldsAt v o z x s false → least o z → NoneBut (upload_of x) z B s → OwnStep o z (goes o x (answer s (asks o x)) false) (apply s (asks o x))
+  all_own None e x s h l g =
+      subst (λ x. OwnStep o z (goes o x (answer s (asks o x)) false) (apply s (asks o x))) (sym h.1)
+      (subst (OwnStep o z (goes o Here (answer s (asks o Here)) false)) (sym (none_hides e s h.0)) (own_z o z (goes o Here (answer s (asks o Here)) false)))
+  all_own (Some c) e x s h l g = owns c e x s h l g
+
+  all_asked : (v : Option BucketContent) → fin.get z.content.buckets B ≡ v → (x : CreateStage) (s : Scene) (repeated : Bool) → HoldsAt v o z x s repeated → (only_reads (asks o x) ≡ true) ⊎ SomeDue o v
+  all_asked None e x s repeated h = subst (λ x. (only_reads (asks o x) ≡ true) ⊎ SomeDue o None) (sym h.1) (inl (reads_look B o.path.key))
+  all_asked (Some c) e x s repeated h = asked c e x s repeated h
 
   began : (v : Option BucketContent) → HoldsAt v o z Here z false
   began None = (refl, refl)
@@ -450,3 +518,34 @@ create_laws = record {
   during = λ o z p s repeated h l. all_moments o.file z h.1 (bucket_at z o.file.path.bucket) refl p.stage s repeated h.2 l;
   at_end = λ o z a s h. ends_always o.file z a s h;
 }
+
+-- ---- where each sending was answered
+
+abbrev NextOwn : CreateFile → Scene → Step CreateFile Answer → Scene → Type 0
+NextOwn o z (Next p) s = least o.file z → NoneBut (upload_of p.stage) z o.file.path.bucket s
+NextOwn o z (End a) s = least o.file z → NoneLeft z o.file.path.bucket s
+
+both_so : (o : CreateFile) (z : Scene) (y : Step CreateFile Answer) (s : Scene) → Goes (λ p s. holds o z p s false) (gives o z) y s → NextOwn o z y s → Goes (calm o z) (leaves o z) y s
+both_so o z (Next p) s h g = (h, g)
+both_so o z (End a) s h g = (h, g)
+
+own_so : (o : CreateFile) (z : Scene) (f : Creation) (y : CreateStep) (s : Scene) → (least o.file z → OwnStep o.file z y s) → NextOwn o z (stepped f y) s
+own_so o z f (Next x) s g = g
+own_so o z f (End a) s g = g
+
+calm_goes : (o : CreateFile) (z : Scene) (p : CreateFile) (s : Scene) → calm o z p s → Goes (calm o z) (leaves o z) (led p (answer s (request p)) false) (apply s (request p))
+calm_goes o z p s h =
+    both_so o z (led p (answer s (request p)) false) (apply s (request p)) (course_goes o z p s false h.0)
+    (subst (λ n. NextOwn o z (stepped n (goes n p.stage (answer s (asks n p.stage)) false)) (apply s (asks n p.stage))) (sym h.0.0)
+    (own_so o z o.file (goes o.file p.stage (answer s (asks o.file p.stage)) false) (apply s (asks o.file p.stage))
+    (λ l. all_own o.file z h.0.1 (bucket_at z o.file.path.bucket) refl p.stage s h.0.2 l (h.1 l))))
+
+pub create_calm : IsCalm starts request led calm leaves
+create_calm = record {
+  begin = λ p s h. (begins_so p s h, λ l id le e ne. e);
+  goes_on = λ o z p s h. calm_goes o z p s h;
+}
+
+pub create_asked : MaySend request holds sends
+create_asked o z p s repeated h =
+    subst (λ n. (only_reads (asks n p.stage) ≡ true) ⊎ SomeDue o.file (bucket_at z o.file.path.bucket)) (sym h.0) (all_asked o.file z h.1 (bucket_at z o.file.path.bucket) refl p.stage s repeated h.2)

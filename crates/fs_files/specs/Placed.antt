@@ -3,6 +3,7 @@ use Rattle.std.specs.Prelude.{◌≡◌, ◌⊎◌, ℕ, ◌≤◌, ◌<◌, Lis
 use Rattle.std.specs.FinMap as fin
 use Rattle.s3_types.specs.Store.{Objects, BucketContent, Scene}
 use Rattle.s3_types.specs.declared.object.Object.{Object}
+use Rattle.request_frame.specs.Held.{upload_at}
 
 -- z with this in a bucket, and this as the next upload's id
 abbrev pub placed : Scene → List ℕ → BucketContent → ℕ → Scene
@@ -25,6 +26,13 @@ pub record IsBeside (z : Scene) (b : List ℕ) (c : BucketContent) (holds : Obje
 abbrev pub InFile : Option BucketContent → (Objects → Objects → Type 0) → Type 0 → Scene → List ℕ → Scene → Type 0
 InFile None holds absent z b s = (s ≡ z) × absent
 InFile (Some c) holds absent z b s = IsBeside z b c (holds c.objects) s
+
+-- of the uploads that were begun since z, this one alone may be live, or none
+abbrev pub NoneBut : Option ℕ → Scene → List ℕ → Scene → Type 0
+NoneBut own z b s = (id : ℕ) → z.content.next ≤ id → upload_at z.content b id ≡ None → (own ≡ Some id → ⊥) → upload_at s.content b id ≡ None
+
+abbrev pub NoneLeft : Scene → List ℕ → Scene → Type 0
+NoneLeft z b s = (id : ℕ) → z.content.next ≤ id → upload_at z.content b id ≡ None → upload_at s.content b id ≡ None
 
 -- the object of a file
 abbrev pub object_of : List ℕ → Object

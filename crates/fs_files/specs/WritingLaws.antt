@@ -1,5 +1,5 @@
 -- A file that is written is a closed stream: its bytes are held, whatever the store loses, and nothing else changes. Contracts cite none of these laws.
-use Rattle.std.specs.Prelude.{◌≡◌, ℕ, ◌+◌, ◌-◌, ◌<◌, ◌≤◌, ◌||◌, not, nat_lt, nat_le, Bool, true, false, cond, List, [], ◌∷◌, ◌++◌, take, drop, length, Option, Some, None, Result, Ok, Err}
+use Rattle.std.specs.Prelude.{◌≡◌, ◌⊎◌, ℕ, ◌+◌, ◌-◌, ◌<◌, ◌≤◌, ◌||◌, not, nat_lt, nat_le, Bool, true, false, cond, List, [], ◌∷◌, ◌++◌, take, drop, length, Option, Some, None, Result, Ok, Err}
 use Rattle.std.proofs.Common.{refl, sym, ap, subst, ◌∙◌, inl, inr, arith, length-drop}
 use Rattle.std.proofs.lemmas.Bool.Decides.{nat_tests}
 use Rattle.std.proofs.lemmas.List.{take_all}
@@ -9,7 +9,7 @@ use Rattle.std.specs.FinMap as fin
 use Rattle.proof_base.specs.Order.{text_total}
 use Rattle.proof_base.proofs.Tree.{insert_same}
 use Rattle.s3_types.specs.Store.{Objects, Uploads, Upload, BucketContent, Buckets, Scene}
-use Rattle.s3_types.specs.Answer.{answer, apply, answer_at, apply_at, apply_in, bucket_of, draws, part_put, completed}
+use Rattle.s3_types.specs.Answer.{answer, apply, answer_at, apply_at, apply_in, bucket_of, draws, part_put, complete_answer, completed}
 use Rattle.s3_types.specs.Multipart.{live, is_part_number, with_part, joined}
 use Rattle.s3_types.specs.Tags.{Spelled}
 use Rattle.s3_types.specs.Blocks.{named_from}
@@ -19,7 +19,8 @@ use Rattle.s3_types.specs.declared.reply.Reply.{Reply}
 use Rattle.s3_types.specs.declared.reply.Reply.TheVariants.{Stored, Upload as Drawn, Part, Completed, Refused}
 use Rattle.s3_types.specs.declared.reply.Refusal.{Refusal}
 use Rattle.s3_types.specs.declared.reply.Refusal.TheVariants.{NoSuchUpload}
-use Rattle.request_frame.proofs.Members.{some_is, nat_other, nat_left}
+use Rattle.request_frame.specs.Held.{upload_in, upload_at}
+use Rattle.request_frame.proofs.Members.{some_is, same_or_not, nat_other, nat_left, nat_gone}
 use Rattle.bucket_ops.specs.declared.look.Look.TheVariants.{NoBucket}
 use Rattle.bucket_ops.specs.Looks.{look_of}
 use Rattle.bucket_ops.specs.AskLaws.{get_put, put_put}
@@ -31,7 +32,7 @@ use Rattle.block_stream.specs.Stream.{Stream, has_some, has_part, begin_or_wait,
 use Rattle.block_stream.specs.Holds.{HasRoom, Holds}
 use Rattle.block_stream.specs.FillingLaws.{due, room_after, room_begun, held_at}
 use Rattle.block_stream.specs.KeepingLaws as keeping
-use Rattle.fs_files.specs.Placed.{placed, IsLater, IsBeside, IsFileOrNot, object_of}
+use Rattle.fs_files.specs.Placed.{placed, IsLater, IsBeside, IsFileOrNot, NoneBut, NoneLeft, object_of}
 use Rattle.fs_files.specs.declared.writing.Heard.{Heard}
 use Rattle.fs_files.specs.declared.writing.Heard.TheVariants.{Done, On, Refusing}
 use Rattle.fs_files.specs.Writing.{Writing, unsent, stream_of, first_stage, later_stage, is_short, is_due, stage_by, stage_in, id_in, asks_at, asks}
@@ -375,6 +376,92 @@ module _ (z : Scene) (b bytes : List ℕ) (c : BucketContent) (w : Writing) (s :
 
   pub goes_on : HeardSo z b w.key bytes c (heard w (answer s r) repeated) (apply s r)
   goes_on = heard_so (stage_in w) (answer s r) refl fits took (λ id e f. later_id id e f)
+
+-- ---- where each sending was answered, its own upload alone is live
+
+abbrev pub OwnHeard : Scene → List ℕ → Heard → Scene → Type 0
+OwnHeard z b Done s = NoneLeft z b s
+OwnHeard z b (On v) s = NoneBut v.upload z b s
+OwnHeard z b Refusing s = Unit {0}
+
+no_own : (u : Option ℕ) (id : ℕ) → u ≡ None → u ≡ Some id → ⊥
+no_own u id e f = cc
+
+drawn_same : (i j : ℕ) → Drawn i ≡ Drawn j → i ≡ j
+drawn_same i j e = cc
+
+module _ (z : Scene) (b bytes : List ℕ) (c : BucketContent) (w : Writing) (s : Scene) (h : Writes z b bytes c w s false) (own : NoneBut w.upload z b s) where
+  abbrev dd : BucketContent
+  dd = h.beside.content
+
+  abbrev nn : ℕ
+  nn = h.beside.next
+
+  there : (id : ℕ) → upload_at s.content b id ≡ fin.get dd.uploads id
+  there id = ap (λ (s : Scene). upload_at s.content b id) h.beside.scene ∙ ap (λ o. upload_in o id) (get_put z.content.buckets b dd)
+
+  since : (g : Stage) (id : ℕ) → upload_at (apply s (asks_at g b w)).content b id ≡ fin.get (apply_in dd nn z.content.minimum (asks_at g b w)).uploads id
+  since g id =
+      ap (λ (s : Scene). upload_at (apply s (asks_at g b w)).content b id) h.beside.scene
+      ∙ ap (λ (s : Scene). upload_at s.content b id) (applied_at g w z b dd nn)
+      ∙ ap (λ o. upload_in o id) (get_put z.content.buckets b (apply_in dd nn z.content.minimum (asks_at g b w)))
+
+  -- an id that is not its own
+  other : (id : ℕ) → z.content.next ≤ id → upload_at z.content b id ≡ None → (w.upload ≡ Some id → ⊥) → fin.get dd.uploads id ≡ None
+  other id l e ne = sym (there id) ∙ own id l e ne
+
+  put_own : (a : Reply) → w.upload ≡ None → OwnHeard z b (heard_at Putting w a false) (apply s (asks_at Putting b w))
+  put_own (Stored t) e = λ id l f. since Putting id ∙ other id l f (no_own w.upload id e)
+  put_own _ e = tt
+
+  begin_own : (a : Reply) → w.upload ≡ None → a ≡ Drawn nn → OwnHeard z b (heard_at Beginning w a false) (apply s (asks_at Beginning b w))
+  begin_own (Drawn i) e q = λ id l f ne.
+      since Beginning id
+      ∙ nat_other dd.uploads nn id (record { key = w.key; parts = fin.empty }) (λ g. ne (ap Some (drawn_same i nn q ∙ sym g)))
+      ∙ other id l f (no_own w.upload id e)
+  begin_own _ e q = tt
+
+  send_own : (a : Reply) → w.upload ≡ Some (id_in w) → OwnHeard z b (heard_at Sending w a false) (apply s (asks_at Sending b w))
+  send_own (Part t) e = λ id l f ne.
+      since Sending id
+      ∙ part_kept dd.uploads (id_in w) id (live dd.uploads w.key (id_in w)) (length w.tags + 1) (take w.block w.pending) (λ g. ne (e ∙ ap Some (sym g)))
+      ∙ other id l f ne
+  send_own _ e = tt
+
+  ended_gone : (id : ℕ) (t : Spelled) (m : Result (List ℕ) Refusal) → id ≡ id_in w → complete_answer (named_from 1 w.tags) m ≡ Completed t → fin.get (completed dd w.key (id_in w) m).uploads id ≡ None
+  ended_gone id t (Ok x) f e = nat_gone dd.uploads (id_in w) id f
+  ended_gone id t (Err r) f e = absurd (cc)
+
+  refused_own : (r : Refusal) (v : Scene) → OwnHeard z b (refused false r) v
+  refused_own r v = tt
+
+  end_own : (a : Reply) → w.upload ≡ Some (id_in w) → a ≡ complete_answer (named_from 1 w.tags) (joined (live dd.uploads w.key (id_in w)) (named_from 1 w.tags) z.content.minimum)
+      → OwnHeard z b (heard_at Completing w a false) (apply s (asks_at Completing b w))
+  end_own (Completed t) e q = λ id l f. since Completing id ∙ by id l f (same_or_not id (id_in w))
+    where
+      by : (id : ℕ) → z.content.next ≤ id → upload_at z.content b id ≡ None → (id ≡ id_in w) ⊎ (id ≡ id_in w → ⊥) → fin.get (completed dd w.key (id_in w) (joined (live dd.uploads w.key (id_in w)) (named_from 1 w.tags) z.content.minimum)).uploads id ≡ None
+      by id l f (inl g) = ended_gone id t (joined (live dd.uploads w.key (id_in w)) (named_from 1 w.tags) z.content.minimum) g (sym q)
+      by id l f (inr g) = ended_kept dd w.key (id_in w) id (joined (live dd.uploads w.key (id_in w)) (named_from 1 w.tags) z.content.minimum) g ∙ other id l f (λ k. g (some_is (sym k ∙ e)))
+  end_own (Refused r) e q = refused_own r (apply s (asks_at Completing b w))
+  end_own _ e q = tt
+
+  pub own_goes : OwnHeard z b (heard w (answer s (asks b w)) false) (apply s (asks b w))
+  own_goes = by w.upload refl
+    where
+      first : (t : Bool) → w.upload ≡ None → OwnHeard z b (heard_at (first_stage t) w (answer s (asks_at (first_stage t) b w)) false) (apply s (asks_at (first_stage t) b w))
+      first true e = put_own (answer s (asks_at Putting b w)) e
+      first false e = begin_own (answer s (asks_at Beginning b w)) e
+          (ap (λ s. answer s (CreateUpload b w.key)) h.beside.scene ∙ ap (λ o. answer_at o nn z.content.minimum (CreateUpload b w.key)) (get_put z.content.buckets b dd))
+
+      later : (t : Bool) → w.upload ≡ Some (id_in w) → OwnHeard z b (heard_at (later_stage t) w (answer s (asks_at (later_stage t) b w)) false) (apply s (asks_at (later_stage t) b w))
+      later true e = send_own (answer s (asks_at Sending b w)) e
+      later false e = end_own (answer s (asks_at Completing b w)) e
+          (ap (λ s. answer s (CompleteUpload b w.key (id_in w) (named_from 1 w.tags))) h.beside.scene
+          ∙ ap (λ o. answer_at o nn z.content.minimum (CompleteUpload b w.key (id_in w) (named_from 1 w.tags))) (get_put z.content.buckets b dd))
+
+      by : (u : Option ℕ) → w.upload ≡ u → OwnHeard z b (heard_at (stage_by u w) w (answer s (asks_at (stage_by u w) b w)) false) (apply s (asks_at (stage_by u w) b w))
+      by None e = first (is_short w) e
+      by (Some id) e = later (is_due w) (e ∙ ap Some (sym (ap (λ u. unwrap_or u 0) e)))
 
 -- ---- what is left falls, whatever is answered
 

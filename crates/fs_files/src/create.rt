@@ -2,7 +2,7 @@ ghost use Rattle.std.specs.Prelude.{◌≡◌, ◌*◌, ◌≤◌, length, IfOk}
 ghost use Rattle.s3_types.specs.declared.limits.TheConstants.{MOST_PARTS};
 ghost use Rattle.fs_files.specs.Create as create;
 ghost use Rattle.fs_files.specs.Create.{write_at, up_from, on_here, on_below, on_up, written, climb};
-ghost use Rattle.fs_files.specs.CreateLaws.{create_laws};
+ghost use Rattle.fs_files.specs.CreateLaws.{create_laws, create_asked, create_calm};
 
 use crate::writing::{FileStream, Heard};
 use bucket_ops::{Look, seen_in};
@@ -253,9 +253,19 @@ impl Plan for CreateFile {
 
     ghost always = { create.always };
 
+    ghost sends = { create.sends };
+
+    ghost calm = { create.calm };
+
+    ghost leaves = { create.leaves };
+
     ghost left = { create.left };
 
     ghost laws = { create_laws };
+
+    ghost asked = { create_asked };
+
+    ghost calms = { create_calm };
 
     fn ask(&self) -> Result<Request, AllocError> {
         self.file.ask(&self.stage)

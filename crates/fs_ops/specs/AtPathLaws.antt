@@ -1,5 +1,5 @@
 -- What stands at a path, stage by stage, whatever is asked of a file there.
-use Rattle.std.specs.Prelude.{◌≡◌, false, ℕ, List, [], ◌∷◌, Result, Err, Option, Some, None}
+use Rattle.std.specs.Prelude.{◌≡◌, true, false, ℕ, List, [], ◌∷◌, Result, Err, Option, Some, None}
 use Rattle.std.proofs.Common.{refl, sym, subst, ◌∙◌, arith}
 use Rattle.std.specs.FinMap as fin
 use Rattle.s3_types.specs.Store.{Objects}
@@ -9,15 +9,16 @@ use Rattle.operations.specs.Plans.{Goes, Falls}
 use Rattle.bucket_ops.specs.declared.look.Look.{Look}
 use Rattle.bucket_ops.specs.declared.look.Look.TheVariants.{There, Nothing, NoBucket, Other}
 use Rattle.bucket_ops.specs.Looks.{look_of}
-use Rattle.bucket_ops.specs.Asks.{Ask, reply_in, edited}
-use Rattle.bucket_ops.specs.Phases.{IsPhases}
+use Rattle.bucket_ops.specs.Asks.{Ask, reply_in, edited, is_look}
+use Rattle.bucket_ops.specs.Phases.{IsPhases, MayAsk}
 use Rattle.dir_markers.specs.Markers.{marker_of}
 use Rattle.fs_tree.specs.declared.answers.FsRefusal.{FsRefusal}
 use Rattle.fs_tree.specs.declared.answers.FsRefusal.TheVariants.{NotFound, NoSuchBucket}
 use Rattle.fs_tree.specs.Tree.{SomeBelow, NoneBelow, IsDirectory, IsAbsent}
 use Rattle.fs_ops.specs.declared.at_path.PathStage.{PathStage}
 use Rattle.fs_ops.specs.declared.at_path.PathStage.TheVariants.{Here, Below}
-use Rattle.fs_ops.specs.Steps.{goes_by, IsStages, IsStill}
+use Rattle.fs_ops.specs.Places.{look_asks, get_asks}
+use Rattle.fs_ops.specs.Steps.{goes_by, IsStages, IsStill, OnlyLooks}
 use Rattle.fs_ops.specs.StepLaws.{phases_of}
 use Rattle.fs_ops.specs.Looks.{IsSeen, page_tells}
 use Rattle.fs_ops.specs.AtPath.{first, asks, told, on_here, on_below, on, holds, left}
@@ -90,3 +91,17 @@ module _ {A : Type 0} {ask : List ℕ → Ask} {file : Reply → Option A} {dire
 
   pub question_laws : IsPhases {O = List ℕ} first (asks ask) (goes_by (on directory file)) holds gives IsStill left (Err NoSuchBucket)
   question_laws = phases_of stages
+
+-- ---- it only looks
+
+pub looks_there : (p : List ℕ) → is_look (look_asks p) ≡ true
+looks_there [] = refl
+looks_there (x ∷ p) = refl
+
+pub gets_there : (p : List ℕ) → is_look (get_asks p) ≡ true
+gets_there [] = refl
+gets_there (x ∷ p) = refl
+
+pub question_asked : (ask : List ℕ → Ask) → ((p : List ℕ) → is_look (ask p) ≡ true) → MayAsk {O = List ℕ} (asks ask) holds OnlyLooks
+question_asked ask f o z Here m h = f o
+question_asked ask f o z Below m h = refl

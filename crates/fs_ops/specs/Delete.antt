@@ -13,7 +13,7 @@ use Rattle.operations.specs.declared.plan.Step.TheVariants.{Next, End}
 use Rattle.bucket_ops.specs.declared.look.Look.{Look}
 use Rattle.bucket_ops.specs.declared.look.Look.TheVariants.{There}
 use Rattle.bucket_ops.specs.Looks.{look_of}
-use Rattle.bucket_ops.specs.Asks.{Ask, Page, Put}
+use Rattle.bucket_ops.specs.Asks.{Ask, Page, Put, is_look}
 use Rattle.job_operations.specs.Walks.{sweep_start, sweep_hears, all_go}
 use Rattle.job_operations.specs.Walks as walks
 use Rattle.fs_tree.specs.declared.answers.FsRefusal.{FsRefusal}
@@ -121,6 +121,14 @@ holds o z (Sweep w) m = NoFileAt z o.path × SomeBelow z (prefix_of o.path) × (
 holds o z (Parent k) m = (marker_if (parent o.path) ≡ Some k) × Removed o z m
 holds o z (PutMarker k) m = (marker_if (parent o.path) ≡ Some k) × Removed o z m × NoneBelow m k
 
+-- there is what is to be deleted
+abbrev pub IsDue : Deletion → Objects → Type 0
+IsDue o z = HasFile z o.path ⊎ (NoFileAt z o.path × SomeBelow z (prefix_of o.path) × (o.recursive ≡ false → IsEmpty z o.path))
+
+-- it looks, or deletes what is to be deleted and puts the marker above
+abbrev pub sends : Deletion → Objects → Ask → Type 0
+sends o z a = (is_look a ≡ true) ⊎ IsDue o z
+
 -- what is deleted, and the marker that is put
 abbrev pub ends : Deletion → Objects → Answer → Objects → Type 0
 ends o z (Ok x) m = (n : Objects) × Removed o z n × IsMarked (marker_if (parent o.path)) n m
@@ -129,9 +137,13 @@ ends o z (Err NotFound) m = IsAbsent z o.path × (m ≡ z)
 ends o z (Err NotEmpty) m = (o.recursive ≡ false) × NoFileAt z o.path × HasChildren z o.path × (m ≡ z)
 ends o z (Err r) m = ⊥
 
--- at any moment a key is as it was, or it is the path or below it and is gone, or it is the marker of the directory above, which is put
+-- the key goes with the path: that of a file, or of a directory its marker and what is below it
+abbrev pub GoesWith : Deletion → Objects → List ℕ → Type 0
+GoesWith o z k = (HasFile z o.path × (k ≡ o.path)) ⊎ (NoFileAt z o.path × (begins (prefix_of o.path) k ≡ true))
+
+-- at any moment a key is as it was, or it goes with the path and is gone, or it is the marker of the directory above, which is put
 abbrev pub IsKept : Deletion → Objects → Objects → List ℕ → Type 0
-IsKept o z m k = (fin.get m k ≡ fin.get z k) ⊎ (((fin.get m k ≡ None) × ((k ≡ o.path) ⊎ (begins (prefix_of o.path) k ≡ true))) ⊎ ((marker_if (parent o.path) ≡ Some k) × (fin.get m k ≡ Some marker)))
+IsKept o z m k = (fin.get m k ≡ fin.get z k) ⊎ (((fin.get m k ≡ None) × GoesWith o z k) ⊎ ((marker_if (parent o.path) ≡ Some k) × (fin.get m k ≡ Some marker)))
 
 abbrev pub always : Deletion → Objects → Objects → Type 0
 always o z m = (k : List ℕ) → IsKept o z m k

@@ -21,7 +21,7 @@ use Rattle.bucket_ops.specs.declared.look.Look.{Look}
 use Rattle.bucket_ops.specs.declared.look.Look.TheVariants.{There, Nothing, NoBucket, Other}
 use Rattle.bucket_ops.specs.Looks.{look_of}
 use Rattle.bucket_ops.specs.Asks.{reply_in, edited}
-use Rattle.bucket_ops.specs.Phases.{IsPhases}
+use Rattle.bucket_ops.specs.Phases.{IsPhases, MayAsk}
 use Rattle.dir_markers.specs.Markers.{marker_of}
 use Rattle.job_operations.specs.Walks.{sweep_start, sweep_hears, all_go, Listing, Deleting}
 use Rattle.job_operations.specs.Walks as walks
@@ -33,13 +33,14 @@ use Rattle.fs_ops.specs.declared.delete.Inside.{Inside}
 use Rattle.fs_ops.specs.declared.delete.Inside.TheVariants.{Empty, MarkerAlone, Children}
 use Rattle.fs_ops.specs.declared.delete.DeleteStage.{DeleteStage}
 use Rattle.fs_ops.specs.declared.delete.DeleteStage.TheVariants.{Here, DropFile, Below, DropMarker, Sweep, Parent, PutMarker}
-use Rattle.fs_ops.specs.Places.{look_asks, prefix_of}
+use Rattle.fs_ops.specs.Places.{look_asks, prefix_of, NoFileAt}
 use Rattle.fs_ops.specs.Steps.{goes_by, IsStages}
 use Rattle.fs_ops.specs.StepLaws.{phases_of}
+use Rattle.fs_ops.specs.AtPathLaws.{looks_there}
 use Rattle.fs_ops.specs.Looks.{IsSeen, head_tells, page_tells, none_listed}
 use Rattle.fs_ops.specs.Sweeping.{sweep_asks, fits, IsSweeping, IsSwept, sweep_begins, sweep_goes, sweep_fits, sweep_left, LessLeft, sweep_falls, sweep_stays, is_in, keys_below, below_stands, stands_below, gone_in, kept_out, without_below}
 use Rattle.fs_ops.specs.Deleting.{deletes}
-use Rattle.fs_ops.specs.Delete.{Deletion, Answer, first, asks, up_to, up, here as here_at, on_here, inside, children, entries_in, on_inside, swept, on_sweep, on_parent, on, Removed, holds, ends, IsKept, always, gives, left}
+use Rattle.fs_ops.specs.Delete.{Deletion, Answer, first, asks, up_to, up, here as here_at, on_here, inside, children, entries_in, on_inside, swept, on_sweep, on_parent, on, Removed, holds, IsDue, sends, ends, GoesWith, IsKept, always, gives, left}
 
 -- ---- what the first two entries below a directory tell
 
@@ -192,35 +193,35 @@ module _ (recursive : Bool) (z : Objects) where
 
 module _ (o : Deletion) (z : Objects) where
   abbrev Gone : Objects → List ℕ → Type 0
-  Gone m k = (fin.get m k ≡ fin.get z k) ⊎ ((fin.get m k ≡ None) × ((k ≡ o.path) ⊎ (begins (prefix_of o.path) k ≡ true)))
+  Gone m k = (fin.get m k ≡ fin.get z k) ⊎ ((fin.get m k ≡ None) × GoesWith o z k)
 
   as_kept : (m : Objects) (k : List ℕ) → Gone m k → IsKept o z m k
   as_kept m k (inl e) = inl e
   as_kept m k (inr h) = inr (inl h)
 
-  gone_below : (ks : List (List ℕ)) → ((k : List ℕ) → IsIn k ks → begins (prefix_of o.path) k ≡ true) → (k : List ℕ) → Gone (without z ks) k
-  gone_below ks b k = by (is_in k ks)
+  gone_below : (ks : List (List ℕ)) → NoFileAt z o.path → ((k : List ℕ) → IsIn k ks → begins (prefix_of o.path) k ≡ true) → (k : List ℕ) → Gone (without z ks) k
+  gone_below ks free b k = by (is_in k ks)
     where
       by : IsIn k ks ⊎ (IsIn k ks → ⊥) → Gone (without z ks) k
-      by (inl h) = inr (gone_in z ks k h, inr (b k h))
+      by (inl h) = inr (gone_in z ks k h, inr (free, b k h))
       by (inr g) = inl (kept_out z ks k g)
 
-  gone_swept : (w : walks.Sweep) (m : Objects) → IsSweeping (prefix_of o.path) z w m → (k : List ℕ) → Gone m k
-  gone_swept (Listing keys) m h k = inl (ap (λ m. fin.get m k) h.0)
-  gone_swept (Deleting q qs) m h k =
+  gone_swept : (w : walks.Sweep) (m : Objects) → NoFileAt z o.path → IsSweeping (prefix_of o.path) z w m → (k : List ℕ) → Gone m k
+  gone_swept (Listing keys) m free h k = inl (ap (λ m. fin.get m k) h.0)
+  gone_swept (Deleting q qs) m free h k =
       subst (λ m. Gone m k) (sym h.2)
-      (gone_below h.0 (λ k i. (below_stands (prefix_of o.path) z k (subst (IsIn k) h.1 (in_front k h.0 (q ∷ qs) i))).0) k)
+      (gone_below h.0 free (λ k i. (below_stands (prefix_of o.path) z k (subst (IsIn k) h.1 (in_front k h.0 (q ∷ qs) i))).0) k)
 
   gone_removed : (n : Objects) → Removed o z n → (k : List ℕ) → Gone n k
   gone_removed n (inl h) k = subst (λ m. Gone m k) (sym h.1) (by (same_or_other k o.path))
     where
       by : (k ≡ o.path) ⊎ (k ≡ o.path → ⊥) → Gone (fin.remove z o.path) k
-      by (inl e) = inr (text_gone z o.path k e, inl e)
+      by (inl e) = inr (text_gone z o.path k e, inl (h.0, e))
       by (inr g) = inl (text_left z o.path k g)
   gone_removed n (inr h) k = by (true_or_false (begins (prefix_of o.path) k))
     where
       by : (begins (prefix_of o.path) k ≡ true) ⊎ (begins (prefix_of o.path) k ≡ false) → Gone n k
-      by (inl t) = inr (h.3.gone k t, inr t)
+      by (inl t) = inr (h.3.gone k t, inr (h.0, t))
       by (inr f) = inl (h.3.others k f)
 
   kept_marked : (q : List ℕ) (n : Objects) → marker_if (parent o.path) ≡ Some q → ((k : List ℕ) → Gone n k) → (k : List ℕ) → IsKept o z (fin.insert n q marker) k
@@ -239,7 +240,7 @@ module _ (o : Deletion) (z : Objects) where
   during DropFile m h k = inl (ap (λ m. fin.get m k) h.1)
   during Below m h k = inl (ap (λ m. fin.get m k) h.1)
   during DropMarker m h k = inl (ap (λ m. fin.get m k) h.2)
-  during (Sweep w) m h k = as_kept m k (gone_swept w m h.3 k)
+  during (Sweep w) m h k = as_kept m k (gone_swept w m h.0 h.3 k)
   during (Parent q) m h k = as_kept m k (gone_removed m h.1 k)
   during (PutMarker q) m h k = as_kept m k (gone_removed m h.1 k)
 
@@ -339,3 +340,22 @@ stages = record {
 
 pub delete_laws : IsPhases {O = Deletion} first asks (goes_by on) holds gives always left (Err NoSuchBucket)
 delete_laws = phases_of stages
+
+-- ---- what is asked
+
+due_empty : (recursive : Bool) (p : List ℕ) (z : Objects) → NoFileAt z p → IsEmpty z p → IsDue (record { path = p; recursive = recursive }) z
+due_empty recursive [] z f h = absurd f
+due_empty recursive (x ∷ p) z f h = inr (f, (marker_of (x ∷ p), begins_all (marker_of (x ∷ p)), h.0.0, h.0.1), λ _. h)
+
+due_removed : (o : Deletion) (z m : Objects) → Removed o z m → IsDue o z
+due_removed o z m (inl h) = inl h.0
+due_removed o z m (inr h) = inr (h.0, h.1, h.2)
+
+pub delete_asked : MayAsk {O = Deletion} asks holds sends
+delete_asked o z Here m h = inl (looks_there o.path)
+delete_asked o z DropFile m h = inr (inl h.0)
+delete_asked o z Below m h = inl refl
+delete_asked o z DropMarker m h = inr (due_empty o.recursive o.path z h.0 h.1)
+delete_asked o z (Sweep w) m h = inr (inr (h.0, h.1, λ e. absurd (false≢true (sym e ∙ h.2))))
+delete_asked o z (Parent k) m h = inl refl
+delete_asked o z (PutMarker k) m h = inr (due_removed o z m h.1)

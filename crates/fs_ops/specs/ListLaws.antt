@@ -16,8 +16,8 @@ use Rattle.request_frame.specs.Members.{RisesFrom}
 use Rattle.request_frame.proofs.Listed.{listed_behind}
 use Rattle.operations.specs.declared.plan.Step.{Step}
 use Rattle.operations.specs.Plans.{Goes, Falls}
-use Rattle.bucket_ops.specs.Asks.{reply_in, edited}
-use Rattle.bucket_ops.specs.Phases.{IsPhases}
+use Rattle.bucket_ops.specs.Asks.{reply_in, edited, is_look}
+use Rattle.bucket_ops.specs.Phases.{IsPhases, MayAsk}
 use Rattle.fs_tree.specs.declared.answers.DirEntry.{DirEntry}
 use Rattle.fs_tree.specs.declared.answers.FsRefusal.TheVariants.{NotFound, NoSuchBucket}
 use Rattle.fs_tree.specs.Tree.{SomeBelow, NoFile, HasDir}
@@ -26,8 +26,9 @@ use Rattle.fs_ops.specs.declared.list.ListStage.{ListStage}
 use Rattle.fs_ops.specs.declared.list.ListStage.TheVariants.{Here, Pages}
 use Rattle.fs_ops.specs.Places.{prefix_of}
 use Rattle.fs_ops.specs.Stat.{length_in}
-use Rattle.fs_ops.specs.Steps.{goes_by, IsStages, IsStill}
+use Rattle.fs_ops.specs.Steps.{goes_by, IsStages, IsStill, OnlyLooks}
 use Rattle.fs_ops.specs.StepLaws.{phases_of}
+use Rattle.fs_ops.specs.AtPathLaws.{looks_there}
 use Rattle.fs_ops.specs.Children.{some_listed, none_listed, listed_rises}
 use Rattle.fs_ops.specs.Showing.{shows_children}
 use Rattle.fs_ops.specs.List.{Answer, shown, added, all_added, last_text, first, asks, told, whole, paged, on, children, holds, left}
@@ -193,3 +194,11 @@ stages = record {
 
 pub list_laws : IsPhases {O = List ℕ} first asks (goes_by on) holds Lists IsStill left (Err NoSuchBucket)
 list_laws = phases_of stages
+
+pub list_asked : MayAsk {O = List ℕ} asks holds OnlyLooks
+list_asked o z Here m h = looks_there o
+list_asked o z (Pages found mark) m h = refl
+
+pub first_looks : (o : List ℕ) → is_look (asks o (first o)) ≡ true
+first_looks [] = refl
+first_looks (x ∷ p) = refl

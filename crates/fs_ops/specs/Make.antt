@@ -1,5 +1,5 @@
 -- Making a directory, by its stages.
-use Rattle.std.specs.Prelude.{◌≡◌, ◌⊎◌, ℕ, ◌+◌, List, [], ◌∷◌, Result, Ok, Err, length}
+use Rattle.std.specs.Prelude.{◌≡◌, ◌⊎◌, ℕ, ◌+◌, true, List, [], ◌∷◌, Result, Ok, Err, length}
 use Rattle.std.specs.FinMap as fin
 use Rattle.s3_types.specs.Store.{Objects}
 use Rattle.s3_types.specs.declared.reply.Reply.{Reply}
@@ -8,7 +8,7 @@ use Rattle.operations.specs.declared.plan.Step.TheVariants.{Next, End}
 use Rattle.bucket_ops.specs.declared.look.Look.{Look}
 use Rattle.bucket_ops.specs.declared.look.Look.TheVariants.{There}
 use Rattle.bucket_ops.specs.Looks.{look_of}
-use Rattle.bucket_ops.specs.Asks.{Ask, Head}
+use Rattle.bucket_ops.specs.Asks.{Ask, Head, is_look}
 use Rattle.dir_markers.specs.Markers.{marker_of, keys_above}
 use Rattle.fs_tree.specs.declared.answers.FsRefusal.{FsRefusal}
 use Rattle.fs_tree.specs.declared.answers.FsRefusal.TheVariants.{AlreadyExists, NotDirectory}
@@ -72,6 +72,10 @@ holds o z PutMarker m = (m ≡ z) × IsAbsent z o × NoFiles z (keys_above o)
 -- at any moment all is as it was, or the marker was put where it was due
 abbrev pub always : List ℕ → Objects → Objects → Type 0
 always o z m = (m ≡ z) ⊎ (IsAbsent z o × NoFiles z (keys_above o) × (m ≡ fin.insert z (marker_of o) marker))
+
+-- it looks, or puts the marker where it is due
+abbrev pub sends : List ℕ → Objects → Ask → Type 0
+sends o z a = (is_look a ≡ true) ⊎ (IsAbsent z o × NoFiles z (keys_above o) × (a ≡ put_marker_asks o))
 
 abbrev pub left : List ℕ → MakeStage → Objects → ℕ
 left o Here m = length (keys_above o) + 2

@@ -12,7 +12,7 @@ use Rattle.bucket_ops.specs.declared.look.Look.{Look}
 use Rattle.bucket_ops.specs.declared.look.Look.TheVariants.{There, Nothing, NoBucket, Other}
 use Rattle.bucket_ops.specs.Looks.{look_of}
 use Rattle.bucket_ops.specs.Asks.{reply_in, edited}
-use Rattle.bucket_ops.specs.Phases.{IsPhases}
+use Rattle.bucket_ops.specs.Phases.{IsPhases, MayAsk}
 use Rattle.dir_markers.specs.Markers.{marker_of, keys_above}
 use Rattle.fs_tree.specs.declared.answers.FsRefusal.TheVariants.{AlreadyExists, NotDirectory, NoSuchBucket}
 use Rattle.fs_tree.specs.Tree.{Stands, SomeBelow, NoneBelow, marker, IsAbsent, IsDirectory, NoFiles}
@@ -22,8 +22,9 @@ use Rattle.fs_ops.specs.declared.make_dirs.MakeStage.{MakeStage}
 use Rattle.fs_ops.specs.declared.make_dirs.MakeStage.TheVariants.{Here, Below, Up, PutMarker}
 use Rattle.fs_ops.specs.Steps.{goes_by, IsStages}
 use Rattle.fs_ops.specs.StepLaws.{phases_of}
+use Rattle.fs_ops.specs.AtPathLaws.{looks_there}
 use Rattle.fs_ops.specs.Looks.{IsSeen, head_tells, page_tells}
-use Rattle.fs_ops.specs.Make.{Answer, first, asks, up_from, here as here_at, on_here, on_below, on_up, on, Passed, holds, always, left}
+use Rattle.fs_ops.specs.Make.{Answer, first, asks, up_from, here as here_at, on_here, on_below, on_up, on, Passed, holds, always, sends, left}
 
 module _ (z : Objects) where
   abbrev On : List ℕ → Step MakeStage Answer → Objects → Type 0
@@ -129,3 +130,9 @@ stages = record {
 
 pub make_laws : IsPhases {O = List ℕ} first asks (goes_by on) holds Makes always left (Err NoSuchBucket)
 make_laws = phases_of stages
+
+pub make_asked : MayAsk {O = List ℕ} asks holds sends
+make_asked o z Here m h = inl (looks_there o)
+make_asked o z Below m h = inl refl
+make_asked o z (Up k ks) m h = inl refl
+make_asked o z PutMarker m h = inr (h.1, h.2, refl)

@@ -7,13 +7,13 @@ use Rattle.s3_types.specs.Answer.{found}
 use Rattle.s3_types.specs.declared.object.Object.{Object}
 use Rattle.operations.specs.Plans.{Goes}
 use Rattle.bucket_ops.specs.Asks.{edited}
-use Rattle.bucket_ops.specs.Phases.{IsPhases}
+use Rattle.bucket_ops.specs.Phases.{IsPhases, MayAsk}
 use Rattle.fs_tree.specs.declared.answers.FsRefusal.TheVariants.{NotFound, NoSuchBucket, IsDirectory}
 use Rattle.fs_tree.specs.Answers.{Reads}
 use Rattle.fs_ops.specs.Places.{get_asks}
-use Rattle.fs_ops.specs.Steps.{goes_by, IsStill}
+use Rattle.fs_ops.specs.Steps.{goes_by, IsStill, OnlyLooks}
 use Rattle.fs_ops.specs.AtPath.{first, told, holds, left}
-use Rattle.fs_ops.specs.AtPathLaws.{IsQuestion, question_laws}
+use Rattle.fs_ops.specs.AtPathLaws.{IsQuestion, question_laws, question_asked, gets_there}
 use Rattle.fs_ops.specs.Read.{Answer, asks, bytes_in, on}
 
 nothing_edited : (p : List ℕ) (z : Objects) → edited (get_asks p) z ≡ z
@@ -41,3 +41,6 @@ question = record {
 
 pub read_laws : IsPhases {O = List ℕ} first asks (goes_by on) holds Reads IsStill left (Err NoSuchBucket)
 read_laws = question_laws question
+
+pub read_asked : MayAsk {O = List ℕ} asks holds OnlyLooks
+read_asked = question_asked get_asks gets_there

@@ -7,14 +7,14 @@ use Rattle.s3_types.specs.Answer.{head}
 use Rattle.s3_types.specs.declared.object.Object.{Object}
 use Rattle.operations.specs.Plans.{Goes}
 use Rattle.bucket_ops.specs.Asks.{edited}
-use Rattle.bucket_ops.specs.Phases.{IsPhases}
+use Rattle.bucket_ops.specs.Phases.{IsPhases, MayAsk}
 use Rattle.dir_markers.specs.declared.status.Status.TheVariants.{Directory}
 use Rattle.fs_tree.specs.declared.answers.FsRefusal.TheVariants.{NotFound, NoSuchBucket}
 use Rattle.fs_tree.specs.Answers.{Stats}
 use Rattle.fs_ops.specs.Places.{look_asks}
-use Rattle.fs_ops.specs.Steps.{goes_by, IsStill}
+use Rattle.fs_ops.specs.Steps.{goes_by, IsStill, OnlyLooks}
 use Rattle.fs_ops.specs.AtPath.{first, told, holds, left}
-use Rattle.fs_ops.specs.AtPathLaws.{IsQuestion, question_laws}
+use Rattle.fs_ops.specs.AtPathLaws.{IsQuestion, question_laws, question_asked, looks_there}
 use Rattle.fs_ops.specs.Stat.{Answer, asks, status_in, on}
 
 still : (p : List ℕ) (z : Objects) → edited (look_asks p) z ≡ z
@@ -41,3 +41,6 @@ question = record {
 
 pub stat_laws : IsPhases {O = List ℕ} first asks (goes_by on) holds Stats IsStill left (Err NoSuchBucket)
 stat_laws = question_laws question
+
+pub stat_asked : MayAsk {O = List ℕ} asks holds OnlyLooks
+stat_asked = question_asked look_asks looks_there

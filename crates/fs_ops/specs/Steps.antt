@@ -1,5 +1,5 @@
 -- Steps of file operations, all of which end where there is no bucket.
-use Rattle.std.specs.Prelude.{◌≡◌, ℕ, Result, Err}
+use Rattle.std.specs.Prelude.{◌≡◌, ℕ, true, Result, Err}
 use Rattle.s3_types.specs.Store.{Objects}
 use Rattle.s3_types.specs.declared.reply.Reply.{Reply}
 use Rattle.operations.specs.declared.plan.Step.{Step}
@@ -8,7 +8,7 @@ use Rattle.operations.specs.Plans.{Goes, Falls}
 use Rattle.bucket_ops.specs.declared.look.Look.{Look}
 use Rattle.bucket_ops.specs.declared.look.Look.TheVariants.{NoBucket}
 use Rattle.bucket_ops.specs.Looks.{look_of}
-use Rattle.bucket_ops.specs.Asks.{Ask, reply_in, edited}
+use Rattle.bucket_ops.specs.Asks.{Ask, reply_in, edited, is_look}
 use Rattle.fs_tree.specs.declared.answers.FsRefusal.{FsRefusal}
 use Rattle.fs_tree.specs.declared.answers.FsRefusal.TheVariants.{NoSuchBucket}
 
@@ -32,3 +32,7 @@ pub record IsStages {O X A : Type 0} (first : O → X) (asks : O → X → Ask) 
 -- an operation that only reads leaves the objects as they were
 abbrev pub IsStill : {O : Type 0} → O → Objects → Objects → Type 0
 IsStill o z m = m ≡ z
+
+-- and asks nothing but looks
+abbrev pub OnlyLooks : {O : Type 0} → O → Objects → Ask → Type 0
+OnlyLooks o z a = is_look a ≡ true

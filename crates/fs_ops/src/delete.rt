@@ -10,7 +10,7 @@ ghost use Rattle.fs_ops.specs.Delete as delete;
 ghost use Rattle.fs_ops.specs.Delete.{on_here, inside, on_inside, on_below, on_sweep, on_parent, up, up_to};
 ghost use Rattle.fs_ops.specs.Sweeping.{fits, sweep_asks};
 ghost use Rattle.fs_ops.specs.Steps.{goes_by};
-ghost use Rattle.fs_ops.specs.DeleteLaws.{delete_laws};
+ghost use Rattle.fs_ops.specs.DeleteLaws.{delete_laws, delete_asked};
 
 use crate::place::Place;
 use bucket_ops::{Look, Phases, seen_in};
@@ -225,11 +225,15 @@ impl Phases for DeletePath {
 
     ghost always = { delete.always };
 
+    ghost sends = { delete.sends };
+
     ghost left = { delete.left };
 
     ghost absent = { Err NoSuchBucket };
 
     ghost laws = { delete_laws };
+
+    ghost asked = { delete_asked };
 
     fn start(&self) -> DeleteStage {
         DeleteStage::Here

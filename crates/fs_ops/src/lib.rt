@@ -17,8 +17,9 @@
 //! IsRoot, NotFound, and NotEmpty exactly where something else than the marker stands below a directory
 //! and the deletion is not recursive; else the file, or the directory with all below it, is no more,
 //! all else is as it was, and the marker of the directory above is put exactly where that is no root
-//! and is left empty; at each moment every key is as it was, or at or below the path and gone, or that
-//! marker.
+//! and is left empty; at each moment every key is as it was, or goes with the path and is gone, or that
+//! marker. The first three ask nothing but looks, `MakeDirs` puts its marker only where it is due, and
+//! `DeletePath` changes something only where there is something to delete (`sends`).
 #![tactic(auto)]
 
 mod above;

@@ -6,8 +6,8 @@ ghost use Rattle.fs_tree.specs.declared.answers.FsRefusal.TheVariants.{NoSuchBuc
 ghost use Rattle.fs_ops.specs.List as list;
 ghost use Rattle.fs_ops.specs.List.{told, paged, rest_of, is_file, is_file_named, has_file, file_by, dir_named, shown, added, all_added, last_text};
 ghost use Rattle.fs_ops.specs.Stat.{length_in};
-ghost use Rattle.fs_ops.specs.Steps.{goes_by, IsStill};
-ghost use Rattle.fs_ops.specs.ListLaws.{list_laws};
+ghost use Rattle.fs_ops.specs.Steps.{goes_by, IsStill, OnlyLooks};
+ghost use Rattle.fs_ops.specs.ListLaws.{list_laws, list_asked};
 
 use crate::place::Place;
 use bucket_ops::{Look, Phases, seen_in};
@@ -272,11 +272,15 @@ impl Phases for ListDir {
 
     ghost always = { IsStill };
 
+    ghost sends = { OnlyLooks };
+
     ghost left = { list.left };
 
     ghost absent = { Err NoSuchBucket };
 
     ghost laws = { list_laws };
+
+    ghost asked = { list_asked };
 
     fn start(&self) -> ListStage {
         if self.place.is_root() {

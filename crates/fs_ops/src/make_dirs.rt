@@ -4,7 +4,7 @@ ghost use Rattle.fs_tree.specs.declared.answers.FsRefusal.TheVariants.{NoSuchBuc
 ghost use Rattle.fs_ops.specs.Make as make;
 ghost use Rattle.fs_ops.specs.Make.{up_from, on_here, on_below, on_up};
 ghost use Rattle.fs_ops.specs.Steps.{goes_by};
-ghost use Rattle.fs_ops.specs.MakeLaws.{make_laws};
+ghost use Rattle.fs_ops.specs.MakeLaws.{make_laws, make_asked};
 
 use crate::above::keys_above;
 use crate::place::Place;
@@ -129,11 +129,15 @@ impl Phases for MakeDirs {
 
     ghost always = { make.always };
 
+    ghost sends = { make.sends };
+
     ghost left = { make.left };
 
     ghost absent = { Err NoSuchBucket };
 
     ghost laws = { make_laws };
+
+    ghost asked = { make_asked };
 
     fn start(&self) -> MakeStage {
         MakeStage::Here

@@ -3,8 +3,8 @@ ghost use Rattle.fs_tree.specs.Answers.{Reads};
 ghost use Rattle.fs_tree.specs.declared.answers.FsRefusal.TheVariants.{NoSuchBucket};
 ghost use Rattle.fs_ops.specs.AtPath as path;
 ghost use Rattle.fs_ops.specs.Read as read;
-ghost use Rattle.fs_ops.specs.Steps.{goes_by, IsStill};
-ghost use Rattle.fs_ops.specs.ReadLaws.{read_laws};
+ghost use Rattle.fs_ops.specs.Steps.{goes_by, IsStill, OnlyLooks};
+ghost use Rattle.fs_ops.specs.ReadLaws.{read_laws, read_asked};
 
 use crate::at_path::{PathStage, heard};
 use crate::place::Place;
@@ -71,11 +71,15 @@ impl Phases for ReadFile {
 
     ghost always = { IsStill };
 
+    ghost sends = { OnlyLooks };
+
     ghost left = { path.left };
 
     ghost absent = { Err NoSuchBucket };
 
     ghost laws = { read_laws };
+
+    ghost asked = { read_asked };
 
     fn start(&self) -> PathStage {
         PathStage::Here

@@ -3,8 +3,8 @@ ghost use Rattle.fs_tree.specs.Answers.{Stats};
 ghost use Rattle.fs_tree.specs.declared.answers.FsRefusal.TheVariants.{NoSuchBucket};
 ghost use Rattle.fs_ops.specs.AtPath as path;
 ghost use Rattle.fs_ops.specs.Stat as stat;
-ghost use Rattle.fs_ops.specs.Steps.{goes_by, IsStill};
-ghost use Rattle.fs_ops.specs.StatLaws.{stat_laws};
+ghost use Rattle.fs_ops.specs.Steps.{goes_by, IsStill, OnlyLooks};
+ghost use Rattle.fs_ops.specs.StatLaws.{stat_laws, stat_asked};
 
 use crate::at_path::{PathStage, heard};
 use crate::place::Place;
@@ -71,11 +71,15 @@ impl Phases for Stat {
 
     ghost always = { IsStill };
 
+    ghost sends = { OnlyLooks };
+
     ghost left = { path.left };
 
     ghost absent = { Err NoSuchBucket };
 
     ghost laws = { stat_laws };
+
+    ghost asked = { stat_asked };
 
     fn start(&self) -> PathStage {
         PathStage::Here

@@ -14,11 +14,11 @@ use Rattle.machine.specs.declared.driving.DriveStop.{DriveStop}
 use Rattle.request_frame.proofs.Members.{none_some, text_is, text_true}
 use Rattle.operations.specs.Performed.{Performed}
 use Rattle.path_keys.specs.Paths.{is_key}
-use Rattle.bucket_ops.specs.Phases.{GivesIn, AlwaysIn}
+use Rattle.bucket_ops.specs.Phases.{GivesIn, AlwaysIn, SendsIn}
 use Rattle.fs_tree.specs.declared.rename.RenameRefusal.TheVariants.{OtherBucket, NoSuchBucket}
-use Rattle.fs_rename.specs.Rename.{Renaming, Answer}
-use Rattle.fs_rename.specs.Meaning.{gives, always}
-use Rattle.fs_rename.specs.Public.{RenamingIn, RenamesIn, StandsWhole}
+use Rattle.fs_rename.specs.Rename.{Renaming, Answer, first as first_stage, asks}
+use Rattle.fs_rename.specs.Meaning.{gives, always, sends}
+use Rattle.fs_rename.specs.Public.{RenamingIn, RenamesIn, StandsWhole, MaySend}
 use Rattle.fs_rename.proofs.Told.{renames_in, whole_in, still_in}
 
 -- what a renaming is kept as
@@ -42,10 +42,10 @@ given_in b o c r z a s e k same h =
 
 module _ {A : Type 0} {actor : Actor} {event retries : ℕ} {z s : Scene} {old new : List Entry} {first requests before now : ℕ} {told tells : ℕ → Option Fate} {result : Result A DriveStop} where
   pub performed_in : (b : List ℕ) (o : Renaming) (c : List ℕ) (r : RenamingIn) → kept b o c ≡ r → is_key o.source ≡ true
-      → Performed actor event retries (AlwaysIn b (always o) z) z s old new first requests before now told tells result
-      → Performed actor event retries (StandsWhole r z) z s old new first requests before now told tells result
+      → Performed actor event retries (AlwaysIn b (always o) z) (SendsIn b (asks o (first_stage o)) (sends o) z) z s old new first requests before now told tells result
+      → Performed actor event retries (StandsWhole r z) (MaySend r z) z s old new first requests before now told tells result
   performed_in b o c r e k h =
-      subst (λ (r : RenamingIn). Performed actor event retries (StandsWhole r z) z s old new first requests before now told tells result) e
+      subst (λ (r : RenamingIn). Performed actor event retries (StandsWhole r z) (MaySend r z) z s old new first requests before now told tells result) e
       (record {
         part = h.part;
         appended = h.appended;
@@ -53,6 +53,7 @@ module _ {A : Type 0} {actor : Actor} {event retries : ℕ} {z s : Scene} {old n
         honest = h.honest;
         scene = h.scene;
         moments = λ m. whole_in b o z (after_all z (take m h.part)) k (h.moments m);
+        sent = h.sent;
         tried = h.tried;
         literal = h.literal;
         foretold = h.foretold;
@@ -84,7 +85,7 @@ none_unanswered many some h =
 
 -- nothing was sent
 pub performed_other : {A : Type 0} {actor : Actor} {event retries : ℕ} {z : Scene} {old : List Entry} {first before : ℕ} {told : ℕ → Option Fate} {x : A}
-    → (r : RenamingIn) → Performed actor event retries (StandsWhole r z) z z old old first first before before told told (Ok x)
+    → (r : RenamingIn) → Performed actor event retries (StandsWhole r z) (MaySend r z) z z old old first first before before told told (Ok x)
 performed_other {retries = retries} {z = z} {old = old} {first = first} r = record {
   part = [];
   appended = sym (append-nil old);
@@ -92,6 +93,7 @@ performed_other {retries = retries} {z = z} {old = old} {first = first} r = reco
   honest = tt;
   scene = refl;
   moments = λ m. subst (StandsWhole r z) (sym (none_taken z m)) (still_in r.bucket r.source r.target z);
+  sent = tt;
   tried = record { tries = []; rest = []; entries = refl; each = tt; broken_off = tt; told = (refl, refl); fault = λ e h. none_unanswered (retries + 1) (omega arith) h };
   literal = λ r w. get_none (w.0 + 0) (w.1 0 (omega arith));
   foretold = tt;

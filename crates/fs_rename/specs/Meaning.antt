@@ -2,6 +2,7 @@
 use Rattle.std.specs.Prelude.{◌≡◌, ◌⊎◌, ℕ, Bool, true, false, List, Ok, Err, Some, take}
 use Rattle.s3_types.specs.Store.{Objects}
 use Rattle.s3_types.specs.Answer.{without}
+use Rattle.bucket_ops.specs.Asks.{Ask, is_look}
 use Rattle.fs_tree.specs.Tree.{NoneBelow, HasDir, HasFile, IsDirectory, IsAbsent}
 use Rattle.fs_tree.specs.Changes.{parent, marker_if, IsMarked}
 use Rattle.fs_tree.specs.Moves.{IsAtOrBelow, inside, IsPlace, AllFit}
@@ -84,3 +85,7 @@ IsOnWay o z d q m =
 -- at any moment
 abbrev pub always : Renaming → Objects → Objects → Type 0
 always o z m = (m ≡ z) ⊎ ((d : Bool) × (i : Bool) × (q : List ℕ) × MayGo o z d i q × IsOnWay o z d q m)
+
+-- it looks, or moves what may be moved
+abbrev pub sends : Renaming → Objects → Ask → Type 0
+sends o z a = (is_look a ≡ true) ⊎ ((d : Bool) × (i : Bool) × (q : List ℕ) × MayGo o z d i q)

@@ -17,8 +17,8 @@ use Rattle.operations.specs.Plans.{Goes, Falls}
 use Rattle.bucket_ops.specs.declared.look.Look.{Look}
 use Rattle.bucket_ops.specs.declared.look.Look.TheVariants.{There, Nothing as NothingThere, NoBucket, Other}
 use Rattle.bucket_ops.specs.Looks.{look_of}
-use Rattle.bucket_ops.specs.Asks.{reply_in, edited}
-use Rattle.bucket_ops.specs.Phases.{IsPhases}
+use Rattle.bucket_ops.specs.Asks.{reply_in, edited, is_look}
+use Rattle.bucket_ops.specs.Phases.{IsPhases, MayAsk}
 use Rattle.dir_markers.specs.Markers.{marker_of}
 use Rattle.job_operations.specs.Walks.{Walked, More, Whole, walked, Listing, Deleting, sweep_hears, deleting, all_go}
 use Rattle.job_operations.specs.Walks as walks
@@ -48,7 +48,7 @@ use Rattle.fs_rename.specs.declared.stages.Kind.TheVariants.{File, Directory, No
 use Rattle.fs_rename.specs.declared.stages.RenameStage.{RenameStage}
 use Rattle.fs_rename.specs.declared.stages.RenameStage.TheVariants.{Look as Looking, Walk, Copy, Batch, Parent, PutMarker}
 use Rattle.fs_rename.specs.Rename.{Renaming, Answer, place_at, asks_at, inside_asks_if, seen_inside, seen_at, is_root_at, is_none, kind_of, one_copy, file_to, go, begun as begun_at, on_source, on_target, on_inside, on_above, found, looked, with_places, listed_to, on_walked, on_walk, up_to, up, swept, on_copied, on_batch, on_parent, first, asks, on, goes, look_at_asks}
-use Rattle.fs_rename.specs.Meaning.{IsSource, Begun, Before, path_at, NoFileIf, IsReady, MayGo, IsMoved, holds, gives, always}
+use Rattle.fs_rename.specs.Meaning.{IsSource, Begun, Before, path_at, NoFileIf, IsReady, MayGo, IsMoved, holds, gives, always, sends}
 use Rattle.fs_rename.specs.Seen.{Tells, TellsKind, place_tells, inside_tells}
 use Rattle.fs_rename.specs.Steps.{left, fall_looked, fall_walked, fall_swept, fall_all, fall_parent}
 
@@ -395,3 +395,30 @@ rename_laws = record {
   at_end = λ o z a m h. at_end o z a m h;
   missing = λ o s. refl;
 }
+
+-- ---- what is asked
+
+looks_at : (p : List ℕ) (b : Bool) → is_look (asks_at p b) ≡ true
+looks_at [] true = refl
+looks_at [] false = refl
+looks_at (x ∷ p) true = refl
+looks_at (x ∷ p) false = refl
+
+looks_in : (o : Renaming) (q : Option (List ℕ)) (b : Bool) → is_look (inside_asks_if o q b) ≡ true
+looks_in o None b = looks_at o.source b
+looks_in o (Some q) true = refl
+looks_in o (Some q) false = refl
+
+looks_there : (o : Renaming) (s : Spot) (b : Bool) → is_look (look_at_asks o s b) ≡ true
+looks_there o Source b = looks_at o.source b
+looks_there o Target b = looks_at o.target b
+looks_there o Above b = looks_at (parent o.target) b
+looks_there o Inside b = looks_in o (place_at o true) b
+
+pub rename_asked : MayAsk {O = Renaming} asks holds sends
+rename_asked o z (Looking s b d) m h = inl (looks_there o s b)
+rename_asked o z (Walk i keys) m h = inl refl
+rename_asked o z (Copy c) m h = inr (h.0, h.1, h.2, h.3)
+rename_asked o z (Batch w) m h = inr (h.0, h.1, h.2, h.3)
+rename_asked o z (Parent k) m h = inl refl
+rename_asked o z (PutMarker k) m h = inr (h.1.0, h.1.1, h.1.2, h.1.3)

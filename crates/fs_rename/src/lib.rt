@@ -12,7 +12,7 @@
 //! exactly where that is no root and is left empty (`renames`). At any moment, whatever is lost and
 //! wherever it stops, each file of the source stands whole at its old or its new place; they come there
 //! in the order of their keys, and only when all are there does one leave; and every other file is as
-//! it was, header included (`performed`).
+//! it was, header included; and unless something may be moved nothing but looks is sent (`performed`).
 #![tactic(auto)]
 
 mod names;

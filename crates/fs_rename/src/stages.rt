@@ -11,9 +11,9 @@ ghost use Rattle.fs_ops.specs.Places.{key_if};
 ghost use Rattle.fs_ops.specs.Sweeping.{fits};
 ghost use Rattle.fs_moves.specs.Keys.{fitting};
 ghost use Rattle.fs_rename.specs.Rename.{first_is, seen_inside, seen_at, kind_of, one_copy, file_to, place_at, go, begun, on_kind, on_source, on_target, on_inside, on_above, found, looked, with_places, listed_to, on_walked, on_walk, up_to, up, swept, on_copied, on_batch, on_parent, first, asks, on, goes, is_root, is_root_at};
-ghost use Rattle.fs_rename.specs.Meaning.{holds, gives, always};
+ghost use Rattle.fs_rename.specs.Meaning.{holds, gives, always, sends};
 ghost use Rattle.fs_rename.specs.Steps.{left};
-ghost use Rattle.fs_rename.specs.RenameLaws.{rename_laws};
+ghost use Rattle.fs_rename.specs.RenameLaws.{rename_laws, rename_asked};
 
 use crate::names::RenameNames;
 use bucket_ops::{Look, Phases, seen_in};
@@ -396,11 +396,15 @@ impl Phases for RenameNames {
 
     ghost always = { always };
 
+    ghost sends = { sends };
+
     ghost left = { left };
 
     ghost absent = { Err NoSuchBucket };
 
     ghost laws = { rename_laws };
+
+    ghost asked = { rename_asked };
 
     fn start(&self) -> RenameStage {
         RenameStage::Look {

@@ -8,10 +8,12 @@ use Rattle.s3_types.specs.Answer.{answer, apply}
 use Rattle.s3_types.specs.declared.request.Request.{Request}
 use Rattle.s3_types.specs.declared.reply.Reply.{Reply}
 use Rattle.operations.specs.Plans.{Repeats, Goes, Falls, IsPlan}
+use Rattle.operations.specs.Courses.{MaySend, reached}
+use Rattle.operations.specs.PlanLaws.{sends_of}
 use Rattle.operations.specs.declared.operation.Stage.{Stage}
 use Rattle.operations.specs.declared.operation.Stage.TheVariants.{On}
 use Rattle.list_walk.specs.declared.walk.Walk.{Walk}
-use Rattle.list_walk.specs.Walks.{Told, more_or_whole, led_by, added, walked_by, walked, walk_asks, Begins, IsWalking, Gives, IsSame, size, walk_left, page_of, IsListing, ReadyWalk}
+use Rattle.list_walk.specs.Walks.{Told, more_or_whole, led_by, added, walked_by, walked, walk_asks, Begins, IsWalking, Gives, IsSame, Pages, size, walk_left, page_of, IsListing, ReadyWalk}
 
 not_less : (a b : ℕ) → nat_lt a b ≡ false → b ≤ a
 not_less a b h = grind (arith, nat_tests)
@@ -93,6 +95,12 @@ module _ {K E M : Type 0} {ask : List ℕ → List ℕ → M → Request} {read 
     during = λ o z w s h. h.same;
     at_end = λ o z a s h. h.0;
   }
+
+  walk_sends : (o : Walk K E M) (z : Scene) (w : Walk K E M) (s : Scene) → IsWalking rest first o z w s → Pages ask o z (walk_asks ask w)
+  walk_sends o z w s h = (w.mark, ap (λ b. ask b w.prefix w.mark) h.bucket ∙ ap (λ p. ask o.bucket p w.mark) h.prefix)
+
+  pub walk_asked : MaySend {P = Walk K E M} (walk_asks ask) (reached (walk_asks ask) (IsWalking rest first)) (Pages ask)
+  walk_asked = sends_of (walk_asks ask) (IsWalking rest first) (Pages ask) walk_sends
 
   -- a walk at its start is ready in any scene
   pub ready_walk : (w : Walk K E M) (m : Stage (Walk K E M) (Option (List E))) → m ≡ On w → Begins first w → (s : Scene) → ReadyWalk ask rest first m s false

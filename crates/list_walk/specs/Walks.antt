@@ -92,6 +92,14 @@ IsStill z s = s ≡ z
 abbrev pub IsSame : {W : Type 0} → W → Scene → Scene → Type 0
 IsSame o z s = IsStill z s
 
+-- a page of the bucket below the prefix, wherever it begins
+abbrev pub IsPageOf : {M : Type 0} → (List ℕ → List ℕ → M → Request) → List ℕ → List ℕ → Request → Type 0
+IsPageOf {M = M} ask b p r = (m : M) × (r ≡ ask b p m)
+
+-- it asks for such pages
+abbrev pub Pages : {K E M : Type 0} → (List ℕ → List ℕ → M → Request) → Walk K E M → Scene → Request → Type 0
+Pages ask o z r = IsPageOf ask o.bucket o.prefix r
+
 abbrev pub size : {E : Type 0} → Option (List E) → ℕ
 size (Some l) = length l
 size None = 0

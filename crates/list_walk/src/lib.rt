@@ -5,8 +5,8 @@
 //! `list`: Alone on a scene, whatever is lost: what it gives is exactly the keys, the folder entries or
 //! the live uploads below the prefix, in order, for any number of pages (`found`). It changes nothing
 //! (`same`), journals honestly whatever its end (`journal`), and tells a fault only where something was
-//! lost (`fault`). Each request is sent at most `retries + 1` times, and StoreFault comes exactly where
-//! one wore out (`performed`).
+//! lost (`fault`). Each request is for a page below the prefix, and is sent at most `retries + 1`
+//! times; StoreFault comes exactly where one wore out (`performed`).
 #![tactic(auto)]
 
 mod flat;

@@ -2,10 +2,11 @@ ghost use Rattle.std.specs.Prelude.{◌≡◌, ℕ, List, ◌++◌, Option, IfOk
 ghost use Rattle.s3_types.specs.Store.{Scene};
 ghost use Rattle.s3_types.specs.declared.request.Request.{Request};
 ghost use Rattle.s3_types.specs.declared.reply.Reply.{Reply};
-ghost use Rattle.operations.specs.Courses.{once, reached};
+ghost use Rattle.operations.specs.Courses.{once, reached, unlost};
+ghost use Rattle.operations.specs.CourseLaws.{calm_of};
 ghost use Rattle.operations.specs.PlanLaws.{course_of};
-ghost use Rattle.list_walk.specs.Walks.{Told, entries_in, more_or_whole, end_without, page_end, led_by, start, Begins, walk_asks, walked, IsWalking, Gives, IsSame, walk_left, IsListing};
-ghost use Rattle.list_walk.specs.WalkLaws.{walk_plan};
+ghost use Rattle.list_walk.specs.Walks.{Told, entries_in, more_or_whole, end_without, page_end, led_by, start, Begins, walk_asks, walked, IsWalking, Gives, IsSame, Pages, walk_left, IsListing};
+ghost use Rattle.list_walk.specs.WalkLaws.{walk_plan, walk_asked};
 
 use operations::{Plan, Step};
 use s3_types::{Bucket, Refusal, Reply, Request, Sequence, Text};
@@ -142,9 +143,19 @@ impl<K: Kind> Plan for Walk<K, K::Entry, K::Mark> {
 
     ghost always = { IsSame };
 
+    ghost sends = { Pages K.asks };
+
+    ghost calm = { unlost (reached (walk_asks K.asks) (IsWalking K.rest K.start)) };
+
+    ghost leaves = { Gives K.rest K.start };
+
     ghost left = { walk_left K.rest };
 
     ghost laws = { course_of (walk_plan K.laws K.start) };
+
+    ghost asked = { walk_asked K.laws K.start };
+
+    ghost calms = { calm_of (course_of (walk_plan K.laws K.start)) };
 
     fn ask(&self) -> Result<Request, AllocError> {
         self.kind.ask(&self.bucket, &self.prefix, &self.mark)

@@ -1,7 +1,10 @@
 -- What an operation keeps, a run of it that is alone keeps at every moment.
 use Rattle.std.proofs.Common.{append-nil, arith, ◌≡◌, ℕ, zero, suc, Bool, false, List, [], ◌∷◌, ◌++◌, take, Option, Some, refl, sym, ap, subst, ◌∙◌}
 use Rattle.s3_types.specs.Store.{Scene}
-use Rattle.s3_types.specs.Moment.{effect, after_all, AreHonest}
+use Rattle.s3_types.specs.Moment.{effect, after_all, IsHonestOutcome, AreHonest, is_unanswered}
+use Rattle.s3_types.specs.Answer.{answer, apply}
+use Rattle.s3_types.specs.declared.journal.Outcome.{Outcome}
+use Rattle.s3_types.specs.declared.journal.Outcome.TheVariants.{Answered, Slow, RequestLost, ReplyLost}
 use Rattle.s3_types.specs.declared.request.Request.{Request}
 use Rattle.s3_types.specs.declared.reply.Reply.{Reply}
 use Rattle.s3_types.specs.declared.request.Actor.{Actor}
@@ -10,11 +13,12 @@ use Rattle.sendings.specs.Operation.{Follows, run}
 use Rattle.sendings.specs.Retries.{Retried, wants_of, step}
 use Rattle.sendings.proofs.Runs.{follows_take}
 use Rattle.machine.specs.Drove.{IsRun}
-use Rattle.machine.specs.Counted.{Counted}
+use Rattle.machine.specs.Counted.{AreAnswered, Counted}
 use Rattle.s3_types.specs.Foretold.{AreForetold}
 use Rattle.s3_types.specs.declared.fates.Fate.{Fate}
 use Rattle.std.specs.Prelude.{Result, Ok, Err, ◌+◌, length}
-use Rattle.std.proofs.lemmas.List.{take_all}
+use Rattle.std.specs.List.{AllByRecursion}
+use Rattle.std.proofs.lemmas.List.{take_all, append_cancel_left}
 use Rattle.machine.specs.Tries.{Tried, IsToldBy, IsFaultWhere, IsFaultBy, HasUnanswered, some_worn}
 use Rattle.machine.specs.declared.driving.DriveStop.{DriveStop}
 use Rattle.machine.specs.declared.driving.DriveStop.TheVariants.{StoreFault as Worn, NoMemory as NoRoom}
@@ -23,10 +27,12 @@ use Rattle.machine.specs.declared.retrying.Retrying.{Retrying}
 use Rattle.machine.proofs.Counts.{counted_none}
 use Rattle.machine.proofs.Keeps.{kept_run}
 use Rattle.operations.specs.declared.plan.Step.{Step}
+use Rattle.operations.specs.declared.plan.Step.TheVariants.{Next, End}
+use Rattle.operations.specs.Plans.{Goes}
 use Rattle.operations.specs.declared.operation.Stage.{Stage}
 use Rattle.operations.specs.declared.operation.Stage.TheVariants.{On, Over, StoreFault, NoMemory}
-use Rattle.operations.specs.Operations.{wanted, after, Kept, IsReady}
-use Rattle.operations.specs.Courses.{IsCourse}
+use Rattle.operations.specs.Operations.{wanted, led, got, after, Kept, IsReady}
+use Rattle.operations.specs.Courses.{IsCourse, MaySend, IsCalm}
 use Rattle.operations.specs.CourseLaws.{keeps, at_any}
 use Rattle.operations.specs.Performed.{Performed}
 
@@ -96,26 +102,47 @@ module _ {P A : Type 0} {starts : P → Type 0} {asks : P → Request} {goes : P
   abbrev Ran : Retrying (Stage P A) → List Entry → Type 0
   Ran t part = Follows (wants_of (wanted asks)) (step t.retries (after goes)) (retried t) part
 
+  kept_at : (t : Retrying (Stage P A)) → t.machine ≡ On o → t.repeated ≡ false → starts o → Kept (holds o z) (gives o z) (always o z) t.machine z t.repeated
+  kept_at t e q h = subst (λ m. Kept (holds o z) (gives o z) (always o z) m z t.repeated) (sym e) (subst (λ b. Kept (holds o z) (gives o z) (always o z) (On o) z b) (sym q) (kept_start h))
+
   pub kept_all : (t : Retrying (Stage P A)) → t.machine ≡ On o → t.repeated ≡ false → starts o → (part : List Entry) → Ran t part → AreHonest z part
       → Kept (holds o z) (gives o z) (always o z) (Led t part).operation (after_all z part) (Led t part).repeated
   kept_all t e q h part f a =
-      kept_run (keeps plan o z) t.retries (retried t) z part f a
-      (subst (λ m. Kept (holds o z) (gives o z) (always o z) m z t.repeated) (sym e) (subst (λ b. Kept (holds o z) (gives o z) (always o z) (On o) z b) (sym q) (kept_start h)))
+      kept_run (keeps plan o z) t.retries (retried t) z part f a (kept_at t e q h)
 
   pub moments : (t : Retrying (Stage P A)) → t.machine ≡ On o → t.repeated ≡ false → starts o → (part : List Entry) → Ran t part → AreHonest z part
       → (m : ℕ) → always o z (after_all z (take m part))
   moments t e q h part f a m = at_any plan o z _ _ _ (kept_all t e q h (take m part) (follows_take (wants_of (wanted asks)) (step t.retries (after goes)) m (retried t) part f) (honest_take m z part a))
 
-  pub performed : {U : Type 0} (result : Result U DriveStop) (actor : Actor) (event retries : ℕ) (t : Retrying (Stage P A)) (s : Scene) (old new part : List Entry) (first requests before now : ℕ) (told tells : ℕ → Option Fate) → t.machine ≡ On o → t.repeated ≡ false → starts o
+  -- ---- what is sent
+
+  module _ (sends : Request → Type 0) (may : (p : P) (s : Scene) (b : Bool) → holds o z p s b → sends (asks p)) where
+    sent_now : (m : Stage P A) (s : Scene) (b : Bool) (r : Request) → wanted asks m ≡ Some r → Kept (holds o z) (gives o z) (always o z) m s b → sends r
+    sent_now (On p) s b r w k = let e : asks p ≡ r = cc in subst sends e (may p s b k)
+    sent_now (Over a) s b r w k = absurd (cc)
+    sent_now StoreFault s b r w k = absurd (cc)
+    sent_now NoMemory s b r w k = absurd (cc)
+
+    -- each request that is sent is one that the phases may send
+    all_sent : (retries : ℕ) (t : Retried (Stage P A)) (s : Scene) (part : List Entry) → Follows (wants_of (wanted asks)) (step retries (after goes)) t part → AreHonest s part
+        → Kept (holds o z) (gives o z) (always o z) t.operation s t.repeated → AllByRecursion (λ e. sends e.request) part
+    all_sent retries t s [] f h k = tt
+    all_sent retries t s (e ∷ es) f h k = (
+      sent_now t.operation s t.repeated e.request f.0 k,
+      all_sent retries (step retries (after goes) t e.outcome) (effect s e.request e.outcome) es f.1 h.1 (kept_run (keeps plan o z) retries t s (e ∷ []) (f.0, tt) (h.0, tt) k),
+    )
+
+  pub performed : {U : Type 0} (sends : P → Scene → Request → Type 0) (may : MaySend asks holds sends) (result : Result U DriveStop) (actor : Actor) (event retries : ℕ) (t : Retrying (Stage P A)) (s : Scene) (old new part : List Entry) (first requests before now : ℕ) (told tells : ℕ → Option Fate) → t.machine ≡ On o → t.repeated ≡ false → starts o
       → IsRun (wanted asks) (after goes) actor event t z part s → new ≡ old ++ part → AreForetold told (first + 1) part → Tried retries retries part result → IsFaultBy retries part result → Counted old new first requests before now told tells
-      → Performed actor event retries (always o z) z s old new first requests before now told tells result
-  performed result actor event retries t s old new part first requests before now told tells e q h r a f d l n = record {
+      → Performed actor event retries (always o z) (sends o z) z s old new first requests before now told tells result
+  performed sends may result actor event retries t s old new part first requests before now told tells e q h r a f d l n = record {
     part = part;
     appended = a;
     by = r.by;
     honest = r.honest;
     scene = r.scene;
     moments = moments t e q h part r.follows r.honest;
+    sent = all_sent (sends o z) (may o z) t.retries (retried t) z part r.follows r.honest (kept_at t e q h);
     tried = d;
     literal = l;
     foretold = f;
@@ -129,45 +156,69 @@ module _ {P A : Type 0} {starts : P → Type 0} {asks : P → Request} {goes : P
       (subst (λ m. Kept (holds o z) (gives o z) (always o z) m (after_all z part) (Led t part).repeated) (sym (ap (λ (t : Retried (Stage P A)). t.operation) there) ∙ over)
       (kept_all t e q h part f honest))
 
-  pub nothing_done : {U : Type 0} (actor : Actor) (event retries : ℕ) (es : List Entry) (first before : ℕ) (told : ℕ → Option Fate) → starts o → Performed {A = U} actor event retries (always o z) z z es es first first before before told told (Err NoRoom)
-  nothing_done actor event retries es first before told h = record {
+  pub nothing_done : {U : Type 0} (sends : Request → Type 0) (actor : Actor) (event retries : ℕ) (es : List Entry) (first before : ℕ) (told : ℕ → Option Fate) → starts o → Performed {A = U} actor event retries (always o z) sends z z es es first first before before told told (Err NoRoom)
+  nothing_done sends actor event retries es first before told h = record {
     part = [];
     appended = sym (append-nil es);
     by = tt;
     honest = tt;
     scene = refl;
     moments = λ m. subst (λ (es : List Entry). always o z (after_all z es)) (sym (take_none m)) (plan.during o z o z false (plan.begin o z h));
+    sent = tt;
     tried = record { tries = []; rest = []; entries = refl; each = tt; broken_off = tt; told = tt; fault = λ s. tt };
     literal = tt;
     foretold = tt;
     counts = counted_none es es first first before before told told refl refl refl (λ n. refl);
   }
 
-  -- ---- what is sent
+-- ---- where each sending was answered
 
-  module _ (sends : Request → Type 0) (may : (p : P) (s : Scene) (b : Bool) → holds o z p s b → sends (asks p)) where
-    abbrev pub AllSent : List Entry → Type 0
-    AllSent [] = Unit {0}
-    AllSent (e ∷ es) = sends e.request × AllSent es
+module _ {P A : Type 0} {starts : P → Type 0} {asks : P → Request} {goes : P → Reply → Bool → Step P A} {calm : P → Scene → P → Scene → Type 0} {leaves : P → Scene → A → Scene → Type 0} (k : IsCalm starts asks goes calm leaves) (o : P) (z : Scene) where
+  abbrev InCalm : Stage P A → Scene → Type 0
+  InCalm (On p) s = calm o z p s
+  InCalm (Over a) s = leaves o z a s
+  InCalm StoreFault s = Unit {0}
+  InCalm NoMemory s = Unit {0}
 
-    sent_now : (m : Stage P A) (s : Scene) (b : Bool) (r : Request) → wanted asks m ≡ Some r → Kept (holds o z) (gives o z) (always o z) m s b → sends r
-    sent_now (On p) s b r w k = let e : asks p ≡ r = cc in subst sends e (may p s b k)
-    sent_now (Over a) s b r w k = absurd (cc)
-    sent_now StoreFault s b r w k = absurd (cc)
-    sent_now NoMemory s b r w k = absurd (cc)
+  calm_led : (x : Step P A) (s : Scene) → Goes (calm o z) (leaves o z) x s → InCalm (led x) s
+  calm_led (Next p) s h = h
+  calm_led (End a) s h = h
 
-    -- each request that is sent is one that the phases may send
-    pub all_sent : (retries : ℕ) (t : Retried (Stage P A)) (s : Scene) (part : List Entry) → Follows (wants_of (wanted asks)) (step retries (after goes)) t part → AreHonest s part
-        → Kept (holds o z) (gives o z) (always o z) t.operation s t.repeated → AllSent part
-    all_sent retries t s [] f h k = tt
-    all_sent retries t s (e ∷ es) f h k = (
-      sent_now t.operation s t.repeated e.request f.0 k,
-      all_sent retries (step retries (after goes) t e.outcome) (effect s e.request e.outcome) es f.1 h.1 (kept_run (keeps plan o z) retries t s (e ∷ []) (f.0, tt) (h.0, tt) k),
-    )
+  calm_got : (m : Stage P A) (s : Scene) (r : Request) → wanted asks m ≡ Some r → InCalm m s → InCalm (got goes m (answer s r) false) (apply s r)
+  calm_got (On p) s r w h = let e : asks p ≡ r = cc in subst (λ v. InCalm (led (goes p (answer s v) false)) (apply s v)) e (calm_led _ _ (k.goes_on o z p s h))
+  calm_got (Over a) s r w h = absurd (cc)
+  calm_got StoreFault s r w h = absurd (cc)
+  calm_got NoMemory s r w h = absurd (cc)
+
+  calm_step : (retries : ℕ) (t : Retried (Stage P A)) (s : Scene) (r : Request) (x : Outcome) → t.repeated ≡ false → wanted asks t.operation ≡ Some r → IsHonestOutcome x (answer s r) → is_unanswered x ≡ false → InCalm t.operation s
+      → InCalm (step retries (after goes) t x).operation (effect s r x) × ((step retries (after goes) t x).repeated ≡ false)
+  calm_step retries t s r (Answered a) q w h n c = (
+    subst (λ v. InCalm (got goes t.operation v t.repeated) (apply s r)) (sym h) (subst (λ b. InCalm (got goes t.operation (answer s r) b) (apply s r)) (sym q) (calm_got t.operation s r w c)),
+    refl,
+  )
+  calm_step retries t s r Slow q w h n c = absurd (cc)
+  calm_step retries t s r RequestLost q w h n c = absurd (cc)
+  calm_step retries t s r ReplyLost q w h n c = absurd (cc)
+
+  calm_all : (retries : ℕ) (t : Retried (Stage P A)) (s : Scene) (part : List Entry) → t.repeated ≡ false → Follows (wants_of (wanted asks)) (step retries (after goes)) t part → AreHonest s part → AreAnswered part → InCalm t.operation s
+      → InCalm (run (step retries (after goes)) t part).operation (after_all s part)
+  calm_all retries t s [] q f h n c = c
+  calm_all retries t s (e ∷ es) q f h n c =
+      let one = calm_step retries t s e.request e.outcome q f.0 h.0 n.0 c in
+      calm_all retries (step retries (after goes) t e.outcome) (effect s e.request e.outcome) es one.1 f.1 h.1 n.1 one.0
+
+  pub left_calm : (t t' : Retrying (Stage P A)) (s : Scene) (old new part all : List Entry) (a : A) → t.machine ≡ On o → t.repeated ≡ false → starts o → Follows (wants_of (wanted asks)) (step t.retries (after goes)) (retried t) all → AreHonest z all
+      → retried t' ≡ run (step t.retries (after goes)) (retried t) all → s ≡ after_all z all → t'.machine ≡ Over a → new ≡ old ++ all → new ≡ old ++ part → AreAnswered part → leaves o z a s
+  left_calm t t' s old new part all a e q h f honest there scene over appended same answered =
+      let each : AreAnswered all = subst AreAnswered (append_cancel_left old part all (sym same ∙ appended)) answered in
+      let first : InCalm t.machine z = subst (λ m. InCalm m z) (sym e) (k.begin o z h) in
+      subst (λ v. leaves o z a v) (sym scene)
+      (subst (λ m. InCalm m (after_all z all)) (sym (ap (λ (t : Retried (Stage P A)). t.operation) there) ∙ over)
+      (calm_all t.retries (retried t) z all q f honest each first))
 
 -- what is so always is so at the end
-pub always_after : {A : Type 0} {actor : Actor} {event retries : ℕ} {always : Scene → Type 0} {z s : Scene} {old new : List Entry} {first requests before now : ℕ} {told tells : ℕ → Option Fate} {result : Result A DriveStop}
-    → Performed actor event retries always z s old new first requests before now told tells result → always s
+pub always_after : {A : Type 0} {actor : Actor} {event retries : ℕ} {always : Scene → Type 0} {sends : Request → Type 0} {z s : Scene} {old new : List Entry} {first requests before now : ℕ} {told tells : ℕ → Option Fate} {result : Result A DriveStop}
+    → Performed actor event retries always sends z s old new first requests before now told tells result → always s
 always_after {always = always} {z = z} p =
     let all : take (length p.part) p.part ≡ p.part = take_all (length p.part) p.part (omega arith) in
     subst always (ap (after_all z) all ∙ sym p.scene) (p.moments (length p.part))

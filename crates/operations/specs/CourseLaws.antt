@@ -13,7 +13,7 @@ use Rattle.operations.specs.declared.plan.Step.TheVariants.{Next, End}
 use Rattle.operations.specs.declared.operation.Stage.{Stage}
 use Rattle.operations.specs.declared.operation.Stage.TheVariants.{On, Over, StoreFault, NoMemory}
 use Rattle.operations.specs.Plans.{Goes, Falls}
-use Rattle.operations.specs.Courses.{IsCourse}
+use Rattle.operations.specs.Courses.{IsCourse, IsCalm, unlost}
 use Rattle.operations.specs.Operations.{wanted, led, got, after, any_reply, left, standing, Kept, IsReady}
 
 fine_led : {P A : Type 0} (x : Step P A) → standing (led x) ≡ Fine
@@ -104,3 +104,7 @@ module _ {P A : Type 0} {starts : P → Type 0} {asks : P → Request} {goes : P
     faults = λ m r w. refl;
     goes_on = λ m r a b w h. standing_on m r a b w;
   }
+
+  -- it gives no more where each sending was answered
+  pub calm_of : IsCalm starts asks goes (unlost holds) gives
+  calm_of = record { begin = c.begin; goes_on = λ o z p s h. c.goes_on o z p s false h }

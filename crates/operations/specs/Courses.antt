@@ -21,6 +21,19 @@ pub record IsCourse {P A : Type 0} (starts : P → Type 0) (asks : P → Request
   pub during : (o : P) (z : Scene) (p : P) (s : Scene) (b : Bool) → holds o z p s b → always o z s
   pub at_end : (o : P) (z : Scene) (a : A) (s : Scene) → gives o z a s → always o z s
 
+-- what a phase asks, the operation may send
+abbrev pub MaySend : {P : Type 0} → (P → Request) → (P → Scene → P → Scene → Bool → Type 0) → (P → Scene → Request → Type 0) → Type 0
+MaySend {P = P} asks holds sends = (o : P) (z : Scene) (p : P) (s : Scene) (b : Bool) → holds o z p s b → sends o z (asks p)
+
+-- what holds of it where each sending was answered, and what it leaves then
+pub record IsCalm {P A : Type 0} (starts : P → Type 0) (asks : P → Request) (goes : P → Reply → Bool → Step P A) (calm : P → Scene → P → Scene → Type 0) (leaves : P → Scene → A → Scene → Type 0) : Type 0 where
+  pub begin : (p : P) (s : Scene) → starts p → calm p s p s
+  pub goes_on : (o : P) (z : Scene) (p : P) (s : Scene) → calm o z p s → Goes (calm o z) (leaves o z) (goes p (answer s (asks p)) false) (apply s (asks p))
+
+-- nothing was lost of its present request
+abbrev pub unlost : {P : Type 0} → (P → Scene → P → Scene → Bool → Type 0) → P → Scene → P → Scene → Type 0
+unlost holds o z p s = holds o z p s false
+
 -- ---- an operation whose requests may all be made again, as one
 
 -- it goes on alike where a sending was lost

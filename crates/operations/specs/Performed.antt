@@ -1,10 +1,12 @@
 -- What performing an operation has done.
 use Rattle.std.specs.Prelude.{◌≡◌, ℕ, ◌+◌, List, ◌++◌, take, Option, Result}
+use Rattle.std.specs.List.{AllByRecursion}
 use Rattle.s3_types.specs.Store.{Scene}
 use Rattle.s3_types.specs.Moment.{AreHonest, after_all}
 use Rattle.s3_types.specs.Foretold.{AreForetold}
 use Rattle.s3_types.specs.declared.fates.Fate.{Fate}
 use Rattle.s3_types.specs.declared.request.Actor.{Actor}
+use Rattle.s3_types.specs.declared.request.Request.{Request}
 use Rattle.s3_types.specs.declared.journal.Entry.{Entry}
 use Rattle.machine.specs.Counted.{Counted}
 use Rattle.machine.specs.Turns.{AreBy}
@@ -12,7 +14,7 @@ use Rattle.machine.specs.Tries.{Tried, IsFaultBy}
 use Rattle.machine.specs.declared.driving.DriveStop.{DriveStop}
 
 -- a journal gained entries of this actor and event, which lead from the scene z to s
-pub record Performed {A : Type 0} (actor : Actor) (event retries : ℕ) (always : Scene → Type 0) (z s : Scene) (old new : List Entry) (first requests before now : ℕ) (told tells : ℕ → Option Fate) (result : Result A DriveStop) : Type 0 where
+pub record Performed {A : Type 0} (actor : Actor) (event retries : ℕ) (always : Scene → Type 0) (sends : Request → Type 0) (z s : Scene) (old new : List Entry) (first requests before now : ℕ) (told tells : ℕ → Option Fate) (result : Result A DriveStop) : Type 0 where
   pub part : List Entry
   pub appended : new ≡ old ++ part
   pub by : AreBy actor event part
@@ -21,6 +23,8 @@ pub record Performed {A : Type 0} (actor : Actor) (event retries : ℕ) (always 
   pub scene : s ≡ after_all z part
   -- this was so before the first of them and after each
   pub moments : (m : ℕ) → always (after_all z (take m part))
+  -- each request is one that may be sent
+  pub sent : AllByRecursion (λ e. sends e.request) part
   -- each request is sent at most `retries + 1` times, and StoreFault comes exactly where one wore out
   pub tried : Tried retries retries part result
   -- and where one wore out by the entries alone

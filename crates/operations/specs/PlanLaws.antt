@@ -8,7 +8,7 @@ use Rattle.s3_types.specs.declared.reply.Reply.{Reply}
 use Rattle.operations.specs.declared.plan.Step.{Step}
 use Rattle.operations.specs.declared.plan.Step.TheVariants.{Next, End}
 use Rattle.operations.specs.Plans.{Goes, Falls, IsPlan}
-use Rattle.operations.specs.Courses.{IsCourse, once, Reached, reached}
+use Rattle.operations.specs.Courses.{IsCourse, MaySend, once, Reached, reached}
 
 module _ {P A : Type 0} {starts : P → Type 0} {asks : P → Request} {goes : P → Reply → Step P A} {holds : P → Scene → P → Scene → Type 0} {gives : P → Scene → A → Scene → Type 0} {always : P → Scene → Scene → Type 0} {more : P → Scene → ℕ} (plan : IsPlan starts asks goes holds gives always more) where
   module _ (o : P) (z : Scene) where
@@ -76,3 +76,7 @@ module _ {P A : Type 0} {starts : P → Type 0} {asks : P → Request} {goes : P
     during = λ o z p s b h. always_on o z p s h;
     at_end = plan.at_end;
   }
+
+-- and it may send what its phases ask
+pub sends_of : {P : Type 0} (asks : P → Request) (holds : P → Scene → P → Scene → Type 0) (sends : P → Scene → Request → Type 0) → ((o : P) (z : Scene) (p : P) (s : Scene) → holds o z p s → sends o z (asks p)) → MaySend asks (reached asks holds) sends
+sends_of asks holds sends f o z p s b h = f o z p h.settled h.phase

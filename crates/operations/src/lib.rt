@@ -8,7 +8,9 @@
 //! (`IsPlan`).
 //!
 //! `perform`: Alone: the answer means what the plan gives (`given`), what the plan keeps holds before
-//! and after each sending, and the entries, tries and counts are as with `drive` (`Performed`).
+//! and after each sending, each request is one that the plan may send (`sends`), and the entries, tries
+//! and counts are as with `drive` (`Performed`). Where each sending was answered, what is left is told
+//! apart (`answered`).
 #![tactic(auto)]
 
 mod operation;

@@ -1,4 +1,6 @@
-ghost use Rattle.std.specs.Prelude.{◌≡◌, ◌<◌, ◌≤◌, length, IfOk, OnOk, IsErrOf, Ok, Err};
+ghost use Rattle.std.specs.Prelude.{◌≡◌, ◌<◌, ◌≤◌, List, ◌++◌, length, IfOk, OnOk, IsErrOf, Ok, Err};
+ghost use Rattle.s3_types.specs.declared.journal.Entry.{Entry};
+ghost use Rattle.machine.specs.Counted.{AreAnswered};
 ghost use Rattle.operations.specs.Performed.{Performed};
 
 use crate::operation::{Operation, Stage};
@@ -27,7 +29,7 @@ fn answer_of<P: Drop, A: Drop>(
 
 /// Performs an operation that is alone, whatever the store loses: each request is sent at most
 /// `retries + 1` times. StoreFault comes exactly where a request wore out. The journal gains an entry for
-/// each sending.
+/// each sending. What it leaves where each was answered, is told apart.
 pub fn perform<P: Plan, S: ObjectStore>(
     alloc: Global,
     plan: P,
@@ -40,7 +42,8 @@ pub fn perform<P: Plan, S: ObjectStore>(
     requires starts { P.starts plan }
     requires counted { S.requests store.old ≤ length journal.old.entries }
     ensures given { IfOk result (λ answer. P.gives plan (S.scene store.old) answer (S.scene store.new)) }
-    ensures performed { Performed actor event retries (P.always plan (S.scene store.old)) (S.scene store.old) (S.scene store.new) journal.old.entries journal.new.entries (S.requests store.old) (S.requests store.new) (S.losses store.old) (S.losses store.new) (S.foretold store.old) (S.foretold store.new) result }
+    ensures answered { IfOk result (λ answer. (part : List Entry) → journal.new.entries ≡ journal.old.entries ++ part → AreAnswered part → P.leaves plan (S.scene store.old) answer (S.scene store.new)) }
+    ensures performed { Performed actor event retries (P.always plan (S.scene store.old)) (P.sends plan (S.scene store.old)) (S.scene store.old) (S.scene store.new) journal.old.entries journal.new.entries (S.requests store.old) (S.requests store.new) (S.losses store.old) (S.losses store.new) (S.foretold store.old) (S.foretold store.new) result }
     ensures fault { IsErrOf result DriveStop.StoreFault → S.losses store.old < S.losses store.new }
 {
     let operation = match Operation::new(plan) {

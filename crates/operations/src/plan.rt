@@ -3,7 +3,7 @@ ghost use Rattle.s3_types.specs.Store.{Scene};
 ghost use Rattle.s3_types.specs.declared.request.Request.{Request};
 ghost use Rattle.s3_types.specs.declared.reply.Reply.{Reply};
 ghost use Rattle.operations.specs.declared.plan.Step.{Step};
-ghost use Rattle.operations.specs.Courses.{IsCourse};
+ghost use Rattle.operations.specs.Courses.{IsCourse, MaySend, IsCalm};
 
 use s3_types::{Reply, Request};
 use std::alloc::AllocError;
@@ -39,6 +39,15 @@ pub trait Plan: Drop {
     /// Begun so in that scene, this may be the scene at any moment.
     ghost always: { Self → Scene → Scene → Type 0 };
 
+    /// Begun so in that scene, it may send this request.
+    ghost sends: { Self → Scene → Request → Type 0 };
+
+    /// The same as `holds`, where every sending so far was answered.
+    ghost calm: { Self → Scene → Self → Scene → Type 0 };
+
+    /// The same as `gives`, where every sending was answered.
+    ghost leaves: { Self → Scene → Self.Answer → Scene → Type 0 };
+
     /// At most so many phases are to come.
     ghost left: { Self → Scene → ℕ };
 
@@ -52,4 +61,8 @@ pub trait Plan: Drop {
 
     /// What holds of these.
     ghost laws: { IsCourse starts asks goes holds gives always left };
+
+    ghost asked: { MaySend asks holds sends };
+
+    ghost calms: { IsCalm starts asks goes calm leaves };
 }

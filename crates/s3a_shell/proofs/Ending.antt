@@ -1,5 +1,5 @@
 -- What a command's sendings lead to, from their beginning.
-use Rattle.std.specs.Prelude.{◌≡◌, ℕ, true, false, List, [], ◌++◌, take, length}
+use Rattle.std.specs.Prelude.{◌≡◌, ◌≤◌, ℕ, true, false, None, List, [], ◌++◌, take, length}
 use Rattle.std.proofs.Common.{sym, ap, subst, ◌∙◌, arith}
 use Rattle.std.proofs.lemmas.List.{take_all}
 use Rattle.s3_types.specs.Store.{Content, Scene, opening}
@@ -16,6 +16,9 @@ use Rattle.s3a_shell.specs.Stays.{OnlyIn, bucket_in, ended_by}
 use Rattle.s3a_shell.proofs.Staying.{does_only}
 use Rattle.s3a_shell.proofs.Unchanged.{no_change}
 use Rattle.s3a_shell.proofs.Undone.{does_keeps}
+use Rattle.s3_service.specs.Ids.{AreBelow}
+use Rattle.request_frame.specs.Held.{upload_at}
+use Rattle.s3a_shell.proofs.Finished.{below_none, does_ended}
 
 module _ (always : Scene → Type 0) (c : Content) (old es : List Entry) (z s : Scene) (first : old ≡ []) (begun : z ≡ opening c) (h : Sends always old z es s) where
   whole : es ≡ h.part
@@ -54,6 +57,12 @@ module _ (always : Scene → Type 0) (c : Content) (old es : List Entry) (z s : 
 
     pub only_at : OnlyIn (bucket_in command) (ended_by command c) c s.content
     only_at = subst (λ (v : Scene). OnlyIn (bucket_in command) (ended_by command v.content) v.content s.content) begun (does_only command bytes z what s did)
+
+    -- and of the uploads that it began
+    pub ended_at : AreBelow c.buckets c.next → AreBelow s.content.buckets s.content.next → (id : ℕ) → c.next ≤ id → upload_at s.content (bucket_in command) id ≡ None
+    ended_at first last =
+        let fresh : (z : Scene) → z ≡ opening c → (b : List ℕ) (id : ℕ) → z.content.next ≤ id → upload_at z.content b id ≡ None = λ z e b. subst (λ (v : Scene). (id : ℕ) → v.content.next ≤ id → upload_at v.content b id ≡ None) (sym e) (below_none c b first) in
+        subst (λ (v : Scene). (id : ℕ) → v.content.next ≤ id → upload_at s.content (bucket_in command) id ≡ None) begun (does_ended z s (fresh z begun) (λ b. below_none s.content b last) command bytes what did)
 
     -- it is the first where the command was refused
     pub undone_at : what.refused ≡ true → s.content ≡ c

@@ -9,3 +9,5 @@ mod Joining
 mod Aborting
 mod Listing
 mod Undone
+mod Looking
+mod Finished

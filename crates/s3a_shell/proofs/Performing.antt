@@ -6,6 +6,7 @@ use Rattle.std.specs.FinMap as fin
 use Rattle.s3_types.specs.Store.{Objects, BucketContent, Scene}
 use Rattle.s3_types.specs.Answer.{answer, apply}
 use Rattle.s3_types.specs.Moment.{is_unanswered}
+use Rattle.s3_types.specs.declared.request.Request.{Request}
 use Rattle.s3_types.specs.declared.request.Request.TheVariants.{MakeBucket}
 use Rattle.s3_types.specs.Foretold.{fate_of, AreForetold}
 use Rattle.s3_types.specs.declared.fates.Fate.TheVariants.{Answer}
@@ -27,14 +28,14 @@ use Rattle.fs_tree.specs.declared.answers.FsRefusal.{FsRefusal}
 use Rattle.fs_tree.specs.declared.answers.FsRefusal.TheVariants.{NoSuchBucket}
 use Rattle.fs_ops.specs.Delete.{Deletion, gives}
 use Rattle.fs_ops.specs.Deleting.{deletes_in}
-use Rattle.fs_files.specs.Placed.{InFile, IsFileOrNot, object_of}
-use Rattle.fs_files.specs.Create.{IsUndone, GivesFile, always_in, AlwaysFile}
+use Rattle.fs_files.specs.Placed.{InFile, IsFileOrNot, NoneLeft, object_of}
+use Rattle.fs_files.specs.Create.{IsUndone, GivesFile, least as least_of, always_in, AlwaysFile}
 use Rattle.fs_files.specs.WritingLaws.{placed_same}
 use Rattle.fs_files.specs.Creation.{Creation}
 use Rattle.s3a_shell.specs.declared.said.Said.{Said}
 use Rattle.s3a_shell.specs.Texts.{said, nothing, refusing}
 use Rattle.s3a_shell.specs.declared.session.Session.{Session}
-use Rattle.s3a_shell.specs.Sendings.{Sent, IsCounted}
+use Rattle.s3a_shell.specs.Sendings.{Sent, Asked, IsCounted}
 use Rattle.s3a_shell.proofs.Joining.{sent_as}
 use Rattle.s3a_shell.specs.Doings.{Did, most_input, Created, CreatedUnless, FileOrNot, DidPut, refusal_word, refused_or_fine, DidMake}
 
@@ -45,13 +46,13 @@ one RequestLost h = absurd (cc)
 one ReplyLost h = absurd (cc)
 
 -- what is told to be answered is
-answered : (n : ℕ) (es : List Entry) → AreForetold (λ m. Some Answer) n es → AreAnswered es
+pub answered : (n : ℕ) (es : List Entry) → AreForetold (λ m. Some Answer) n es → AreAnswered es
 answered n [] h = tt
 answered n (e ∷ es) h = (one e.outcome h.0, answered (n + 1) es h.1)
 
-pub sent : {A : Type 0} (always : Scene → Type 0) (a b : Session) (result : Result A DriveStop) → IsCounted a
-    → Performed Shell 0 0 always a.store.scene b.store.scene a.journal.entries b.journal.entries a.store.requests b.store.requests 0 0 (λ n. Some Answer) (λ n. Some Answer) result → Sent always a b
-sent always a b result counted h = record {
+pub sent : {A : Type 0} (always : Scene → Type 0) (sends : Request → Type 0) (a b : Session) (result : Result A DriveStop) → IsCounted a
+    → Performed Shell 0 0 always sends a.store.scene b.store.scene a.journal.entries b.journal.entries a.store.requests b.store.requests 0 0 (λ n. Some Answer) (λ n. Some Answer) result → Sent always a b
+sent always sends a b result counted h = record {
   sends = record {
     part = h.part;
     appended = h.appended;
@@ -63,6 +64,10 @@ sent always a b result counted h = record {
   };
   counted = omega (arith, counted, h.counts.made);
 }
+
+pub asked : {A : Type 0} (always : Scene → Type 0) (sends : Request → Type 0) (a b : Session) (result : Result A DriveStop)
+    → Performed Shell 0 0 always sends a.store.scene b.store.scene a.journal.entries b.journal.entries a.store.requests b.store.requests 0 0 (λ n. Some Answer) (λ n. Some Answer) result → Asked sends a b
+asked always sends a b result h = record { part = h.part; appended = h.appended; each = h.sent }
 
 -- nothing changed at any moment of an operation that only reads
 pub sent_still : (b : List ℕ) (a c : Session) → Sent (AlwaysIn b (λ m n. n ≡ m) a.store.scene) a c → Sent (IsStill a.store.scene) a c
@@ -102,19 +107,19 @@ deleted_at path recursive z s o a r is key given told =
     (subst (λ (o : Deletion). GivesIn path.bucket (Deletes o.recursive o.path) (Err NoSuchBucket) z a s) is (deletes_in path.bucket o z a s key given)) told
 
 pub created_if : {E : Type 0} (path : Path) (bytes : List ℕ) (overwrite : Bool) (z s : Scene) (a : Result (Unit {0}) FsRefusal) (r : Result Said E)
-    → InFile (fin.get z.content.buckets path.bucket) (λ m n. Creates path bytes overwrite Keep m a n) (a ≡ Err NoSuchBucket) z path.bucket s × IsUndone a z s
+    → InFile (fin.get z.content.buckets path.bucket) (λ m n. Creates path bytes overwrite Keep m a n) (a ≡ Err NoSuchBucket) z path.bucket s × IsUndone a z s → NoneLeft z path.bucket s
     → IfOk r (λ w. w ≡ said nothing a) → IfOk r (λ w. Created path bytes overwrite z w s)
-created_if path bytes overwrite z s a (Ok w) g e = record { answer = a; given = g.0; undone = g.1; told = e }
-created_if path bytes overwrite z s a (Err x) g e = tt
+created_if path bytes overwrite z s a (Ok w) g n e = record { answer = a; given = g.0; undone = g.1; none = n; told = e }
+created_if path bytes overwrite z s a (Err x) g n e = tt
 
 -- and what the making of a file gave
 pub file_if : {E : Type 0} (path : Path) (bytes copy : List ℕ) (block : ℕ) (overwrite : Bool) (z s : Scene) (file : Creation) (a : Result (Unit {0}) FsRefusal) (r : Result Said E)
-    → copy ≡ bytes → file ≡ record { path = path; bytes = copy; block = block; overwrite = overwrite; policy = Keep } → z.content.minimum ≤ block → GivesFile file z a s
+    → copy ≡ bytes → file ≡ record { path = path; bytes = copy; block = block; overwrite = overwrite; policy = Keep } → z.content.minimum ≤ block → GivesFile file z a s × (least_of file z → NoneLeft z file.path.bucket s)
     → IfOk r (λ w. w ≡ said nothing a) → IfOk r (λ w. Created path bytes overwrite z w s)
 file_if path bytes copy block overwrite z s file a r same is least gives told =
-    let of_copy = subst (λ (o : Creation). GivesFile o z a s) is gives least in
+    let of_copy = subst (λ (o : Creation). GivesFile o z a s × (least_of o z → NoneLeft z o.path.bucket s)) is gives in
     created_if path bytes overwrite z s a r
-    (subst (λ (b : List ℕ). InFile (fin.get z.content.buckets path.bucket) (λ m n. Creates path b overwrite Keep m a n) (a ≡ Err NoSuchBucket) z path.bucket s × IsUndone a z s) same of_copy) told
+    (subst (λ (b : List ℕ). InFile (fin.get z.content.buckets path.bucket) (λ m n. Creates path b overwrite Keep m a n) (a ≡ Err NoSuchBucket) z path.bucket s × IsUndone a z s) same (of_copy.0 least)) (of_copy.1 least) told
 
 -- and at any moment of it
 file_or_not : (path : Path) (bytes : List ℕ) (block : ℕ) (overwrite : Bool) (z m : Objects) → always_in (record { path = path; bytes = bytes; block = block; overwrite = overwrite; policy = Keep }) z m → IsFileOrNot z path.key bytes m

@@ -15,7 +15,7 @@ use Rattle.fs_tree.specs.declared.answers.FsRefusal.{FsRefusal}
 use Rattle.fs_tree.specs.declared.answers.FsRefusal.TheVariants.{NoSuchBucket}
 use Rattle.fs_ops.specs.Delete as delete
 use Rattle.fs_ops.specs.Make as make
-use Rattle.fs_files.specs.Placed.{InFile, IsFileOrNot}
+use Rattle.fs_files.specs.Placed.{InFile, IsFileOrNot, NoneLeft}
 use Rattle.fs_files.specs.Create.{IsUndone}
 use Rattle.fs_rename.specs.Public.{StandsWhole}
 use Rattle.s3a_words.specs.declared.command.Command.{Command}
@@ -45,6 +45,8 @@ pub record Created (path : Path) (bytes : List ℕ) (overwrite : Bool) (z : Scen
   pub answer : Result (Unit {0}) FsRefusal
   pub given : InFile (fin.get z.content.buckets path.bucket) (λ m n. Creates path bytes overwrite Keep m answer n) (answer ≡ Err NoSuchBucket) z path.bucket s
   pub undone : IsUndone answer z s
+  -- no upload that was begun since is live
+  pub none : NoneLeft z path.bucket s
   pub told : what ≡ said nothing answer
 
 -- unless the input is too large, which is refused before all else
@@ -92,6 +94,14 @@ is_of_shell (Rmr path) = true
 is_of_shell (Uploads path) = true
 is_of_shell (AbortUploads path) = true
 is_of_shell _ = false
+
+-- the commands that change nothing
+abbrev pub only_looks : Command → Bool
+only_looks (Ls path) = true
+only_looks (Stat path) = true
+only_looks (Cat path) = true
+only_looks (Uploads path) = true
+only_looks _ = false
 
 -- what a command does in a scene with the bytes of its input, says, and leaves
 abbrev pub Does : Command → List ℕ → Scene → Said → Scene → Type 0

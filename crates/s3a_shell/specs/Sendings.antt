@@ -1,6 +1,6 @@
 -- What the shell sends.
 use Rattle.std.specs.Prelude.{◌≡◌, ◌⊎◌, ℕ, ◌≤◌, ◌&&◌, Bool, true, false, not, List, ◌++◌, length, take}
-use Rattle.std.specs.List.{list_any}
+use Rattle.std.specs.List.{AllByRecursion, list_any}
 use Rattle.s3_types.specs.Store.{Scene}
 use Rattle.s3_types.specs.Moment.{AreHonest, after_all}
 use Rattle.s3_types.specs.Answer.{apply}
@@ -35,6 +35,12 @@ IsCounted a = a.store.requests ≤ length a.journal.entries
 pub record Sent (always : Scene → Type 0) (a b : Session) : Type 0 where
   pub sends : Sends always a.journal.entries a.store.scene b.journal.entries b.store.scene
   pub counted : IsCounted b
+
+-- it asked such requests alone
+pub record Asked (sends : Request → Type 0) (a b : Session) : Type 0 where
+  pub part : List Entry
+  pub appended : b.journal.entries ≡ a.journal.entries ++ part
+  pub each : AllByRecursion (λ e. sends e.request) part
 
 -- a request has had its effect, or not yet
 abbrev pub AppliedOrNot : Request → Scene → Scene → Type 0

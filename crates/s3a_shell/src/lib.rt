@@ -9,6 +9,8 @@
 //! shell's, in event 0, each with the answer that was due, and the store that it leaves is what they
 //! make of the one that it was given. Other buckets stand, and so do all uploads but those that
 //! `abort-uploads` ends (`stays`); what was refused, or sent no change, leaves the store as it was.
+//! `ls`, `stat`, `cat` and `uploads` send no change (`reads`), and no upload is live at the end that
+//! was begun by the command (`ended`).
 #![tactic(auto)]
 
 mod buckets;

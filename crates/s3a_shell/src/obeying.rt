@@ -1,11 +1,13 @@
-ghost use Rattle.std.specs.Prelude.{◌≡◌, ℕ, ◌≤◌, ◌^◌, true, false, length, IfOk, OnOk};
+ghost use Rattle.std.specs.Prelude.{◌≡◌, ℕ, ◌≤◌, ◌^◌, true, false, length, None, IfOk, OnOk};
 ghost use Rattle.s3_types.specs.Store.{opening};
 ghost use Rattle.s3_types.specs.Moment.{moment, IsHonest};
 ghost use Rattle.s3_types.specs.declared.request.Actor.TheVariants as actors;
 ghost use Rattle.machine.specs.Counted.{AreAnswered};
 ghost use Rattle.machine.specs.Turns.{AreBy};
 ghost use Rattle.s3a_shell.specs.Sendings.{IsCounted, Sent, is_refusal, is_taken, is_change, has_changed};
-ghost use Rattle.s3a_shell.specs.Doings.{is_of_shell, Does, MayStandAt};
+ghost use Rattle.s3a_shell.specs.Doings.{is_of_shell, only_looks, Does, MayStandAt};
+ghost use Rattle.s3_service.specs.Ids.{AreBelow};
+ghost use Rattle.request_frame.specs.Held.{upload_at};
 ghost use Rattle.s3a_shell.specs.Stays.{OnlyIn, bucket_in, ended_by};
 
 use crate::said::Said;
@@ -65,6 +67,7 @@ impl Session {
         requires one { is_of_shell command.now ≡ true }
         requires counted { IsCounted self.old }
         ensures did { IfOk result (λ what. Does command.now bytes.now self.old.store.scene what self.new.store.scene) }
+        ensures reads { OnOk result (only_looks command.now ≡ true → has_changed self.new.journal.entries ≡ has_changed self.old.journal.entries) }
         ensures sent { OnOk result (Sent (MayStandAt command.now bytes.now self.old.store.scene) self.old self.new) }
     {
         match command {
@@ -88,7 +91,8 @@ impl Session {
 
     /// The end of a command.
     fn ended(self, said: Said) -> ShellEnd
-        ensures { result ≡ record { service = self.store.scene.content; changed = has_changed self.journal.entries; refused = said.refused; text = said.text; journal = self.journal } }
+        ensures below { AreBelow result.service.buckets result.service.next }
+        ensures end { result ≡ record { service = self.store.scene.content; changed = has_changed self.journal.entries; refused = said.refused; text = said.text; journal = self.journal } }
     {
         let Session {
             alloc: _,
@@ -97,8 +101,10 @@ impl Session {
         } = self;
         let changed = has_changed(journal.as_slice());
         let Said { refused, text } = said;
+        let service = store.into_service();
+        let _ = service.next_upload();
         ShellEnd {
-            service: store.into_service(),
+            service,
             changed,
             refused,
             text,
@@ -128,6 +134,8 @@ pub fn shell(
     ensures moments { IfOk result (λ end. (m : ℕ) → MayStandAt command.now bytes (opening service) (moment service end.journal.entries m)) }
     ensures changed { IfOk result (λ end. end.changed ≡ has_changed end.journal.entries) }
     ensures same { IfOk result (λ end. end.changed ≡ false → end.service ≡ service) }
+    ensures ended { IfOk result (λ end. (id : ℕ) → service.next ≤ id → upload_at end.service (bucket_in command.now) id ≡ None) }
+    ensures reads { IfOk result (λ end. only_looks command.now ≡ true → end.changed ≡ false) }
     ensures refused { IfOk result (λ end. end.refused ≡ true → end.service ≡ service) }
     ensures stays { IfOk result (λ end. OnlyIn (bucket_in command.now) (ended_by command.now service) service end.service) }
 {

@@ -4,7 +4,7 @@ ghost use Rattle.fs_tree.specs.Answers.{Stats, Reads, Lists, Makes, Deletes};
 ghost use Rattle.fs_ops.specs.Make as make;
 ghost use Rattle.list_walk.specs.Walks.{IsStill};
 ghost use Rattle.s3a_shell.specs.Texts.{status_line, entry_lines, bytes_alone, nothing};
-ghost use Rattle.s3a_shell.specs.Sendings.{IsCounted, Sent};
+ghost use Rattle.s3a_shell.specs.Sendings.{IsCounted, Sent, has_changed};
 ghost use Rattle.s3a_shell.specs.Doings.{Did, DeletedSome};
 
 use crate::said::{Said, bytes_said, nothing_said};
@@ -19,6 +19,7 @@ impl Session {
     pub(crate) fn stat(&mut self, path: &S3Path) -> Result<Said, AllocError>
         requires { IsCounted self.old }
         ensures did { IfOk result (λ what. Did path.now (Stats path.now.key) status_line self.old.store.scene what self.new.store.scene) }
+        ensures looks { OnOk result (has_changed self.new.journal.entries ≡ has_changed self.old.journal.entries) }
         ensures sent { OnOk result (Sent (IsStill self.old.store.scene) self.old self.new) }
     {
         let stat = Stat::new(self.alloc, path)?;
@@ -30,6 +31,7 @@ impl Session {
     pub(crate) fn ls(&mut self, path: &S3Path) -> Result<Said, AllocError>
         requires { IsCounted self.old }
         ensures did { IfOk result (λ what. Did path.now (Lists path.now.key) entry_lines self.old.store.scene what self.new.store.scene) }
+        ensures looks { OnOk result (has_changed self.new.journal.entries ≡ has_changed self.old.journal.entries) }
         ensures sent { OnOk result (Sent (IsStill self.old.store.scene) self.old self.new) }
     {
         let dir = ListDir::new(self.alloc, path)?;
@@ -41,6 +43,7 @@ impl Session {
     pub(crate) fn cat(&mut self, path: &S3Path) -> Result<Said, AllocError>
         requires { IsCounted self.old }
         ensures did { IfOk result (λ what. Did path.now (Reads path.now.key) bytes_alone self.old.store.scene what self.new.store.scene) }
+        ensures looks { OnOk result (has_changed self.new.journal.entries ≡ has_changed self.old.journal.entries) }
         ensures sent { OnOk result (Sent (IsStill self.old.store.scene) self.old self.new) }
     {
         let file = ReadFile::new(self.alloc, path)?;

@@ -1,8 +1,9 @@
 ghost use Rattle.std.specs.Prelude.{◌≡◌, ◌≢◌, ◌≤◌, ◌<◌, ◌+◌, ◌^◌, ◌++◌, ◌∷◌, [], length, IfOk, OnOk};
 ghost use Rattle.s3_types.specs.Store.{opening};
 ghost use Rattle.s3_types.specs.Answer.{answer, apply};
-ghost use Rattle.bucket_ops.specs.Phases.{GivesIn, AlwaysIn};
-ghost use Rattle.s3a_shell.specs.Sendings.{IsCounted, Sent, answered_by};
+ghost use Rattle.bucket_ops.specs.Phases.{GivesIn, AlwaysIn, SendsIn};
+ghost use Rattle.s3_service.specs.Ids.{AreBelow};
+ghost use Rattle.s3a_shell.specs.Sendings.{IsCounted, Sent, Asked, answered_by};
 
 use bucket_ops::{Phases, perform_in};
 use machine::DriveStop;
@@ -41,7 +42,9 @@ impl Session {
         ensures scene { result.store.scene ≡ opening service }
         ensures entries { result.journal.entries ≡ [] }
         ensures counted { IsCounted result }
+        ensures below { AreBelow service.buckets service.next }
     {
+        let _ = service.next_upload();
         Session {
             alloc,
             store: MemStore::new(alloc, service),
@@ -57,6 +60,7 @@ impl Session {
     ) -> Result<O::Answer, AllocError>
         requires counted { IsCounted self.old }
         ensures given { IfOk result (λ answer. GivesIn path.now.bucket (O.gives operation) O.absent self.old.store.scene answer self.new.store.scene) }
+        ensures asked { OnOk result (Asked (SendsIn path.now.bucket (O.asks operation (O.first operation)) (O.sends operation) self.old.store.scene) self.old self.new) }
         ensures sent { OnOk result (Sent (AlwaysIn path.now.bucket (O.always operation) self.old.store.scene) self.old self.new) }
     {
         let bucket = path.bucket().clone()?;

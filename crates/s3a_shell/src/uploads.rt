@@ -3,7 +3,7 @@ ghost use Rattle.s3_types.specs.Answer.{apply};
 ghost use Rattle.path_keys.specs.Paths.{below};
 ghost use Rattle.list_walk.specs.Kinds.{uploads_from};
 ghost use Rattle.list_walk.specs.Walks.{IsStill};
-ghost use Rattle.s3a_shell.specs.Sendings.{IsCounted, Sent, AppliedOrNot};
+ghost use Rattle.s3a_shell.specs.Sendings.{IsCounted, Sent, AppliedOrNot, has_changed};
 ghost use Rattle.s3a_shell.specs.Uploading.{bytes_in, upload_line, aborted_line, sizes_in, asked_line, asked_lines};
 ghost use Rattle.s3a_shell.specs.Uploading.{aborts, after_aborts, AfterSome, DidList, DidAbort, AbortedSome};
 
@@ -70,6 +70,7 @@ impl Session {
         requires { IsCounted self.old }
         ensures found { IfOk result (λ found. found ≡ uploads_from self.old.store.scene path.now.bucket (below path.now.key []) None) }
         ensures same { OnOk result (self.new.store.scene ≡ self.old.store.scene) }
+        ensures looks { OnOk result (has_changed self.new.journal.entries ≡ has_changed self.old.journal.entries) }
         ensures sent { OnOk result (Sent (IsStill self.old.store.scene) self.old self.new) }
     {
         let bucket = path.bucket().clone()?;
@@ -100,6 +101,7 @@ impl Session {
         requires { IsCounted self.old }
         ensures line { OnOk result (string_bytes lines.new ≡ string_bytes lines.old ++ asked_line self.old.store.scene bucket.now upload.now) }
         ensures same { OnOk result (self.new.store.scene ≡ self.old.store.scene) }
+        ensures looks { OnOk result (has_changed self.new.journal.entries ≡ has_changed self.old.journal.entries) }
         ensures sent { OnOk result (Sent (IsStill self.old.store.scene) self.old self.new) }
     {
         let request = Request::list_parts(bucket, &upload.key, upload.upload)?;
@@ -121,6 +123,7 @@ impl Session {
         requires { IsCounted self.old }
         ensures lines { IfOk result (λ lines. lines ≡ asked_lines self.old.store.scene bucket.now uploads.now) }
         ensures same { OnOk result (self.new.store.scene ≡ self.old.store.scene) }
+        ensures looks { OnOk result (has_changed self.new.journal.entries ≡ has_changed self.old.journal.entries) }
         ensures sent { OnOk result (Sent (IsStill self.old.store.scene) self.old self.new) }
     {
         let mut lines = String::new(self.alloc);
@@ -134,6 +137,7 @@ impl Session {
     pub(crate) fn uploads(&mut self, path: &S3Path) -> Result<Said, AllocError>
         requires { IsCounted self.old }
         ensures did { IfOk result (λ what. DidList path.now self.old.store.scene what self.new.store.scene) }
+        ensures looks { OnOk result (has_changed self.new.journal.entries ≡ has_changed self.old.journal.entries) }
         ensures sent { OnOk result (Sent (IsStill self.old.store.scene) self.old self.new) }
     {
         match self.live_uploads(path)? {

@@ -1,5 +1,5 @@
 -- What a command is to do, by what is held.
-use Rattle.std.specs.Prelude.{◌≡◌, ℕ, Bool, true, false, List, [], length, codes, Option, Some, None}
+use Rattle.std.specs.Prelude.{◌≡◌, ℕ, ◌≤◌, Bool, true, false, List, [], length, codes, Option, Some, None}
 use Rattle.s3_types.specs.Store.{Content, opening, new_content}
 use Rattle.s3_types.specs.Moment.{moment, IsHonest}
 use Rattle.s3_types.specs.declared.limits.TheConstants.{MOST_MINIMUM}
@@ -9,8 +9,9 @@ use Rattle.machine.specs.Counted.{AreAnswered}
 use Rattle.machine.specs.Turns.{AreBy}
 use Rattle.s3a_words.specs.declared.command.Command.{Command}
 use Rattle.s3a_words.specs.declared.command.Command.TheVariants.{Init, Put, PutForce, Job, Gen}
+use Rattle.request_frame.specs.Held.{upload_at}
 use Rattle.s3a_shell.specs.declared.said.Said.{Said}
-use Rattle.s3a_shell.specs.Doings.{Does, MayStandAt}
+use Rattle.s3a_shell.specs.Doings.{only_looks, Does, MayStandAt}
 use Rattle.s3a_shell.specs.Sendings.{has_changed}
 use Rattle.s3a_shell.specs.Stays.{OnlyIn, bucket_in, ended_by}
 use Rattle.s3a_shell.specs.Texts.{refused_line}
@@ -62,6 +63,10 @@ pub record Done (command : Command) (bytes : List ℕ) (c : Content) (work : Wor
   pub moments : (m : ℕ) → MayStandAt command bytes (opening c) (moment c sent m)
   -- other buckets stand, and so do the uploads that it does not end
   pub stays : OnlyIn (bucket_in command) (ended_by command c) c (moment c sent (length sent)).content
+  -- no upload that it began itself is live
+  pub ended : (id : ℕ) → c.next ≤ id → upload_at (moment c sent (length sent)).content (bucket_in command) id ≡ None
+  -- one that only looks sends no change
+  pub reads : only_looks command ≡ true → has_changed sent ≡ false
   -- one that was refused, or that sent no change, left the store as it was
   pub refused : what.refused ≡ true → (moment c sent (length sent)).content ≡ c
   pub unchanged : has_changed sent ≡ false → (moment c sent (length sent)).content ≡ c

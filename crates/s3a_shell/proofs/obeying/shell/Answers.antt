@@ -1,57 +1,71 @@
-use Rattle.std.proofs.Common.{◌≡◌, ℕ, true, false, length, sym, subst}
+use Rattle.std.proofs.Common.{◌≡◌, ◌≤◌, ◌∙◌, ℕ, true, false, None, ap, length, sym, subst}
 use Rattle.s3_types.specs.Store.{Scene, opening}
 use Rattle.s3_types.specs.Moment.{moment, IsHonest}
 use Rattle.s3_types.specs.declared.request.Actor.TheVariants.{Shell}
 use Rattle.machine.specs.Counted.{AreAnswered}
 use Rattle.machine.specs.Turns.{AreBy}
 use Rattle.s3a_shell.specs.declared.obeying.ShellEnd.{ShellEnd}
-use Rattle.s3a_shell.specs.Doings.{Does, MayStandAt}
+use Rattle.s3a_shell.specs.Doings.{only_looks, Does, MayStandAt}
+use Rattle.s3_service.specs.Ids.{AreBelow}
+use Rattle.request_frame.specs.Held.{upload_at}
+use Rattle.s3a_shell.specs.Sendings.{has_changed}
 use Rattle.s3a_shell.specs.Stays.{OnlyIn, bucket_in, ended_by}
-use Rattle.s3a_shell.proofs.Ending.{all_moments, all_by, all_answered, all_honest, did_at, only_at, undone_at, same_at, content_at}
+use Rattle.s3a_shell.proofs.Ending.{all_moments, all_by, all_answered, all_honest, did_at, only_at, ended_at, undone_at, same_at, content_at}
 use Rattle.s3a_shell.proofs.obeying.shell.Goals as goal
 
 pub returns-in-Ok-clause-did : goal.returns-in-Ok-clause-did
 returns-in-Ok-clause-did c =
-    subst (λ (end : ShellEnd). Does c.args.command.now c.args.bytes (opening c.args.service) (record { refused = end.refused; text = end.text }) (moment c.args.service end.journal.entries (length end.journal.entries))) (sym c.ended.ensures)
+    subst (λ (end : ShellEnd). Does c.args.command.now c.args.bytes (opening c.args.service) (record { refused = end.refused; text = end.text }) (moment c.args.service end.journal.entries (length end.journal.entries))) (sym c.ended.ensures.end)
     (did_at _ c.args.service _ _ _ _ c.new-session.ensures.entries c.new-session.ensures.scene c.in-Ok.ensures.sent.sends c.args.command.now c.args.bytes c.in-Ok.said c.in-Ok.ensures.did)
 
 pub returns-in-Ok-clause-content : goal.returns-in-Ok-clause-content
 returns-in-Ok-clause-content c =
-    subst (λ (end : ShellEnd). end.service ≡ (moment c.args.service end.journal.entries (length end.journal.entries)).content) (sym c.ended.ensures)
+    subst (λ (end : ShellEnd). end.service ≡ (moment c.args.service end.journal.entries (length end.journal.entries)).content) (sym c.ended.ensures.end)
     (content_at _ c.args.service _ _ _ _ c.new-session.ensures.entries c.new-session.ensures.scene c.in-Ok.ensures.sent.sends)
 
 pub returns-in-Ok-clause-by : goal.returns-in-Ok-clause-by
 returns-in-Ok-clause-by c =
-    subst (λ (end : ShellEnd). AreBy Shell 0 end.journal.entries) (sym c.ended.ensures)
+    subst (λ (end : ShellEnd). AreBy Shell 0 end.journal.entries) (sym c.ended.ensures.end)
     (all_by _ c.args.service _ _ _ _ c.new-session.ensures.entries c.new-session.ensures.scene c.in-Ok.ensures.sent.sends)
 
 pub returns-in-Ok-clause-answered : goal.returns-in-Ok-clause-answered
 returns-in-Ok-clause-answered c =
-    subst (λ (end : ShellEnd). AreAnswered end.journal.entries) (sym c.ended.ensures)
+    subst (λ (end : ShellEnd). AreAnswered end.journal.entries) (sym c.ended.ensures.end)
     (all_answered _ c.args.service _ _ _ _ c.new-session.ensures.entries c.new-session.ensures.scene c.in-Ok.ensures.sent.sends)
 
 pub returns-in-Ok-clause-honest : goal.returns-in-Ok-clause-honest
 returns-in-Ok-clause-honest c =
-    subst (λ (end : ShellEnd). IsHonest c.args.service end.journal.entries) (sym c.ended.ensures)
+    subst (λ (end : ShellEnd). IsHonest c.args.service end.journal.entries) (sym c.ended.ensures.end)
     (all_honest _ c.args.service _ _ _ _ c.new-session.ensures.entries c.new-session.ensures.scene c.in-Ok.ensures.sent.sends)
 
 pub returns-in-Ok-clause-moments : goal.returns-in-Ok-clause-moments
 returns-in-Ok-clause-moments c =
-    subst (λ (end : ShellEnd). (m : ℕ) → MayStandAt c.args.command.now c.args.bytes (opening c.args.service) (moment c.args.service end.journal.entries m)) (sym c.ended.ensures)
+    subst (λ (end : ShellEnd). (m : ℕ) → MayStandAt c.args.command.now c.args.bytes (opening c.args.service) (moment c.args.service end.journal.entries m)) (sym c.ended.ensures.end)
     (subst (λ (z : Scene). (m : ℕ) → MayStandAt c.args.command.now c.args.bytes z (moment c.args.service c.obey.new.self.journal.entries m)) c.new-session.ensures.scene
     (all_moments _ c.args.service _ _ _ _ c.new-session.ensures.entries c.new-session.ensures.scene c.in-Ok.ensures.sent.sends))
 
 pub returns-in-Ok-clause-same : goal.returns-in-Ok-clause-same
 returns-in-Ok-clause-same c =
-    subst (λ (end : ShellEnd). end.changed ≡ false → end.service ≡ c.args.service) (sym c.ended.ensures)
+    subst (λ (end : ShellEnd). end.changed ≡ false → end.service ≡ c.args.service) (sym c.ended.ensures.end)
     (same_at _ c.args.service _ _ _ _ c.new-session.ensures.entries c.new-session.ensures.scene c.in-Ok.ensures.sent.sends)
 
 pub returns-in-Ok-clause-stays : goal.returns-in-Ok-clause-stays
 returns-in-Ok-clause-stays c =
-    subst (λ (end : ShellEnd). OnlyIn (bucket_in c.args.command.now) (ended_by c.args.command.now c.args.service) c.args.service end.service) (sym c.ended.ensures)
+    subst (λ (end : ShellEnd). OnlyIn (bucket_in c.args.command.now) (ended_by c.args.command.now c.args.service) c.args.service end.service) (sym c.ended.ensures.end)
     (only_at _ c.args.service _ _ _ _ c.new-session.ensures.entries c.new-session.ensures.scene c.in-Ok.ensures.sent.sends c.args.command.now c.args.bytes c.in-Ok.said c.in-Ok.ensures.did)
 
 pub returns-in-Ok-clause-refused : goal.returns-in-Ok-clause-refused
 returns-in-Ok-clause-refused c =
-    subst (λ (end : ShellEnd). end.refused ≡ true → end.service ≡ c.args.service) (sym c.ended.ensures)
+    subst (λ (end : ShellEnd). end.refused ≡ true → end.service ≡ c.args.service) (sym c.ended.ensures.end)
     (undone_at _ c.args.service _ _ _ _ c.new-session.ensures.entries c.new-session.ensures.scene c.in-Ok.ensures.sent.sends c.args.command.now c.args.bytes c.in-Ok.said c.in-Ok.ensures.did)
+
+pub returns-in-Ok-clause-ended : goal.returns-in-Ok-clause-ended
+returns-in-Ok-clause-ended c =
+    subst (λ (end : ShellEnd). (id : ℕ) → c.args.service.next ≤ id → upload_at end.service (bucket_in c.args.command.now) id ≡ None) (sym c.ended.ensures.end)
+    (ended_at _ c.args.service _ _ _ _ c.new-session.ensures.entries c.new-session.ensures.scene c.in-Ok.ensures.sent.sends c.args.command.now c.args.bytes c.in-Ok.said c.in-Ok.ensures.did c.new-session.ensures.below
+    (subst (λ (end : ShellEnd). AreBelow end.service.buckets end.service.next) c.ended.ensures.end c.ended.ensures.below))
+
+pub returns-in-Ok-clause-reads : goal.returns-in-Ok-clause-reads
+returns-in-Ok-clause-reads c =
+    subst (λ (end : ShellEnd). only_looks c.args.command.now ≡ true → end.changed ≡ false) (sym c.ended.ensures.end)
+    (λ e. c.in-Ok.ensures.reads e ∙ ap has_changed c.new-session.ensures.entries)

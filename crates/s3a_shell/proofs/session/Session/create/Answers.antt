@@ -1,10 +1,10 @@
-use Rattle.std.proofs.Common.{◌≤◌, ◌*◌, ◌∙◌, ℕ, List, length, sym, ap, subst}
+use Rattle.std.proofs.Common.{◌≤◌, ◌*◌, ◌+◌, ◌∙◌, ℕ, List, length, sym, ap, subst}
 use Rattle.s3_types.specs.Store.{Content}
 use Rattle.s3a_shell.proofs.Blocks.{some_block, least_block, has_room}
 use Rattle.fs_files.specs.Create.{AlwaysFile}
 use Rattle.s3a_shell.specs.Doings.{FileOrNot}
 use Rattle.s3a_shell.proofs.Joining.{sent_as}
-use Rattle.s3a_shell.proofs.Performing.{sent, on_ok, file_if, file_stands}
+use Rattle.s3a_shell.proofs.Performing.{answered, sent, on_ok, file_if, file_stands}
 use Rattle.s3a_shell.proofs.session.Session.create.Goals as goal
 
 pub new-requires-clause-some : goal.new-requires-clause-some
@@ -17,8 +17,9 @@ new-requires-clause-room c =
 pub returns-in-Ok-clause-did : goal.returns-in-Ok-clause-did
 returns-in-Ok-clause-did c =
     let least = subst (λ (n : ℕ). n ≤ c.block_of-block.result) (c.minimum-minimum.ensures ∙ ap (λ (d : Content). d.minimum) c.service.ensures) (least_block _ _ _ c.block_of-block.ensures) in
+    let done = c.in-Ok.ensures.performed in
     file_if c.args.path.now c.args.bytes.now c.in_ok-bytes.bytes c.block_of-block.result c.args.overwrite _ _ c.in_ok-file.file.file c.in-Ok.answer c.nothing_said.result c.in_ok-bytes.ensures.cases
-    c.in_ok-file.ensures.file least c.in-Ok.ensures.given c.nothing_said.ensures
+    c.in_ok-file.ensures.file least (c.in-Ok.ensures.answered done.part done.appended (answered (c.args.self.now.store.requests + 1) done.part done.foretold)) c.nothing_said.ensures
 
 pub returns-in-Ok-clause-sent : goal.returns-in-Ok-clause-sent
 returns-in-Ok-clause-sent c =
@@ -28,4 +29,4 @@ returns-in-Ok-clause-sent c =
     on_ok c.nothing_said.result
     (sent_as (AlwaysFile file z) (FileOrNot c.args.path.now c.args.bytes.now z) _ _
     (λ s h. file_stands c.args.path.now c.args.bytes.now c.in_ok-bytes.bytes c.block_of-block.result c.args.overwrite z s file c.in_ok-bytes.ensures.cases c.in_ok-file.ensures.file least h)
-    (sent _ _ _ _ c.requires.counted c.in-Ok.ensures.performed))
+    (sent _ _ _ _ _ c.requires.counted c.in-Ok.ensures.performed))

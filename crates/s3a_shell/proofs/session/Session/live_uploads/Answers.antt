@@ -1,5 +1,11 @@
 use Rattle.s3a_shell.proofs.Performing.{sent}
+use Rattle.s3a_shell.proofs.Looking.{walked_same}
 use Rattle.s3a_shell.proofs.session.Session.live_uploads.Goals as goal
 
 pub returns-in-Ok-clause-sent : goal.returns-in-Ok-clause-sent
-returns-in-Ok-clause-sent c = sent _ _ _ _ c.requires c.in-Ok.ensures.performed
+returns-in-Ok-clause-sent c = sent _ _ _ _ _ c.requires c.in-Ok.ensures.performed
+
+pub returns-in-Ok-clause-looks : goal.returns-in-Ok-clause-looks
+returns-in-Ok-clause-looks c =
+    let done = c.in-Ok.ensures.performed in
+    walked_same _ _ _ _ done.part done.appended done.sent

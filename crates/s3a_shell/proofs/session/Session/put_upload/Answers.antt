@@ -4,6 +4,8 @@ use Rattle.s3_types.specs.declared.journal.Entry.{Entry}
 use Rattle.s3_types.specs.declared.reply.Reply.{Reply}
 use Rattle.request_frame.proofs.Reading.{reads_nothing}
 use Rattle.s3a_shell.specs.Sendings.{answered_by}
+use Rattle.log_format.specs.Change.{is_changing}
+use Rattle.s3a_shell.proofs.Looking.{read_same}
 use Rattle.s3a_shell.proofs.Performing.{on_ok}
 use Rattle.s3a_shell.proofs.Joining.{sent_read, sent_one}
 use Rattle.s3a_shell.proofs.session.Session.put_upload.Goals as goal
@@ -20,3 +22,8 @@ returns-in-Ok-clause-sent c =
     on_ok c.put_reply-put.result
     (sent_read _ _ r (ap only_reads c.in_ok-request.ensures)
     (sent_one c.args.self.now c.write_down.new.self r c.requires (ap (λ x. x.scene) c.write_down.ensures.store ∙ c.in-Ok.ensures.scene) (ap (λ x. x.requests) c.write_down.ensures.store ∙ c.in-Ok.ensures.requests) entries))
+
+pub returns-in-Ok-clause-looks : goal.returns-in-Ok-clause-looks
+returns-in-Ok-clause-looks c =
+    on_ok c.put_reply-put.result
+    (read_same c.args.self.now c.write_down.new.self c.in_ok-request.request c.in-Ok.reply (ap is_changing c.in_ok-request.ensures) (c.write_down.ensures.entries ∙ ap (λ (l : List Entry). l ++ answered_by c.in_ok-request.request c.in-Ok.reply ∷ []) c.in-Ok.ensures.entries))

@@ -18,4 +18,4 @@ returns-in-Ok-clause-sent c =
     let z = c.args.self.now.store.scene in
     on_ok c.move_said.result
     (sent_as (StandsWhole c.in_ok-rename.rename z) (StandsWhole (renaming c.args.from.now c.args.to.now) z) _ _ (λ s h. subst (λ (r : RenamingIn). StandsWhole r z s) c.in_ok-rename.ensures h)
-    (sent _ _ _ _ c.requires c.in-Ok.ensures.performed))
+    (sent _ _ _ _ _ c.requires c.in-Ok.ensures.performed))

@@ -1,5 +1,7 @@
 use Rattle.fs_tree.specs.Answers.{Stats}
 use Rattle.s3a_shell.specs.Texts.{status_line}
+use Rattle.fs_ops.specs.AtPathLaws.{looks_there}
+use Rattle.s3a_shell.proofs.Looking.{looked_same}
 use Rattle.s3a_shell.proofs.Performing.{did_at, on_ok, sent_still}
 use Rattle.s3a_shell.proofs.session.Session.stat.Goals as goal
 
@@ -8,3 +10,6 @@ returns-clause-did c = did_at c.args.path.now Stats status_line _ _ _ c.in_ok-an
 
 pub returns-clause-sent : goal.returns-clause-sent
 returns-clause-sent c = on_ok c.status_said.result (sent_still c.args.path.now.bucket _ _ c.in_ok-answer.ensures.sent)
+
+pub returns-clause-looks : goal.returns-clause-looks
+returns-clause-looks c = on_ok c.status_said.result (looked_same c.args.path.now.bucket _ c.args.self.now.store.scene c.args.self.now c.perform_at.new.self (looks_there c.in_ok-stat.stat) c.in_ok-answer.ensures.asked)

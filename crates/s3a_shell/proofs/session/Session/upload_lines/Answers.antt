@@ -15,6 +15,7 @@ loop-upload-preserved c =
     let v = c.loop-upload.invariant in
     record {
       same = e.same ∙ v.same;
+      looks = e.looks ∙ v.looks;
       sent = still_both _ _ _ v.same v.sent e.sent;
       text = more_lines c.args.self.now.store.scene c.loop-upload.self.store.scene c.args.bucket.now (string_bytes c.loop-upload.lines) (string_bytes c.put_upload.new.lines) us i x front v.same e.line v.text;
     }

@@ -1,3 +1,4 @@
+use Rattle.std.proofs.Common.{◌∙◌}
 use Rattle.s3a_shell.proofs.Joining.{still_both}
 use Rattle.s3a_shell.proofs.Listing.{did_list}
 use Rattle.s3a_shell.proofs.session.Session.uploads.Goals as goal
@@ -13,3 +14,7 @@ returns-in_ok-upload_lines-in-Some-clause-did c =
 pub returns-in_ok-upload_lines-in-Some-clause-sent :
     goal.returns-in_ok-upload_lines-in-Some-clause-sent
 returns-in_ok-upload_lines-in-Some-clause-sent c = still_both _ _ _ c.in_ok-live_uploads.ensures.same c.in_ok-live_uploads.ensures.sent c.in_ok-upload_lines-in-Some.ensures.sent
+
+pub returns-in_ok-upload_lines-in-Some-clause-looks :
+    goal.returns-in_ok-upload_lines-in-Some-clause-looks
+returns-in_ok-upload_lines-in-Some-clause-looks c = c.in_ok-upload_lines-in-Some.ensures.looks ∙ c.in_ok-live_uploads.ensures.looks
