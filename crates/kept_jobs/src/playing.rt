@@ -1,6 +1,7 @@
 ghost use Rattle.std.specs.Prelude.{◌≡◌, ◌⊎◌, ◌<◌, ◌^◌, ◌-◌, [], Some, IfOk, IfErr, OnOk, OnErr, IsErrOf};
 ghost use Rattle.shelf.specs.Logged.{Holding, fresh, HoldsFresh, IsDurable, LeavesOnly};
 ghost use Rattle.store_image.specs.Image.{image};
+ghost use Rattle.kept_runs.specs.Made.{KeepsImages};
 ghost use Rattle.job_promise.specs.States.{verdict};
 ghost use Rattle.job_world.specs.Worlds.{MayBegin, begun};
 ghost use Rattle.kept_jobs.specs.Played.{IsPlayed, IsHeld, Survives, Counts};
@@ -9,6 +10,7 @@ use crate::events::play_events;
 use job_model::Script;
 use job_works::Works;
 use job_world::{Played, World};
+use kept_appends::keeps_images;
 use s3_service::Service;
 use s3_types::let_go;
 use shelf::kept::{AppendFault, Shelf};
@@ -105,6 +107,7 @@ pub fn play<W: Works, F: Shelf>(
     ensures played { IfOk result (λ kept. IsPlayed script service kept.played) }
     ensures verdict { IfOk result (λ kept. kept.verdict ≡ verdict script kept.played.ends) }
     ensures held { IfOk result (λ kept. IsHeld F.held F.may_leave F.answers F.fails script service kept.played kept.stop shelf.old shelf.new) }
+    ensures images { IfOk result (λ kept. KeepsImages service kept.played.journal.entries) }
     ensures survives { IfOk result (λ kept. Survives F.held F.may_leave F.moment F.left_since service kept.played shelf.old shelf.new) }
     ensures counted { IfOk result (λ kept. Counts kept.stop (F.faults shelf.old) (F.faults shelf.new)) }
     ensures same { OnErr result (F.held shelf.new ≡ F.held shelf.old) }
@@ -118,9 +121,11 @@ pub fn play<W: Works, F: Shelf>(
         Err(fault) => Some(fault),
     };
     let verdict = world.verdict();
+    let played = world.finish();
+    keeps_images(&played.journal);
     Ok(Kept {
         stop,
         verdict,
-        played: world.finish(),
+        played,
     })
 }

@@ -8,7 +8,6 @@ use Rattle.proof_base.specs.Order.{text_cmp, text_total}
 use Rattle.s3_types.specs.Names.{is_bucket, is_key}
 use Rattle.s3_types.specs.Store.{Content}
 use Rattle.s3_types.specs.declared.request.Request.{Request}
-use Rattle.s3_types.specs.declared.limits.TheConstants.{MOST_MINIMUM}
 use Rattle.log_format.specs.declared.held.Held as logs
 use Rattle.shelf.specs.Logged.{Stored, most_base, most_file, IsSmall, IsLoaded, IsTooLarge, IsBad}
 use Rattle.shelf.specs.Logged.Holding.{Stands}
@@ -18,12 +17,12 @@ use Rattle.store_image.proofs.Whole as images
 use Rattle.store_image.specs.Reading.{content_in}
 use Rattle.kept_runs.specs.Changes.{content_after}
 use Rattle.kept_runs.specs.Made.{IsMade}
-use Rattle.kept_runs.proofs.Imaged.{on_and_on, all, at}
+use Rattle.kept_runs.proofs.Imaged.{all, at}
 use Rattle.kept_stores.specs.declared.held.Held.{Held}
 use Rattle.kept_stores.specs.declared.held.Held.TheVariants.{Nothing, Store, Faulty}
 use Rattle.kept_stores.specs.Stores.{counted, unfolded, read_as, found}
 use Rattle.kept_runs.specs.Kept.{kept}
-use Rattle.kept_stores.specs.Outcomes.{IsSound, HasImage, AreAtKeys, IsOf}
+use Rattle.kept_stores.specs.Outcomes.{IsSound, AreAtKeys, IsOf}
 
 -- ---- the store that is unfolded
 
@@ -45,37 +44,22 @@ stood held c is = by (nat_lt (2 ^ 62) (content_after c held.changes).next)
     by true = tt
     by false = record { first = c; is_image = is; folded = refl }
 
--- and a run may begin over it
-pub opened : (c : Content) (rs : List Request) → IsContent c → IsSound (counted (content_after c rs))
-opened c rs is = by (nat_lt (2 ^ 62) (content_after c rs).next) refl
-  where
-    by : (t : Bool) → nat_lt (2 ^ 62) (content_after c rs).next ≡ t → IsSound (cond t (Faulty 5 0) (Store (content_after c rs)))
-    by true e = tt
-    by false e =
-        let bounds = and_parts (nat_le 1 c.minimum) (nat_le c.minimum MOST_MINIMUM) is.minimum in
-        let least = (on_and_on c rs).least in
-        record {
-          some = omega (arith, least, leb-true 1 c.minimum bounds.0);
-          most = omega (arith, least, leb-true c.minimum MOST_MINIMUM bounds.1);
-          few = grind (arith, nat_tests);
-        }
-
 -- so what was followed stands for what is held
 pub stand_if : {E : Type 0} (r : Result Held E) (held : logs.Held) (c : Content) (rs : List Request) → rs ≡ held.changes → held.base ≡ image c → IfOk r (λ h. h ≡ counted (content_after c rs)) → IfOk r (λ h. IsOf h (Stands held))
 stand_if (Ok h) held c rs same is e = subst (λ (x : Held). IsOf x (Stands held)) (sym (e ∙ ap (λ (l : List Request). counted (content_after c l)) same)) (stood held c is)
 stand_if (Err fault) held c rs same is e = tt
 
-pub sound_if : {E : Type 0} (r : Result Held E) (c : Content) (rs : List Request) → IsContent c → IfOk r (λ h. h ≡ counted (content_after c rs)) → IfOk r IsSound
-sound_if (Ok h) c rs is e = subst IsSound (sym e) (opened c rs is)
-sound_if (Err fault) c rs is e = tt
+-- a store that can have an image has ids left
+pub few_ids : (c : Content) → IsContent c → c.next ≤ 2 ^ 62
+few_ids c is = leb-true c.next (2 ^ 62) (and_parts (nat_le 1 c.next) (nat_le c.next (2 ^ 62)) is.counter).1
 
 -- and it can have an image
-pub imaged : (c d : Content) (rs : List Request) → d ≡ content_after c rs → AllByRecursion IsMade rs → (content_after c rs).next ≤ 2 ^ 62 → IsContent c → HasImage (Store d)
+pub imaged : (c d : Content) (rs : List Request) → d ≡ content_after c rs → AllByRecursion IsMade rs → (content_after c rs).next ≤ 2 ^ 62 → IsContent c → IsSound (Store d)
 imaged c d rs same m few is = subst IsContent (sym same) (all c rs is m few)
 
-pub image_if : {E : Type 0} (r : Result Held E) (c : Content) → IsContent c → IfOk r (λ h. IsContent c → HasImage h) → IfOk r HasImage
-image_if (Ok h) c is f = f is
-image_if (Err fault) c is f = tt
+pub sound_if : {E : Type 0} (r : Result Held E) (c : Content) → IsContent c → IfOk r (λ h. IsContent c → IsSound h) → IfOk r IsSound
+sound_if (Ok h) c is f = f is
+sound_if (Err fault) c is f = tt
 
 -- ---- the whole
 

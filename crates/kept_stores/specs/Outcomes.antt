@@ -6,7 +6,6 @@ use Rattle.s3_types.specs.Store.{BucketContent, Content}
 use Rattle.s3_types.specs.declared.object.Object.{Object}
 use Rattle.s3_types.specs.declared.journal.Entry.{Entry}
 use Rattle.s3_types.specs.declared.request.Request.{Request}
-use Rattle.s3_types.specs.declared.limits.TheConstants.{MOST_MINIMUM}
 use Rattle.shelf.specs.Logged.{Holding, Stored, fresh, IsSmall, IsDurable, LeavesOnly}
 use Rattle.shelf.specs.Logged.Holding.{Nothing as Absent}
 use Rattle.store_image.specs.Image.{image}
@@ -31,22 +30,11 @@ Counts (Ok x) before after = after ≡ before
 Counts (Err Failed) before after = before < after
 Counts (Err NoMemory) before after = after ≡ before
 
--- a store over which a run may begin: its parts have a least size within the store's bounds, and ids are left
-pub record IsOpen (c : Content) : Type 0 where
-  pub some : 1 ≤ c.minimum
-  pub most : c.minimum ≤ MOST_MINIMUM
-  pub few : c.next ≤ 2 ^ 62
-
+-- the store that was found can have an image
 abbrev pub IsSound : Held → Type 0
 IsSound Nothing = Unit {0}
-IsSound (Store c) = IsOpen c
+IsSound (Store c) = IsContent c
 IsSound (Faulty number place) = Unit {0}
-
--- the store that was found can have an image
-abbrev pub HasImage : Held → Type 0
-HasImage Nothing = Unit {0}
-HasImage (Store c) = IsContent c
-HasImage (Faulty number place) = Unit {0}
 
 -- the objects of a store stand at keys
 abbrev pub AreAtKeys : Content → Type 0

@@ -7,7 +7,7 @@ ghost use Rattle.s3_types.specs.Store.{Content};
 ghost use Rattle.store_image.specs.Content.{IsContent};
 ghost use Rattle.kept_runs.specs.Changes.{content_after};
 ghost use Rattle.kept_stores.specs.Stores.{counted, unfolded, found};
-ghost use Rattle.kept_stores.specs.Outcomes.{Counts, IsSound, HasImage, LoadsAgain, AreAtKeys, IsOf, WhereSound};
+ghost use Rattle.kept_stores.specs.Outcomes.{Counts, IsSound, LoadsAgain, AreAtKeys, IsOf, WhereSound};
 
 use crate::folding::follow_all;
 use s3_service::Service;
@@ -60,7 +60,7 @@ fn faulty(fault: ImageFault) -> Result<Held, AllocError>
 /// The store behind the changes, unless its counter is too high there.
 fn followed(mut service: Service, changes: &[Request]) -> Result<Held, AllocError>
     ensures exact { IfOk result (λ held. held ≡ counted (content_after service changes.now)) }
-    ensures image { IfOk result (λ held. IsContent service → HasImage held) }
+    ensures sound { IfOk result (λ held. IsContent service → IsSound held) }
 {
     match follow_all(&mut service, changes) {
         Ok(true) => Ok(Held::Store(service)),
@@ -83,7 +83,6 @@ fn unfolded(alloc: Global, kept: &Kept) -> Result<Held, AllocError>
     ensures exact { IfOk result (λ held. held ≡ unfolded (content_in kept.now.base) kept.now.changes) }
     ensures stands { IfOk result (λ held. IsOf held (Stands kept.now)) }
     ensures sound { IfOk result IsSound }
-    ensures image { IfOk result HasImage }
 {
     match decode(alloc, kept.base.as_slice()) {
         Ok(service) => followed(service, kept.changes.as_slice()),
@@ -100,7 +99,6 @@ pub fn load<F: Shelf>(alloc: Global, shelf: &mut F) -> Result<Held, ShelfStop>
     ensures exact { IfOk result (λ held. (s : Stored) → F.held shelf.old ≡ Some s → held ≡ found s) }
     ensures stands { IfOk result (λ held. (s : Stored) → F.held shelf.old ≡ Some s → IsOf held s.holding) }
     ensures sound { IfOk result IsSound }
-    ensures image { IfOk result HasImage }
     ensures same { F.held shelf.new ≡ F.held shelf.old }
     ensures any_moment { LeavesOnly F.moment F.left_since shelf.old shelf.new (F.may_leave shelf.old) }
     ensures durable { IfOk result (λ held. WhereSound held (IsDurable (F.held shelf.new) (F.may_leave shelf.new))) }
@@ -127,7 +125,7 @@ pub fn load<F: Shelf>(alloc: Global, shelf: &mut F) -> Result<Held, ShelfStop>
     }
 }
 
-/// What a store keeps that can have an image: it is loaded again, and its objects stand at keys.
+/// What is kept of a store that can have an image is loaded again, and its objects stand at keys.
 pub fn loads()
     ensures again { LoadsAgain }
     ensures keys { (c : Content) → IsContent c → AreAtKeys c }

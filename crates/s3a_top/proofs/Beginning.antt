@@ -1,28 +1,33 @@
 -- Over which stores a job may begin.
-use Rattle.std.proofs.Common.{◌≡◌, ℕ, Bool, true, false, cond, List, Option, Some, None, sym, subst, arith}
+use Rattle.std.proofs.Common.{◌≡◌, ℕ, ◌≤◌, ◌^◌, nat_le, Bool, true, false, cond, List, Option, Some, None, refl, sym, subst, arith}
+use Rattle.std.proofs.lemmas.Bool.{and_parts, leb-true}
 use Rattle.std.specs.FinMap as map
 use Rattle.s3_types.specs.Store.{Content, BucketContent, new_bucket, new_content}
 use Rattle.s3_types.specs.Answer.{made, apply_store}
 use Rattle.s3_types.specs.Names.{is_bucket}
 use Rattle.s3_types.specs.declared.limits.TheConstants.{MOST_MINIMUM}
 use Rattle.s3_types.specs.declared.request.Request.TheVariants.{MakeBucket}
-use Rattle.kept_stores.specs.Outcomes.{IsOpen}
+use Rattle.store_image.specs.Content.{IsContent}
+use Rattle.kept_runs.proofs.Imaged.{new, one}
+use Rattle.kept_stores.proofs.Found.{few_ids}
 use Rattle.job_world.specs.Worlds.{MayBegin}
 
--- the store that was found
-pub open_begins : (c : Content) → IsOpen c → MayBegin c
-open_begins c h = record { some = h.some; most = h.most; few = h.few }
+-- one that can have an image
+pub image_begins : (c : Content) → IsContent c → MayBegin c
+image_begins c h =
+    let bounds = and_parts (nat_le 1 c.minimum) (nat_le c.minimum MOST_MINIMUM) h.minimum in
+    record { some = leb-true 1 c.minimum bounds.0; most = leb-true c.minimum MOST_MINIMUM bounds.1; few = few_ids c h }
 
-made_begins : (c : Content) (name : List ℕ) (o : Option BucketContent) → MayBegin c → MayBegin (made c name o)
-made_begins c name (Some b) h = h
-made_begins c name None h = by (is_bucket name)
+few_made : (c : Content) (name : List ℕ) (o : Option BucketContent) → c.next ≤ 2 ^ 62 → (made c name o).next ≤ 2 ^ 62
+few_made c name (Some b) h = h
+few_made c name None h = by (is_bucket name)
   where
-    by : (b : Bool) → MayBegin (cond b (record { buckets = map.insert c.buckets name new_bucket; next = c.next; minimum = c.minimum }) c)
-    by true = record { some = h.some; most = h.most; few = h.few }
+    by : (b : Bool) → (cond b (record { buckets = map.insert c.buckets name new_bucket; next = c.next; minimum = c.minimum }) c).next ≤ 2 ^ 62
+    by true = h
     by false = h
 
--- a new one in which a bucket was made
-pub new_begins : (name : List ℕ) (c : Content) → c ≡ apply_store (new_content MOST_MINIMUM) (MakeBucket name) → MayBegin c
-new_begins name c e =
-    let new : MayBegin (new_content MOST_MINIMUM) = record { some = omega arith; most = omega arith; few = omega arith } in
-    subst MayBegin (sym e) (made_begins (new_content MOST_MINIMUM) name (map.get (new_content MOST_MINIMUM).buckets name) new)
+-- so can a new one in which a bucket was made
+pub new_image : (name : List ℕ) (c : Content) → c ≡ apply_store (new_content MOST_MINIMUM) (MakeBucket name) → IsContent c
+new_image name c e =
+    let first = new_content MOST_MINIMUM in
+    subst IsContent (sym e) (one first (MakeBucket name) (new MOST_MINIMUM refl) tt (few_made first name (map.get first.buckets name) (omega arith)))

@@ -3,7 +3,7 @@ use Rattle.std.proofs.Common.{◌≡◌, inl, inr, ℕ, ◌≤◌, Bool, true, f
 use Rattle.s3_types.specs.declared.journal.Entry.{Entry}
 use Rattle.shelf.specs.Logged.{Holding, Stored, IsDurable, LeavesOnly}
 use Rattle.kept_stores.specs.Works.{Work as Doing, IsPlain}
-use Rattle.kept_stores.specs.Outcomes.{IsAnswer, IsHeld, WhereSound, MightLeave, IsDurableNow, CallsBy, Tells}
+use Rattle.kept_stores.specs.Outcomes.{IsAnswer, IsHeld, WhereSound, MightLeave, IsDurableNow, CallsBy, Tells, IsSound, HasImages}
 use Rattle.kept_stores.specs.Outcomes.IsAnswer.{said, saved, failed, wanting}
 use Rattle.kept_stores.specs.declared.held.Held.{Held}
 use Rattle.kept_stores.specs.declared.held.Held.TheVariants.{Nothing, Store, Faulty}
@@ -39,12 +39,12 @@ answer_which _ _ _ _ (wanting c t es) plain = inr (inr (inr (inr refl)))
 module _ {S : Type 0} (held : S → Option Stored) (may_leave : S → Holding → Type 0) (moment_of : S → ℕ) (left_since : S → ℕ → Holding → Type 0) where
   -- it is told so
   pub done_of : (work : Doing) (old new : S) (due status : ℕ) (text written : List ℕ) (es fs : List Entry) → status ≡ due → fs ≡ es → written ≡ answer_text due text → IsAnswer work due text es → IsHeld work due (held old) (held new)
-      → LeavesOnly moment_of left_since old new (MightLeave work (held new) (may_leave old)) → IsDurableNow work due (held new) (may_leave new) → WorkDone held may_leave moment_of left_since work old new status fs (λ t. written ≡ t)
-  done_of work old new due status text written es fs is same told answer holds leaves durable =
+      → LeavesOnly moment_of left_since old new (MightLeave work (held new) (may_leave old)) → IsDurableNow work due (held new) (may_leave new) → HasImages work → WorkDone held may_leave moment_of left_since work old new status fs (λ t. written ≡ t)
+  done_of work old new due status text written es fs is same told answer holds leaves durable images =
       let Told : List ℕ → Type 0 = λ t. written ≡ t in
       subst (λ (n : ℕ). WorkDone held may_leave moment_of left_since work old new n fs Told) (sym is)
       (subst (λ (l : List Entry). WorkDone held may_leave moment_of left_since work old new due l Told) (sym same)
-      (record { text = text; answer = answer; said = told; holds = holds; leaves = leaves; durable = durable }))
+      (record { text = text; answer = answer; said = told; holds = holds; leaves = leaves; durable = durable; images = images }))
 
   -- since the shelf was loaded, and before
   work_from : ((s : S) (t : ℕ) (h : Holding) → t ≤ moment_of s → may_leave s h → left_since s t h) → (work : Doing) (old mid new : S) (status : ℕ) (es : List Entry) (Told : List ℕ → Type 0) → held mid ≡ held old → LeavesOnly moment_of left_since old mid (may_leave old)
@@ -56,6 +56,7 @@ module _ {S : Type 0} (held : S → Option Stored) (may_leave : S → Holding �
     holds = subst (λ (o : Option Stored). IsHeld work status o (held new)) same h.holds;
     leaves = command_since may_leave moment_of left_since counts_now old mid new work (held new) load h.leaves;
     durable = h.durable;
+    images = h.images;
   }
 
 -- the calls, by its own number of the status
@@ -95,11 +96,12 @@ module _ {S : Type 0} (held : S → Option Stored) (may_leave : S → Holding �
   load_stopped old new shelves.Failed unread same leaves answered broken = record { reason = unread; same = same; calls = inr (inl (broken refl)); leaves = leaves }
   load_stopped old new shelves.NoMemory unread same leaves answered broken = record { reason = inl unread; same = same; calls = inr (inr (answered (λ e. cc))); leaves = leaves }
 
-  done_from : ((s : S) (t : ℕ) (h : Holding) → t ≤ moment_of s → may_leave s h → left_since s t h) → (before : Held) (old mid new : S) (due : ℕ) (es : List Entry) (Told : List ℕ → Type 0) → IsFound (held old) before → held mid ≡ held old → answers old mid → LeavesOnly moment_of left_since old mid (may_leave old) → WhereSound before (IsDurable (held mid) (may_leave mid))
+  done_from : ((s : S) (t : ℕ) (h : Holding) → t ≤ moment_of s → may_leave s h → left_since s t h) → (before : Held) (old mid new : S) (due : ℕ) (es : List Entry) (Told : List ℕ → Type 0) → IsFound (held old) before → IsSound before → held mid ≡ held old → answers old mid → LeavesOnly moment_of left_since old mid (may_leave old) → WhereSound before (IsDurable (held mid) (may_leave mid))
       → StoreOver held may_leave answers fails moment_of left_since command before left rest mid new due es Told → StoreDone held may_leave answers fails moment_of left_since command left rest old new due es Told
-  done_from counts_now before old mid new due es Told found same answered load lasts h = record {
+  done_from counts_now before old mid new due es Told found sound same answered load lasts h = record {
     before = before;
     found = found;
+    sound = sound;
     bytes = h.bytes;
     input = h.input;
     work = h.work;
@@ -117,8 +119,8 @@ module _ {S : Type 0} (held : S → Option Stored) (may_leave : S → Holding �
       subst (λ (s : S). StoreHalted held may_leave answers fails moment_of left_since command left rest old s stop) (sym still)
       (record { reason = reason_of stop command (held old) before left rest found reason; same = same; calls = inr (inr answered); leaves = load })
 
-  pub store_from : (result : Result Work Stop) → ((s : S) (t : ℕ) (h : Holding) → t ≤ moment_of s → may_leave s h → left_since s t h) → (before : Held) (old mid new : S) → IsFound (held old) before → held mid ≡ held old → answers old mid → LeavesOnly moment_of left_since old mid (may_leave old) → WhereSound before (IsDurable (held mid) (may_leave mid))
+  pub store_from : (result : Result Work Stop) → ((s : S) (t : ℕ) (h : Holding) → t ≤ moment_of s → may_leave s h → left_since s t h) → (before : Held) (old mid new : S) → IsFound (held old) before → IsSound before → held mid ≡ held old → answers old mid → LeavesOnly moment_of left_since old mid (may_leave old) → WhereSound before (IsDurable (held mid) (may_leave mid))
       → IfOk result (λ work. StoreOver held may_leave answers fails moment_of left_since command before left rest mid new (code work.due) work.journal.entries (IsWritten work)) → IfErr result (λ stop. HasReasonIn stop command before left rest) → OnErr result (new ≡ mid)
       → StoreGoes held may_leave answers fails moment_of left_since command left rest old new result
-  store_from (Ok work) counts_now before old mid new found same answered load lasts over reason still = done_from counts_now before old mid new (code work.due) work.journal.entries (IsWritten work) found same answered load lasts over
-  store_from (Err stop) counts_now before old mid new found same answered load lasts over reason still = halted_from before old mid new stop found same answered load reason still
+  store_from (Ok work) counts_now before old mid new found sound same answered load lasts over reason still = done_from counts_now before old mid new (code work.due) work.journal.entries (IsWritten work) found sound same answered load lasts over
+  store_from (Err stop) counts_now before old mid new found sound same answered load lasts over reason still = halted_from before old mid new stop found same answered load reason still

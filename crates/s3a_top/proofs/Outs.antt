@@ -30,7 +30,7 @@ module _ (A B : List ℕ → Type 0) (f : (t : List ℕ) → A t → B t) {S : T
     cut_out c loaded new h = record { holds = h.holds; calls = h.calls; said = said_out _ _ _ _ _ _ (f _) (f _) h.said }
 
     ran_out : (command : Command) (w : Script) (c : Content) (loaded new : S) → JobRan held may_leave answers fails command w c loaded new due es ps xs A → JobRan held may_leave answers fails command w c loaded new due es ps xs B
-    ran_out command w c loaded new h = record { promised = h.promised; sent = h.sent; own = h.own; ended = ⊎_elim (λ e. inl (ended_out command w c loaded new e)) (λ e. inr (cut_out c loaded new e)) h.ended }
+    ran_out command w c loaded new h = record { promised = h.promised; sent = h.sent; own = h.own; image = h.image; images = h.images; ended = ⊎_elim (λ e. inl (ended_out command w c loaded new e)) (λ e. inr (cut_out c loaded new e)) h.ended }
 
     pub played_out : (command : Command) (left rest : Option (List ℕ)) (old new : S) → JobPlayed held may_leave answers fails moment_of left_since command left rest old new due es ps xs A → JobPlayed held may_leave answers fails moment_of left_since command left rest old new due es ps xs B
     played_out command left rest old new h = record {
@@ -56,12 +56,13 @@ module _ (A B : List ℕ → Type 0) (f : (t : List ℕ) → A t → B t) {S : T
         (⊎_elim (λ p. inl (played_out command left rest old new p)) (λ s. inr (stopped_out command left rest old new s)) h)
 
     work_out : (work : Doing) (old new : S) → WorkDone held may_leave moment_of left_since work old new due es A → WorkDone held may_leave moment_of left_since work old new due es B
-    work_out work old new h = record { text = h.text; answer = h.answer; said = f _ h.said; holds = h.holds; leaves = h.leaves; durable = h.durable }
+    work_out work old new h = record { text = h.text; answer = h.answer; said = f _ h.said; holds = h.holds; leaves = h.leaves; durable = h.durable; images = h.images }
 
     done_out : (command : Command) (left rest : Option (List ℕ)) (old new : S) → StoreDone held may_leave answers fails moment_of left_since command left rest old new due es A → StoreDone held may_leave answers fails moment_of left_since command left rest old new due es B
     done_out command left rest old new h = record {
       before = h.before;
       found = h.found;
+      sound = h.sound;
       bytes = h.bytes;
       input = h.input;
       work = h.work;

@@ -11,7 +11,9 @@ use Rattle.shelf.specs.Logged.{Holding, Stored, LeavesOnly}
 use Rattle.shelf.specs.declared.kept.AppendFault.{AppendFault}
 use Rattle.shelf.specs.declared.kept.AppendFault.TheVariants.{Failed, NoMemory}
 use Rattle.kept_stores.specs.declared.held.Held.{Held}
+use Rattle.store_image.specs.Content.{IsContent}
 use Rattle.kept_runs.specs.Changes.{changes}
+use Rattle.kept_runs.specs.Made.{KeepsImages}
 use Rattle.kept_runs.specs.Kept.{Holds, HasEarlier, HoldsPart, IsToEnd, IsKept}
 use Rattle.kept_runs.specs.Crashes.{IsLast}
 use Rattle.kept_runs.proofs.Journals.{changes_append}
@@ -85,7 +87,7 @@ module _ {S : Type 0} (held : S → Option Stored) (may_leave : S → Holding �
 
 -- ---- what is kept of a run, and what is said of it
 
-module _ {S : Type 0} (held : S → Option Stored) (may_leave : S → Holding → Type 0) (answers fails : S → S → Type 0) (command : Command) (w : Script) (c : Content) (p : Played) (old new : S) (due : ℕ) (text : List ℕ) (played : IsPlayed w c p) where
+module _ {S : Type 0} (held : S → Option Stored) (may_leave : S → Holding → Type 0) (answers fails : S → S → Type 0) (command : Command) (w : Script) (c : Content) (p : Played) (old new : S) (due : ℕ) (text : List ℕ) (played : IsPlayed w c p) (image : IsContent c) (images : KeepsImages c p.journal.entries) where
   said_whole : IsTold None command p due text → ((due ≡ verdict w p.ends) × (text ≡ job_text command due (length p.journal.entries) p.picks p.ends w)) ⊎ ((due ≡ 9) × (text ≡ memory_text))
   said_whole told = subst (λ (v : Script). ((due ≡ verdict v p.ends) × (text ≡ job_text command due (length p.journal.entries) p.picks p.ends v)) ⊎ ((due ≡ 9) × (text ≡ memory_text))) played.script told
 
@@ -96,7 +98,7 @@ module _ {S : Type 0} (held : S → Option Stored) (may_leave : S → Holding �
   ended_so (Some NoMemory) h told = inr (record { holds = h.0; calls = (h.1.0, (h.1.1, h.1.2)); said = inr told })
 
   ran_so : (stop : Option AppendFault) → IsHeld held may_leave answers fails w c p stop old new → IsTold stop command p due text → JobRan held may_leave answers fails command w c old new due p.journal.entries p.picks p.ends (λ t. text ≡ t)
-  ran_so stop h told = record { promised = played.promised; sent = played.sent; own = played.own; ended = ended_so stop h told }
+  ran_so stop h told = record { promised = played.promised; sent = played.sent; own = played.own; image = image; images = images; ended = ended_so stop h told }
 
   -- where these are what was sent, picked and ended
   pub ran_of : (stop : Option AppendFault) (es : List Entry) (ps : List Pick) (xs : List EventEnd) → es ≡ p.journal.entries → ps ≡ p.picks → xs ≡ p.ends → IsHeld held may_leave answers fails w c p stop old new → IsTold stop command p due text

@@ -5,7 +5,7 @@ use Rattle.job_model.specs.declared.ends.Pick.{Pick}
 use Rattle.job_model.specs.declared.ends.EventEnd.{EventEnd}
 use Rattle.shelf.specs.Logged.{Holding, Stored, IsDurable, LeavesOnly}
 use Rattle.kept_stores.specs.Works.{Work}
-use Rattle.kept_stores.specs.Outcomes.{IsAnswer, IsHeld, WhereSound, MightLeave, IsDurableNow, CallsBy}
+use Rattle.kept_stores.specs.Outcomes.{IsSound, IsAnswer, IsHeld, HasImages, WhereSound, MightLeave, IsDurableNow, CallsBy}
 use Rattle.kept_stores.specs.declared.held.Held.{Held}
 use Rattle.kept_stores.specs.declared.held.Held.TheVariants.{Faulty}
 use Rattle.s3a_words.specs.declared.command.Command.{Command}
@@ -78,12 +78,16 @@ pub record WorkDone {S : Type 0} (held : S → Option Stored) (may_leave : S →
   pub holds : IsHeld work due (held old) (held new)
   pub leaves : LeavesOnly moment_of left_since old new (MightLeave work (held new) (may_leave old))
   pub durable : IsDurableNow work due (held new) (may_leave new)
+  -- what it saves leads through stores that can have an image, so that the next run loads it
+  pub images : HasImages work
 
 -- A command's work was done, on what the shelf holds and with the bytes of its input.
 pub record StoreDone {S : Type 0} (held : S → Option Stored) (may_leave : S → Holding → Type 0) (answers fails : S → S → Type 0) (moment_of : S → ℕ) (left_since : S → ℕ → Holding → Type 0) (command : Command) (left rest : Option (List ℕ)) (old new : S)
     (due : ℕ) (es : List Entry) (Says : List ℕ → Type 0) : Type 0 where
   pub before : Held
   pub found : IsFound (held old) before
+  -- a store that was found can have an image
+  pub sound : IsSound before
   pub bytes : List ℕ
   pub input : IsInput (reads_input command before) left rest bytes
   pub work : Work
@@ -92,6 +96,6 @@ pub record StoreDone {S : Type 0} (held : S → Option Stored) (may_leave : S �
   -- the shelf was loaded, and then called as the work wants
   pub loaded : S
   pub load : answers old loaded
-  -- a crash after the load leaves what is held
+  -- where it found no fault, a crash after the load leaves what is held
   pub lasts : WhereSound before (IsDurable (held loaded) (may_leave loaded))
   pub calls : CallsBy answers fails work due loaded new

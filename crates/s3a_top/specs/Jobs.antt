@@ -18,6 +18,8 @@ use Rattle.store_image.specs.Image.{image}
 use Rattle.kept_stores.specs.Stores.{found}
 use Rattle.kept_stores.specs.declared.held.Held.TheVariants.{Faulty}
 use Rattle.kept_runs.specs.Changes.{changes}
+use Rattle.store_image.specs.Content.{IsContent}
+use Rattle.kept_runs.specs.Made.{KeepsImages}
 use Rattle.kept_runs.specs.Kept.{Holds, HoldsPart, IsKept}
 use Rattle.kept_runs.specs.Crashes.{SurvivesCrashes}
 use Rattle.kept_appends.specs.Appends.{AreCalled}
@@ -104,6 +106,9 @@ pub record JobRan {S : Type 0} (held : S → Option Stored) (may_leave : S → H
   pub sent : Sent w c es
   -- no stranger sent anything
   pub own : AreOwn es
+  -- its store can have an image at each moment, up to the most of its counter, so that the next run loads it
+  pub image : IsContent c
+  pub images : KeepsImages c es
   pub ended : JobEnded held may_leave answers command w c loaded new due es ps xs Says ⊎ JobCut held answers fails c loaded new due es Says
 
 -- The headline. Of a job that was played: its script is the command's, the store that it opened with is the shelf's, and the promise holds of all that was sent.

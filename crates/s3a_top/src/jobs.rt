@@ -3,7 +3,7 @@ ghost use Rattle.s3_types.specs.Answer.{apply_store};
 ghost use Rattle.shelf.specs.Logged.{fresh, LeavesOnly};
 ghost use Rattle.store_image.specs.Image.{image};
 ghost use Rattle.job_promise.specs.States as states;
-ghost use Rattle.job_world.specs.Worlds.{MayBegin};
+ghost use Rattle.store_image.specs.Content.{IsContent};
 ghost use Rattle.kept_stores.specs.Outcomes.{IsSound};
 ghost use Rattle.s3a_top.specs.Openings.{opening_in};
 ghost use Rattle.s3a_top.specs.Statuses.{code, written_text, IsWorked};
@@ -51,7 +51,7 @@ fn make_bucket(service: &mut Service, script: &Script) -> Result<(), AllocError>
 /// A new store in which the destination's bucket was made.
 fn new_store(alloc: Global, script: &Script) -> Result<Service, AllocError>
     ensures opening { IfOk result (λ service. opening_in Held.Nothing script.now ≡ Some service) }
-    ensures begins { IfOk result MayBegin }
+    ensures image { IfOk result IsContent }
 {
     let mut service = Service::new(alloc, MOST_MINIMUM);
     match make_bucket(&mut service, script) {
@@ -183,7 +183,7 @@ fn play_script<F: Shelf>(
     script: Script,
     service: Service,
 ) -> Result<Work, Stop>
-    requires store { MayBegin service }
+    requires store { IsContent service }
     requires count { F.faults shelf.old < 2 ^ 64 - 1 }
     ensures ran { IfOk result (λ work. JobRan F.held F.may_leave F.answers F.fails command.now script service shelf.old shelf.new (code work.due) work.journal.entries work.picks work.ends (IsWritten work)) }
     ensures survived { IfOk result (λ work. Survived F.held F.may_leave F.moment F.left_since service work.journal.entries shelf.old shelf.new) }
@@ -239,7 +239,7 @@ fn play_over<Q: Source, F: Shelf>(
     service: Service,
 ) -> Result<Work, Stop>
     requires ready { MayPlay (Q.faults input.old) (F.faults shelf.old) asked.command.now }
-    requires store { MayBegin service }
+    requires store { IsContent service }
     ensures played { IfOk result (λ work. JobOver F.held F.may_leave F.answers F.fails F.moment F.left_since asked.entry.command.now (Held.Store service) (Q.left input.old) (Q.left input.new) shelf.old shelf.new (code work.due) work.journal.entries work.picks work.ends (IsWritten work)) }
     ensures due { IfOk result (λ work. IsWorked work.due) }
     ensures stop { IfErr result (λ stop. HasCauseIn stop asked.entry.command.now (Held.Store service) (Q.left input.old) (Q.left input.new)) }

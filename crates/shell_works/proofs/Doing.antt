@@ -1,5 +1,5 @@
 -- A command that the shell did on a store, by what the shell says of it.
-use Rattle.std.proofs.Common.{◌≡◌, ◌≤◌, ℕ, Bool, true, false, None, List, length, sym, subst, ◌∙◌}
+use Rattle.std.proofs.Common.{◌≡◌, ◌≤◌, ◌^◌, ℕ, Bool, true, false, None, List, length, sym, subst, ◌∙◌}
 use Rattle.s3_types.specs.Store.{Content, opening}
 use Rattle.s3_types.specs.Moment.{moment, IsHonest}
 use Rattle.s3_types.specs.declared.request.Actor.TheVariants.{Shell}
@@ -12,7 +12,14 @@ use Rattle.s3a_shell.specs.Doings.{only_looks, Does, MayStandAt}
 use Rattle.s3a_shell.specs.Sendings.{has_changed}
 use Rattle.s3a_shell.specs.Stays.{OnlyIn, bucket_in, ended_by}
 use Rattle.kept_stores.specs.Works.{Work}
+use Rattle.kept_stores.specs.Outcomes.{IsSound}
+use Rattle.kept_stores.specs.declared.held.Held.TheVariants.{Store}
+use Rattle.kept_stores.proofs.Found.{few_ids}
 use Rattle.shell_works.specs.Commanded.{work_said, Done}
+
+-- a store that was found has ids left
+pub few_of : (c : Content) → IsSound (Store c) → c.next ≤ 2 ^ 62
+few_of c is = few_ids c is
 
 pub done_of : (command : Command) (bytes : List ℕ) (c service : Content) (refused changed : Bool) (text : List ℕ) (es : List Entry) (work : Work) → Does command bytes (opening c) (record { refused = refused; text = text }) (moment c es (length es)) → service ≡ (moment c es (length es)).content → AreBy Shell 0 es → AreAnswered es
     → IsHonest c es → ((m : ℕ) → MayStandAt command bytes (opening c) (moment c es m)) → changed ≡ has_changed es → (changed ≡ false → service ≡ c) → (refused ≡ true → service ≡ c) → ((id : ℕ) → c.next ≤ id → upload_at service (bucket_in command) id ≡ None) → (only_looks command ≡ true → changed ≡ false) → OnlyIn (bucket_in command) (ended_by command c) c service → work ≡ work_said refused changed c text es → Done command bytes c work

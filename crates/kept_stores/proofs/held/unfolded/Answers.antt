@@ -1,5 +1,5 @@
 use Rattle.std.proofs.Common.{sym, ◌∙◌}
-use Rattle.kept_stores.proofs.Found.{stand_if, sound_if, image_if}
+use Rattle.kept_stores.proofs.Found.{stand_if, sound_if}
 use Rattle.kept_stores.proofs.held.unfolded.Goals as goal
 
 pub returns-in-Ok-clause-stands : goal.returns-in-Ok-clause-stands
@@ -7,7 +7,4 @@ returns-in-Ok-clause-stands c =
     stand_if c.followed.result c.args.kept.now c.in-Ok.service c.as_slice-in-Ok.result.now c.as_slice-in-Ok.ensures (sym c.as_slice.ensures ∙ c.in-Ok.ensures.found.1) c.followed.ensures.exact
 
 pub returns-in-Ok-clause-sound : goal.returns-in-Ok-clause-sound
-returns-in-Ok-clause-sound c = sound_if c.followed.result c.in-Ok.service c.as_slice-in-Ok.result.now c.in-Ok.ensures.found.0 c.followed.ensures.exact
-
-pub returns-in-Ok-clause-image : goal.returns-in-Ok-clause-image
-returns-in-Ok-clause-image c = image_if c.followed.result c.in-Ok.service c.in-Ok.ensures.found.0 c.followed.ensures.image
+returns-in-Ok-clause-sound c = sound_if c.followed.result c.in-Ok.service c.in-Ok.ensures.found.0 c.followed.ensures.sound

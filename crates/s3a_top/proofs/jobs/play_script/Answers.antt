@@ -9,7 +9,7 @@ returns-in-Ok-clause-ran g c =
     let s = g.F.Shelf in
     let kept = c.in-Ok.kept in
     let work = c.told.result in
-    ran_of s.held s.may_leave s.answers s.fails c.args.command.now c.args.script c.args.service kept.played c.args.shelf.now c.play.new.shelf (code work.due) (written_text work.due work.text) c.in-Ok.ensures.played kept.stop work.journal.entries work.picks work.ends
+    ran_of s.held s.may_leave s.answers s.fails c.args.command.now c.args.script c.args.service kept.played c.args.shelf.now c.play.new.shelf (code work.due) (written_text work.due work.text) c.in-Ok.ensures.played c.requires.store c.in-Ok.ensures.images kept.stop work.journal.entries work.picks work.ends
     (ap (λ j. j.entries) c.told.ensures.journal) c.told.ensures.picks c.told.ensures.ends c.in-Ok.ensures.held c.told.ensures.said
 
 pub returns-in-Ok-clause-survived : goal.returns-in-Ok-clause-survived

@@ -12,7 +12,7 @@ returns-clause-done g c =
     let s = g.F.Shelf in
     done_of s.held s.may_leave s.moment s.left_since (work_in c.args.work) c.args.shelf.now c.obey-answer.new.shelf c.obey-answer.result.due (code c.answered.result.due) c.obey-answer.result.text
     (written_text c.answered.result.due c.answered.result.text) c.obey-answer.result.sent.entries c.answered.result.journal.entries c.answered.ensures.due (ap (λ j. j.entries) c.answered.ensures.journal) c.answered.ensures.text c.obey-answer.ensures.answer
-    c.obey-answer.ensures.held c.obey-answer.ensures.any_moment c.obey-answer.ensures.durable
+    c.obey-answer.ensures.held c.obey-answer.ensures.any_moment c.obey-answer.ensures.durable c.obey-answer.ensures.images
 
 pub returns-clause-calls : goal.returns-clause-calls
 returns-clause-calls g c =
