@@ -8,7 +8,10 @@ pub returns-clause-survives : goal.returns-clause-survives
 returns-clause-survives g c =
     let s = g.F.Shelf in
     let opening = ap (λ (r : Run). r.opening) c.in_ok-world.ensures.world in
-    (c.begin.new.shelf, (c.in_ok-world.ensures.any_moment, moments_as s.held s.moment s.left_since c.begin.new.shelf c.play_events.new.shelf _ _ _ _ opening c.finish.ensures.journal c.play_events.ensures.any_moment))
+    (c.begin.new.shelf, (c.in_ok-world.ensures.any_moment, moments_as s.held s.moment s.left_since c.begin.new.shelf c.play_events.new.shelf _ _ _ _ opening c.finish-played.ensures.journal c.play_events.ensures.any_moment))
+
+pub returns-clause-images : goal.returns-clause-images
+returns-clause-images g c = c.keeps_images.ensures c.args.service
 
 pub returns-clause-counted : goal.returns-clause-counted
 returns-clause-counted g c =
