@@ -114,6 +114,7 @@ pub record IsDue (o : Creation) (z : Objects) : Type 0 where
   pub allowed : IsOpen o z
   pub free : NoFiles z (keys_above o.path.key)
 
+-- there is a bucket, and the file is to be written there
 abbrev pub SomeDue : Creation → Option BucketContent → Type 0
 SomeDue o None = ⊥
 SomeDue o (Some c) = IsDue o c.objects
@@ -182,7 +183,7 @@ gives o z a s = GivesFile o.file z a s
 abbrev pub always : CreateFile → Scene → Scene → Type 0
 always o z s = AlwaysFile o.file z s
 
--- it looks, or writes where that is due
+-- it looks, and sends something else only where the file is to be written
 abbrev pub sends : CreateFile → Scene → Request → Type 0
 sends o z r = (only_reads r ≡ true) ⊎ SomeDue o.file (bucket_at z o.file.path.bucket)
 
@@ -191,7 +192,7 @@ abbrev pub upload_of : CreateStage → Option ℕ
 upload_of (Write w) = w.upload
 upload_of _ = None
 
--- where each sending was answered, no other upload was begun, and at the end none is left
+-- where each sending was answered, of the uploads that were begun since the one at hand alone is live, and at the end none
 abbrev pub calm : CreateFile → Scene → CreateFile → Scene → Type 0
 calm o z p s = holds o z p s false × (least o.file z → NoneBut (upload_of p.stage) z o.file.path.bucket s)
 

@@ -31,6 +31,7 @@ InFile (Some c) holds absent z b s = IsBeside z b c (holds c.objects) s
 abbrev pub NoneBut : Option ℕ → Scene → List ℕ → Scene → Type 0
 NoneBut own z b s = (id : ℕ) → z.content.next ≤ id → upload_at z.content b id ≡ None → (own ≡ Some id → ⊥) → upload_at s.content b id ≡ None
 
+-- none of them is live
 abbrev pub NoneLeft : Scene → List ℕ → Scene → Type 0
 NoneLeft z b s = (id : ℕ) → z.content.next ≤ id → upload_at z.content b id ≡ None → upload_at s.content b id ≡ None
 

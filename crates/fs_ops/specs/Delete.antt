@@ -125,7 +125,7 @@ holds o z (PutMarker k) m = (marker_if (parent o.path) ≡ Some k) × Removed o 
 abbrev pub IsDue : Deletion → Objects → Type 0
 IsDue o z = HasFile z o.path ⊎ (NoFileAt z o.path × SomeBelow z (prefix_of o.path) × (o.recursive ≡ false → IsEmpty z o.path))
 
--- it looks, or deletes what is to be deleted and puts the marker above
+-- it looks, and asks something else only where there is something to delete
 abbrev pub sends : Deletion → Objects → Ask → Type 0
 sends o z a = (is_look a ≡ true) ⊎ IsDue o z
 
@@ -141,12 +141,13 @@ ends o z (Err r) m = ⊥
 abbrev pub GoesWith : Deletion → Objects → List ℕ → Type 0
 GoesWith o z k = (HasFile z o.path × (k ≡ o.path)) ⊎ (NoFileAt z o.path × (begins (prefix_of o.path) k ≡ true))
 
--- at any moment a key is as it was, or it goes with the path and is gone, or it is the marker of the directory above, which is put
+-- a key is as it was, or it goes with the path and is gone, or it is the marker of the directory above, which is put
 abbrev pub IsKept : Deletion → Objects → Objects → List ℕ → Type 0
 IsKept o z m k = (fin.get m k ≡ fin.get z k) ⊎ (((fin.get m k ≡ None) × GoesWith o z k) ⊎ ((marker_if (parent o.path) ≡ Some k) × (fin.get m k ≡ Some marker)))
 
+-- at any moment nothing has changed, or there is something to delete, and each key is so
 abbrev pub always : Deletion → Objects → Objects → Type 0
-always o z m = (k : List ℕ) → IsKept o z m k
+always o z m = (m ≡ z) ⊎ (IsDue o z × ((k : List ℕ) → IsKept o z m k))
 
 -- what the deletion of a key answers and leaves in the tree, and that each key is then as at any moment
 abbrev pub gives : Deletion → Objects → Answer → Objects → Type 0

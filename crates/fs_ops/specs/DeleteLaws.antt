@@ -189,6 +189,16 @@ module _ (recursive : Bool) (z : Objects) where
   step p (Parent k) m h = parent_seen p k m (look_of (page 1 (listed k false [] m))) h.0 h.1 (parent_page (parent p) k m h.0)
   step p (PutMarker k) m h = (m, h.1, subst (λ u. IsMarked u m (fin.insert m k marker)) (sym h.0) (inr (h.2, refl)))
 
+-- ---- there is something to delete
+
+due_empty : (recursive : Bool) (p : List ℕ) (z : Objects) → NoFileAt z p → IsEmpty z p → IsDue (record { path = p; recursive = recursive }) z
+due_empty recursive [] z f h = absurd f
+due_empty recursive (x ∷ p) z f h = inr (f, (marker_of (x ∷ p), begins_all (marker_of (x ∷ p)), h.0.0, h.0.1), λ _. h)
+
+due_removed : (o : Deletion) (z m : Objects) → Removed o z m → IsDue o z
+due_removed o z m (inl h) = inl h.0
+due_removed o z m (inr h) = inr (h.0, h.1, h.2)
+
 -- ---- at any moment
 
 module _ (o : Deletion) (z : Objects) where
@@ -236,25 +246,25 @@ module _ (o : Deletion) (z : Objects) where
       by (inr i) = old (text_other n q k marker i) (h k)
 
   during : (x : DeleteStage) (m : Objects) → holds o z x m → always o z m
-  during Here m h k = inl (ap (λ m. fin.get m k) h)
-  during DropFile m h k = inl (ap (λ m. fin.get m k) h.1)
-  during Below m h k = inl (ap (λ m. fin.get m k) h.1)
-  during DropMarker m h k = inl (ap (λ m. fin.get m k) h.2)
-  during (Sweep w) m h k = as_kept m k (gone_swept w m h.0 h.3 k)
-  during (Parent q) m h k = as_kept m k (gone_removed m h.1 k)
-  during (PutMarker q) m h k = as_kept m k (gone_removed m h.1 k)
+  during Here m h = inl h
+  during DropFile m h = inl h.1
+  during Below m h = inl h.1
+  during DropMarker m h = inl h.2
+  during (Sweep w) m h = inr (inr (h.0, h.1, λ e. absurd (false≢true (sym e ∙ h.2))), λ k. as_kept m k (gone_swept w m h.0 h.3 k))
+  during (Parent q) m h = inr (due_removed o z m h.1, λ k. as_kept m k (gone_removed m h.1 k))
+  during (PutMarker q) m h = inr (due_removed o z m h.1, λ k. as_kept m k (gone_removed m h.1 k))
 
-  marked_end : (q : Option (List ℕ)) (n m : Objects) → marker_if (parent o.path) ≡ q → Removed o z n → IsMarked q n m → always o z m
+  marked_end : (q : Option (List ℕ)) (n m : Objects) → marker_if (parent o.path) ≡ q → Removed o z n → IsMarked q n m → (k : List ℕ) → IsKept o z m k
   marked_end None n m e h g k = subst (λ m. IsKept o z m k) (sym g) (as_kept n k (gone_removed n h k))
   marked_end (Some q) n m e h (inl g) k = subst (λ m. IsKept o z m k) (sym g.1) (as_kept n k (gone_removed n h k))
   marked_end (Some q) n m e h (inr g) k = subst (λ m. IsKept o z m k) (sym g.1) (kept_marked q n e (gone_removed n h) k)
 
   at_end : (a : Answer) (m : Objects) → ends o z a m → always o z m
-  at_end (Ok x) m h k = marked_end (marker_if (parent o.path)) h.0 m refl h.1 h.2 k
-  at_end (Err IsRoot) m h k = inl (ap (λ m. fin.get m k) h.1)
-  at_end (Err NotFound) m h k = inl (ap (λ m. fin.get m k) h.1)
-  at_end (Err NotEmpty) m h k = inl (ap (λ m. fin.get m k) h.3)
-  at_end (Err r) m h k = absurd h
+  at_end (Ok x) m h = inr (due_removed o z h.0 h.1, marked_end (marker_if (parent o.path)) h.0 m refl h.1 h.2)
+  at_end (Err IsRoot) m h = inl h.1
+  at_end (Err NotFound) m h = inl h.1
+  at_end (Err NotEmpty) m h = inl h.3
+  at_end (Err r) m h = absurd h
 
   -- ---- what is left
 
@@ -342,14 +352,6 @@ pub delete_laws : IsPhases {O = Deletion} first asks (goes_by on) holds gives al
 delete_laws = phases_of stages
 
 -- ---- what is asked
-
-due_empty : (recursive : Bool) (p : List ℕ) (z : Objects) → NoFileAt z p → IsEmpty z p → IsDue (record { path = p; recursive = recursive }) z
-due_empty recursive [] z f h = absurd f
-due_empty recursive (x ∷ p) z f h = inr (f, (marker_of (x ∷ p), begins_all (marker_of (x ∷ p)), h.0.0, h.0.1), λ _. h)
-
-due_removed : (o : Deletion) (z m : Objects) → Removed o z m → IsDue o z
-due_removed o z m (inl h) = inl h.0
-due_removed o z m (inr h) = inr (h.0, h.1, h.2)
 
 pub delete_asked : MayAsk {O = Deletion} asks holds sends
 delete_asked o z Here m h = inl (looks_there o.path)

@@ -18,7 +18,7 @@ use Rattle.bucket_ops.specs.Phases.{GivesIn, AlwaysIn, SendsIn}
 use Rattle.fs_tree.specs.declared.rename.RenameRefusal.TheVariants.{OtherBucket, NoSuchBucket}
 use Rattle.fs_rename.specs.Rename.{Renaming, Answer, first as first_stage, asks}
 use Rattle.fs_rename.specs.Meaning.{gives, always, sends}
-use Rattle.fs_rename.specs.Public.{RenamingIn, RenamesIn, StandsWhole, MaySend}
+use Rattle.fs_rename.specs.Public.{RenamingIn, RenamesIn, StandsWhole, RenameSends}
 use Rattle.fs_rename.proofs.Told.{renames_in, whole_in, still_in}
 
 -- what a renaming is kept as
@@ -43,9 +43,9 @@ given_in b o c r z a s e k same h =
 module _ {A : Type 0} {actor : Actor} {event retries : ℕ} {z s : Scene} {old new : List Entry} {first requests before now : ℕ} {told tells : ℕ → Option Fate} {result : Result A DriveStop} where
   pub performed_in : (b : List ℕ) (o : Renaming) (c : List ℕ) (r : RenamingIn) → kept b o c ≡ r → is_key o.source ≡ true
       → Performed actor event retries (AlwaysIn b (always o) z) (SendsIn b (asks o (first_stage o)) (sends o) z) z s old new first requests before now told tells result
-      → Performed actor event retries (StandsWhole r z) (MaySend r z) z s old new first requests before now told tells result
+      → Performed actor event retries (StandsWhole r z) (RenameSends r z) z s old new first requests before now told tells result
   performed_in b o c r e k h =
-      subst (λ (r : RenamingIn). Performed actor event retries (StandsWhole r z) (MaySend r z) z s old new first requests before now told tells result) e
+      subst (λ (r : RenamingIn). Performed actor event retries (StandsWhole r z) (RenameSends r z) z s old new first requests before now told tells result) e
       (record {
         part = h.part;
         appended = h.appended;
@@ -85,7 +85,7 @@ none_unanswered many some h =
 
 -- nothing was sent
 pub performed_other : {A : Type 0} {actor : Actor} {event retries : ℕ} {z : Scene} {old : List Entry} {first before : ℕ} {told : ℕ → Option Fate} {x : A}
-    → (r : RenamingIn) → Performed actor event retries (StandsWhole r z) (MaySend r z) z z old old first first before before told told (Ok x)
+    → (r : RenamingIn) → Performed actor event retries (StandsWhole r z) (RenameSends r z) z z old old first first before before told told (Ok x)
 performed_other {retries = retries} {z = z} {old = old} {first = first} r = record {
   part = [];
   appended = sym (append-nil old);

@@ -86,6 +86,6 @@ IsOnWay o z d q m =
 abbrev pub always : Renaming → Objects → Objects → Type 0
 always o z m = (m ≡ z) ⊎ ((d : Bool) × (i : Bool) × (q : List ℕ) × MayGo o z d i q × IsOnWay o z d q m)
 
--- it looks, or moves what may be moved
+-- it looks, and asks something else only where the source may be moved
 abbrev pub sends : Renaming → Objects → Ask → Type 0
 sends o z a = (is_look a ≡ true) ⊎ ((d : Bool) × (i : Bool) × (q : List ℕ) × MayGo o z d i q)

@@ -21,12 +21,13 @@ pub record RenamesIn (r : RenamingIn) (z : Scene) (a : Answer) (s : Scene) : Typ
   pub one : r.bucket ≡ r.to_bucket → GivesIn r.bucket (Renames r.source r.target) (Err NoSuchBucket) z a s
   pub other : (r.bucket ≡ r.to_bucket → ⊥) → (a ≡ Err OtherBucket) × (s ≡ z)
 
+-- by its keys alone
 abbrev pub renaming_of : RenamingIn → Renaming
 renaming_of r = record { source = r.source; target = r.target }
 
 -- what it may send: looks, and more where the source may be moved
-abbrev pub MaySend : RenamingIn → Scene → Request → Type 0
-MaySend r z e = SendsIn r.bucket (asks (renaming_of r) (first (renaming_of r))) (sends (renaming_of r)) z e
+abbrev pub RenameSends : RenamingIn → Scene → Request → Type 0
+RenameSends r z e = SendsIn r.bucket (asks (renaming_of r) (first (renaming_of r))) (sends (renaming_of r)) z e
 
 -- at any moment each object of the source stands whole at its old or at its new place, and all else is as it was
 abbrev pub StandsWhole : RenamingIn → Scene → Scene → Type 0

@@ -1,6 +1,6 @@
 ghost use Rattle.std.specs.Prelude.{◌≡◌, ℕ, ◌<◌, ◌≤◌, length, IfOk, IsErrOf};
 ghost use Rattle.operations.specs.Performed.{Performed};
-ghost use Rattle.fs_rename.specs.Public.{RenamesIn, StandsWhole, MaySend};
+ghost use Rattle.fs_rename.specs.Public.{RenamesIn, StandsWhole, RenameSends};
 
 use crate::names::RenameNames;
 use bucket_ops::perform_in;
@@ -78,7 +78,7 @@ impl Rename {
     ) -> RenameEnd
         requires counted { S.requests store.old ≤ length journal.old.entries }
         ensures renames { IfOk result (λ answer. RenamesIn self (S.scene store.old) answer (S.scene store.new)) }
-        ensures performed { Performed actor event retries (StandsWhole self (S.scene store.old)) (MaySend self (S.scene store.old)) (S.scene store.old) (S.scene store.new) journal.old.entries journal.new.entries (S.requests store.old) (S.requests store.new) (S.losses store.old) (S.losses store.new) (S.foretold store.old) (S.foretold store.new) result }
+        ensures performed { Performed actor event retries (StandsWhole self (S.scene store.old)) (RenameSends self (S.scene store.old)) (S.scene store.old) (S.scene store.new) journal.old.entries journal.new.entries (S.requests store.old) (S.requests store.new) (S.losses store.old) (S.losses store.new) (S.foretold store.old) (S.foretold store.new) result }
         ensures fault { IsErrOf result DriveStop.StoreFault → S.losses store.old < S.losses store.new }
     {
         let Rename {

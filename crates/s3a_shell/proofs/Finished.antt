@@ -7,8 +7,7 @@ use Rattle.s3_types.specs.Store.{Objects, BucketContent, Content, Scene, new_buc
 use Rattle.s3_types.specs.Answer.{made}
 use Rattle.s3_service.specs.Ids.{AreBelow}
 use Rattle.request_frame.specs.Held.{upload_in, upload_at}
-use Rattle.bucket_ops.specs.Asks.{with_objects_if}
-use Rattle.bucket_ops.specs.Asks.{objects_at}
+use Rattle.bucket_ops.specs.Asks.{with_objects_if, objects_at}
 use Rattle.bucket_ops.specs.Phases.{InScene, GivesIn}
 use Rattle.fs_tree.specs.Answers.{Stats, Reads, Lists, Makes, Deletes}
 use Rattle.fs_tree.specs.declared.answers.FsRefusal.{FsRefusal}
@@ -27,10 +26,10 @@ use Rattle.s3a_shell.specs.Uploading.{AbortedIn}
 use Rattle.s3a_shell.proofs.SameBucket.{same_or_not}
 
 -- no upload has an id from n on
-abbrev None_from : ℕ → Content → List ℕ → Type 0
-None_from n c b = (id : ℕ) → n ≤ id → upload_at c b id ≡ None
+abbrev NoneFrom : ℕ → Content → List ℕ → Type 0
+NoneFrom n c b = (id : ℕ) → n ≤ id → upload_at c b id ≡ None
 
-pub below_none : (c : Content) (b : List ℕ) → AreBelow c.buckets c.next → None_from c.next c b
+pub below_none : (c : Content) (b : List ℕ) → AreBelow c.buckets c.next → NoneFrom c.next c b
 below_none c b h id l = by (fin.get c.buckets b) refl
   where
     by : (o : Option BucketContent) → fin.get c.buckets b ≡ o → upload_in o id ≡ None
@@ -68,18 +67,18 @@ abort_next : (path : Path) (z : Scene) (what : Said) (s : Scene) (o : Option Buc
 abort_next path z what s None h = ap (λ (s : Scene). s.content.next) h.1
 abort_next path z what s (Some c) h = ap (λ (s : Scene). s.content.next) h.1.scene
 
-module _ (z s : Scene) (first : (b : List ℕ) → None_from z.content.next z.content b) (last : (b : List ℕ) → None_from s.content.next s.content b) where
-  still : (b : List ℕ) → s.content.next ≡ z.content.next → None_from z.content.next s.content b
-  still b e = subst (λ n. None_from n s.content b) e (last b)
+module _ (z s : Scene) (first : (b : List ℕ) → NoneFrom z.content.next z.content b) (last : (b : List ℕ) → NoneFrom s.content.next s.content b) where
+  still : (b : List ℕ) → s.content.next ≡ z.content.next → NoneFrom z.content.next s.content b
+  still b e = subst (λ n. NoneFrom n s.content b) e (last b)
 
-  put_ended : (p : Path) (bytes : List ℕ) (overwrite : Bool) (what : Said) (t : Bool) → CreatedUnless t p bytes overwrite z what s → None_from z.content.next s.content p.bucket
+  put_ended : (p : Path) (bytes : List ℕ) (overwrite : Bool) (what : Said) (t : Bool) → CreatedUnless t p bytes overwrite z what s → NoneFrom z.content.next s.content p.bucket
   put_ended p bytes overwrite what true h = still p.bucket (ap (λ (s : Scene). s.content.next) h.1)
   put_ended p bytes overwrite what false h = λ id l. h.none id l (first p.bucket id l)
 
-  did_ended : {A : Type 0} (p : Path) (gives : Objects → Result A FsRefusal → Objects → Type 0) (text : A → List ℕ) (what : Said) → Did p gives text z what s → None_from z.content.next s.content p.bucket
+  did_ended : {A : Type 0} (p : Path) (gives : Objects → Result A FsRefusal → Objects → Type 0) (text : A → List ℕ) (what : Said) → Did p gives text z what s → NoneFrom z.content.next s.content p.bucket
   did_ended p gives text what h = still p.bucket (given_next p.bucket gives (Err NoSuchBucket) z h.answer s h.given)
 
-  pub does_ended : (command : Command) (bytes : List ℕ) (what : Said) → Does command bytes z what s → None_from z.content.next s.content (bucket_in command)
+  pub does_ended : (command : Command) (bytes : List ℕ) (what : Said) → Does command bytes z what s → NoneFrom z.content.next s.content (bucket_in command)
   does_ended (Mb name) bytes what h = still name (ap (λ (s : Scene). s.content.next) h.1 ∙ made_next z.content name (fin.get z.content.buckets name))
   does_ended (Ls p) bytes what h = did_ended p (Lists p.key) entry_lines what h
   does_ended (Stat p) bytes what h = did_ended p (Stats p.key) status_line what h

@@ -78,7 +78,7 @@ pub record WorkDone {S : Type 0} (held : S → Option Stored) (may_leave : S →
   pub holds : IsHeld work due (held old) (held new)
   pub leaves : LeavesOnly moment_of left_since old new (MightLeave work (held new) (may_leave old))
   pub durable : IsDurableNow work due (held new) (may_leave new)
-  -- what it saves leads through stores that can have an image, so that the next run loads it
+  -- from a store that can have an image, as one that was found and a new one can, what it saves leads through such stores
   pub images : HasImages work
 
 -- A command's work was done, on what the shelf holds and with the bytes of its input.

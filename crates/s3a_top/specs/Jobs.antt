@@ -106,7 +106,7 @@ pub record JobRan {S : Type 0} (held : S → Option Stored) (may_leave : S → H
   pub sent : Sent w c es
   -- no stranger sent anything
   pub own : AreOwn es
-  -- its store can have an image at each moment, up to the most of its counter, so that the next run loads it
+  -- its store can have an image at each moment, up to the most of its counter, so that the next run loads it where it is small
   pub image : IsContent c
   pub images : KeepsImages c es
   pub ended : JobEnded held may_leave answers command w c loaded new due es ps xs Says ⊎ JobCut held answers fails c loaded new due es Says

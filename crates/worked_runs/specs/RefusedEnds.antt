@@ -108,7 +108,7 @@ anew_ends = done_setup ∷ done_task ∷ Done ∷ Done ∷ done_task ∷ Ended (
 
 -- ---- whose want of memory it is
 
--- the fourth event is the driver's commit
+-- the fourth event, the driver's commit, is told to have ended as a clean that found no memory
 abbrev pub strange_ends : List EventEnd
 strange_ends = done_setup ∷ done_task ∷ done_task ∷ Ended (ends.Clean cleans.NoMemory) ∷ []
 
