@@ -43,8 +43,11 @@ pub fn post<A: Acts, S: ObjectStore>(
     requires asked { IsSome (A.wants act.old) }
     requires due { DueFits A.wants A.fits act.old (S.scene store.old) }
     requires counted { S.requests store.old ≤ length journal.old.entries }
-    ensures posted { PostedBy A.wants A.tells A.end_of actor event act.old act.new (sight (S.scene store.old) (S.requests store.old) (S.foretold store.old) journal.old.entries) (sight (S.scene store.new) (S.requests store.new) (S.foretold store.new) journal.new.entries) result }
-    ensures counts { Counted journal.old.entries journal.new.entries (S.requests store.old) (S.requests store.new) (S.losses store.old) (S.losses store.new) (S.foretold store.old) (S.foretold store.new) }
+    ensures posted { PostedBy A.wants A.tells A.end_of actor event act.old act.new
+        (sight (S.scene store.old) (S.requests store.old) (S.foretold store.old) journal.old.entries)
+        (sight (S.scene store.new) (S.requests store.new) (S.foretold store.new) journal.new.entries) result }
+    ensures counts { Counted journal.old.entries journal.new.entries (S.requests store.old) (S.requests store.new)
+        (S.losses store.old) (S.losses store.new) (S.foretold store.old) (S.foretold store.new) }
 {
     let Some(request) = asked(alloc, act) else {
         return Posted::Unsent;

@@ -74,7 +74,8 @@ pub fn ask(
     queue: &Queue,
 ) -> Result<Option<Request>, AllocError>
     requires { length tags.now ≤ MOST_PARTS }
-    ensures { IfOk result (λ asked. asked ≡ asks_with stage output.now.bucket output.now.key (unwrap_or upload 0) tags.now (first_of queue.now)) }
+    ensures { IfOk result (λ asked. asked ≡ asks_with stage output.now.bucket output.now.key (unwrap_or upload 0)
+        tags.now (first_of queue.now)) }
 {
     let Output { bucket, key, .. } = output;
     let upload = upload.unwrap_or(0);
@@ -108,7 +109,8 @@ pub fn next(
     upload: Option<u64>,
 ) -> Result<(Option<Request>, Option<StreamEnd>), AllocError>
     requires { length tags.now ≤ MOST_PARTS }
-    ensures { IfOk result (λ next. next ≡ next_by output.now.mode output.now.bucket output.now.key output.now.block queue.now closed tags.now upload) }
+    ensures { IfOk result (λ next. next ≡ next_by output.now.mode output.now.bucket output.now.key output.now.block
+        queue.now closed tags.now upload) }
 {
     let stage = next_stage(output, queue, closed, tags, upload);
     let (stage, end) = settle(output.mode, stage);

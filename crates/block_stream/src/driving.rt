@@ -24,11 +24,18 @@ pub fn drive_stream<S: ObjectStore>(
 ) -> Result<(), DriveStop>
     requires ready { IsReady stream.old.machine (S.scene store.old) stream.old.repeated }
     requires counted { S.requests store.old ≤ length journal.old.entries }
-    ensures drove { Drove wanted moved IsReady standing actor event stream.old stream.new (S.scene store.old) (S.scene store.new) journal.old.entries journal.new.entries (S.losses store.old) (S.losses store.new) (S.foretold store.old) (S.requests store.old) result }
-    ensures counts { Counted journal.old.entries journal.new.entries (S.requests store.old) (S.requests store.new) (S.losses store.old) (S.losses store.new) (S.foretold store.old) (S.foretold store.new) }
+    ensures drove { Drove wanted moved IsReady standing actor event stream.old stream.new (S.scene store.old)
+        (S.scene store.new) journal.old.entries journal.new.entries (S.losses store.old) (S.losses store.new)
+        (S.foretold store.old) (S.requests store.old) result }
+    ensures counts { Counted journal.old.entries journal.new.entries (S.requests store.old) (S.requests store.new)
+        (S.losses store.old) (S.losses store.new) (S.foretold store.old) (S.foretold store.new) }
     ensures same { IfOk result (λ _. IsSameOutput stream.old.machine stream.new.machine) }
-    ensures holds { IfOk result (λ _. (bytes : List ℕ) → Holds stream.old.machine (S.scene store.old) stream.old.repeated bytes → Holds stream.new.machine (S.scene store.new) stream.new.repeated bytes) }
-    ensures stored { IfOk result (λ _. stream.old.machine.closed ≡ true → standing stream.old.machine ≡ Fine → (bytes : List ℕ) → Holds stream.old.machine (S.scene store.old) stream.old.repeated bytes → IsStored stream.new.machine (S.scene store.new) bytes) }
+    ensures holds { IfOk result (λ _. (bytes : List ℕ)
+        → Holds stream.old.machine (S.scene store.old) stream.old.repeated bytes
+        → Holds stream.new.machine (S.scene store.new) stream.new.repeated bytes) }
+    ensures stored { IfOk result (λ _. stream.old.machine.closed ≡ true → standing stream.old.machine ≡ Fine
+        → (bytes : List ℕ) → Holds stream.old.machine (S.scene store.old) stream.old.repeated bytes
+        → IsStored stream.new.machine (S.scene store.new) bytes) }
 {
     drive(alloc, stream, store, actor, event, journal)
 }

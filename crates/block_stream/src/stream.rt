@@ -52,9 +52,11 @@ impl Model for BlockStream {
 
     ghost coded = { coded_stream };
 
-    ghost view = { λ w. seen w.output.mode w.output.bucket w.output.key w.output.block w.queue w.rest.items w.upload w.tags w.count w.closed w.end };
+    ghost view = { λ w. seen w.output.mode w.output.bucket w.output.key w.output.block w.queue w.rest.items w.upload
+        w.tags w.count w.closed w.end };
 
-    ghost invariant = { λ w. IsKept (seen w.output.mode w.output.bucket w.output.key w.output.block w.queue w.rest.items w.upload w.tags w.count w.closed w.end) w.queue w.rest.items w.asked };
+    ghost invariant = { λ w. IsKept (seen w.output.mode w.output.bucket w.output.key w.output.block w.queue w.rest.items
+        w.upload w.tags w.count w.closed w.end) w.queue w.rest.items w.asked };
 }
 
 impl BlockStream {
@@ -70,7 +72,8 @@ impl BlockStream {
     ) -> BlockStream
         requires { 1 ≤ block }
         ensures fresh { result ≡ fresh mode bucket key block }
-        ensures holds { (s : Scene) (c : BucketContent) → fin.get s.content.buckets bucket ≡ Some c → s.content.minimum ≤ block → Holds result s false [] }
+        ensures holds { (s : Scene) (c : BucketContent) → fin.get s.content.buckets bucket ≡ Some c
+            → s.content.minimum ≤ block → Holds result s false [] }
     {
         let queue = Queue::new(alloc);
         let rest = Vec::new(alloc);
@@ -140,7 +143,8 @@ impl BlockStream {
         ensures ok { OnOk result (self.new ≡ wrote self.old piece.now) }
         ensures err { OnErr result (self.new ≡ self.old) }
         ensures long { IsErrOf result TooLong ↔ (self.old.block * MOST_PARTS < self.old.count + length piece.now) }
-        ensures holds { OnOk result ((s : Scene) (repeated : Bool) (bytes : List ℕ) → Holds self.old s repeated bytes → Holds self.new s repeated (bytes ++ piece.now)) }
+        ensures holds { OnOk result ((s : Scene) (repeated : Bool) (bytes : List ℕ) → Holds self.old s repeated bytes
+            → Holds self.new s repeated (bytes ++ piece.now)) }
         ensures asked { OnOk result (IsSome (wanted self.old) → wanted self.new ≡ wanted self.old) }
     {
         let count = self.count as u128 + piece.len() as u128;
@@ -194,7 +198,8 @@ impl BlockStream {
         requires { self.old.closed ≡ false }
         ensures ok { OnOk result (self.new ≡ close self.old) }
         ensures err { OnErr result (self.new ≡ self.old) }
-        ensures holds { OnOk result ((s : Scene) (repeated : Bool) (bytes : List ℕ) → Holds self.old s repeated bytes → Holds self.new s repeated bytes) }
+        ensures holds { OnOk result ((s : Scene) (repeated : Bool) (bytes : List ℕ) → Holds self.old s repeated bytes
+            → Holds self.new s repeated bytes) }
         ensures asked { OnOk result (IsSome (wanted self.old) → wanted self.new ≡ wanted self.old) }
     {
         if self.end.is_some() {
@@ -324,7 +329,8 @@ fn follow(
     upload: Option<u64>,
 ) -> Result<(Option<Request>, Option<StreamEnd>), AllocError>
     requires { length tags.now ≤ MOST_PARTS }
-    ensures next { IfOk result (λ next. next ≡ next_by output.now.mode output.now.bucket output.now.key output.now.block (front_of queue.old blocks.old) closed tags.now upload) }
+    ensures next { IfOk result (λ next. next ≡ next_by output.now.mode output.now.bucket output.now.key output.now.block
+        (front_of queue.old blocks.old) closed tags.now upload) }
     ensures added { OnOk result (queue.new ≡ queue.old ++ blocks.old) }
     ensures err { OnErr result (queue.new ≡ queue.old) }
 {
@@ -372,7 +378,8 @@ fn advance(
 ) -> Result<(Option<Request>, Option<StreamEnd>), AllocError>
     requires { length tags.old < MOST_PARTS }
     ensures tags { OnOk result (tags.new ≡ tags.old ++ tag ∷ []) }
-    ensures next { IfOk result (λ next. next ≡ next_by output.now.mode output.now.bucket output.now.key output.now.block queue.now closed (tags.old ++ tag ∷ []) upload) }
+    ensures next { IfOk result (λ next. next ≡ next_by output.now.mode output.now.bucket output.now.key output.now.block
+        queue.now closed (tags.old ++ tag ∷ []) upload) }
 {
     tags.push(tag)?;
     next(alloc, output, queue, closed, tags, upload)

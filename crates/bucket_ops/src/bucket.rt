@@ -67,6 +67,7 @@ pub trait Phases: Drop {
     /// What holds of these.
     ghost laws: { IsPhases first asks goes holds gives always left absent };
 
+    /// Its stages ask no other.
     ghost asked: { MayAsk asks holds sends };
 }
 
@@ -147,7 +148,10 @@ pub fn perform_in<O: Phases, S: ObjectStore>(
 ) -> Result<O::Answer, DriveStop>
     requires counted { S.requests store.old ≤ length journal.old.entries }
     ensures given { IfOk result (λ answer. GivesIn bucket (O.gives names) O.absent (S.scene store.old) answer (S.scene store.new)) }
-    ensures performed { Performed actor event retries (AlwaysIn bucket (O.always names) (S.scene store.old)) (SendsIn bucket (O.asks names (O.first names)) (O.sends names) (S.scene store.old)) (S.scene store.old) (S.scene store.new) journal.old.entries journal.new.entries (S.requests store.old) (S.requests store.new) (S.losses store.old) (S.losses store.new) (S.foretold store.old) (S.foretold store.new) result }
+    ensures performed { Performed actor event retries (AlwaysIn bucket (O.always names) (S.scene store.old))
+        (SendsIn bucket (O.asks names (O.first names)) (O.sends names) (S.scene store.old)) (S.scene store.old)
+        (S.scene store.new) journal.old.entries journal.new.entries (S.requests store.old) (S.requests store.new)
+        (S.losses store.old) (S.losses store.new) (S.foretold store.old) (S.foretold store.new) result }
     ensures fault { IsErrOf result DriveStop.StoreFault → S.losses store.old < S.losses store.new }
 {
     let stage = names.start();

@@ -71,7 +71,8 @@ fn add_unsent(
     total: usize,
 ) -> Result<(), AllocError>
     requires { (n : ℕ) → contains nat_cmp done.now n ≡ is_in lanes.now.finished n }
-    ensures adds { OnOk result (Adds total (λ all. map abort (chosen (is_unsent worn lanes.now.turns lanes.now.finished) 0 all)) list.old list.new) }
+    ensures adds { OnOk result (Adds total
+        (λ all. map abort (chosen (is_unsent worn lanes.now.turns lanes.now.finished) 0 all)) list.old list.new) }
     ensures within { OnOk result (NumbersWithin total list.old → NumbersWithin total list.new) }
 {
     let mut n = total;

@@ -39,7 +39,8 @@ fn is_better(key: &Key, best: &Option<Clash>) -> bool
 /// The task that is the first to write a key, which is this one where none was before. In one look-up.
 fn owner_of(owners: &mut BTreeMap<Key, u32>, key: &Key, task: u32) -> Result<u32, AllocError>
     ensures first { IfOk result (λ first. first ≡ unwrap_or (found text_cmp owners.old key.now) task) }
-    ensures owners { OnOk result (Updates text_cmp owners.old owners.new key.now (Some (unwrap_or (found text_cmp owners.old key.now) task))) }
+    ensures owners { OnOk result (Updates text_cmp owners.old owners.new key.now
+        (Some (unwrap_or (found text_cmp owners.old key.now) task))) }
 {
     let first = *owners.entry(key.clone()?)?.or_insert(task);
     Ok(first)
@@ -66,7 +67,9 @@ fn add_clash(best: &mut Option<Clash>, key: &Key, first: u32, task: u32) -> Resu
 
 /// One more upload, of a task that is none before those of the uploads so far.
 fn add(search: &mut Search, key: &Key, task: u32) -> Result<(), AllocError>
-    ensures { OnOk result ((items : List Item) → ((k : List ℕ) (v : ℕ) → In (k, v) items → v ≤ task) → Finds items (found text_cmp search.old.owners) search.old.best → Finds (items ++ (key.now, task) ∷ []) (found text_cmp search.new.owners) search.new.best) }
+    ensures { OnOk result ((items : List Item) → ((k : List ℕ) (v : ℕ) → In (k, v) items → v ≤ task)
+        → Finds items (found text_cmp search.old.owners) search.old.best
+        → Finds (items ++ (key.now, task) ∷ []) (found text_cmp search.new.owners) search.new.best) }
 {
     let first = owner_of(&mut search.owners, key, task)?;
     add_clash(&mut search.best, key, first, task)
@@ -74,7 +77,10 @@ fn add(search: &mut Search, key: &Key, task: u32) -> Result<(), AllocError>
 
 /// The uploads of one more task.
 fn add_all(search: &mut Search, uploads: &[PendingUpload], task: u32) -> Result<(), AllocError>
-    ensures { OnOk result ((items : List Item) → ((k : List ℕ) (v : ℕ) → In (k, v) items → v ≤ task) → Finds items (found text_cmp search.old.owners) search.old.best → Finds (items ++ map (λ c. (c.destination, task)) uploads.now) (found text_cmp search.new.owners) search.new.best) }
+    ensures { OnOk result ((items : List Item) → ((k : List ℕ) (v : ℕ) → In (k, v) items → v ≤ task)
+        → Finds items (found text_cmp search.old.owners) search.old.best
+        → Finds (items ++ map (λ c. (c.destination, task)) uploads.now) (found text_cmp search.new.owners)
+        search.new.best) }
 {
     for upload in uploads {
         add(search, upload.destination(), task)?;

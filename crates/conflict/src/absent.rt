@@ -23,7 +23,8 @@ fn key_request(
     dest: &S3Path,
     partition: &Text,
 ) -> Result<Option<Request>, AllocError>
-    ensures { IfOk result (λ request. request ≡ Some (ListPage dest.now.bucket (below dest.now.key (partition.now ++ codes "/")) false [] 1)) }
+    ensures { IfOk result (λ request. request ≡ Some (ListPage dest.now.bucket
+        (below dest.now.key (partition.now ++ codes "/")) false [] 1)) }
 {
     let prefix = partition_prefix(alloc, dest, partition)?;
     match Request::list_page(

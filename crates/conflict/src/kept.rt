@@ -87,7 +87,11 @@ impl DeleteKept {
         committer: Committer,
         partitions: &[Text],
     ) -> Result<DeleteKept, AllocError>
-        ensures { IfOk result (λ d. d ≡ record { prefixes = deleted committer dest.now partitions.now; sweep = sweep_start; spared = spared dest.now }) }
+        ensures { IfOk result (λ d. d ≡ record {
+          prefixes = deleted committer dest.now partitions.now;
+          sweep = sweep_start;
+          spared = spared dest.now;
+        }) }
     {
         let prefixes = prefixes(alloc, dest, committer, partitions)?;
         let prefix = magic_prefix(alloc, dest)?;

@@ -64,7 +64,8 @@ pub trait LogDisk {
         ensures same { OnErr result (seen self.new ≡ seen self.old) }
         ensures durable { OnOk result (Only (Some (head.now ++ (body.now ++ tail.now))) (may_leave self.new)) }
         ensures kept { OnErr result ((c : File) → may_leave self.new c → may_leave self.old c) }
-        ensures time { Elapses (moment self.old) (moment self.new) (left_since self.old) (left_since self.new) (λ c. may_leave self.new c ⊎ (c ≡ Some (head.now ++ (body.now ++ tail.now)))) }
+        ensures time { Elapses (moment self.old) (moment self.new) (left_since self.old) (left_since self.new)
+            (λ c. may_leave self.new c ⊎ (c ≡ Some (head.now ++ (body.now ++ tail.now)))) }
         ensures counted { calls self.new ≡ one_more (calls self.old) }
         ensures failed { OnErr result (Rose (faults self.old) (faults self.new)) }
         ensures answered { OnOk result (answers self.old self.new) }

@@ -21,7 +21,9 @@ fn write_synced<D: LogDisk>(disk: &mut D, place: u64, bytes: &[u8]) -> Result<()
     ensures durable { OnOk result (Settles (D.seen disk.new) (D.may_leave disk.new)) }
     ensures told { is_some (D.seen disk.new) ≡ is_some (D.seen disk.old) }
     ensures later { D.moment disk.old ≤ D.moment disk.new }
-    ensures torn { (file : File) → Only file (D.may_leave disk.old) → LeavesOnly D.moment D.left_since disk.old disk.new (λ c. (c ≡ file) ⊎ IsTorn place (length bytes.now) file c) }
+    ensures torn { (file : File) → Only file (D.may_leave disk.old)
+        → LeavesOnly D.moment D.left_since disk.old disk.new (λ c. (c ≡ file)
+        ⊎ IsTorn place (length bytes.now) file c) }
     ensures made { OnOk result (D.calls disk.new ≡ more 2 (D.calls disk.old)) }
     ensures few { OnErr result (FewMore 2 (D.calls disk.old) (D.calls disk.new)) }
     ensures failed { OnErr result (Rose (D.faults disk.old) (D.faults disk.new)) }
@@ -37,11 +39,13 @@ fn write_synced<D: LogDisk>(disk: &mut D, place: u64, bytes: &[u8]) -> Result<()
 fn open_record<D: LogDisk>(disk: &mut D, gate: u64, written: &[u8]) -> Result<(), Failed>
     requires within { IsWithin (gate + 1) (D.seen disk.old) }
     requires fits { gate + 1 < 2 ^ 64 }
-    ensures opened { (front : List ℕ) → IsClosed front gate (D.seen disk.old) (D.may_leave disk.old) → OnOk result (D.seen disk.new ≡ Some (Some (front ++ 1 ∷ written.now))) }
+    ensures opened { (front : List ℕ) → IsClosed front gate (D.seen disk.old) (D.may_leave disk.old)
+        → OnOk result (D.seen disk.new ≡ Some (Some (front ++ 1 ∷ written.now))) }
     ensures durable { OnOk result (Settles (D.seen disk.new) (D.may_leave disk.new)) }
     ensures told { is_some (D.seen disk.new) ≡ is_some (D.seen disk.old) }
     ensures later { D.moment disk.old ≤ D.moment disk.new }
-    ensures crash { (front : List ℕ) → IsClosed front gate (D.seen disk.old) (D.may_leave disk.old) → LeavesOnly D.moment D.left_since disk.old disk.new (IsLeftOf front written.now) }
+    ensures crash { (front : List ℕ) → IsClosed front gate (D.seen disk.old) (D.may_leave disk.old)
+        → LeavesOnly D.moment D.left_since disk.old disk.new (IsLeftOf front written.now) }
     ensures made { OnOk result (D.calls disk.new ≡ more 4 (D.calls disk.old)) }
     ensures few { OnErr result (FewMore 4 (D.calls disk.old) (D.calls disk.new)) }
     ensures failed { OnErr result (Rose (D.faults disk.old) (D.faults disk.new)) }

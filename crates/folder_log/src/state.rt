@@ -139,7 +139,11 @@ pub fn written(
     place: u64,
     bytes: &[u8],
 ) -> Result<State, AllocError>
-    ensures { IfOk result (λ state. state ≡ laid.wrote (record { synced = synced.now; now = now.now; ranges = ranges.now }) place bytes.now) }
+    ensures { IfOk result (λ state. state ≡ laid.wrote (record {
+      synced = synced.now;
+      now = now.now;
+      ranges = ranges.now;
+    }) place bytes.now) }
 {
     let length = bytes.len();
     let ranges = with_range(alloc, ranges, Span { place, length })?;

@@ -214,7 +214,13 @@ impl CreateFile {
     ) -> Result<CreateFile, AllocError>
         requires some { 1 ≤ block }
         requires room { length bytes ≤ block * MOST_PARTS }
-        ensures file { IfOk result (λ plan. plan.file ≡ record { path = path.now; bytes = bytes; block = block; overwrite = overwrite; policy = policy }) }
+        ensures file { IfOk result (λ plan. plan.file ≡ record {
+          path = path.now;
+          bytes = bytes;
+          block = block;
+          overwrite = overwrite;
+          policy = policy;
+        }) }
         ensures starts { IfOk result create.starts }
     {
         let bucket = path.bucket().clone()?;

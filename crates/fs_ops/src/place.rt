@@ -28,7 +28,8 @@ impl Model for Place {
 
     ghost view = { λ p. p.path };
 
-    ghost invariant = { λ p. (p.key ≡ key_if p.path) × (p.marker ≡ marker_if p.path) × (p.prefix ≡ prefix_of p.path) × (is_key p.path ≡ true) };
+    ghost invariant = { λ p. (p.key ≡ key_if p.path) × (p.marker ≡ marker_if p.path) × (p.prefix ≡ prefix_of p.path)
+        × (is_key p.path ≡ true) };
 }
 
 impl Place {

@@ -39,7 +39,12 @@ impl Rename {
     /// The renaming of a file, or of a directory with all that is below it, to a target, or into it where that is a
     /// directory.
     pub fn new(alloc: Global, source: &S3Path, target: &S3Path) -> Result<Rename, AllocError>
-        ensures { IfOk result (λ rename. rename ≡ record { bucket = source.now.bucket; source = source.now.key; to_bucket = target.now.bucket; target = target.now.key }) }
+        ensures { IfOk result (λ rename. rename ≡ record {
+          bucket = source.now.bucket;
+          source = source.now.key;
+          to_bucket = target.now.bucket;
+          target = target.now.key;
+        }) }
     {
         let bucket = source.bucket().clone()?;
         let to_bucket = target.bucket().clone()?;
@@ -78,7 +83,10 @@ impl Rename {
     ) -> RenameEnd
         requires counted { S.requests store.old ≤ length journal.old.entries }
         ensures renames { IfOk result (λ answer. RenamesIn self (S.scene store.old) answer (S.scene store.new)) }
-        ensures performed { Performed actor event retries (StandsWhole self (S.scene store.old)) (RenameSends self (S.scene store.old)) (S.scene store.old) (S.scene store.new) journal.old.entries journal.new.entries (S.requests store.old) (S.requests store.new) (S.losses store.old) (S.losses store.new) (S.foretold store.old) (S.foretold store.new) result }
+        ensures performed { Performed actor event retries (StandsWhole self (S.scene store.old))
+            (RenameSends self (S.scene store.old)) (S.scene store.old) (S.scene store.new) journal.old.entries
+            journal.new.entries (S.requests store.old) (S.requests store.new) (S.losses store.old) (S.losses store.new)
+            (S.foretold store.old) (S.foretold store.new) result }
         ensures fault { IsErrOf result DriveStop.StoreFault → S.losses store.old < S.losses store.new }
     {
         let Rename {

@@ -22,7 +22,9 @@ use std::alloc::{AllocError, Global};
 
 /// Begins an operation of the driver, which writes nothing.
 fn begin_job(alloc: Global, plan: JobPlan, op: Op, reported: &TaskSet) -> Result<Act, AllocError>
-    ensures { (g : Setting) (a : Actor) (k : Known) → IsLegal g.script → IsPlanOf g a k (plans.Job plan) → HasOp a op → IfOk result (λ act. Starts IsOf running_of picks_of g a op (least_missing g.script.tasks reported.now) k act) }
+    ensures { (g : Setting) (a : Actor) (k : Known) → IsLegal g.script → IsPlanOf g a k (plans.Job plan) → HasOp a op
+        → IfOk result (λ act. Starts IsOf running_of picks_of g a op (least_missing g.script.tasks reported.now) k
+        act) }
 {
     match op {
         Op::Setup => begin_setup(alloc, plan),
@@ -34,7 +36,8 @@ fn begin_job(alloc: Global, plan: JobPlan, op: Op, reported: &TaskSet) -> Result
 
 /// Begins an operation of an attempt, which sets nothing up and cleans nothing.
 fn begin_task(alloc: Global, plan: TaskPlan, op: Op) -> Result<Act, AllocError>
-    ensures { (g : Setting) (a : Actor) (k : Known) (missing : Option ℕ) → IsPlanOf g a k (plans.Task plan) → HasOp a op → IfOk result (λ act. Starts IsOf running_of picks_of g a op missing k act) }
+    ensures { (g : Setting) (a : Actor) (k : Known) (missing : Option ℕ) → IsPlanOf g a k (plans.Task plan) → HasOp a op
+        → IfOk result (λ act. Starts IsOf running_of picks_of g a op missing k act) }
 {
     match op {
         Op::Write => begin_write(alloc, plan),

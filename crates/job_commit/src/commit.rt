@@ -56,7 +56,8 @@ fn missing(tasks: u32, reported: &TaskSet) -> Option<u32>
 /// What is done first.
 fn begun(basis: &mut Basis, reported: &TaskSet, next: &mut Next) -> Result<(), AllocError>
     requires { basis.old.sets ≡ [] }
-    ensures ok { OnOk result (GoesTo basis.new (commit_start (read_script basis.old.plan []) (least_missing basis.old.plan.tasks reported.now)) next.new) }
+    ensures ok { OnOk result (GoesTo basis.new
+        (commit_start (read_script basis.old.plan []) (least_missing basis.old.plan.tasks reported.now)) next.new) }
     ensures rest { basis.new ≡ record basis.old { places = basis.new.places } }
 {
     match missing(basis.plan.tasks, reported) {
@@ -73,7 +74,11 @@ impl CommitJob {
     /// some task did not, it is over, Missing with the least one, and nothing is sent. AllocError comes where
     /// memory ran out alone.
     pub fn new(alloc: Global, plan: JobPlan, reported: &TaskSet) -> Result<CommitJob, AllocError>
-        ensures { IfOk result (λ m. m ≡ record { plan = plan; picked = []; operation = commit_start (read_script plan []) (least_missing plan.tasks reported.now) }) }
+        ensures { IfOk result (λ m. m ≡ record {
+          plan = plan;
+          picked = [];
+          operation = commit_start (read_script plan []) (least_missing plan.tasks reported.now);
+        }) }
     {
         let mut basis = Basis::new(alloc, plan);
         let mut next = Next::wanting();

@@ -104,7 +104,8 @@ impl Basis {
         requires all { HasRead self.now }
         requires spared { deletion.spared ≡ spared self.now.plan.dest }
         requires fits { FitsDeletion deletion reply.now }
-        ensures ok { OnOk result (GoesTo self.now (commit_deleting (script_of self.now) self.now.sets (deletion_hears deletion reply.now)) next.new) }
+        ensures ok { OnOk result (GoesTo self.now
+            (commit_deleting (script_of self.now) self.now.sets (deletion_hears deletion reply.now)) next.new) }
         ensures err { OnErr result (next.new ≡ next.old) }
     {
         let mut deletion = deletion;
@@ -177,7 +178,8 @@ impl Basis {
     fn undo_on(&self, undo: UndoList, next: &mut Next) -> Result<(), AllocError>
         requires places { IsPlaced self.now }
         requires within { UndoWithin self.now.sets undo }
-        ensures ok { OnOk result (GoesTo self.now (reverting_from 0 (map (undo_request (all_commits self.now.sets)) (drop 1 undo))) next.new) }
+        ensures ok { OnOk result (GoesTo self.now
+            (reverting_from 0 (map (undo_request (all_commits self.now.sets)) (drop 1 undo))) next.new) }
         ensures err { OnErr result (next.new ≡ next.old) }
     {
         let mut undo = undo;

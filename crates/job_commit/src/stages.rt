@@ -91,7 +91,8 @@ impl Basis {
     /// The completions begin, in lanes.
     fn dealing(&self, next: &mut Next) -> Result<(), AllocError>
         requires { HasRead self.now }
-        ensures ok { OnOk result (GoesTo self.now (completing self.now.sets (dealt self.now.plan.lanes (length (all_commits self.now.sets))) []) next.new) }
+        ensures ok { OnOk result (GoesTo self.now
+            (completing self.now.sets (dealt self.now.plan.lanes (length (all_commits self.now.sets))) []) next.new) }
         ensures err { OnErr result (next.new ≡ next.old) }
     {
         let plan = &self.plan;
@@ -143,7 +144,13 @@ impl Basis {
     /// The deletion for the replace mode of the job's committer.
     fn replacement(&self) -> Result<DeleteKept, AllocError>
         requires { HasRead self.now }
-        ensures { let w = script_of self.now in IfOk result (λ d. d ≡ record { prefixes = deleted self.now.plan.committer self.now.plan.dest (partitions (wanted_paths w (picks_of self.now.sets))); sweep = sweep_start; spared = spared self.now.plan.dest }) }
+        ensures { let w = script_of self.now in IfOk result (λ d. d ≡
+            record {
+              prefixes = deleted self.now.plan.committer self.now.plan.dest
+                  (partitions (wanted_paths w (picks_of self.now.sets)));
+              sweep = sweep_start;
+              spared = spared self.now.plan.dest;
+            }) }
     {
         let plan = &self.plan;
         let sets = self.sets.as_slice();
@@ -155,7 +162,9 @@ impl Basis {
     /// What the job's mode does not keep is deleted; where it keeps all, the completions begin.
     fn replacing(&self, next: &mut Next) -> Result<(), AllocError>
         requires { HasRead self.now }
-        ensures ok { let w = script_of self.now in OnOk result (GoesTo self.now (replacing w self.now.sets (replaced self.now.plan.committer self.now.plan.mode w (picks_of self.now.sets))) next.new) }
+        ensures ok { let w = script_of self.now in OnOk result
+            (GoesTo self.now (replacing w self.now.sets (replaced self.now.plan.committer self.now.plan.mode w
+            (picks_of self.now.sets))) next.new) }
         ensures err { OnErr result (next.new ≡ next.old) }
     {
         let plan = &self.plan;
@@ -173,7 +182,9 @@ impl Basis {
     fn decided(&mut self, next: &mut Next) -> Result<(), AllocError>
         requires each { AreRead self.old.plan self.old.sets }
         requires all { length self.old.sets ≡ self.old.plan.tasks }
-        ensures ok { OnOk result (GoesTo self.new (decided (script_of self.old) self.old.sets (same_path (script_of self.old) (picks_of self.old.sets))) next.new) }
+        ensures ok { OnOk result (GoesTo self.new
+            (decided (script_of self.old) self.old.sets (same_path (script_of self.old) (picks_of self.old.sets)))
+            next.new) }
         ensures err { OnErr result (next.new ≡ next.old) }
         ensures rest { self.new ≡ record self.old { places = self.new.places } }
     {

@@ -83,7 +83,16 @@ impl Knowledge {
 
     /// An upload of which no part was sent yet. After want of memory all is as before.
     pub fn draw(&mut self, alloc: Global, key: Key, upload: u64) -> Result<(), AllocError>
-        ensures ok { OnOk result (self.new ≡ record { drawn = record { key = key; upload = upload; tags = []; sizes = [] } ∷ self.old.drawn; put_sent = self.old.put_sent; publish_sent = self.old.publish_sent }) }
+        ensures ok { OnOk result (self.new ≡ record {
+          drawn = record {
+            key = key;
+            upload = upload;
+            tags = [];
+            sizes = [];
+          } ∷ self.old.drawn;
+          put_sent = self.old.put_sent;
+          publish_sent = self.old.publish_sent;
+        }) }
         ensures err { OnErr result (self.new ≡ self.old) }
     {
         self.drawn.push(DrawnUpload {
@@ -97,7 +106,11 @@ impl Knowledge {
     /// A part of the upload that was drawn last, where there is one, came back. After want of memory all is
     /// as before.
     pub fn draw_part(&mut self, tag: Tag, size: u64) -> Result<(), AllocError>
-        ensures ok { OnOk result (self.new ≡ record { drawn = with_last tag size self.old.drawn; put_sent = self.old.put_sent; publish_sent = self.old.publish_sent }) }
+        ensures ok { OnOk result (self.new ≡ record {
+          drawn = with_last tag size self.old.drawn;
+          put_sent = self.old.put_sent;
+          publish_sent = self.old.publish_sent;
+        }) }
         ensures err { OnErr result (self.new ≡ self.old) }
     {
         match self.drawn.last_mut() {

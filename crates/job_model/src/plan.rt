@@ -34,9 +34,27 @@ impl Model for JobPlan {
 
     ghost Value = { Job };
 
-    ghost view = { λ p. record { job = p.job; dest = p.dest; committer = p.committer; mode = p.mode; tasks = p.tasks; retries = p.retries; lanes = p.lanes; stamp = p.stamp } };
+    ghost view = { λ p. record {
+      job = p.job;
+      dest = p.dest;
+      committer = p.committer;
+      mode = p.mode;
+      tasks = p.tasks;
+      retries = p.retries;
+      lanes = p.lanes;
+      stamp = p.stamp;
+    } };
 
-    ghost invariant = { λ p. IsJob (record { job = p.job; dest = p.dest; committer = p.committer; mode = p.mode; tasks = p.tasks; retries = p.retries; lanes = p.lanes; stamp = p.stamp }) };
+    ghost invariant = { λ p. IsJob (record {
+      job = p.job;
+      dest = p.dest;
+      committer = p.committer;
+      mode = p.mode;
+      tasks = p.tasks;
+      retries = p.retries;
+      lanes = p.lanes;
+      stamp = p.stamp;
+    }) };
 }
 
 /// What an attempt knows and has done: of which job, task and attempt it is, its files, the sizes in
@@ -61,9 +79,25 @@ impl Model for TaskPlan {
 
     ghost Value = { Task };
 
-    ghost view = { λ p. record { job = p.job; task = p.task; attempt = p.attempt; files = p.files; block = p.block; minimum = p.minimum; known = p.known } };
+    ghost view = { λ p. record {
+      job = p.job;
+      task = p.task;
+      attempt = p.attempt;
+      files = p.files;
+      block = p.block;
+      minimum = p.minimum;
+      known = p.known;
+    } };
 
-    ghost invariant = { λ p. IsTask (record { job = p.job; task = p.task; attempt = p.attempt; files = p.files; block = p.block; minimum = p.minimum; known = p.known }) };
+    ghost invariant = { λ p. IsTask (record {
+      job = p.job;
+      task = p.task;
+      attempt = p.attempt;
+      files = p.files;
+      block = p.block;
+      minimum = p.minimum;
+      known = p.known;
+    }) };
 }
 
 /// Numbers of tasks, rising and each once.

@@ -42,7 +42,35 @@ impl Model for Script {
 
     ghost coded = { coded_script };
 
-    ghost view = { λ s. record { job = s.job; dest = s.dest; committer = s.committer; mode = s.mode; unique = s.unique; tasks = s.tasks; retries = s.retries; block = s.block; lanes = s.lanes; stamp = s.stamp; fates = s.fates; attempts = s.attempts; events = s.events } };
+    ghost view = { λ s. record {
+      job = s.job;
+      dest = s.dest;
+      committer = s.committer;
+      mode = s.mode;
+      unique = s.unique;
+      tasks = s.tasks;
+      retries = s.retries;
+      block = s.block;
+      lanes = s.lanes;
+      stamp = s.stamp;
+      fates = s.fates;
+      attempts = s.attempts;
+      events = s.events;
+    } };
 
-    ghost invariant = { λ s. IsLegal (record { job = s.job; dest = s.dest; committer = s.committer; mode = s.mode; unique = s.unique; tasks = s.tasks; retries = s.retries; block = s.block; lanes = s.lanes; stamp = s.stamp; fates = s.fates; attempts = s.attempts; events = s.events }) };
+    ghost invariant = { λ s. IsLegal (record {
+      job = s.job;
+      dest = s.dest;
+      committer = s.committer;
+      mode = s.mode;
+      unique = s.unique;
+      tasks = s.tasks;
+      retries = s.retries;
+      block = s.block;
+      lanes = s.lanes;
+      stamp = s.stamp;
+      fates = s.fates;
+      attempts = s.attempts;
+      events = s.events;
+    }) };
 }

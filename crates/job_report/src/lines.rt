@@ -77,7 +77,8 @@ fn write_attempt(
     name: AttemptName,
 ) -> Result<(), AllocError>
     requires { declares script.now.attempts name ≡ true }
-    ensures { (p : Past) → Stands script.now states.now p → OnOk result (string_bytes text.new ≡ string_bytes text.old ++ attempt_line p.state name) }
+    ensures { (p : Past) → Stands script.now states.now p
+        → OnOk result (string_bytes text.new ≡ string_bytes text.old ++ attempt_line p.state name) }
 {
     let AttemptName { task, attempt } = name;
     let actor = Actor::Attempt { task, attempt };
@@ -89,7 +90,9 @@ fn write_attempt(
 
 /// Writes a line for each declared attempt.
 pub fn write_attempts(text: &mut String, script: &Script, states: &States) -> Result<(), AllocError>
-    ensures { (p : Past) → Stands script.now states.now p → OnOk result (string_bytes text.new ≡ string_bytes text.old ++ flat_map (λ a. attempt_line p.state a.0) script.now.attempts) }
+    ensures { (p : Past) → Stands script.now states.now p
+        → OnOk result (string_bytes text.new ≡ string_bytes text.old ++ flat_map (λ a. attempt_line p.state a.0)
+        script.now.attempts) }
 {
     for (name, _) in script.attempts.held() {
         write_attempt(text, script, states, *name)?;

@@ -22,7 +22,8 @@ pub struct Report {
 /// declared attempt, then the number of sendings and the status that was due. AllocError comes where memory
 /// ran out alone.
 pub fn report_text(alloc: Global, report: &Report, script: &Script) -> Result<Bytes, AllocError>
-    ensures { IfOk result (λ text. text ≡ report_text report.now.due (length report.now.journal.entries) report.now.picks report.now.ends script.now) }
+    ensures { IfOk result (λ text. text ≡ report_text report.now.due (length report.now.journal.entries)
+        report.now.picks report.now.ends script.now) }
 {
     let ends = report.ends.as_slice();
     let states = States::after(alloc, script, ends)?;

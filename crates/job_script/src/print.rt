@@ -20,7 +20,8 @@ use std::alloc::{AllocError, Global};
 /// are kept.
 pub fn print_script(alloc: Global, script: &Script) -> Result<Bytes, AllocError>
     ensures text { IfOk result (λ bytes. bytes ≡ script_text script.now) }
-    ensures again { IfOk result (λ bytes. map.len script.now.fates ≤ 10000 → length bytes ≤ MOST_SCRIPT_BYTES → script_of bytes ≡ Ok script.now) }
+    ensures again { IfOk result (λ bytes. map.len script.now.fates ≤ 10000 → length bytes ≤ MOST_SCRIPT_BYTES
+        → script_of bytes ≡ Ok script.now) }
 {
     let mut out = String::new(alloc);
     put_head(&mut out, script)?;

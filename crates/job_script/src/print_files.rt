@@ -37,7 +37,8 @@ fn put_files(alloc: Global, out: &mut String, files: &FileList) -> Result<(), Al
 }
 
 fn put_name(out: &mut String, name: AttemptName) -> Result<(), AllocError>
-    ensures { OnOk result (string_bytes out.new ≡ string_bytes out.old ++ ended (codes "attempt" ∷ actor_text (Attempt name.task name.attempt) ∷ [])) }
+    ensures { OnOk result (string_bytes out.new ≡ string_bytes out.old ++ ended
+        (codes "attempt" ∷ actor_text (Attempt name.task name.attempt) ∷ [])) }
 {
     let actor = Actor::Attempt {
         task: name.task,

@@ -34,7 +34,8 @@ fn is_file_path(path: &[u8]) -> bool
 
 /// What stands behind a prefix in a text that begins so.
 fn behind<'a>(prefix: &str, text: &'a str) -> Option<&'a str>
-    ensures { option_map (λ r. r.now) result ≡ (if starts_with nat_eq text.now prefix.now then Some (drop (length prefix.now) text.now) else None) }
+    ensures { option_map (λ r. r.now) result ≡ (if starts_with nat_eq text.now prefix.now then Some
+        (drop (length prefix.now) text.now) else None) }
 {
     text.strip_prefix(prefix)
 }

@@ -46,7 +46,8 @@ pub fn actor_at(script: &Script, place: usize) -> Option<Actor>
 
 /// How an actor stands, and one that is not of the job as one that has begun nothing. Takes no memory.
 pub fn standing_of(standings: &[Standing], script: &Script, actor: Actor) -> Standing
-    ensures known { (f : Actor → Standing) → standings.now ≡ map f (actors script.now) → is_known script.now.attempts actor ≡ true → result ≡ f actor }
+    ensures known { (f : Actor → Standing) → standings.now ≡ map f (actors script.now)
+        → is_known script.now.attempts actor ≡ true → result ≡ f actor }
     ensures unknown { is_known script.now.attempts actor ≡ false → result ≡ fresh }
 {
     let Some(place) = place_of(script, actor) else {

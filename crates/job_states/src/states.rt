@@ -43,7 +43,14 @@ impl Model for States {
 
     ghost Value = { Kept };
 
-    ghost view = { λ s. record { events = s.events; actors = s.actors.items; attempt = s.attempt; reported = s.reports; setup = s.setup; commit = s.commit } };
+    ghost view = { λ s. record {
+      events = s.events;
+      actors = s.actors.items;
+      attempt = s.attempt;
+      reported = s.reports;
+      setup = s.setup;
+      commit = s.commit;
+    } };
 }
 
 /// So many that have begun nothing.
@@ -184,7 +191,8 @@ impl States {
     pub fn reported(&self, alloc: Global) -> Result<TaskSet, AllocError>
         ensures exact { (w : Script) (p : Past) → Stands w self.now p
             → IfOk result (λ set. (t : ℕ) → has_task set t ≡ (nat_lt t w.tasks && p.reported t)) }
-        ensures missing { (w : Script) (p : Past) → Stands w self.now p → IfOk result (λ set. least_missing w.tasks set ≡ missing w p.reported) }
+        ensures missing { (w : Script) (p : Past) → Stands w self.now p
+            → IfOk result (λ set. least_missing w.tasks set ≡ missing w p.reported) }
     {
         let tasks = self.reports.tasks(alloc)?;
         Ok(tasks)
@@ -333,7 +341,8 @@ impl States {
     }
 
     fn end_of(&mut self, script: &Script, actor: Actor, end: &OpEnd)
-        ensures stands { (p : Past) → Stands script.now self.old p → Stands script.now self.new (end_op p (record { actor = actor; end = end.now })) }
+        ensures stands { (p : Past) → Stands script.now self.old p
+            → Stands script.now self.new (end_op p (record { actor = actor; end = end.now })) }
         ensures attempt { self.new.attempt ≡ self.old.attempt }
         ensures events { self.new.events ≡ self.old.events }
     {

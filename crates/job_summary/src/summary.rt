@@ -31,7 +31,8 @@ pub fn summary_text(
     files: u32,
 ) -> Result<String, AllocError>
     requires { report.now.due ≡ verdict script.now report.now.ends }
-    ensures { IfOk result (λ text. string_bytes text ≡ summary tasks files report.now.due (length report.now.journal.entries) report.now.picks report.now.ends script.now) }
+    ensures { IfOk result (λ text. string_bytes text ≡ summary tasks files report.now.due
+        (length report.now.journal.entries) report.now.picks report.now.ends script.now) }
 {
     let all = u64::from(tasks) * u64::from(files);
     let bytes = shown_bytes(report, script);

@@ -39,11 +39,14 @@ pub trait Works: Acts {
         op: Op,
         reported: &TaskSet,
     ) -> Result<Self, AllocError>
-        ensures { (g : Setting) (k : Known) → IsLegal g.script → IsPlanOf g actor k plan → HasOp actor op → IfOk result (λ work. Starts is_of running picks_of g actor op (least_missing g.script.tasks reported.now) k work) };
+        ensures { (g : Setting) (k : Known) → IsLegal g.script → IsPlanOf g actor k plan → HasOp actor op
+            → IfOk result (λ work. Starts is_of running picks_of g actor op (least_missing g.script.tasks reported.now)
+            k work) };
 
     /// Gives the plan back, with what its attempt knows as the operation leaves it. Takes no memory.
     fn into_plan(self) -> Plan
-        ensures { (g : Setting) (a : Actor) (k : Known) → is_of g a self → Self.wants self ≡ None → IsPlanOf g a (running k self).known result };
+        ensures { (g : Setting) (a : Actor) (k : Known) → is_of g a self → Self.wants self ≡ None
+            → IsPlanOf g a (running k self).known result };
 
     /// The attempts whose sets a job's commit has read; of any other operation None. Takes no memory.
     fn picks(&self) -> Option<&PickList>

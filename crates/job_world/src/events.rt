@@ -93,7 +93,8 @@ impl<W: Works> Body<W> {
 
     /// Takes out the plan that an attempt goes by.
     fn take_plan(&mut self, place: usize, actor: Actor) -> Plan
-        requires { GivesPlan W.wants W.is_of W.running (setting_of self.old) actor (knows_of self.old actor) (slice_get self.old.hands.items place) }
+        requires { GivesPlan W.wants W.is_of W.running (setting_of self.old) actor (knows_of self.old actor)
+            (slice_get self.old.hands.items place) }
         ensures plan { IsPlanOf (setting_of self.old) actor (knows_of self.old actor) result }
         ensures emptied { Emptied place self.old self.new }
         ensures picks { self.new.picks ≡ self.old.picks }
@@ -123,7 +124,8 @@ impl<W: Works> Body<W> {
     /// The tasks that are reported, where the job's commit begins.
     fn reported_for(&self, op: Op) -> Result<TaskSet, AllocError>
         ensures { (p : Past) (k : Known) → Stands self.now.script self.now.states p
-            → IfOk result (λ set. start_of (setting_of self.now) Driver op (least_missing self.now.script.tasks set) k ≡ start_of (setting_of self.now) Driver op (missing self.now.script p.reported) k) }
+            → IfOk result (λ set. start_of (setting_of self.now) Driver op (least_missing self.now.script.tasks set) k ≡
+            start_of (setting_of self.now) Driver op (missing self.now.script p.reported) k) }
     {
         match op {
             Op::Commit => self.states.reported(self.alloc),

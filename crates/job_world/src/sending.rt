@@ -32,7 +32,9 @@ pub fn post_hand<W: Acts, S: ObjectStore>(
     requires asked { Asks W.wants hand.old }
     requires due { HandDue W.wants W.fits hand.old (S.scene store.old) }
     requires counted { S.requests store.old ≤ length journal.old.entries }
-    ensures posted { HandPosted W.wants W.tells W.end_of actor event hand.old hand.new (sight (S.scene store.old) (S.requests store.old) (S.foretold store.old) journal.old.entries) (sight (S.scene store.new) (S.requests store.new) (S.foretold store.new) journal.new.entries) result }
+    ensures posted { HandPosted W.wants W.tells W.end_of actor event hand.old hand.new
+        (sight (S.scene store.old) (S.requests store.old) (S.foretold store.old) journal.old.entries)
+        (sight (S.scene store.new) (S.requests store.new) (S.foretold store.new) journal.new.entries) result }
     ensures foretold { (n : ℕ) → S.foretold store.new n ≡ S.foretold store.old n }
 {
     match hand {

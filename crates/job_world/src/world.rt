@@ -158,7 +158,8 @@ impl<W: Works> World<W> {
         ensures picks { result.picks ≡ self.picks }
         ensures ends { result.ends ≡ self.ends }
         ensures keeps { Keeps self }
-        ensures finished { length self.ends ≡ length self.script.events → Finished self.script self.opening self.journal self.picks self.ends }
+        ensures finished { length self.ends ≡ length self.script.events
+            → Finished self.script self.opening self.journal self.picks self.ends }
     {
         W::laws();
         let World { body, stuck: _ } = self;

@@ -46,7 +46,8 @@ pub fn append_all<F: Shelf>(
     ensures partly { OnErr result (HoldsSome (F.held shelf.old) (F.held shelf.new) (changes (drop from journal.now.entries))) }
     ensures stopped { IfErr result (λ e. Stopped F.held F.answers F.fails e (changes (drop from journal.now.entries)) shelf.old shelf.new) }
     ensures appends { (IsErrOf result AppendFault.Failed → ⊥) → F.takes_appends shelf.new }
-    ensures any_moment { LeavesOnly F.moment F.left_since shelf.old shelf.new (IsBetween (F.held shelf.old) (changes (drop from journal.now.entries))) }
+    ensures any_moment { LeavesOnly F.moment F.left_since shelf.old shelf.new
+        (IsBetween (F.held shelf.old) (changes (drop from journal.now.entries))) }
     ensures failed { IsErrOf result AppendFault.Failed → Rose (F.faults shelf.old) (F.faults shelf.new) }
     ensures calm { (IsErrOf result AppendFault.Failed → ⊥) → F.faults shelf.new ≡ F.faults shelf.old }
 {

@@ -19,7 +19,8 @@ fn is_effective(outcome: &Outcome) -> bool
 
 /// What an entry adds to a journal's changes: its request, where it took effect and may change the store.
 pub fn change_of(entry: &Entry) -> Option<&Request>
-    ensures { MatchOption result (changes (entry.now ∷ []) ≡ []) (λ r. (changes (entry.now ∷ []) ≡ r.now ∷ []) × (known.is_changing r.now ≡ true)) }
+    ensures { MatchOption result (changes (entry.now ∷ []) ≡ []) (λ r. (changes (entry.now ∷ []) ≡ r.now ∷ [])
+        × (known.is_changing r.now ≡ true)) }
 {
     if is_effective(&entry.outcome) && is_changing(&entry.request) {
         Some(&entry.request)

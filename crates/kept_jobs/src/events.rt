@@ -46,10 +46,13 @@ pub fn play_events<W: Works, F: Shelf>(
     requires durable { IsDurable (F.held shelf.old) (F.may_leave shelf.old) }
     ensures script { world.new.script ≡ world.old.script }
     ensures opening { world.new.opening ≡ world.old.opening }
-    ensures ok { OnOk result (InPace F.held F.may_leave F.answers F.moment F.left_since world.old.opening world.new.journal shelf.old shelf.new) }
+    ensures ok { OnOk result (InPace F.held F.may_leave F.answers F.moment F.left_since world.old.opening
+        world.new.journal shelf.old shelf.new) }
     ensures ended { OnOk result (length world.new.ends ≡ length world.old.script.events) }
-    ensures err { OnErr result (Behind F.held F.answers F.fails F.moment F.left_since world.old.opening world.new.journal shelf.old shelf.new) }
-    ensures any_moment { LeavesOnly F.moment F.left_since shelf.old shelf.new (λ h. WhereTold (F.held shelf.new) (IsMoment world.old.opening world.new.journal h)) }
+    ensures err { OnErr result (Behind F.held F.answers F.fails F.moment F.left_since world.old.opening
+        world.new.journal shelf.old shelf.new) }
+    ensures any_moment { LeavesOnly F.moment F.left_since shelf.old shelf.new
+        (λ h. WhereTold (F.held shelf.new) (IsMoment world.old.opening world.new.journal h)) }
     ensures failed { IsErrOf result AppendFault.Failed → Rose (F.faults shelf.old) (F.faults shelf.new) }
     ensures calm { (IsErrOf result AppendFault.Failed → ⊥) → F.faults shelf.new ≡ F.faults shelf.old }
 {

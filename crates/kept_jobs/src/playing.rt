@@ -106,13 +106,15 @@ pub fn play<W: Works, F: Shelf>(
     requires count { F.faults shelf.old < 2 ^ 64 - 1 }
     ensures played { IfOk result (λ kept. IsPlayed script service kept.played) }
     ensures verdict { IfOk result (λ kept. kept.verdict ≡ verdict script kept.played.ends) }
-    ensures held { IfOk result (λ kept. IsHeld F.held F.may_leave F.answers F.fails script service kept.played kept.stop shelf.old shelf.new) }
+    ensures held { IfOk result (λ kept. IsHeld F.held F.may_leave F.answers F.fails script service kept.played kept.stop
+        shelf.old shelf.new) }
     ensures images { IfOk result (λ kept. KeepsImages service kept.played.journal.entries) }
     ensures survives { IfOk result (λ kept. Survives F.held F.may_leave F.moment F.left_since service kept.played shelf.old shelf.new) }
     ensures counted { IfOk result (λ kept. Counts kept.stop (F.faults shelf.old) (F.faults shelf.new)) }
     ensures same { OnErr result (F.held shelf.new ≡ F.held shelf.old) }
     ensures stopped { OnErr result ((shelf.old ≡ shelf.new) ⊎ F.fails shelf.old shelf.new) }
-    ensures any_moment { OnErr result (LeavesOnly F.moment F.left_since shelf.old shelf.new (λ h. F.may_leave shelf.old h ⊎ (h ≡ fresh (image service)))) }
+    ensures any_moment { OnErr result (LeavesOnly F.moment F.left_since shelf.old shelf.new
+        (λ h. F.may_leave shelf.old h ⊎ (h ≡ fresh (image service)))) }
     ensures faults { IfErr result (λ fault. Counts (Some fault) (F.faults shelf.old) (F.faults shelf.new)) }
 {
     let mut world = begin::<W, F>(alloc, shelf, script, service)?;

@@ -65,7 +65,8 @@ fn keep<F: Shelf>(
     ensures held { IsHeld (works.Saves opening.now text sent.entries) result.due (F.held shelf.old) (F.held shelf.new) }
     ensures images { KeepsImages opening.now sent.entries }
     ensures calls { CallsBy F.answers F.fails (works.Saves opening.now text sent.entries) result.due shelf.old shelf.new }
-    ensures any_moment { LeavesOnly F.moment F.left_since shelf.old shelf.new (MightLeave (works.Saves opening.now text sent.entries) (F.held shelf.new) (F.may_leave shelf.old)) }
+    ensures any_moment { LeavesOnly F.moment F.left_since shelf.old shelf.new
+        (MightLeave (works.Saves opening.now text sent.entries) (F.held shelf.new) (F.may_leave shelf.old)) }
     ensures durable { IsDurableNow (works.Saves opening.now text sent.entries) result.due (F.held shelf.new) (F.may_leave shelf.new) }
     ensures counted { Tells 5 result.due (F.faults shelf.old) (F.faults shelf.new) }
 {
@@ -88,7 +89,8 @@ pub fn obey<F: Shelf>(alloc: Global, shelf: &mut F, work: Work) -> Answer
     ensures held { IsHeld (work_in work) result.due (F.held shelf.old) (F.held shelf.new) }
     ensures images { HasImages (work_in work) }
     ensures calls { CallsBy F.answers F.fails (work_in work) result.due shelf.old shelf.new }
-    ensures any_moment { LeavesOnly F.moment F.left_since shelf.old shelf.new (MightLeave (work_in work) (F.held shelf.new) (F.may_leave shelf.old)) }
+    ensures any_moment { LeavesOnly F.moment F.left_since shelf.old shelf.new
+        (MightLeave (work_in work) (F.held shelf.new) (F.may_leave shelf.old)) }
     ensures durable { IsDurableNow (work_in work) result.due (F.held shelf.new) (F.may_leave shelf.new) }
     ensures counted { Tells 5 result.due (F.faults shelf.old) (F.faults shelf.new) }
 {

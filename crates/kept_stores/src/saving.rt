@@ -32,7 +32,8 @@ fn put_image<F: Shelf>(alloc: Global, shelf: &mut F, store: &Service) -> Result<
     ensures appends { OnOk result (F.takes_appends shelf.new) }
     ensures same { OnErr result (F.held shelf.new ≡ F.held shelf.old) }
     ensures cut { OnErr result ((shelf.old ≡ shelf.new) ⊎ F.fails shelf.old shelf.new) }
-    ensures any_moment { OnErr result (LeavesOnly F.moment F.left_since shelf.old shelf.new (λ h. F.may_leave shelf.old h ⊎ (h ≡ fresh (image store.now)))) }
+    ensures any_moment { OnErr result (LeavesOnly F.moment F.left_since shelf.old shelf.new
+        (λ h. F.may_leave shelf.old h ⊎ (h ≡ fresh (image store.now)))) }
     ensures counted { Counts result (F.faults shelf.old) (F.faults shelf.new) }
 {
     let Ok(bytes) = image_of(alloc, store) else {
@@ -61,7 +62,8 @@ pub fn save<F: Shelf>(
     ensures called { OnOk result (AreCalled F.answers (changes journal.now.entries) shelf.old shelf.new) }
     ensures err { OnErr result ((F.held shelf.new ≡ F.held shelf.old) ⊎ HoldsPart (F.held shelf.new) opening.now journal.now.entries) }
     ensures cut { OnErr result (AreCut F.answers F.fails (changes journal.now.entries) shelf.old shelf.new) }
-    ensures any_moment { LeavesOnly F.moment F.left_since shelf.old shelf.new (λ h. WhereTold (F.held shelf.new) (F.may_leave shelf.old h ⊎ IsMoment opening.now journal.now.entries h)) }
+    ensures any_moment { LeavesOnly F.moment F.left_since shelf.old shelf.new
+        (λ h. WhereTold (F.held shelf.new) (F.may_leave shelf.old h ⊎ IsMoment opening.now journal.now.entries h)) }
     ensures counted { Counts result (F.faults shelf.old) (F.faults shelf.new) }
 {
     put_image(alloc, shelf, opening)?;

@@ -132,7 +132,10 @@ pub fn list<K: Kind, S: ObjectStore>(
     ensures same { S.scene store.new ≡ S.scene store.old }
     ensures fault { IsErrOf result DriveStop.StoreFault → S.losses store.old < S.losses store.new }
     ensures journal { Appends actor event (S.scene store.old) journal.old.entries journal.new.entries }
-    ensures performed { Performed actor event retries (IsStill (S.scene store.old)) (IsPageOf K.asks bucket prefix) (S.scene store.old) (S.scene store.new) journal.old.entries journal.new.entries (S.requests store.old) (S.requests store.new) (S.losses store.old) (S.losses store.new) (S.foretold store.old) (S.foretold store.new) result }
+    ensures performed { Performed actor event retries (IsStill (S.scene store.old)) (IsPageOf K.asks bucket prefix)
+        (S.scene store.old) (S.scene store.new) journal.old.entries journal.new.entries (S.requests store.old)
+        (S.requests store.new) (S.losses store.old) (S.losses store.new) (S.foretold store.old) (S.foretold store.new)
+        result }
 {
     let walk = Walk::new(alloc, kind, bucket, prefix);
     match perform(alloc, walk, retries, store, actor, event, journal) {

@@ -172,7 +172,8 @@ fn put_object(
     bytes: &Bytes,
     given: Option<LengthHeader>,
 ) -> Result<(), AllocError>
-    ensures text { OnOk result (out.new.items ≡ out.old.items ++ ((target (bucket.now, key.now) ++ long (header given)) ++ block bytes.now)) }
+    ensures text { OnOk result (out.new.items ≡ out.old.items ++
+        ((target (bucket.now, key.now) ++ long (header given)) ++ block bytes.now)) }
     ensures legal { OnOk result (IsTarget (bucket.now, key.now) × (header given < 2 ^ 64)) }
 {
     put_target(out, bucket, key)?;
@@ -188,7 +189,8 @@ fn put_part(
     number: u32,
     bytes: &Bytes,
 ) -> Result<(), AllocError>
-    ensures text { OnOk result (out.new.items ≡ out.old.items ++ ((spelled.upload ((bucket.now, key.now), upload) ++ short number) ++ block bytes.now)) }
+    ensures text { OnOk result (out.new.items ≡ out.old.items ++
+        ((spelled.upload ((bucket.now, key.now), upload) ++ short number) ++ block bytes.now)) }
     ensures legal { OnOk result (IsUpload ((bucket.now, key.now), upload) × (number < 2 ^ 32)) }
 {
     put_upload(out, bucket, key, upload)?;

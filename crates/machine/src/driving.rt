@@ -25,7 +25,12 @@ pub fn write_down(
 )
     requires room { 0 < journal.old.room }
     requires few { length journal.old.entries + 1 < 2 ^ 62 }
-    ensures { journal.new.entries ≡ journal.old.entries ++ record { event = event; actor = actor; request = request; outcome = outcome } ∷ [] }
+    ensures { journal.new.entries ≡ journal.old.entries ++ record {
+      event = event;
+      actor = actor;
+      request = request;
+      outcome = outcome;
+    } ∷ [] }
 {
     journal.push(Entry {
         event,
@@ -48,8 +53,11 @@ pub fn send<M: Machine, S: ObjectStore>(
 ) -> Result<Option<Turn>, AllocError>
     requires due { DueFits M.wants M.fits machine.old (S.scene store.old) }
     requires counted { S.requests store.old ≤ length journal.old.entries }
-    ensures sent { IfOk result (λ turn. Sent M.wants M.after actor event machine.old machine.new (S.scene store.old) (S.scene store.new) journal.old.entries journal.new.entries (S.losses store.old) (S.losses store.new) (S.foretold store.old) (S.requests store.old) (S.requests store.new) turn) }
-    ensures counts { Counted journal.old.entries journal.new.entries (S.requests store.old) (S.requests store.new) (S.losses store.old) (S.losses store.new) (S.foretold store.old) (S.foretold store.new) }
+    ensures sent { IfOk result (λ turn. Sent M.wants M.after actor event machine.old machine.new (S.scene store.old)
+        (S.scene store.new) journal.old.entries journal.new.entries (S.losses store.old) (S.losses store.new)
+        (S.foretold store.old) (S.requests store.old) (S.requests store.new) turn) }
+    ensures counts { Counted journal.old.entries journal.new.entries (S.requests store.old) (S.requests store.new)
+        (S.losses store.old) (S.losses store.new) (S.foretold store.old) (S.foretold store.new) }
     ensures err { OnErr result (SentNone M.wants M.after actor event machine.old machine.new (S.scene store.old) (S.scene store.new)
         journal.old.entries journal.new.entries (S.foretold store.old) (S.requests store.old)) }
 {
@@ -87,8 +95,11 @@ pub fn drive<M: Machine, S: ObjectStore>(
 ) -> Result<(), DriveStop>
     requires ready { M.ready machine.old.machine (S.scene store.old) machine.old.repeated }
     requires counted { S.requests store.old ≤ length journal.old.entries }
-    ensures drove { Drove M.wants M.after M.ready M.standing actor event machine.old machine.new (S.scene store.old) (S.scene store.new) journal.old.entries journal.new.entries (S.losses store.old) (S.losses store.new) (S.foretold store.old) (S.requests store.old) result }
-    ensures counts { Counted journal.old.entries journal.new.entries (S.requests store.old) (S.requests store.new) (S.losses store.old) (S.losses store.new) (S.foretold store.old) (S.foretold store.new) }
+    ensures drove { Drove M.wants M.after M.ready M.standing actor event machine.old machine.new (S.scene store.old)
+        (S.scene store.new) journal.old.entries journal.new.entries (S.losses store.old) (S.losses store.new)
+        (S.foretold store.old) (S.requests store.old) result }
+    ensures counts { Counted journal.old.entries journal.new.entries (S.requests store.old) (S.requests store.new)
+        (S.losses store.old) (S.losses store.new) (S.foretold store.old) (S.foretold store.new) }
 {
     let mut worn = false;
     'sending: loop {

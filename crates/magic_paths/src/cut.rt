@@ -24,8 +24,11 @@ fn before_end<'a>(text: &'a str, end: &str) -> &'a str
 /// Cuts a text at its first element that is the word; None comes exactly where none is.
 pub fn cut_at<'a>(word: &str, text: &'a str) -> Option<Cut<'a>>
     ensures found { is_some result ≡ list_any (is_word word.now) (parts_of 47 text.now) }
-    ensures front { IfSome result (λ c. (rest : List ℕ) → parts_of 47 (c.front.now ++ rest) ≡ before_first (is_word word.now) (parts_of 47 text.now) ++ parts_of 47 rest) }
-    ensures behind { IfSome result (λ c. parts_after 47 (option_map (λ r. r.now) c.behind) ≡ after_first (is_word word.now) (parts_of 47 text.now)) }
+    ensures front { IfSome result (λ c. (rest : List ℕ)
+        → parts_of 47 (c.front.now ++ rest) ≡ before_first (is_word word.now) (parts_of 47 text.now) ++ parts_of 47
+        rest) }
+    ensures behind { IfSome result (λ c. parts_after 47 (option_map (λ r. r.now) c.behind) ≡ after_first
+        (is_word word.now) (parts_of 47 text.now)) }
     ensures shorter { IfSome result (λ c. IfSome c.behind (λ b. length c.front.now + length b.now < length text.now)) }
 {
     let mut rest = text;

@@ -35,7 +35,8 @@ fn final_parts(key: &str) -> Result<(&str, &str), MagicRefusal>
     ensures elements { IfOk result (λ r. parts_of 47 (r.0.now ++ r.1.now) ≡ finals.final_elements (parts_of 47 key.now)) }
     ensures key { IfOk result (λ r. is_key (r.0.now ++ r.1.now) ≡ true) }
     ensures not_magic { IsErrOf result NotMagic ↔ (finals.has_magic (parts_of 47 key.now) ≡ false) }
-    ensures nothing_after { IsErrOf result NothingAfter ↔ ((finals.has_magic (parts_of 47 key.now) ≡ true) × (finals.kept (finals.after_magic (parts_of 47 key.now)) ≡ [])) }
+    ensures nothing_after { IsErrOf result NothingAfter ↔ ((finals.has_magic (parts_of 47 key.now) ≡ true)
+        × (finals.kept (finals.after_magic (parts_of 47 key.now)) ≡ [])) }
 {
     let Some(magic) = cut_at("__magic", key) else {
         return Err(MagicRefusal::NotMagic);
@@ -59,7 +60,8 @@ pub fn final_path(alloc: Global, path: &S3Path) -> Result<S3Path, MagicRefusal>
     ensures bucket { IfOk result (λ p. p.bucket ≡ path.now.bucket) }
     ensures elements { IfOk result (λ p. finals.elements p ≡ finals.final_elements (finals.elements path.now)) }
     ensures not_magic { IsErrOf result NotMagic ↔ (finals.has_magic (finals.elements path.now) ≡ false) }
-    ensures nothing_after { IsErrOf result NothingAfter ↔ ((finals.has_magic (finals.elements path.now) ≡ true) × (finals.kept (finals.after_magic (finals.elements path.now)) ≡ [])) }
+    ensures nothing_after { IsErrOf result NothingAfter ↔ ((finals.has_magic (finals.elements path.now) ≡ true)
+        × (finals.kept (finals.after_magic (finals.elements path.now)) ≡ [])) }
 {
     let (front, kept) = final_parts(path.key().as_str())?;
     let text = final_text(alloc, front, kept)?;

@@ -150,7 +150,8 @@ impl Uploads {
     ) -> Result<Joined, UploadFault>
         ensures bytes { IfOk result (λ made. joined (live self.now key.now upload) parts.now minimum ≡ Ok made.bytes) }
         ensures tag { IfOk result (λ made. made.tag ≡ joined_tag (map (λ n. n.tag) parts.now)) }
-        ensures refused { IfErr result (λ fault. IfRefused fault (λ refusal. joined (live self.now key.now upload) parts.now minimum ≡ Err refusal)) }
+        ensures refused { IfErr result (λ fault. IfRefused fault
+            (λ refusal. joined (live self.now key.now upload) parts.now minimum ≡ Err refusal)) }
     {
         let Some(live) = self.live(key, upload) else {
             return Err(UploadFault::Refused(Refusal::NoSuchUpload));

@@ -151,7 +151,8 @@ impl Lives {
     pub fn put_part(&mut self, upload: u64, number: u32, part: Part) -> Result<(), AllocError>
         requires there { IsSome (fin.get self.old upload) }
         requires numbered { is_part_number number ≡ true }
-        ensures ok { OnOk result (IsSomeAnd (fin.get self.old upload) (λ u. self.new ≡ fin.insert self.old upload (with_part u number part))) }
+        ensures ok { OnOk result (IsSomeAnd (fin.get self.old upload)
+            (λ u. self.new ≡ fin.insert self.old upload (with_part u number part))) }
         ensures err { OnErr result (self.new ≡ self.old) }
     {
         let Some(live) = self.held.get_mut(&upload) else {

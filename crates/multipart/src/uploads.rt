@@ -151,7 +151,8 @@ impl Uploads {
     ) -> Result<Tag, UploadFault>
         ensures tag { IfOk result (λ tag. part_answer (live self.old key.now upload) number bytes ≡ Reply.Part tag) }
         ensures put { OnOk result (self.new ≡ part_put self.old upload (live self.old key.now upload) number bytes) }
-        ensures refused { IfErr result (λ fault. IfRefused fault (λ refusal. part_answer (live self.old key.now upload) number bytes ≡ Reply.Refused refusal)) }
+        ensures refused { IfErr result (λ fault. IfRefused fault
+            (λ refusal. part_answer (live self.old key.now upload) number bytes ≡ Reply.Refused refusal)) }
         ensures same { OnErr result (self.new ≡ self.old) }
     {
         if self.live(key, upload).is_none() {

@@ -173,7 +173,8 @@ impl Objects {
 
     /// The first entry from a bound on.
     pub(crate) fn first_from(&self, start: Bound<&Text>) -> Option<(&Key, &Object)>
-        ensures { option_map (λ p. (p.0.now, p.1.now)) result ≡ slice_get (entries_between text_cmp (bound_map (λ x. x.now) start.entry) Unbounded (map.entries self.now)) 0 }
+        ensures { option_map (λ p. (p.0.now, p.1.now)) result ≡ slice_get
+            (entries_between text_cmp (bound_map (λ x. x.now) start.entry) Unbounded (map.entries self.now)) 0 }
     {
         match self.held.range((start, Bound::Unbounded)).next() {
             Some((_, held)) => Some((&held.key, &held.object)),

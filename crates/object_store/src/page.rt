@@ -147,7 +147,8 @@ impl Objects {
 
     /// The first entry from where the folded entries after a text may stand.
     fn first_after(&self, prefix: &Text, last: &Text) -> Result<Option<(&Key, &Object)>, AllocError>
-        ensures { IfOk result (λ r. option_map (λ p. (p.0.now, p.1.now)) r ≡ slice_get (entries_between text_cmp (start prefix.now true last.now) Unbounded (map.entries self.now)) 0) }
+        ensures { IfOk result (λ r. option_map (λ p. (p.0.now, p.1.now)) r ≡ slice_get
+            (entries_between text_cmp (start prefix.now true last.now) Unbounded (map.entries self.now)) 0) }
     {
         match stem_of(prefix, last) {
             Some(stem) => {

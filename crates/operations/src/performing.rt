@@ -42,8 +42,12 @@ pub fn perform<P: Plan, S: ObjectStore>(
     requires starts { P.starts plan }
     requires counted { S.requests store.old ≤ length journal.old.entries }
     ensures given { IfOk result (λ answer. P.gives plan (S.scene store.old) answer (S.scene store.new)) }
-    ensures answered { IfOk result (λ answer. (part : List Entry) → journal.new.entries ≡ journal.old.entries ++ part → AreAnswered part → P.leaves plan (S.scene store.old) answer (S.scene store.new)) }
-    ensures performed { Performed actor event retries (P.always plan (S.scene store.old)) (P.sends plan (S.scene store.old)) (S.scene store.old) (S.scene store.new) journal.old.entries journal.new.entries (S.requests store.old) (S.requests store.new) (S.losses store.old) (S.losses store.new) (S.foretold store.old) (S.foretold store.new) result }
+    ensures answered { IfOk result (λ answer. (part : List Entry) → journal.new.entries ≡ journal.old.entries ++ part
+        → AreAnswered part → P.leaves plan (S.scene store.old) answer (S.scene store.new)) }
+    ensures performed { Performed actor event retries (P.always plan (S.scene store.old))
+        (P.sends plan (S.scene store.old)) (S.scene store.old) (S.scene store.new) journal.old.entries
+        journal.new.entries (S.requests store.old) (S.requests store.new) (S.losses store.old) (S.losses store.new)
+        (S.foretold store.old) (S.foretold store.new) result }
     ensures fault { IsErrOf result DriveStop.StoreFault → S.losses store.old < S.losses store.new }
 {
     let operation = match Operation::new(plan) {

@@ -42,10 +42,10 @@ pub trait Plan: Drop {
     /// Begun so in that scene, it may send this request.
     ghost sends: { Self → Scene → Request → Type 0 };
 
-    /// The same as `holds`, where every sending so far was answered.
+    /// Begun so in that scene, this holds where every sending so far was answered.
     ghost calm: { Self → Scene → Self → Scene → Type 0 };
 
-    /// The same as `gives`, where every sending was answered.
+    /// Begun so in that scene, it gives this answer and leaves this scene where every sending was answered.
     ghost leaves: { Self → Scene → Self.Answer → Scene → Type 0 };
 
     /// At most so many phases are to come.
@@ -62,7 +62,9 @@ pub trait Plan: Drop {
     /// What holds of these.
     ghost laws: { IsCourse starts asks goes holds gives always left };
 
+    /// Its phases ask no other.
     ghost asked: { MaySend asks holds sends };
 
+    /// What holds of `calm` and `leaves`.
     ghost calms: { IsCalm starts asks goes calm leaves };
 }

@@ -61,7 +61,8 @@ pub fn read_again()
 pub fn extra_field_is_least()
     ensures whole { (table : Table) (bytes : List ℕ) (ms : Members) (name : List ℕ) → Spell bytes (object ms)
         → only_fields (is_field_of table) ms ≡ Err (ExtraField name) → IsLeastOther table (object ms) name }
-    ensures listed { (table : Table) (bytes : List ℕ) (d : Data) (list : List ℕ) (ds : Items) (i : ℕ) (ms : Members) (name : List ℕ) → Spell bytes d
+    ensures listed { (table : Table) (bytes : List ℕ) (d : Data) (list : List ℕ) (ds : Items) (i : ℕ) (ms : Members)
+        (name : List ℕ) → Spell bytes d
         → get list d ≡ Some (array ds) → get_item i ds ≡ Some (object ms)
         → only_fields (is_field_of table) ms ≡ Err (ExtraField name) → IsLeastOther table (object ms) name }
 {}

@@ -26,7 +26,16 @@ impl Model for PendingUpload {
 
     ghost Value = { Pending };
 
-    ghost view = { λ p. record { task = p.task; attempt = p.attempt; bucket = p.bucket; destination = p.destination; upload = p.upload; length = p.length; tags = p.tags; sizes = p.sizes } };
+    ghost view = { λ p. record {
+      task = p.task;
+      attempt = p.attempt;
+      bucket = p.bucket;
+      destination = p.destination;
+      upload = p.upload;
+      length = p.length;
+      tags = p.tags;
+      sizes = p.sizes;
+    } };
 
     ghost invariant = { λ p. (are_tags p.tags ≡ true) × (are_sizes p.sizes p.tags p.length ≡ true) };
 }
@@ -45,7 +54,16 @@ impl PendingUpload {
     ) -> PendingUpload
         requires tags { are_tags tags ≡ true }
         requires sizes { are_sizes sizes tags length ≡ true }
-        ensures { result ≡ record { task = task; attempt = attempt; bucket = bucket; destination = destination; upload = upload; length = length; tags = tags; sizes = sizes } }
+        ensures { result ≡ record {
+          task = task;
+          attempt = attempt;
+          bucket = bucket;
+          destination = destination;
+          upload = upload;
+          length = length;
+          tags = tags;
+          sizes = sizes;
+        } }
     {
         PendingUpload {
             task,

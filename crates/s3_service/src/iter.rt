@@ -74,7 +74,14 @@ impl Buckets {
 
     /// The first bucket from a bound on.
     fn first_from(&self, start: Bound<&Bucket>) -> Option<BucketView<'_>>
-        ensures { option_map {U = List ℕ × BucketContent} (λ b. (b.name.now, record { objects = b.objects.now; uploads = b.uploads.now })) result ≡ slice_get (entries_between text_cmp (bound_map (λ x. x.now) start.entry) Unbounded (fin.entries self.now)) 0 }
+        ensures { option_map {U = List ℕ × BucketContent} (λ b. (
+          b.name.now,
+          record {
+            objects = b.objects.now;
+            uploads = b.uploads.now;
+          },
+        )) result ≡ slice_get (entries_between text_cmp
+            (bound_map (λ x. x.now) start.entry) Unbounded (fin.entries self.now)) 0 }
     {
         match self.held.range((start, Bound::Unbounded)).next() {
             Some((name, bucket)) => Some(BucketView {
@@ -98,8 +105,21 @@ impl Service {
     /// The bucket with the least name that is greater than `after`, or with the least of all where that
     /// is None, in O(log n) for n buckets.
     pub fn next_bucket(&self, after: Option<&Bucket>) -> Option<BucketView<'_>>
-        ensures next { option_map {U = List ℕ × BucketContent} (λ b. (b.name.now, record { objects = b.objects.now; uploads = b.uploads.now })) result ≡ next_of (option_copied after.entry) self.now.buckets }
-        ensures rest { IsNext (option_copied after.entry) self.now.buckets (option_map {U = List ℕ × BucketContent} (λ b. (b.name.now, record { objects = b.objects.now; uploads = b.uploads.now })) result) }
+        ensures next { option_map {U = List ℕ × BucketContent} (λ b. (
+          b.name.now,
+          record {
+            objects = b.objects.now;
+            uploads = b.uploads.now;
+          },
+        )) result ≡ next_of (option_copied after.entry) self.now.buckets }
+        ensures rest { IsNext (option_copied after.entry) self.now.buckets
+            (option_map {U = List ℕ × BucketContent} (λ b. (
+              b.name.now,
+              record {
+                objects = b.objects.now;
+                uploads = b.uploads.now;
+              },
+            )) result) }
     {
         match after {
             Some(name) => self.buckets.first_from(Bound::Excluded(name)),

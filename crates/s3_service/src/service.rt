@@ -110,7 +110,12 @@ impl Service {
     ) -> Result<(), AllocError>
         requires absent { map.get self.old.buckets name ≡ None }
         requires below { IsFresh uploads self.old.next }
-        ensures ok { OnOk result (self.new ≡ record { buckets = map.insert self.old.buckets name (record { objects = objects; uploads = uploads }); next = self.old.next; minimum = self.old.minimum }) }
+        ensures ok { OnOk result (self.new ≡
+            record {
+              buckets = map.insert self.old.buckets name (record { objects = objects; uploads = uploads });
+              next = self.old.next;
+              minimum = self.old.minimum;
+            }) }
         ensures err { OnErr result (self.new ≡ self.old) }
     {
         self.buckets

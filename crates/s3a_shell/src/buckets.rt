@@ -33,7 +33,8 @@ impl Session {
     /// Asks the store for a new bucket, and answers why it is refused, if it is.
     fn ask_bucket(&mut self, name: &Text) -> Result<Option<&'static str>, AllocError>
         requires { IsCounted self.old }
-        ensures word { IfOk result (λ word. option_map (λ w. w.now) word ≡ refusal_word (answer self.old.store.scene (Request.MakeBucket name.now))) }
+        ensures word { IfOk result (λ word. option_map (λ w. w.now) word ≡ refusal_word
+            (answer self.old.store.scene (Request.MakeBucket name.now))) }
         ensures scene { OnOk result (self.new.store.scene ≡ apply self.old.store.scene (Request.MakeBucket name.now)) }
         ensures sent { OnOk result (Sent (AppliedOrNot (Request.MakeBucket name.now) self.old.store.scene) self.old self.new) }
     {

@@ -67,7 +67,8 @@ impl Session {
         requires one { is_of_shell command.now ≡ true }
         requires counted { IsCounted self.old }
         ensures did { IfOk result (λ what. Does command.now bytes.now self.old.store.scene what self.new.store.scene) }
-        ensures reads { OnOk result (only_looks command.now ≡ true → has_changed self.new.journal.entries ≡ has_changed self.old.journal.entries) }
+        ensures reads { OnOk result (only_looks command.now ≡ true
+            → has_changed self.new.journal.entries ≡ has_changed self.old.journal.entries) }
         ensures sent { OnOk result (Sent (MayStandAt command.now bytes.now self.old.store.scene) self.old self.new) }
     {
         match command {
@@ -92,7 +93,13 @@ impl Session {
     /// The end of a command.
     fn ended(self, said: Said) -> ShellEnd
         ensures below { AreBelow result.service.buckets result.service.next }
-        ensures end { result ≡ record { service = self.store.scene.content; changed = has_changed self.journal.entries; refused = said.refused; text = said.text; journal = self.journal } }
+        ensures end { result ≡ record {
+          service = self.store.scene.content;
+          changed = has_changed self.journal.entries;
+          refused = said.refused;
+          text = said.text;
+          journal = self.journal;
+        } }
     {
         let Session {
             alloc: _,
@@ -127,7 +134,10 @@ pub fn shell(
 ) -> Result<ShellEnd, AllocError>
     requires one { is_of_shell command.now ≡ true }
     requires few { service.next ≤ 2 ^ 62 }
-    ensures did { IfOk result (λ end. Does command.now bytes (opening service) (record { refused = end.refused; text = end.text }) (moment service end.journal.entries (length end.journal.entries))) }
+    ensures did { IfOk result (λ end. Does command.now bytes (opening service) (record {
+      refused = end.refused;
+      text = end.text;
+    }) (moment service end.journal.entries (length end.journal.entries))) }
     ensures content { IfOk result (λ end. end.service ≡ (moment service end.journal.entries (length end.journal.entries)).content) }
     ensures by { IfOk result (λ end. AreBy actors.Shell 0 end.journal.entries) }
     ensures answered { IfOk result (λ end. AreAnswered end.journal.entries) }

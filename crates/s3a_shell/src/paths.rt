@@ -65,7 +65,8 @@ impl Session {
     /// Deletes a path, where it is recursive with all that is below it.
     pub(crate) fn remove(&mut self, path: &S3Path, recursive: bool) -> Result<Said, AllocError>
         requires { IsCounted self.old }
-        ensures did { IfOk result (λ what. Did path.now (Deletes recursive path.now.key) nothing self.old.store.scene what self.new.store.scene) }
+        ensures did { IfOk result (λ what. Did path.now (Deletes recursive path.now.key) nothing self.old.store.scene
+            what self.new.store.scene) }
         ensures sent { OnOk result (Sent (DeletedSome recursive path.now self.old.store.scene) self.old self.new) }
     {
         let deletion = DeletePath::new(self.alloc, path, recursive)?;

@@ -59,8 +59,11 @@ impl Session {
         operation: O,
     ) -> Result<O::Answer, AllocError>
         requires counted { IsCounted self.old }
-        ensures given { IfOk result (λ answer. GivesIn path.now.bucket (O.gives operation) O.absent self.old.store.scene answer self.new.store.scene) }
-        ensures asked { OnOk result (Asked (SendsIn path.now.bucket (O.asks operation (O.first operation)) (O.sends operation) self.old.store.scene) self.old self.new) }
+        ensures given { IfOk result (λ answer. GivesIn path.now.bucket (O.gives operation) O.absent self.old.store.scene
+            answer self.new.store.scene) }
+        ensures asked { OnOk result (Asked
+            (SendsIn path.now.bucket (O.asks operation (O.first operation)) (O.sends operation) self.old.store.scene)
+            self.old self.new) }
         ensures sent { OnOk result (Sent (AlwaysIn path.now.bucket (O.always operation) self.old.store.scene) self.old self.new) }
     {
         let bucket = path.bucket().clone()?;

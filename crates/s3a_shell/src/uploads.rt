@@ -99,7 +99,8 @@ impl Session {
         upload: &UploadRef,
     ) -> Result<(), AllocError>
         requires { IsCounted self.old }
-        ensures line { OnOk result (string_bytes lines.new ≡ string_bytes lines.old ++ asked_line self.old.store.scene bucket.now upload.now) }
+        ensures line { OnOk result (string_bytes lines.new ≡ string_bytes lines.old ++ asked_line self.old.store.scene
+            bucket.now upload.now) }
         ensures same { OnOk result (self.new.store.scene ≡ self.old.store.scene) }
         ensures looks { OnOk result (has_changed self.new.journal.entries ≡ has_changed self.old.journal.entries) }
         ensures sent { OnOk result (Sent (IsStill self.old.store.scene) self.old self.new) }
@@ -149,7 +150,8 @@ impl Session {
     /// Aborts an upload.
     fn abort(&mut self, bucket: &Bucket, upload: &UploadRef) -> Result<(), AllocError>
         requires { IsCounted self.old }
-        ensures scene { OnOk result (self.new.store.scene ≡ apply self.old.store.scene (Request.AbortUpload bucket.now upload.now.key upload.now.upload)) }
+        ensures scene { OnOk result (self.new.store.scene ≡ apply self.old.store.scene
+            (Request.AbortUpload bucket.now upload.now.key upload.now.upload)) }
         ensures sent { OnOk result (Sent (AppliedOrNot (aborts bucket.now upload.now) self.old.store.scene) self.old self.new) }
     {
         let request = Request::abort_upload(bucket, &upload.key, upload.upload)?;

@@ -85,7 +85,8 @@ fn text_of(
     script: &Script,
 ) -> Result<Bytes, AllocError>
     requires { report.now.due ≡ states.verdict script.now report.now.ends }
-    ensures { IfOk result (λ text. text ≡ job_text command.now report.now.due (length report.now.journal.entries) report.now.picks report.now.ends script.now) }
+    ensures { IfOk result (λ text. text ≡ job_text command.now report.now.due (length report.now.journal.entries)
+        report.now.picks report.now.ends script.now) }
 {
     match command {
         Command::Gen { tasks, files, .. } => {
@@ -185,13 +186,16 @@ fn play_script<F: Shelf>(
 ) -> Result<Work, Stop>
     requires store { IsContent service }
     requires count { F.faults shelf.old < 2 ^ 64 - 1 }
-    ensures ran { IfOk result (λ work. JobRan F.held F.may_leave F.answers F.fails command.now script service shelf.old shelf.new (code work.due) work.journal.entries work.picks work.ends (IsWritten work)) }
-    ensures survived { IfOk result (λ work. Survived F.held F.may_leave F.moment F.left_since service work.journal.entries shelf.old shelf.new) }
+    ensures ran { IfOk result (λ work. JobRan F.held F.may_leave F.answers F.fails command.now script service shelf.old
+        shelf.new (code work.due) work.journal.entries work.picks work.ends (IsWritten work)) }
+    ensures survived { IfOk result (λ work. Survived F.held F.may_leave F.moment F.left_since service
+        work.journal.entries shelf.old shelf.new) }
     ensures due { IfOk result (λ work. IsWorked work.due) }
     ensures stop { IfErr result IsOfShelf }
     ensures same { OnErr result (F.held shelf.new ≡ F.held shelf.old) }
     ensures calls { OnErr result (HasFailed F.fails shelf.old shelf.new) }
-    ensures leaves { OnErr result (LeavesOnly F.moment F.left_since shelf.old shelf.new (λ h. F.may_leave shelf.old h ⊎ (h ≡ fresh (image service)))) }
+    ensures leaves { OnErr result (LeavesOnly F.moment F.left_since shelf.old shelf.new
+        (λ h. F.may_leave shelf.old h ⊎ (h ≡ fresh (image service)))) }
     ensures counted { CountsAs 5 result (F.faults shelf.old) (F.faults shelf.new) }
 {
     match play::<Act, F>(alloc, shelf, script, service) {
@@ -208,12 +212,16 @@ fn play_new<Q: Source, F: Shelf>(
     asked: Asked<'_>,
 ) -> Result<Work, Stop>
     requires { MayPlay (Q.faults input.old) (F.faults shelf.old) asked.command.now }
-    ensures played { IfOk result (λ work. JobOver F.held F.may_leave F.answers F.fails F.moment F.left_since asked.entry.command.now Held.Nothing (Q.left input.old) (Q.left input.new) shelf.old shelf.new (code work.due) work.journal.entries work.picks work.ends (IsWritten work)) }
+    ensures played { IfOk result (λ work. JobOver F.held F.may_leave F.answers F.fails F.moment F.left_since
+        asked.entry.command.now Held.Nothing (Q.left input.old) (Q.left input.new) shelf.old shelf.new (code work.due)
+        work.journal.entries work.picks work.ends (IsWritten work)) }
     ensures due { IfOk result (λ work. IsWorked work.due) }
     ensures stop { IfErr result (λ stop. HasCauseIn stop asked.entry.command.now Held.Nothing (Q.left input.old) (Q.left input.new)) }
     ensures same { OnErr result (F.held shelf.new ≡ F.held shelf.old) }
     ensures calls { OnErr result (HasFailed F.fails shelf.old shelf.new) }
-    ensures leaves { OnErr result (LeavesOnly F.moment F.left_since shelf.old shelf.new (MayHaveLeftOver (F.may_leave shelf.old) asked.entry.command.now Held.Nothing (Q.left input.old) (Q.left input.new))) }
+    ensures leaves { OnErr result (LeavesOnly F.moment F.left_since shelf.old shelf.new
+        (MayHaveLeftOver (F.may_leave shelf.old) asked.entry.command.now Held.Nothing (Q.left input.old)
+        (Q.left input.new))) }
     ensures unread { may_read (Some asked.entry.command.now) ≡ false → input.new ≡ input.old }
     ensures reads { CountsAs 3 result (Q.faults input.old) (Q.faults input.new) }
     ensures counted { CountsAs 5 result (F.faults shelf.old) (F.faults shelf.new) }
@@ -240,12 +248,17 @@ fn play_over<Q: Source, F: Shelf>(
 ) -> Result<Work, Stop>
     requires ready { MayPlay (Q.faults input.old) (F.faults shelf.old) asked.command.now }
     requires store { IsContent service }
-    ensures played { IfOk result (λ work. JobOver F.held F.may_leave F.answers F.fails F.moment F.left_since asked.entry.command.now (Held.Store service) (Q.left input.old) (Q.left input.new) shelf.old shelf.new (code work.due) work.journal.entries work.picks work.ends (IsWritten work)) }
+    ensures played { IfOk result (λ work. JobOver F.held F.may_leave F.answers F.fails F.moment F.left_since
+        asked.entry.command.now (Held.Store service) (Q.left input.old) (Q.left input.new) shelf.old shelf.new
+        (code work.due) work.journal.entries work.picks work.ends (IsWritten work)) }
     ensures due { IfOk result (λ work. IsWorked work.due) }
-    ensures stop { IfErr result (λ stop. HasCauseIn stop asked.entry.command.now (Held.Store service) (Q.left input.old) (Q.left input.new)) }
+    ensures stop { IfErr result (λ stop. HasCauseIn stop asked.entry.command.now (Held.Store service) (Q.left input.old)
+        (Q.left input.new)) }
     ensures same { OnErr result (F.held shelf.new ≡ F.held shelf.old) }
     ensures calls { OnErr result (HasFailed F.fails shelf.old shelf.new) }
-    ensures leaves { OnErr result (LeavesOnly F.moment F.left_since shelf.old shelf.new (MayHaveLeftOver (F.may_leave shelf.old) asked.entry.command.now (Held.Store service) (Q.left input.old) (Q.left input.new))) }
+    ensures leaves { OnErr result (LeavesOnly F.moment F.left_since shelf.old shelf.new
+        (MayHaveLeftOver (F.may_leave shelf.old) asked.entry.command.now (Held.Store service) (Q.left input.old)
+        (Q.left input.new))) }
     ensures unread { may_read (Some asked.entry.command.now) ≡ false → input.new ≡ input.old }
     ensures reads { CountsAs 3 result (Q.faults input.old) (Q.faults input.new) }
     ensures counted { CountsAs 5 result (F.faults shelf.old) (F.faults shelf.new) }
@@ -268,12 +281,15 @@ pub fn job<Q: Source, F: Shelf>(
 ) -> Result<Work, Stop>
     requires ready { MayPlay (Q.faults input.old) (F.faults shelf.old) asked.command.now }
     requires sound { IsSound held }
-    ensures played { IfOk result (λ work. JobOver F.held F.may_leave F.answers F.fails F.moment F.left_since asked.entry.command.now held (Q.left input.old) (Q.left input.new) shelf.old shelf.new (code work.due) work.journal.entries work.picks work.ends (IsWritten work)) }
+    ensures played { IfOk result (λ work. JobOver F.held F.may_leave F.answers F.fails F.moment F.left_since
+        asked.entry.command.now held (Q.left input.old) (Q.left input.new) shelf.old shelf.new (code work.due)
+        work.journal.entries work.picks work.ends (IsWritten work)) }
     ensures due { IfOk result (λ work. IsWorked work.due) }
     ensures stop { IfErr result (λ stop. HasCauseIn stop asked.entry.command.now held (Q.left input.old) (Q.left input.new)) }
     ensures same { OnErr result (F.held shelf.new ≡ F.held shelf.old) }
     ensures calls { OnErr result (HasFailed F.fails shelf.old shelf.new) }
-    ensures leaves { OnErr result (LeavesOnly F.moment F.left_since shelf.old shelf.new (MayHaveLeftOver (F.may_leave shelf.old) asked.entry.command.now held (Q.left input.old) (Q.left input.new))) }
+    ensures leaves { OnErr result (LeavesOnly F.moment F.left_since shelf.old shelf.new
+        (MayHaveLeftOver (F.may_leave shelf.old) asked.entry.command.now held (Q.left input.old) (Q.left input.new))) }
     ensures unread { may_read (Some asked.entry.command.now) ≡ false → input.new ≡ input.old }
     ensures reads { CountsAs 3 result (Q.faults input.old) (Q.faults input.new) }
     ensures counted { CountsAs 5 result (F.faults shelf.old) (F.faults shelf.new) }

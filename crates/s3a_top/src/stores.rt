@@ -77,7 +77,8 @@ fn answered(alloc: Global, answer: Answer) -> Work
 fn obeyed<F: Shelf>(alloc: Global, shelf: &mut F, work: Doing) -> Work
     requires count { F.faults shelf.old < 2 ^ 64 - 1 }
     requires plain { IsPlain (work_in work) }
-    ensures done { WorkDone F.held F.may_leave F.moment F.left_since (work_in work) shelf.old shelf.new (code result.due) result.journal.entries (IsWritten result) }
+    ensures done { WorkDone F.held F.may_leave F.moment F.left_since (work_in work) shelf.old shelf.new
+        (code result.due) result.journal.entries (IsWritten result) }
     ensures calls { CallsBy F.answers F.fails (work_in work) (code result.due) shelf.old shelf.new }
     ensures which { IsWorked result.due }
     ensures picks { result.picks ≡ [] }
@@ -136,7 +137,9 @@ pub fn commanded<Q: Source, F: Shelf>(
 ) -> Result<Work, Stop>
     requires ready { MayWork (Q.faults input.old) (F.faults shelf.old) asked.command.now }
     requires sound { IsSound held }
-    ensures over { IfOk result (λ work. StoreOver F.held F.may_leave F.answers F.fails F.moment F.left_since asked.entry.command.now held (Q.left input.old) (Q.left input.new) shelf.old shelf.new (code work.due) work.journal.entries (IsWritten work)) }
+    ensures over { IfOk result (λ work. StoreOver F.held F.may_leave F.answers F.fails F.moment F.left_since
+        asked.entry.command.now held (Q.left input.old) (Q.left input.new) shelf.old shelf.new (code work.due)
+        work.journal.entries (IsWritten work)) }
     ensures stop { IfErr result (λ stop. HasReasonIn stop asked.entry.command.now held (Q.left input.old) (Q.left input.new)) }
     ensures same { OnErr result (shelf.new ≡ shelf.old) }
     ensures quiet { IsQuiet result }

@@ -27,7 +27,8 @@ use std::alloc::Global;
 /// Plays the job of a command, `job` or `gen`, over what the shelf holds.
 fn do_job<Q: Source, F: Shelf>(input: &mut Q, shelf: &mut F, asked: Asked<'_>) -> Result<Work, Stop>
     requires { MayPlay (Q.faults input.old) (F.faults shelf.old) asked.command.now }
-    ensures job { JobGoes F.held F.may_leave F.answers F.fails F.moment F.left_since asked.entry.command.now (Q.left input.old) (Q.left input.new) shelf.old shelf.new result }
+    ensures job { JobGoes F.held F.may_leave F.answers F.fails F.moment F.left_since asked.entry.command.now
+        (Q.left input.old) (Q.left input.new) shelf.old shelf.new result }
     ensures due { IfOk result (λ work. IsWorked work.due) }
     ensures unread { may_read (Some asked.entry.command.now) ≡ false → input.new ≡ input.old }
     ensures read { CountsAs 3 result (Q.faults input.old) (Q.faults input.new) }
@@ -46,7 +47,8 @@ fn do_command<Q: Source, F: Shelf>(
     asked: Asked<'_>,
 ) -> Result<Work, Stop>
     requires { MayWork (Q.faults input.old) (F.faults shelf.old) asked.command.now }
-    ensures store { StoreGoes F.held F.may_leave F.answers F.fails F.moment F.left_since asked.entry.command.now (Q.left input.old) (Q.left input.new) shelf.old shelf.new result }
+    ensures store { StoreGoes F.held F.may_leave F.answers F.fails F.moment F.left_since asked.entry.command.now
+        (Q.left input.old) (Q.left input.new) shelf.old shelf.new result }
     ensures quiet { IsQuiet result }
     ensures due { IfOk result (λ work. IsWorked work.due) }
     ensures unread { takes_input asked.entry.command.now ≡ false → input.new ≡ input.old }
@@ -62,8 +64,12 @@ fn do_command<Q: Source, F: Shelf>(
 /// Does a command.
 fn do_any<Q: Source, F: Shelf>(input: &mut Q, shelf: &mut F, asked: Asked<'_>) -> Result<Work, Stop>
     requires { MayDo (Q.faults input.old) (F.faults shelf.old) asked.command.now }
-    ensures job { plays asked.entry.command.now ≡ true → JobGoes F.held F.may_leave F.answers F.fails F.moment F.left_since asked.entry.command.now (Q.left input.old) (Q.left input.new) shelf.old shelf.new result }
-    ensures store { plays asked.entry.command.now ≡ false → StoreGoes F.held F.may_leave F.answers F.fails F.moment F.left_since asked.entry.command.now (Q.left input.old) (Q.left input.new) shelf.old shelf.new result }
+    ensures job { plays asked.entry.command.now ≡ true
+        → JobGoes F.held F.may_leave F.answers F.fails F.moment F.left_since asked.entry.command.now (Q.left input.old)
+        (Q.left input.new) shelf.old shelf.new result }
+    ensures store { plays asked.entry.command.now ≡ false
+        → StoreGoes F.held F.may_leave F.answers F.fails F.moment F.left_since asked.entry.command.now
+        (Q.left input.old) (Q.left input.new) shelf.old shelf.new result }
     ensures quiet { plays asked.entry.command.now ≡ false → IsQuiet result }
     ensures due { IfOk result (λ work. IsWorked work.due) }
     ensures unread { may_read (Some asked.entry.command.now) ≡ false → input.new ≡ input.old }
@@ -86,8 +92,12 @@ fn do_work<Q: Source, F: Shelf>(
 ) -> Result<Work, Stop>
     requires source_count { Q.faults input.old < 2 ^ 64 - 1 }
     requires shelf_count { F.faults shelf.old < 2 ^ 64 - 1 }
-    ensures job { (c : words_said.Command) → command_of words.now ≡ Some c → plays c ≡ true → JobGoes F.held F.may_leave F.answers F.fails F.moment F.left_since c (Q.left input.old) (Q.left input.new) shelf.old shelf.new result }
-    ensures store { (c : words_said.Command) → command_of words.now ≡ Some c → plays c ≡ false → StoreGoes F.held F.may_leave F.answers F.fails F.moment F.left_since c (Q.left input.old) (Q.left input.new) shelf.old shelf.new result }
+    ensures job { (c : words_said.Command) → command_of words.now ≡ Some c → plays c ≡ true
+        → JobGoes F.held F.may_leave F.answers F.fails F.moment F.left_since c (Q.left input.old) (Q.left input.new)
+        shelf.old shelf.new result }
+    ensures store { (c : words_said.Command) → command_of words.now ≡ Some c → plays c ≡ false
+        → StoreGoes F.held F.may_leave F.answers F.fails F.moment F.left_since c (Q.left input.old) (Q.left input.new)
+        shelf.old shelf.new result }
     ensures quiet { (c : words_said.Command) → command_of words.now ≡ Some c → plays c ≡ false → IsQuiet result }
     ensures usage { command_of words.now ≡ None → IsNothing result }
     ensures untouched { command_of words.now ≡ None → shelf.new ≡ shelf.old }
@@ -117,13 +127,19 @@ fn worked<Q: Source, F: Shelf>(alloc: Global, words: &[Text], input: &mut Q, she
     requires source_count { Q.faults input.old < 2 ^ 64 - 1 }
     requires shelf_count { F.faults shelf.old < 2 ^ 64 - 1 }
     ensures job { (c : words_said.Command) → command_of words.now ≡ Some c → plays c ≡ true
-        → JobPlayed F.held F.may_leave F.answers F.fails F.moment F.left_since c (Q.left input.old) (Q.left input.new) shelf.old shelf.new (code result.due) result.journal.entries result.picks result.ends (IsWritten result)
-        ⊎ JobStopped F.held F.may_leave F.answers F.fails F.moment F.left_since c (Q.left input.old) (Q.left input.new) shelf.old shelf.new (code result.due) result.journal.entries result.picks result.ends (IsWritten result) }
+        → JobPlayed F.held F.may_leave F.answers F.fails F.moment F.left_since c (Q.left input.old) (Q.left input.new)
+        shelf.old shelf.new (code result.due) result.journal.entries result.picks result.ends (IsWritten result)
+        ⊎ JobStopped F.held F.may_leave F.answers F.fails F.moment F.left_since c (Q.left input.old) (Q.left input.new)
+        shelf.old shelf.new (code result.due) result.journal.entries result.picks result.ends (IsWritten result) }
     ensures store { (c : words_said.Command) → command_of words.now ≡ Some c → plays c ≡ false
-        → StoreDone F.held F.may_leave F.answers F.fails F.moment F.left_since c (Q.left input.old) (Q.left input.new) shelf.old shelf.new (code result.due) result.journal.entries (IsWritten result)
-        ⊎ StoreStopped F.held F.may_leave F.answers F.fails F.moment F.left_since c (Q.left input.old) (Q.left input.new) shelf.old shelf.new (code result.due) result.journal.entries (IsWritten result) }
+        → StoreDone F.held F.may_leave F.answers F.fails F.moment F.left_since c (Q.left input.old) (Q.left input.new)
+        shelf.old shelf.new (code result.due) result.journal.entries (IsWritten result)
+        ⊎ StoreStopped F.held F.may_leave F.answers F.fails F.moment F.left_since c (Q.left input.old)
+        (Q.left input.new) shelf.old shelf.new (code result.due) result.journal.entries (IsWritten result) }
     ensures picks { (c : words_said.Command) → command_of words.now ≡ Some c → plays c ≡ false → (result.picks ≡ []) × (result.ends ≡ []) }
-    ensures usage { command_of words.now ≡ None → NoCommand (code result.due) shelf.old shelf.new result.journal.entries result.picks result.ends (IsWritten result) }
+    ensures usage { command_of words.now ≡ None
+        → NoCommand (code result.due) shelf.old shelf.new result.journal.entries result.picks result.ends
+        (IsWritten result) }
     ensures command { code result.due ≡ 2 → command_of words.now ≡ None }
     ensures unread { may_read (command_of words.now) ≡ false → input.new ≡ input.old }
     ensures due { IsDue (code result.due) }
@@ -183,17 +199,27 @@ pub fn run<Q: Source, F: Shelf, K: Sink>(
     // A job, by the input's script or by one that is made: it was played, and the promise holds of all that was sent, or it
     // stopped before its first event.
     ensures job { (c : words_said.Command) → command_of words.now ≡ Some c → plays c ≡ true
-        → JobPlayed F.held F.may_leave F.answers F.fails F.moment F.left_since c (Q.left input.old) (Q.left input.new) shelf.old shelf.new result.due result.journal.entries result.picks result.ends (Writes result.status (K.written out.old) (K.written out.new))
-        ⊎ JobStopped F.held F.may_leave F.answers F.fails F.moment F.left_since c (Q.left input.old) (Q.left input.new) shelf.old shelf.new result.due result.journal.entries result.picks result.ends (Writes result.status (K.written out.old) (K.written out.new)) }
+        → JobPlayed F.held F.may_leave F.answers F.fails F.moment F.left_since c (Q.left input.old) (Q.left input.new)
+        shelf.old shelf.new result.due result.journal.entries result.picks result.ends
+        (Writes result.status (K.written out.old) (K.written out.new))
+        ⊎ JobStopped F.held F.may_leave F.answers F.fails F.moment F.left_since c (Q.left input.old) (Q.left input.new)
+        shelf.old shelf.new result.due result.journal.entries result.picks result.ends
+        (Writes result.status (K.written out.old) (K.written out.new)) }
 
     // Another command: it was done on what the shelf holds, or it stopped before anything was done.
     ensures store { (c : words_said.Command) → command_of words.now ≡ Some c → plays c ≡ false
-        → StoreDone F.held F.may_leave F.answers F.fails F.moment F.left_since c (Q.left input.old) (Q.left input.new) shelf.old shelf.new result.due result.journal.entries (Writes result.status (K.written out.old) (K.written out.new))
-        ⊎ StoreStopped F.held F.may_leave F.answers F.fails F.moment F.left_since c (Q.left input.old) (Q.left input.new) shelf.old shelf.new result.due result.journal.entries (Writes result.status (K.written out.old) (K.written out.new)) }
+        → StoreDone F.held F.may_leave F.answers F.fails F.moment F.left_since c (Q.left input.old) (Q.left input.new)
+        shelf.old shelf.new result.due result.journal.entries
+        (Writes result.status (K.written out.old) (K.written out.new))
+        ⊎ StoreStopped F.held F.may_leave F.answers F.fails F.moment F.left_since c (Q.left input.old)
+        (Q.left input.new) shelf.old shelf.new result.due result.journal.entries
+        (Writes result.status (K.written out.old) (K.written out.new)) }
     ensures picks { (c : words_said.Command) → command_of words.now ≡ Some c → plays c ≡ false → (result.picks ≡ []) × (result.ends ≡ []) }
 
     // Words that are no command.
-    ensures usage { command_of words.now ≡ None → NoCommand result.due shelf.old shelf.new result.journal.entries result.picks result.ends (Writes result.status (K.written out.old) (K.written out.new)) }
+    ensures usage { command_of words.now ≡ None
+        → NoCommand result.due shelf.old shelf.new result.journal.entries result.picks result.ends
+        (Writes result.status (K.written out.old) (K.written out.new)) }
     ensures command { result.due ≡ 2 → command_of words.now ≡ None }
     ensures unread { may_read (command_of words.now) ≡ false → input.new ≡ input.old }
 {

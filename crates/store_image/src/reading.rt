@@ -95,7 +95,11 @@ fn parts_of<'b>(
     bytes: &'b [u8],
 ) -> Result<&'b [u8], ImageFault>
     requires { fin.get uploads.old id ≡ Some (record { key = key.now; parts = fin.empty }) }
-    ensures { GivesBy (λ rest. (uploads.new, rest.now)) result (made (λ ps. fin.insert uploads.old id (record { key = key.now; parts = ps })) (map_at (part_number_at whole) (block_at w64 whole) count bytes.now)) }
+    ensures { GivesBy (λ rest. (uploads.new, rest.now)) result
+        (made (λ ps. fin.insert uploads.old id (record {
+          key = key.now;
+          parts = ps;
+        })) (map_at (part_number_at whole) (block_at w64 whole) count bytes.now)) }
 {
     let mut last = None;
     let mut rest = bytes;
@@ -178,7 +182,12 @@ fn buckets_of<'b>(
     bytes: &'b [u8],
 ) -> Result<&'b [u8], ImageFault>
     requires { service.old.buckets ≡ fin.empty }
-    ensures { GivesBy (λ rest. (service.new, rest.now)) result (made (λ bs. record { buckets = bs; next = service.old.next; minimum = service.old.minimum }) (map_at (name_at is_bucket whole) (bucket_at service.old.next whole) count bytes.now)) }
+    ensures { GivesBy (λ rest. (service.new, rest.now)) result (made (λ bs. record {
+      buckets = bs;
+      next = service.old.next;
+      minimum = service.old.minimum;
+    }) (map_at (name_at is_bucket whole) (bucket_at service.old.next whole) count
+        bytes.now)) }
 {
     let mut last: Option<Bucket> = None;
     let mut rest = bytes;

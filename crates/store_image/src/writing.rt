@@ -82,7 +82,8 @@ fn put_parts(out: &mut Vec<u8>, parts: &Parts) -> Result<(), AllocError>
 }
 
 fn put_upload(out: &mut Vec<u8>, live: UploadView<'_>) -> Result<(), AllocError>
-    ensures { OnOk result (out.new.items ≡ out.old.items ++ upload (live.entry.upload, record { key = live.entry.key.now; parts = live.entry.parts.now })) }
+    ensures { OnOk result (out.new.items ≡ out.old.items ++ upload
+        (live.entry.upload, record { key = live.entry.key.now; parts = live.entry.parts.now })) }
 {
     put_u64(out, live.upload)?;
     put_name(out, live.key.as_bytes())?;
@@ -100,7 +101,8 @@ fn put_uploads(out: &mut Vec<u8>, uploads: &Uploads) -> Result<(), AllocError>
 }
 
 fn put_bucket(out: &mut Vec<u8>, held: BucketView<'_>) -> Result<(), AllocError>
-    ensures { OnOk result (out.new.items ≡ out.old.items ++ bucket (held.entry.name.now, record { objects = held.entry.objects.now; uploads = held.entry.uploads.now })) }
+    ensures { OnOk result (out.new.items ≡ out.old.items ++ bucket
+        (held.entry.name.now, record { objects = held.entry.objects.now; uploads = held.entry.uploads.now })) }
 {
     put_name(out, held.name.as_bytes())?;
     put_objects(out, held.objects)?;

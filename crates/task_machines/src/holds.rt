@@ -39,7 +39,8 @@ pub trait Holds<O: TaskOperation>: Drop {
         requires asked { IsSome (O.wants (at plan.old (operation plan.old self.old))) }
         requires fits { O.fits (at plan.old (operation plan.old self.old)) reply.now repeated }
         ensures keeps { keeps plan.new self.new }
-        ensures told { OnOk result (at plan.new (operation plan.new self.new) ≡ O.after (at plan.old (operation plan.old self.old)) (Got reply.now repeated)) }
+        ensures told { OnOk result (at plan.new (operation plan.new self.new) ≡ O.after
+            (at plan.old (operation plan.old self.old)) (Got reply.now repeated)) }
         ensures next { IfOk result (λ request. request ≡ O.wants (at plan.new (operation plan.new self.new))) }
         ensures err { OnErr result (plan.new ≡ plan.old) };
 

@@ -37,7 +37,8 @@ pub type CommitTask = TaskMachine<TheCommit, Committing>;
 
 /// The request for the next page of the attempt's directory.
 fn page_request(alloc: Global, plan: &TaskPlan, walk: &KeyWalk) -> Asked
-    ensures { IfOk result (λ request. request ≡ Some (page_after plan.now.job.dest.bucket (attempt_prefix (task_script plan.now) (who_of plan.now)) walk.now)) }
+    ensures { IfOk result (λ request. request ≡ Some (page_after plan.now.job.dest.bucket
+        (attempt_prefix (task_script plan.now) (who_of plan.now)) walk.now)) }
 {
     let prefix = prefix(alloc, plan)?;
     match walk.request(bucket_of(plan), &prefix) {
@@ -81,7 +82,9 @@ fn record_or_set(
     at: usize,
 ) -> Asked
     requires { HoldsCommit plan.now places.now records.now at }
-    ensures { let cs = picked plan.now.files places.now in IfOk result (λ request. request ≡ task_commit_asks (task_script plan.now) (who_of plan.now) plan.now.known (reading cs (drop at cs))) }
+    ensures { let cs = picked plan.now.files places.now in IfOk result
+        (λ request. request ≡ task_commit_asks (task_script plan.now) (who_of plan.now) plan.now.known
+        (reading cs (drop at cs))) }
 {
     match record_key(records, at) {
         Some(key) => read_request(plan, key),
@@ -134,7 +137,8 @@ impl Committing {
         requires keeps { Keeps plan.now self.old }
         requires fits { FitsCommit (task_script plan.now) (who_of plan.now) plan.now.known (Looking self.old.walk) reply.now }
         ensures keeps { Keeps plan.now self.new }
-        ensures goes { OnOk result (commit_of plan.now self.new ≡ task_commit_hears (task_script plan.now) plan.now.minimum (who_of plan.now) (Looking self.old.walk) reply.now false) }
+        ensures goes { OnOk result (commit_of plan.now self.new ≡ task_commit_hears (task_script plan.now)
+            plan.now.minimum (who_of plan.now) (Looking self.old.walk) reply.now false) }
     {
         if self.walk.hear(reply)? {
             return Ok(());
@@ -170,7 +174,8 @@ impl Committing {
         requires keeps { Keeps plan.now self.old }
         requires fits { FitsCommit (task_script plan.now) (who_of plan.now) plan.now.known (commit_of plan.now self.old) reply.now }
         ensures keeps { Keeps plan.now self.new }
-        ensures goes { OnOk result (commit_of plan.now self.new ≡ task_commit_hears (task_script plan.now) plan.now.minimum (who_of plan.now) (commit_of plan.now self.old) reply.now false) }
+        ensures goes { OnOk result (commit_of plan.now self.new ≡ task_commit_hears (task_script plan.now)
+            plan.now.minimum (who_of plan.now) (commit_of plan.now self.old) reply.now false) }
     {
         if is_no_key(reply) {
             let key = record_key_at(alloc, plan, place)?;
@@ -187,7 +192,8 @@ impl Committing {
         requires keeps { Keeps plan.now self.old }
         requires fits { FitsCommit (task_script plan.now) (who_of plan.now) plan.now.known (commit_of plan.now self.old) reply.now }
         ensures keeps { Keeps plan.now self.new }
-        ensures goes { OnOk result (commit_of plan.now self.new ≡ task_commit_hears (task_script plan.now) plan.now.minimum (who_of plan.now) (commit_of plan.now self.old) reply.now false) }
+        ensures goes { OnOk result (commit_of plan.now self.new ≡ task_commit_hears (task_script plan.now)
+            plan.now.minimum (who_of plan.now) (commit_of plan.now self.old) reply.now false) }
     {
         let None = &self.end else {
             return Ok(());
@@ -257,7 +263,14 @@ impl Holds<TheCommit> for Committing {
     }
 
     fn finish(&mut self, end: TaskEnd)
-        ensures { self.new ≡ record { listing = self.old.listing; walk = self.old.walk; places = self.old.places; records = self.old.records; at = self.old.at; end = Some end } }
+        ensures { self.new ≡ record {
+          listing = self.old.listing;
+          walk = self.old.walk;
+          places = self.old.places;
+          records = self.old.records;
+          at = self.old.at;
+          end = Some end;
+        } }
     {
         put(&mut self.end, Some(end));
     }

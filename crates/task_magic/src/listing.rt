@@ -22,7 +22,8 @@ pub struct Listed {
 
 /// What stands between a prefix and `.pending` in a key.
 fn path_in<'a>(prefix: &str, key: &'a str) -> Option<&'a str>
-    ensures { MatchOption result ((path : List ℕ) → IsRecordAt prefix.now key.now path → ⊥) (λ path. IsRecordAt prefix.now key.now path.now) }
+    ensures { MatchOption result ((path : List ℕ) → IsRecordAt prefix.now key.now path
+        → ⊥) (λ path. IsRecordAt prefix.now key.now path.now) }
 {
     match key.strip_prefix(prefix) {
         Some(rest) => rest.strip_suffix(".pending"),

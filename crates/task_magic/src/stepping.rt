@@ -68,7 +68,9 @@ fn begin(
     requires dir { dir.now ≡ dir_of plan.old }
     requires within { place < length plan.old.files }
     requires new { is_new upload plan.old.known.drawn ≡ true }
-    ensures told { IfOk result (λ x. (b : Bool) → seen_write plan.new x.place x.stage x.end ≡ write_told (seen_write plan.old place WriteStage.Creating None) (Got (Upload upload) b)) }
+    ensures told { IfOk result (λ x. (b : Bool)
+        → seen_write plan.new x.place x.stage x.end ≡ write_told (seen_write plan.old place WriteStage.Creating None)
+        (Got (Upload upload) b)) }
     ensures kept { IfOk result (λ x. IsWrite plan.new dir.now x.place x.stage x.end x.asked) }
     ensures err { OnErr result (plan.new ≡ plan.old) }
 {
@@ -96,7 +98,9 @@ fn add_part(
     requires within { place < length plan.old.files }
     requires holds { Holds plan.old place (WriteStage.Sending sent) }
     requires plain { is_plain_tag tag ≡ true }
-    ensures told { IfOk result (λ x. (b : Bool) → seen_write plan.new x.place x.stage x.end ≡ write_told (seen_write plan.old place (WriteStage.Sending sent) None) (Got (Part tag) b)) }
+    ensures told { IfOk result (λ x. (b : Bool)
+        → seen_write plan.new x.place x.stage x.end ≡ write_told
+        (seen_write plan.old place (WriteStage.Sending sent) None) (Got (Part tag) b)) }
     ensures kept { IfOk result (λ x. IsWrite plan.new dir.now x.place x.stage x.end x.asked) }
     ensures err { OnErr result (plan.new ≡ plan.old) }
 {
@@ -127,7 +131,9 @@ fn stop_gone(
     requires dir { dir.now ≡ dir_of plan.now }
     requires within { place < length plan.now.files }
     requires holds { Holds plan.now place (WriteStage.Sending sent) }
-    ensures told { IfOk result (λ x. (b : Bool) → seen_write plan.now x.place x.stage x.end ≡ write_told (seen_write plan.now place (WriteStage.Sending sent) None) (Got (Refused NoSuchUpload) b)) }
+    ensures told { IfOk result (λ x. (b : Bool)
+        → seen_write plan.now x.place x.stage x.end ≡ write_told
+        (seen_write plan.now place (WriteStage.Sending sent) None) (Got (Refused NoSuchUpload) b)) }
     ensures kept { IfOk result (λ x. IsWrite plan.now dir.now x.place x.stage x.end x.asked) }
 {
     let Some((path, _)) = file_at(plan, place) else {
@@ -165,7 +171,9 @@ pub fn advance(
     requires within { place < length plan.old.files }
     requires holds { Holds plan.old place stage }
     requires fits { write_fits (seen_write plan.old place stage None) reply.now false }
-    ensures told { IfOk result (λ x. (b : Bool) → seen_write plan.new x.place x.stage x.end ≡ write_told (seen_write plan.old place stage None) (Got reply.now b)) }
+    ensures told { IfOk result (λ x. (b : Bool)
+        → seen_write plan.new x.place x.stage x.end ≡ write_told (seen_write plan.old place stage None)
+        (Got reply.now b)) }
     ensures kept { IfOk result (λ x. IsWrite plan.new dir.now x.place x.stage x.end x.asked) }
     ensures err { OnErr result (plan.new ≡ plan.old) }
 {

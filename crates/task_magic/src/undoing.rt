@@ -38,7 +38,8 @@ fn kept_if(sent: bool) -> Option<TaskEnd>
 
 /// The next request of the sweep of the attempt's directory.
 fn sweep_request(alloc: Global, plan: &TaskPlan, sweep: &Sweep) -> Asked
-    ensures { IfOk result (λ request. request ≡ Some (sweep_asks plan.now.job.dest.bucket (attempt_prefix (task_script plan.now) (who_of plan.now)) sweep.now)) }
+    ensures { IfOk result (λ request. request ≡ Some (sweep_asks plan.now.job.dest.bucket
+        (attempt_prefix (task_script plan.now) (who_of plan.now)) sweep.now)) }
 {
     let prefix = prefix(alloc, plan)?;
     match sweep.request(alloc, bucket_of(plan), &prefix) {
@@ -52,7 +53,8 @@ impl Undoing {
     fn go_on(&mut self, alloc: Global, plan: &TaskPlan, reply: &Reply) -> Result<(), AllocError>
         requires magic { plan.now.job.committer ≡ Magic }
         requires fits { FitsAbort (abort_of plan.now self.old) reply.now }
-        ensures { OnOk result (abort_of plan.now self.new ≡ task_abort_hears (task_script plan.now) (abort_of plan.now self.old) reply.now) }
+        ensures { OnOk result (abort_of plan.now self.new ≡ task_abort_hears (task_script plan.now)
+            (abort_of plan.now self.old) reply.now) }
     {
         let None = &self.end else {
             return Ok(());

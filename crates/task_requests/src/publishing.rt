@@ -23,7 +23,8 @@ fn add_place(
     drawn: &DrawnUpload,
     place: usize,
 ) -> Result<(), AllocError>
-    ensures { OnOk result ((key : List ℕ) → get text_eq places.new key ≡ cond (text_eq drawn.now.key key) (Some place) (get text_eq places.old key)) }
+    ensures { OnOk result ((key : List ℕ)
+        → get text_eq places.new key ≡ cond (text_eq drawn.now.key key) (Some place) (get text_eq places.old key)) }
 {
     let key = drawn.key.as_text().clone()?;
     match places.insert(key, place) {
@@ -52,8 +53,10 @@ fn pending_at(
 ) -> Result<PendingUpload, AllocError>
     requires last { (key : List ℕ) → IsLastAt (as_made plan.now.known.drawn) key (get text_eq last.now key) }
     requires within { place < length plan.now.files }
-    requires ready { let f = get_or plan.now.files place ([], []) in IsPending (drawn_of (task_script plan.now) plan.now.known f) (length f.1) }
-    ensures { IfOk result (λ p. let f = get_or plan.now.files place ([], []) in p ≡ file_record (task_script plan.now) (who_of plan.now) f (drawn_of (task_script plan.now) plan.now.known f)) }
+    requires ready { let f = get_or plan.now.files place ([], []) in IsPending
+        (drawn_of (task_script plan.now) plan.now.known f) (length f.1) }
+    ensures { IfOk result (λ p. let f = get_or plan.now.files place ([], []) in p ≡ file_record (task_script plan.now)
+        (who_of plan.now) f (drawn_of (task_script plan.now) plan.now.known f)) }
 {
     let Some((path, bytes)) = file_at(plan, place) else {
         unreachable!();
@@ -72,7 +75,8 @@ fn pending_at(
 fn pendings(alloc: Global, plan: &TaskPlan, places: &[usize]) -> Result<PendingList, AllocError>
     requires within { are_places (length plan.now.files) places.now ≡ true }
     requires ready { AreReady plan.now (picked plan.now.files places.now) }
-    ensures { IfOk result (λ list. list ≡ map (λ f. file_record (task_script plan.now) (who_of plan.now) f (drawn_of (task_script plan.now) plan.now.known f)) (picked plan.now.files places.now)) }
+    ensures { IfOk result (λ list. list ≡ map (λ f. file_record (task_script plan.now) (who_of plan.now) f
+        (drawn_of (task_script plan.now) plan.now.known f)) (picked plan.now.files places.now)) }
 {
     let last = last_places(alloc, made(&plan.known))?;
     let mut list = Sequence::new(alloc);
@@ -87,7 +91,8 @@ fn pendings(alloc: Global, plan: &TaskPlan, places: &[usize]) -> Result<PendingL
 fn set_bytes(alloc: Global, plan: &TaskPlan, places: &[usize]) -> Result<Bytes, AllocError>
     requires within { are_places (length plan.now.files) places.now ≡ true }
     requires ready { AreReady plan.now (picked plan.now.files places.now) }
-    ensures { IfOk result (λ bytes. bytes ≡ set_text (task_script plan.now) (who_of plan.now) (picked plan.now.files places.now) plan.now.known) }
+    ensures { IfOk result (λ bytes. bytes ≡ set_text (task_script plan.now) (who_of plan.now)
+        (picked plan.now.files places.now) plan.now.known) }
 {
     let commits = pendings(alloc, plan, places)?;
     let set = PendingSet {
@@ -107,7 +112,8 @@ pub fn publish_request(
 ) -> Result<Option<Request>, AllocError>
     requires within { are_places (length plan.now.files) places.now ≡ true }
     requires ready { AreReady plan.now (picked plan.now.files places.now) }
-    ensures { IfOk result (λ request. request ≡ task_commit_asks (task_script plan.now) (who_of plan.now) plan.now.known (Publishing (picked plan.now.files places.now))) }
+    ensures { IfOk result (λ request. request ≡ task_commit_asks (task_script plan.now) (who_of plan.now) plan.now.known
+        (Publishing (picked plan.now.files places.now))) }
 {
     let job = job_of(plan);
     let key = set_key(alloc, &job.dest, &job.job, plan.task)?;

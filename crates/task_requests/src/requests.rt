@@ -59,7 +59,8 @@ fn made_record(
     requires file { IsFile plan.now (path.now, bytes.now) }
     requires tags { are_tags tags ≡ true }
     requires sizes { are_sizes (Some sizes) tags (length bytes.now) ≡ true }
-    ensures { IfOk result (λ p. p ≡ file_record (task_script plan.now) (who_of plan.now) (path.now, bytes.now) (record { key = []; upload = upload; tags = tags; sizes = sizes })) }
+    ensures { IfOk result (λ p. p ≡ file_record (task_script plan.now) (who_of plan.now) (path.now, bytes.now)
+        (record { key = []; upload = upload; tags = tags; sizes = sizes })) }
 {
     let destination = target(alloc, plan, path)?;
     let bucket = bucket_of(plan).clone()?;
@@ -106,8 +107,10 @@ pub fn pending_with(
 ) -> Result<PendingUpload, AllocError>
     requires file { IsFile plan.now (path.now, bytes.now) }
     requires tags { are_tags (drawn.now.tags ++ part.now.tag ∷ []) ≡ true }
-    requires sizes { are_sizes (Some (drawn.now.sizes ++ part.now.size ∷ [])) (drawn.now.tags ++ part.now.tag ∷ []) (length bytes.now) ≡ true }
-    ensures { IfOk result (λ p. p ≡ file_record (task_script plan.now) (who_of plan.now) (path.now, bytes.now) (one_more part.now.tag part.now.size drawn.now)) }
+    requires sizes { are_sizes (Some (drawn.now.sizes ++ part.now.size ∷ [])) (drawn.now.tags ++ part.now.tag ∷ [])
+        (length bytes.now) ≡ true }
+    ensures { IfOk result (λ p. p ≡ file_record (task_script plan.now) (who_of plan.now) (path.now, bytes.now)
+        (one_more part.now.tag part.now.size drawn.now)) }
 {
     let tags = tags_with(alloc, drawn, part)?;
     let sizes = sizes_with(alloc, drawn, part)?;
@@ -145,7 +148,8 @@ pub fn ask_part(
     requires task { IsTask plan.now }
     requires short { length bytes.now ≤ MOST_SCRIPT_BYTES }
     requires within { behind < count_of plan.now bytes.now }
-    ensures { IfOk result (λ r. r ≡ Request.UploadPart plan.now.job.dest.bucket key.now upload (behind + 1) (part_behind plan.now bytes.now behind)) }
+    ensures { IfOk result (λ r. r ≡ Request.UploadPart plan.now.job.dest.bucket key.now upload (behind + 1)
+        (part_behind plan.now bytes.now behind)) }
 {
     let size = size_of(plan, bytes);
     let part = part(alloc, bytes, size, behind)?;
@@ -162,7 +166,8 @@ fn ask_marker(
 ) -> Result<Request, AllocError>
     requires dir { dir.now ≡ dir_of plan.now }
     requires named { IsNamed plan.now path.now }
-    ensures { IfOk result (λ r. r ≡ Request.PutObject plan.now.job.dest.bucket (marker_key (task_script plan.now) (who_of plan.now) (path.now, [])) [] (Some length)) }
+    ensures { IfOk result (λ r. r ≡ Request.PutObject plan.now.job.dest.bucket
+        (marker_key (task_script plan.now) (who_of plan.now) (path.now, [])) [] (Some length)) }
 {
     let key = marker(alloc, plan, dir, path)?;
     Request::put_object(dir.bucket(), &key, &Bytes::empty(), Some(length))
@@ -177,7 +182,8 @@ fn record_text(
 ) -> Result<Bytes, AllocError>
     requires file { IsFile plan.now (path.now, bytes.now) }
     requires sent { HasSent plan.now.known.drawn (parts_in plan.now (path.now, bytes.now)) }
-    ensures { IfOk result (λ b. b ≡ record_text (task_script plan.now) (who_of plan.now) (path.now, bytes.now) (drawn_last plan.now.known)) }
+    ensures { IfOk result (λ b. b ≡ record_text (task_script plan.now) (who_of plan.now) (path.now, bytes.now)
+        (drawn_last plan.now.known)) }
 {
     let Some(drawn) = last_drawn(&plan.known) else {
         unreachable!();
@@ -196,7 +202,9 @@ fn ask_record(
     requires dir { dir.now ≡ dir_of plan.now }
     requires file { IsFile plan.now (path.now, bytes.now) }
     requires sent { HasSent plan.now.known.drawn (parts_in plan.now (path.now, bytes.now)) }
-    ensures { IfOk result (λ r. r ≡ Request.PutObject plan.now.job.dest.bucket (record_key (task_script plan.now) (who_of plan.now) (path.now, bytes.now)) (record_text (task_script plan.now) (who_of plan.now) (path.now, bytes.now) (drawn_last plan.now.known)) None) }
+    ensures { IfOk result (λ r. r ≡ Request.PutObject plan.now.job.dest.bucket
+        (record_key (task_script plan.now) (who_of plan.now) (path.now, bytes.now))
+        (record_text (task_script plan.now) (who_of plan.now) (path.now, bytes.now) (drawn_last plan.now.known)) None) }
 {
     let key = record(alloc, plan, dir, path)?;
     let text = record_text(alloc, plan, path, bytes)?;

@@ -39,8 +39,11 @@ pub fn begin_upload(
     upload: u64,
 ) -> Result<Request, AllocError>
     requires { place < length plan.old.files }
-    ensures asked { let f = get_or plan.old.files place ([], []) in IfOk result (λ r. r ≡ UploadPart plan.old.job.dest.bucket (file_key (task_script plan.old) f) upload 1 (part_behind plan.old f.1 0)) }
-    ensures drawn { OnOk result (plan.new ≡ with_known plan.old (with_drawn plan.old.known (file_key (task_script plan.old) (get_or plan.old.files place ([], []))) upload)) }
+    ensures asked { let f = get_or plan.old.files place ([], []) in IfOk result
+        (λ r. r ≡ UploadPart plan.old.job.dest.bucket (file_key (task_script plan.old) f) upload 1
+        (part_behind plan.old f.1 0)) }
+    ensures drawn { OnOk result (plan.new ≡ with_known plan.old
+        (with_drawn plan.old.known (file_key (task_script plan.old) (get_or plan.old.files place ([], []))) upload)) }
     ensures err { OnErr result (plan.new ≡ plan.old) }
 {
     let Some((path, _)) = file_at(plan, place) else {
@@ -60,8 +63,11 @@ fn begin_upload_to(
 ) -> Result<Request, AllocError>
     requires within { place < length plan.old.files }
     requires key { key.now ≡ file_key (task_script plan.old) (get_or plan.old.files place ([], [])) }
-    ensures asked { let f = get_or plan.old.files place ([], []) in IfOk result (λ r. r ≡ UploadPart plan.old.job.dest.bucket (file_key (task_script plan.old) f) upload 1 (part_behind plan.old f.1 0)) }
-    ensures drawn { OnOk result (plan.new ≡ with_known plan.old (with_drawn plan.old.known (file_key (task_script plan.old) (get_or plan.old.files place ([], []))) upload)) }
+    ensures asked { let f = get_or plan.old.files place ([], []) in IfOk result
+        (λ r. r ≡ UploadPart plan.old.job.dest.bucket (file_key (task_script plan.old) f) upload 1
+        (part_behind plan.old f.1 0)) }
+    ensures drawn { OnOk result (plan.new ≡ with_known plan.old
+        (with_drawn plan.old.known (file_key (task_script plan.old) (get_or plan.old.files place ([], []))) upload)) }
     ensures err { OnErr result (plan.new ≡ plan.old) }
 {
     let Some((_, bytes)) = file_at(plan, place) else {

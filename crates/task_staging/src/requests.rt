@@ -61,7 +61,8 @@ fn published(alloc: Global, plan: &TaskPlan) -> Result<Text, AllocError>
 
 /// The rename of the temporary file to the task's set, which publishes it.
 pub fn rename_request(alloc: Global, plan: &TaskPlan) -> Result<Request, AllocError>
-    ensures { IfOk result (λ request. request ≡ ClusterRename (temporary_path (task_script plan.now) (who_of plan.now)) (layout.staged_set_path plan.now.job.job plan.now.task)) }
+    ensures { IfOk result (λ request. request ≡ ClusterRename (temporary_path (task_script plan.now) (who_of plan.now))
+        (layout.staged_set_path plan.now.job.job plan.now.task)) }
 {
     let source = temporary(alloc, plan)?;
     let target = published(alloc, plan)?;

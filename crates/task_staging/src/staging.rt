@@ -103,7 +103,9 @@ fn last_record(
     part: &DrawnPart,
 ) -> Result<PendingUpload, AllocError>
     requires { IsLastPart plan.now place part.now.tag part.now.size }
-    ensures { let f = get_or plan.now.files place ([], []) in IfOk result (λ p. p ≡ file_record (task_script plan.now) (who_of plan.now) f (one_more part.now.tag part.now.size (drawn_last plan.now.known))) }
+    ensures { let f = get_or plan.now.files place ([], []) in IfOk result
+        (λ p. p ≡ file_record (task_script plan.now) (who_of plan.now) f
+        (one_more part.now.tag part.now.size (drawn_last plan.now.known))) }
 {
     let Some((path, bytes)) = file_at(plan, place) else {
         unreachable!();
@@ -116,14 +118,22 @@ fn last_record(
 
 /// The put of the set was sent. Takes no memory.
 fn tell_put(plan: &mut TaskPlan)
-    ensures { plan.new ≡ with_known plan.old (record { drawn = plan.old.known.drawn; put_sent = true; publish_sent = plan.old.known.publish_sent }) }
+    ensures { plan.new ≡ with_known plan.old (record {
+      drawn = plan.old.known.drawn;
+      put_sent = true;
+      publish_sent = plan.old.known.publish_sent;
+    }) }
 {
     plan.known.tell_put_sent();
 }
 
 /// The rename was sent. Takes no memory.
 fn tell_rename(plan: &mut TaskPlan)
-    ensures { plan.new ≡ with_known plan.old (record { drawn = plan.old.known.drawn; put_sent = plan.old.known.put_sent; publish_sent = true }) }
+    ensures { plan.new ≡ with_known plan.old (record {
+      drawn = plan.old.known.drawn;
+      put_sent = plan.old.known.put_sent;
+      publish_sent = true;
+    }) }
 {
     plan.known.tell_publish_sent();
 }
@@ -452,7 +462,13 @@ impl Holds<TheCommit> for Staging {
     }
 
     fn finish(&mut self, end: TaskEnd)
-        ensures { self.new ≡ record { checks = self.old.checks; set = self.old.set; place = self.old.place; stage = self.old.stage; end = Some end } }
+        ensures { self.new ≡ record {
+          checks = self.old.checks;
+          set = self.old.set;
+          place = self.old.place;
+          stage = self.old.stage;
+          end = Some end;
+        } }
     {
         put(&mut self.end, Some(end));
     }

@@ -36,7 +36,8 @@ pub fn two(rest: Option<&str>) -> Option<(&str, &str)>
 
 /// The first two words, and what follows them.
 pub fn two_and_more(rest: Option<&str>) -> Option<(&str, &str, Option<&str>)>
-    ensures { option_map (λ p. (p.0.now, p.1.now, words_after (option_map (λ r. r.now) p.2))) result ≡ shapes.two_and_more (words_after (option_map (λ r. r.now) rest.entry)) }
+    ensures { option_map (λ p. (p.0.now, p.1.now, words_after (option_map (λ r. r.now) p.2))) result ≡
+        shapes.two_and_more (words_after (option_map (λ r. r.now) rest.entry)) }
 {
     let Some(rest) = rest else {
         return None;
