@@ -1,5 +1,5 @@
 -- The disk that a shelf stands on, and what the shelf's calls make of its own counts and of the disk's.
-use Rattle.std.specs.Prelude.{◌≡◌, ◌⊎◌, ℕ, Option, None, IsSome}
+use Rattle.std.specs.Prelude.{◌≡◌, ◌⊎◌, ℕ, None, IsSome}
 use Rattle.shelf.specs.Calls.{one_more}
 use Rattle.folder_log.specs.Disk.{more, FewMore}
 use Rattle.folder_log.specs.declared.log_shelf.LogShelf.{LogShelf}

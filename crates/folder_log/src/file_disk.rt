@@ -5,6 +5,7 @@ ghost use Rattle.shelf.specs.Logged.{most_file};
 ghost use Rattle.folder_log.specs.Disk.{file_length, untold};
 
 use crate::disk::{DiskFault, LogDisk};
+use crate::folder::{Known, Lockable, Stamp, has_writer, is_missing, lock_folder, stamp_at};
 use s3_types::Bytes;
 use shelf::Failed;
 use shelf::kept::MOST_FILE;
@@ -15,7 +16,8 @@ use std::marker::Model;
 use std::rt::Files;
 use std::{fs, io};
 
-/// The file `store.img` of a folder as a disk. It tells nothing of its bytes.
+/// The file `store.img` of a folder as a disk. It tells nothing of its bytes. From its first swap on until it is
+/// dropped it has the folder's lock, and every other disk's swap there fails.
 #[derive(Drop)]
 pub struct FileDisk<R: Files> {
     rt: R,
@@ -26,6 +28,10 @@ pub struct FileDisk<R: Files> {
     fresh: String,
     /// The file, once it was written.
     file: Option<R::File>,
+    /// The file as it was read last, until a swap.
+    known: Known<R::File>,
+    /// The folder with its lock, once it was taken.
+    lock: Option<R::File>,
     /// That the folder has the file under its name is on the disk.
     is_named: bool,
     calls: u64,
@@ -41,14 +47,10 @@ impl<R: Files> Model for FileDisk<R> {
     ghost view = { λ d. record { calls = d.calls; faults = d.faults } };
 }
 
-/// Reads a file to its end, in memory for its bytes.
-fn read_whole<F: Read + OpenFile>(alloc: Global, file: &mut F) -> Result<Vec<u8>, DiskFault>
+/// Reads a file of so many bytes to its end, in memory for its bytes.
+fn read_whole<F: Read>(alloc: Global, file: &mut F, length: u64) -> Result<Vec<u8>, DiskFault>
     ensures { IfOk result (λ all. vec_len all ≤ most_file) }
 {
-    let length = match file.metadata() {
-        Ok(metadata) => metadata.len(),
-        Err(_) => return Err(DiskFault::Failed),
-    };
     if length > MOST_FILE {
         return Err(DiskFault::TooLarge);
     }
@@ -109,15 +111,10 @@ fn sync_path<R: Files>(rt: &R, path: &str) -> io::Result<()> {
     file.sync_all()
 }
 
-/// There is nothing of that name.
-fn is_missing<T>(opened: &io::Result<T>) -> bool {
-    match opened {
-        Err(error) => error.kind() == io::ErrorKind::NotFound,
-        Ok(_) => false,
-    }
-}
-
-impl<R: Files + Drop> FileDisk<R> {
+impl<R: Files + Drop> FileDisk<R>
+where
+    R::File: Lockable,
+{
     /// The disk of a folder, by its path. Touches nothing. Its one error is want of memory, and none of its
     /// calls takes memory but `read`, for the file's bytes.
     pub fn new(alloc: Global, rt: R, folder: String) -> Result<FileDisk<R>, AllocError>
@@ -131,6 +128,8 @@ impl<R: Files + Drop> FileDisk<R> {
             image,
             fresh,
             file: None,
+            known: Known::Nothing,
+            lock: None,
             is_named: false,
             calls: 0,
             faults: 0,
@@ -138,32 +137,81 @@ impl<R: Files + Drop> FileDisk<R> {
         })
     }
 
-    fn read_file(&self) -> Result<Option<Bytes>, DiskFault>
-        ensures { IfOk result (λ read. file_length read ≤ most_file) }
+    /// The file is looked at before it is read, so that what is written meanwhile is seen by the next look.
+    fn read_file(&mut self) -> Result<Option<Bytes>, DiskFault>
+        ensures read { IfOk result (λ read. file_length read ≤ most_file) }
+        ensures same { self.new ≡ self.old }
     {
         let opened = fs::open(&self.rt, self.image.as_str());
         if is_missing(&opened) {
+            self.known = Known::NoFile;
             return Ok(None);
         }
         let Ok(mut file) = opened else {
             return Err(DiskFault::Failed);
         };
-        let all = read_whole(self.alloc, &mut file)?;
+        let grows = has_writer(&file);
+        let Ok(metadata) = file.metadata() else {
+            return Err(DiskFault::Failed);
+        };
+        let all = read_whole(self.alloc, &mut file, metadata.len())?;
+        let stamp = Stamp::of(&metadata);
+        self.known = if grows {
+            Known::Growing
+        } else {
+            Known::File { file, stamp }
+        };
         match Bytes::new(self.alloc, all) {
             Ok(bytes) => Ok(Some(bytes)),
             Err(_) => Err(DiskFault::NoMemory),
         }
     }
 
-    /// Writes `store.tmp`, syncs it, renames it to `store.img` and syncs the folder.
+    /// What stands under the file's name is what this disk has written or, before it did, what it has read.
+    fn is_unchanged(&self) -> io::Result<bool> {
+        let known = match (&self.file, &self.known) {
+            (Some(file), _) => Some(Stamp::of(&file.metadata()?)),
+            (None, Known::File { stamp, .. }) => Some(*stamp),
+            (None, Known::NoFile) => None,
+            (None, Known::Growing) => return Ok(false),
+            (None, Known::Nothing) => return Ok(true),
+        };
+        Ok(stamp_at(&self.rt, self.image.as_str())? == known)
+    }
+
+    /// Takes the folder's lock, unless this disk has it, and sees under it that nobody else has changed the file.
+    fn take_folder(&mut self) -> io::Result<()>
+        ensures { self.new ≡ self.old }
+    {
+        if self.lock.is_none() {
+            self.lock = Some(lock_folder(&self.rt, self.folder.as_str())?);
+        }
+        if self.is_unchanged()? {
+            return Ok(());
+        }
+        Err(io::Error::from(io::ErrorKind::Other))
+    }
+
+    /// Writes `store.tmp`, syncs it, renames it to `store.img` and syncs the folder. The file's own lock tells who
+    /// reads it that this disk is still there.
     fn put(&mut self, head: &[u8], body: &[u8], tail: &[u8]) -> io::Result<()>
         ensures { self.new ≡ self.old }
     {
         let file = write_whole(&self.rt, self.fresh.as_str(), head, body, tail)?;
+        let _ = file.try_lock();
         self.is_named = false;
         fs::rename(&self.rt, self.fresh.as_str(), self.image.as_str())?;
         self.file = Some(file);
+        self.known = Known::Nothing;
         self.sync_folder()
+    }
+
+    /// Puts the file in its place, where nobody else is at work.
+    fn take_and_put(&mut self, head: &[u8], body: &[u8], tail: &[u8]) -> io::Result<()>
+        ensures { self.new ≡ self.old }
+    {
+        self.take_folder()?;
+        self.put(head, body, tail)
     }
 
     /// Syncs the folder, where there is one, unless that was done since the file has its name.
@@ -230,7 +278,10 @@ impl<R: Files + Drop> FileDisk<R> {
     }
 }
 
-impl<R: Files + Drop> LogDisk for FileDisk<R> {
+impl<R: Files + Drop> LogDisk for FileDisk<R>
+where
+    R::File: Lockable,
+{
     ghost seen = { λ d. None };
 
     ghost may_leave = { λ d c. ⊥ };
@@ -265,8 +316,10 @@ impl<R: Files + Drop> LogDisk for FileDisk<R> {
         }
     }
 
+    /// Failed too, and nothing is written, where another disk has the folder's lock, or has changed the file since
+    /// this one read or wrote it.
     fn swap(&mut self, head: &[u8], body: &[u8], tail: &[u8]) -> Result<(), Failed> {
-        let done = self.put(head, body, tail);
+        let done = self.take_and_put(head, body, tail);
         self.counted(done)
     }
 

@@ -18,17 +18,20 @@
 //!
 //! `FileDisk`: The file `store.img` of a folder. It counts its calls, and its count of faults rises
 //! exactly where one fails. Left open: all that it holds and that a crash leaves: it tells nothing of
-//! its bytes.
+//! its bytes; and what becomes of two of them over one folder, where `swap` asks for the folder's lock
+//! and looks whether the file is the one that was read.
 #![tactic(auto)]
 
 mod disk;
 mod file_disk;
+mod folder;
 mod log_shelf;
 mod mem_disk;
 mod state;
 
 pub use disk::{DiskFault, LogDisk};
 pub use file_disk::FileDisk;
+pub use folder::Lockable;
 pub use log_shelf::LogShelf;
 pub use mem_disk::MemDisk;
 pub use state::{Choice, DiskCall};

@@ -1,17 +1,22 @@
 use crate::faults::{Fault, Faulty};
+use crate::rivals::show_rivals;
 use crate::streams::show_streams;
 use folder_log::{DiskFault, FileDisk, LogDisk};
 use s3_types::{Bytes, let_go};
 use shelf::Failed;
 use std::alloc::{AllocError, Global};
 use std::cell::Cell;
+use std::fs::File;
 use std::io::Read;
 use std::rt::Files;
 use std::{fs, io};
 
-const FOLDER: &str = "log-rows-folder";
+pub const FOLDER: &str = "log-rows-folder";
 
 pub const IMAGE: &str = "log-rows-folder/store.img";
+
+/// The file that a swap writes first.
+const FRESH: &str = "log-rows-folder/store.tmp";
 
 /// Another name of the file that stands at first.
 const OTHER: &str = "log-rows-folder/first.img";
@@ -36,7 +41,7 @@ const FAULTS: [(Fault, &str); 8] = [
 ];
 
 /// Two calls of one disk, each with what goes wrong with it.
-const PAIRS: [([(Call, Fault); 2], &str, &str); 3] = [
+const PAIRS: [([(Call, Fault); 2], &str, &str); 6] = [
     (
         [
             (Call::Sync, Fault::Nothing),
@@ -58,11 +63,26 @@ const PAIRS: [([(Call, Fault); 2], &str, &str); 3] = [
         "sync and sync",
         "no folder is synced",
     ),
+    (
+        [(Call::Read, Fault::Nothing), (Call::Swap, Fault::Locked)],
+        "read and swap",
+        "another program has the folder's lock",
+    ),
+    (
+        [(Call::Read, Fault::Nothing), (Call::Swap, Fault::NoLocks)],
+        "read and swap",
+        "a folder has no lock",
+    ),
+    (
+        [(Call::Read, Fault::Nothing), (Call::Swap, Fault::Look)],
+        "read and swap",
+        "no path is looked at",
+    ),
 ];
 
 /// A call of a disk.
 #[derive(Clone, Copy)]
-enum Call {
+pub enum Call {
     /// The write of the file that stands at first.
     First,
     Read,
@@ -71,7 +91,7 @@ enum Call {
     Sync,
 }
 
-fn call_text(call: Call) -> &'static str {
+pub fn call_text(call: Call) -> &'static str {
     match call {
         Call::First => "first",
         Call::Read => "read",
@@ -100,9 +120,9 @@ fn put_done(line: &mut String, done: Result<(), Failed>) -> Result<(), AllocErro
 }
 
 /// What a call answers.
-fn put_answer<R: Files + Drop>(
+pub fn put_answer<R: Files<File = File>>(
     line: &mut String,
-    disk: &mut FileDisk<R>,
+    disk: &mut FileDisk<Faulty<'_, R>>,
     call: Call,
 ) -> Result<(), AllocError> {
     match call {
@@ -120,9 +140,9 @@ fn put_answer<R: Files + Drop>(
 }
 
 /// What calls answer, one behind the other, where this goes wrong with each.
-fn put_answers<R: Files + Drop>(
+fn put_answers<R: Files<File = File>>(
     line: &mut String,
-    disk: &mut FileDisk<R>,
+    disk: &mut FileDisk<Faulty<'_, R>>,
     fault: &Cell<Fault>,
     calls: &[(Call, Fault)],
 ) -> Result<(), AllocError> {
@@ -137,7 +157,7 @@ fn put_answers<R: Files + Drop>(
 }
 
 /// What calls of a new disk of the folder answer.
-fn put_calls<R: Files>(
+fn put_calls<R: Files<File = File>>(
     rt: &R,
     alloc: Global,
     line: &mut String,
@@ -153,21 +173,41 @@ fn put_calls<R: Files>(
 
 /// A file `first` under two names, of which the second stays with it. Where it cannot be written, there is
 /// none to name.
-fn begin<R: Files>(rt: &R, alloc: Global) -> io::Result<()> {
+pub fn begin<R: Files<File = File>>(rt: &R, alloc: Global) -> io::Result<()> {
     let mut line = String::new(alloc);
     put_calls(rt, alloc, &mut line, &[(Call::First, Fault::Nothing)])?;
     fs::hard_link(rt, IMAGE, OTHER)
 }
 
-/// The bytes of a file of the folder.
-fn put_file<R: Files>(rt: &R, alloc: Global, line: &mut String, path: &str) -> io::Result<()> {
+/// The bytes of a file of the folder, where it stands there.
+fn put_file<R: Files<File = File>>(
+    rt: &R,
+    alloc: Global,
+    line: &mut String,
+    path: &str,
+) -> io::Result<()> {
+    if !fs::exists(rt, path)? {
+        return Ok(line.push_str("no file")?);
+    }
     let mut bytes = Vec::new(alloc);
     fs::open(rt, path)?.read_to_end(&mut bytes)?;
     Ok(line.push_str(text_of(&bytes))?)
 }
 
-/// What calls answer where something fails, and what the file then has, under its name and as the old one.
-fn put_fault<R: Files>(
+/// What the file then has, under its name and as the old one, and whether a `store.tmp` is beside it.
+pub fn put_left<R: Files<File = File>>(rt: &R, alloc: Global, line: &mut String) -> io::Result<()> {
+    line.push_str(", then ")?;
+    put_file(rt, alloc, line, IMAGE)?;
+    line.push_str(", the old file ")?;
+    put_file(rt, alloc, line, OTHER)?;
+    if fs::exists(rt, FRESH)? {
+        line.push_str(", beside store.tmp")?;
+    }
+    fs::remove_file(rt, OTHER)
+}
+
+/// What calls answer where something fails, and what they leave.
+fn put_fault<R: Files<File = File>>(
     rt: &R,
     alloc: Global,
     line: &mut String,
@@ -175,14 +215,10 @@ fn put_fault<R: Files>(
 ) -> io::Result<()> {
     begin(rt, alloc)?;
     put_calls(rt, alloc, line, calls)?;
-    line.push_str(", then ")?;
-    put_file(rt, alloc, line, IMAGE)?;
-    line.push_str(", the old file ")?;
-    put_file(rt, alloc, line, OTHER)?;
-    fs::remove_file(rt, OTHER)
+    put_left(rt, alloc, line)
 }
 
-fn show_fault<R: Print + Files>(
+fn show_fault<R: Print + Files<File = File>>(
     rt: &R,
     alloc: Global,
     calls: &[(Call, Fault)],
@@ -194,21 +230,21 @@ fn show_fault<R: Print + Files>(
     println!(rt; "{name} where {what}: {line}")
 }
 
-fn show_faults<R: Print + Files>(rt: &R, alloc: Global, call: Call) -> io::Result<()> {
+fn show_faults<R: Print + Files<File = File>>(rt: &R, alloc: Global, call: Call) -> io::Result<()> {
     for (fault, what) in &FAULTS {
         show_fault(rt, alloc, &[(call, *fault)], call_text(call), what)?;
     }
     Ok(())
 }
 
-fn show_calls<R: Print + Files>(rt: &R, alloc: Global) -> io::Result<()> {
+fn show_calls<R: Print + Files<File = File>>(rt: &R, alloc: Global) -> io::Result<()> {
     for call in &CALLS {
         show_faults(rt, alloc, *call)?;
     }
     Ok(())
 }
 
-fn show_pairs<R: Print + Files>(rt: &R, alloc: Global) -> io::Result<()> {
+fn show_pairs<R: Print + Files<File = File>>(rt: &R, alloc: Global) -> io::Result<()> {
     for (calls, name, what) in &PAIRS {
         show_fault(rt, alloc, calls, name, what)?;
     }
@@ -216,13 +252,18 @@ fn show_pairs<R: Print + Files>(rt: &R, alloc: Global) -> io::Result<()> {
 }
 
 /// What a call answers where there is no file, or no folder.
-fn show_missing<R: Print + Files>(rt: &R, alloc: Global, call: Call, what: &str) -> io::Result<()> {
+fn show_missing<R: Print + Files<File = File>>(
+    rt: &R,
+    alloc: Global,
+    call: Call,
+    what: &str,
+) -> io::Result<()> {
     let mut line = String::new(alloc);
     put_calls(rt, alloc, &mut line, &[(call, Fault::Nothing)])?;
     println!(rt; "{} where there is no {what}: {line}", call_text(call))
 }
 
-fn show_all_missing<R: Print + Files>(
+fn show_all_missing<R: Print + Files<File = File>>(
     rt: &R,
     alloc: Global,
     calls: &[Call],
@@ -235,11 +276,12 @@ fn show_all_missing<R: Print + Files>(
 }
 
 /// What a folder's file answers, and streams over it.
-pub fn show_disks<R: Print + Files>(rt: &R, alloc: Global) -> io::Result<()> {
+pub fn show_disks<R: Print + Files<File = File>>(rt: &R, alloc: Global) -> io::Result<()> {
     show_all_missing(rt, alloc, &WITHOUT_FOLDER, "folder")?;
     fs::create_dir(rt, FOLDER)?;
     show_all_missing(rt, alloc, &WITHOUT_FILE, "file")?;
     show_calls(rt, alloc)?;
+    show_rivals(rt, alloc)?;
     show_pairs(rt, alloc)?;
     show_streams(rt, alloc)?;
     fs::remove_file(rt, IMAGE)?;

@@ -1,6 +1,7 @@
+use folder_log::Lockable;
 use std::alloc::Allocator;
 use std::cell::Cell;
-use std::fs::{Metadata, OpenFile, OpenOptions};
+use std::fs::{Metadata, OpenFile, OpenOptions, TryLockError};
 use std::io;
 use std::io::{Read, Seek, SeekFrom, Write};
 use std::rt::Files;
@@ -25,6 +26,12 @@ pub enum Fault {
     FolderSync,
     /// No file is renamed.
     Rename,
+    /// Another program has each lock.
+    Locked,
+    /// There are no locks.
+    NoLocks,
+    /// No path is looked at.
+    Look,
 }
 
 /// A file system of which some calls fail, by what goes wrong at that time, and all that a disk does not make.
@@ -117,6 +124,24 @@ impl<'r, F: OpenFile + Drop> OpenFile for FaultyFile<'r, F> {
     }
 }
 
+impl<'r, F: Lockable + Drop> Lockable for FaultyFile<'r, F> {
+    fn try_lock(&self) -> Result<(), TryLockError> {
+        match self.fault.get() {
+            Fault::Locked => Err(TryLockError::WouldBlock),
+            Fault::NoLocks => Err(TryLockError::Error(failed())),
+            _ => self.file.try_lock(),
+        }
+    }
+
+    fn try_lock_shared(&self) -> Result<(), TryLockError> {
+        match self.fault.get() {
+            Fault::Locked => Err(TryLockError::WouldBlock),
+            Fault::NoLocks => Err(TryLockError::Error(failed())),
+            _ => self.file.try_lock_shared(),
+        }
+    }
+}
+
 impl<'r, R: Files> Files for Faulty<'r, R> {
     type File = FaultyFile<'r, R::File>;
 
@@ -139,8 +164,11 @@ impl<'r, R: Files> Files for Faulty<'r, R> {
         Err(failed())
     }
 
-    fn metadata(&self, _path: &str) -> io::Result<Metadata> {
-        Err(failed())
+    fn metadata(&self, path: &str) -> io::Result<Metadata> {
+        if self.fault.get() == Fault::Look {
+            return Err(failed());
+        }
+        self.rt.metadata(path)
     }
 
     fn symlink_metadata(&self, _path: &str) -> io::Result<Metadata> {

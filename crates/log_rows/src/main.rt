@@ -12,7 +12,8 @@
 //! fails, or one, and tells what it then holds.
 //!
 //! `files` tells what each call over a folder's file answers where a call of the system fails, and what a read then
-//! gives, and so of two calls of one disk; and what the program's streams give and take there, and those in memory.
+//! gives, and so of two calls of one disk, and what two disks of one folder answer; and what the program's streams give
+//! and take there, and those in memory.
 #![tactic(auto)]
 
 mod disks;
@@ -22,15 +23,21 @@ mod found;
 mod left;
 mod play;
 mod plays;
+mod rivals;
 mod rows;
 mod streams;
 
 use anyhow::Result;
 use rows::{Rows, show_line};
 use std::alloc::Global;
+use std::fs::File;
 use std::rt::Files;
 
-fn show_lines<R: Input + Print + Files>(rt: &R, alloc: Global, rows: &mut Rows) -> Result<()> {
+fn show_lines<R: Input + Print + Files<File = File>>(
+    rt: &R,
+    alloc: Global,
+    rows: &mut Rows,
+) -> Result<()> {
     for line in rt.lines(alloc) {
         show_line(rt, rows, line?.as_str())?;
     }

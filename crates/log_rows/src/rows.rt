@@ -9,6 +9,7 @@ use log_format::{LogFault, read_log};
 use s3_types::{Bytes, Sequence, put};
 use shelf::kept::Held;
 use std::alloc::{AllocError, Global};
+use std::fs::File;
 use std::rt::Files;
 
 /// The file that the rows are about, and a log whose changes are played.
@@ -143,7 +144,12 @@ fn show_edit(rt: &impl Print, rows: &Rows, verb: &str, words: &str) -> Result<()
     Ok(show_edits(rt, rows.alloc, rows.bytes(), edit)?)
 }
 
-fn show_row<R: Print + Files>(rt: &R, rows: &mut Rows, verb: &str, words: &str) -> Result<()> {
+fn show_row<R: Print + Files<File = File>>(
+    rt: &R,
+    rows: &mut Rows,
+    verb: &str,
+    words: &str,
+) -> Result<()> {
     match verb {
         "log" => rows.take(words),
         "changes" => rows.take_log(words),
@@ -157,7 +163,7 @@ fn show_row<R: Print + Files>(rt: &R, rows: &mut Rows, verb: &str, words: &str) 
 }
 
 /// Shows a line and what it asks for.
-pub fn show_line<R: Print + Files>(rt: &R, rows: &mut Rows, line: &str) -> Result<()> {
+pub fn show_line<R: Print + Files<File = File>>(rt: &R, rows: &mut Rows, line: &str) -> Result<()> {
     println!(rt; "{line}")?;
     let (verb, words) = line.split_once(' ').unwrap_or((line, ""));
     show_row(rt, rows, verb, words)

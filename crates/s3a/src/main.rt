@@ -3,7 +3,7 @@
 
 ghost use Rattle.std.specs.Prelude.{◌≡◌, IfOk};
 
-use folder_log::{FileDisk, LogShelf};
+use folder_log::{FileDisk, Lockable, LogShelf};
 use s3_types::Text;
 use s3a_top::{Status, run};
 use shelf::{StdSink, StdSource};
@@ -33,6 +33,8 @@ fn words(rt: &(impl Env + AllocGlobal)) -> Result<Vec<Text>, AllocError> {
 
 /// The disk of the folder that the words name, or of the one where the program runs.
 fn disk<R: Files + Drop>(alloc: Global, rt: R, words: &[Text]) -> Result<FileDisk<R>, AllocError>
+where
+    R::File: Lockable,
     ensures { IfOk result (λ disk. disk ≡ record { calls = 0; faults = 0 }) }
 {
     let folder = match words.first() {
