@@ -15,13 +15,13 @@ use Rattle.s3_types.specs.declared.request.UploadRef.{UploadRef}
 use Rattle.magic_paths.specs.Layout as layout
 use Rattle.job_model.specs.Jobs.{Job}
 use Rattle.job_operations.specs.AtWork.{job_script}
-use Rattle.job_operations.specs.Walks.{Walked, More, Whole, Sweep, sweep_start, sweep_asks, sweep_hears, all_go, uploads_after, walked_uploads}
+use Rattle.list_walk.specs.Walks.{Walked, More, Whole, Sweep, sweep_start, sweep_asks, sweep_hears, all_go, uploads_after, walked_uploads}
 use Rattle.job_operations.specs.Cleanups.{Clean, Walking, Aborting, Sweeping, Naming, Removing, CleanOver, clean_asks, clean_hears, aborted, aborting, walking, sweeping, removing}
-use Rattle.sweep.specs.Fitting.{FitsUploads, FitsSweep}
-use Rattle.sweep.specs.Left.{uploads_left, left_of, adds_key, sets_upload, one_if}
-use Rattle.sweep.specs.Laws.{LessUploads}
-use Rattle.sweep.proofs.Growing.{growth}
-use Rattle.sweep.proofs.Falling.{sweep_laws, upload_laws}
+use Rattle.list_walk.specs.Fitting.{FitsUploads, FitsSweep}
+use Rattle.list_walk.specs.Left.{uploads_left, left_of, adds_key, sets_upload, one_if}
+use Rattle.list_walk.specs.Laws.{LessUploads}
+use Rattle.list_walk.proofs.Growing.{growth}
+use Rattle.list_walk.proofs.Falling.{sweep_laws, upload_laws}
 use Rattle.cleanup.specs.Fits.{FitsClean}
 use Rattle.cleanup.specs.Left.{after_left, left_at}
 use Rattle.cleanup.specs.Laws.{CleansEnd}

@@ -11,7 +11,7 @@ use Rattle.asking.specs.Asks.{AskLaws}
 use Rattle.machine.specs.Standing.{Fine}
 use Rattle.job_model.specs.Jobs.{Job}
 use Rattle.job_operations.specs.AtWork.{job_script, clean_wants, clean_told}
-use Rattle.job_operations.specs.Walks.{Walked, More, Whole, Sweep, walked_uploads, sweep_hears, all_go}
+use Rattle.list_walk.specs.Walks.{Walked, More, Whole, Sweep, walked_uploads, sweep_hears, all_go}
 use Rattle.job_operations.specs.Cleanups.{Clean, Walking, Aborting, Sweeping, Naming, Removing, CleanOver, clean_asks, clean_hears, aborted, aborting, walking, sweeping, removing, naming}
 use Rattle.cleanup.specs.Fits.{FitsDriving, standing, standing_of}
 

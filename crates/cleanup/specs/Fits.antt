@@ -6,7 +6,7 @@ use Rattle.job_model.specs.declared.ends.CleanEnd.TheVariants.{Done, StoreFault,
 use Rattle.machine.specs.Standing.{Standing, Fine, Faulted, Broken}
 use Rattle.job_operations.specs.AtWork.{Driving}
 use Rattle.job_operations.specs.Cleanups.{Clean, Walking, Aborting, Sweeping, Naming, Removing, CleanOver}
-use Rattle.sweep.specs.Fitting.{FitsUploads, FitsSweep}
+use Rattle.list_walk.specs.Fitting.{FitsUploads, FitsSweep}
 
 -- the bucket is there, and a page that is not folded has keys alone
 abbrev pub FitsClean : Clean → Reply → Type 0

@@ -6,7 +6,7 @@ use Rattle.s3_types.specs.declared.request.Request.{Request}
 use Rattle.s3_types.specs.declared.request.Request.TheVariants.{AbortUpload, ClusterDelete}
 use Rattle.s3_types.specs.declared.request.UploadRef.{UploadRef}
 use Rattle.job_model.specs.declared.ends.CleanEnd.TheVariants as ends
-use Rattle.job_operations.specs.Walks.{Sweep}
+use Rattle.list_walk.specs.Walks.{Sweep}
 use Rattle.job_operations.specs.Cleanups.{Clean, Walking, Aborting, Sweeping, Naming, CleanOver, removing}
 use Rattle.cleanup.specs.declared.held.Held.{Held}
 use Rattle.cleanup.specs.declared.held.Stage.{Stage}

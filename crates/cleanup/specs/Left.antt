@@ -6,9 +6,9 @@ use Rattle.s3_types.specs.declared.request.Committer.TheVariants.{Magic, Directo
 use Rattle.magic_paths.specs.Layout as layout
 use Rattle.job_model.specs.Jobs.{Job}
 use Rattle.job_operations.specs.AtWork.{Driving}
-use Rattle.job_operations.specs.Walks.{sweep_start}
+use Rattle.list_walk.specs.Walks.{sweep_start}
 use Rattle.job_operations.specs.Cleanups.{Clean, Walking, Aborting, Sweeping, Naming, Removing, CleanOver}
-use Rattle.sweep.specs.Left.{uploads_left, sweep_left, files_left}
+use Rattle.list_walk.specs.Left.{uploads_left, sweep_left, files_left}
 
 -- once the uploads are aborted: the sweep, or the list of the files and each of them
 abbrev pub after_left : Committer → Job → Scene → ℕ

@@ -1,15 +1,15 @@
 ghost use Rattle.std.specs.Prelude.{◌≡◌, drop, IfOk, OnOk, true};
 ghost use Rattle.job_operations.specs.AtWork.{job_script};
-ghost use Rattle.job_operations.specs.Walks.{walked_uploads, sweep_hears, all_go};
+ghost use Rattle.list_walk.specs.Walks.{walked_uploads, sweep_hears, all_go};
 ghost use Rattle.job_operations.specs.Cleanups.{clean_start, clean_asks, clean_hears, walking, aborting, sweeping, naming, removing};
 ghost use Rattle.cleanup.specs.Held.{clean_of, within_of, behind, stage_after, abort_stage, remove_stage};
 ghost use Rattle.cleanup.specs.Fits.{FitsClean};
 
-use crate::requests::{abort_request, names_request, remove_request, walk_request};
+use crate::requests::{abort_request, names_request, remove_request, sweep_request, walk_request};
 use job_model::{CleanEnd, JobPlan};
+use list_walk::{AllKeys, Sweep, UploadWalk};
 use s3_types::{Committer, Reply, Request, Sequence, Text, TextList, put};
 use std::alloc::{AllocError, Global};
-use sweep::{AllKeys, Sweep, UploadWalk, sweep_request};
 
 /// Where a clean stands.
 #[derive(Clone, Copy, Debug)]

@@ -1,14 +1,14 @@
 ghost use Rattle.std.specs.Prelude.{◌≡◌, ◌++◌, drop, codes, IfOk, Some};
 ghost use Rattle.s3_types.specs.declared.request.Request.TheVariants.{ClusterList};
 ghost use Rattle.magic_paths.specs.Layout as layout;
-ghost use Rattle.job_operations.specs.Walks.{uploads_after};
+ghost use Rattle.list_walk.specs.Walks.{uploads_after, sweep_asks};
 ghost use Rattle.cleanup.specs.Held.{abort_asks, remove_asks};
 
-use magic_paths::cluster_prefix;
+use list_walk::{Sweep, UploadWalk};
+use magic_paths::{cluster_prefix, dest_prefix, magic_prefix};
 use path_keys::S3Path;
 use s3_types::{Bucket, Request, Text, UploadRef};
 use std::alloc::{AllocError, Global};
-use sweep::{UploadWalk, dest_prefix};
 
 /// The request for the next page of live uploads below a destination.
 pub fn walk_request(
@@ -64,4 +64,17 @@ pub fn remove_request(paths: &[Text], at: usize) -> Result<Option<Request>, Allo
         Ok(request) => Ok(Some(request)),
         Err(error) => Err(error),
     }
+}
+
+/// The next request of the sweep of a job's magic directory.
+pub fn sweep_request(
+    alloc: Global,
+    dest: &S3Path,
+    job: &Text,
+    sweep: &Sweep,
+) -> Result<Option<Request>, AllocError>
+    ensures { IfOk result (λ request. request ≡ Some (sweep_asks dest.now.bucket (layout.magic_prefix dest.now.key job.now) sweep.now)) }
+{
+    let prefix = magic_prefix(alloc, dest, job)?;
+    sweep.ask(alloc, dest.bucket(), &prefix)
 }

@@ -20,7 +20,7 @@ use Rattle.job_model.specs.declared.ends.CommitEnd.{CommitEnd}
 use Rattle.job_model.specs.declared.ends.CommitEnd.TheVariants as ends
 use Rattle.job_model.specs.declared.ends.Stage.TheVariants as stages
 use Rattle.job_operations.specs.Outputs.{same_path}
-use Rattle.job_operations.specs.Walks.{Sweep, Listing, Deleting, sweep_asks, sweep_hears}
+use Rattle.list_walk.specs.Walks.{Sweep, Listing, Deleting, sweep_asks, sweep_hears}
 use Rattle.job_operations.specs.Lanes.{Turn, again, follow, dealt, chosen, undo, in_turn, abort, deletion, revert, is_tried, is_unsent}
 use Rattle.job_operations.specs.JobCommits.{Sets, picks_of, all_commits, set_read, set_request, Commit, Fetching, Replacing, Completing, Marking, Reverting, CommitOver, completing, is_no_magic, replaced, replacing, swept, decided, fetching, fetched, reverting, worn_completion, commit_asks, commit_hears, commit_misses, commit_tells, commit_over}
 use Rattle.job_operations.specs.LaneTable.{RequestsApart, Sound, AllSound}

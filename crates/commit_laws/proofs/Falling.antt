@@ -36,16 +36,16 @@ use Rattle.job_model.specs.declared.ends.CommitEnd.{CommitEnd}
 use Rattle.job_operations.specs.Outputs.{Picks, files_picked, wanted_below, wanted, ordered, wanted_paths, same_path}
 use Rattle.job_operations.specs.Conflicts.{dir_of, with_dir, dirs_of, partitions}
 use Rattle.job_operations.specs.TaskCommits.{partition_prefix}
-use Rattle.job_operations.specs.Walks.{Sweep, Listing, Deleting, sweep_start, sweep_asks, sweep_hears}
+use Rattle.list_walk.specs.Walks.{Sweep, Listing, Deleting, sweep_start, sweep_asks, sweep_hears}
 use Rattle.job_operations.specs.Lanes.{Turn, fresh_turn, again, follow, first_turns, dealt, nth, chosen, undo, in_turn, abort, deletion, revert, is_tried, is_unsent}
 use Rattle.job_operations.specs.JobCommits.{Sets, picks_of, all_commits, set_read, set_request, Commit, Fetching, Replacing, Completing, Marking, Reverting, CommitOver, completing, is_no_magic, replaced, replacing, swept, decided, fetched, reverting, worn_completion, commit_asks, commit_hears, commit_misses}
 use Rattle.job_operations.specs.AtWork.{Committing, declared_of, read_script, sets_in, sets_after, with_set, commit_wants, commit_told}
 use Rattle.job_operations.proofs.Members.{none_some, some_is}
-use Rattle.sweep.specs.Fitting.{FitsSweep}
-use Rattle.sweep.specs.Left.{count_in, keys_left, sweep_left, thousands, left_of as sweeps_left, adds_key, one_if}
-use Rattle.sweep.proofs.Counting.{count, count_more}
-use Rattle.sweep.proofs.Listing.{is_left, listed_count}
-use Rattle.sweep.proofs.Falling.{sweep_laws}
+use Rattle.list_walk.specs.Fitting.{FitsSweep}
+use Rattle.list_walk.specs.Left.{count_in, keys_left, sweep_left, thousands, left_of as sweeps_left, adds_key, one_if}
+use Rattle.list_walk.proofs.Counting.{count, count_more}
+use Rattle.list_walk.proofs.Listing.{is_left, listed_count}
+use Rattle.list_walk.proofs.Falling.{sweep_laws}
 use Rattle.std.proofs.lemmas.Grind.{flat_map-append}
 use Rattle.job_model.specs.declared.ends.CommitEnd.TheVariants as ends
 use Rattle.job_model.specs.declared.ends.Stage.TheVariants as stages

@@ -12,7 +12,7 @@ use Rattle.commit_parts.specs.ReadSets.{IsSetOf}
 use Rattle.job_operations.specs.Outputs.{first_where}
 use Rattle.job_operations.specs.JobCommits.{set_read, Commit, Fetching, Replacing, Completing, Marking, Reverting, CommitOver, FitsCompletion}
 use Rattle.job_operations.specs.AtWork.{Committing}
-use Rattle.sweep.specs.Fitting.{FitsSweep}
+use Rattle.list_walk.specs.Fitting.{FitsSweep}
 
 -- the answer spells a task's set
 abbrev pub SpellsSet : Job → ℕ → Option PendingSet → Type 0

@@ -20,8 +20,8 @@ use Rattle.job_model.specs.declared.ends.CommitEnd.TheVariants as ends
 use Rattle.job_operations.specs.Outputs.{same_path}
 use Rattle.job_operations.specs.JobCommits.{Sets, set_read, picks_of, all_commits, Commit, Fetching, Replacing, Completing, Marking, Reverting, CommitOver, commit_start, commit_over, stage_of}
 use Rattle.job_operations.specs.Lanes.{Turn}
-use Rattle.job_operations.specs.Walks.{sweep_start}
-use Rattle.sweep.specs.Left.{sweep_left, adds_key, one_if}
+use Rattle.list_walk.specs.Walks.{sweep_start}
+use Rattle.list_walk.specs.Left.{sweep_left, adds_key, one_if}
 use Rattle.job_operations.specs.AtWork.{Committing, read_script, commit_wants, commit_told}
 use Rattle.commit_parts.specs.Tables.{listed}
 use Rattle.commit_laws.specs.Fitting.{FitsCommit}

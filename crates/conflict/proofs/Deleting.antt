@@ -4,9 +4,9 @@ use Rattle.std.proofs.lemmas.List.{drop_all}
 use Rattle.proof_base.proofs.Numbers.{at_most_is, at_most_not}
 use Rattle.s3_types.specs.Pages.{begins}
 use Rattle.s3_types.specs.declared.reply.Reply.{Reply}
-use Rattle.job_operations.specs.Walks.{Sweep, sweep_start, sweep_hears}
-use Rattle.sweep.specs.Fitting.{FitsSweep}
-use Rattle.sweep.specs.Kept.{kept}
+use Rattle.list_walk.specs.Walks.{Sweep, sweep_start, sweep_hears}
+use Rattle.list_walk.specs.Fitting.{FitsSweep}
+use Rattle.list_walk.specs.Kept.{kept}
 use Rattle.conflict.specs.Checks.{is_none}
 use Rattle.conflict.specs.Deletions.{Deletion, FitsDeletion, FitsBelow, hears_below, swept_on, deletion_hears}
 

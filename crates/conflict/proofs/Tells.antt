@@ -10,7 +10,7 @@ use Rattle.job_model.specs.Attempts.{Who}
 use Rattle.job_model.specs.JobScript.{Script}
 use Rattle.job_operations.specs.Outputs.{Picks, wanted_paths}
 use Rattle.job_operations.specs.Conflicts.{partitions}
-use Rattle.job_operations.specs.Walks.{Sweep, sweep_start, sweep_hears}
+use Rattle.list_walk.specs.Walks.{Sweep, sweep_start, sweep_hears}
 use Rattle.job_operations.specs.TaskCommits.{Checking, task_commit_hears}
 use Rattle.job_operations.specs.JobCommits.{Sets, is_no_magic, replaced, replacing, swept}
 use Rattle.conflict.specs.Checks.{found_below, left_after}

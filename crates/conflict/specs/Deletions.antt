@@ -6,8 +6,8 @@ use Rattle.s3_types.specs.declared.request.Committer.{Committer}
 use Rattle.s3_types.specs.declared.request.Committer.TheVariants.{Magic, Directory, Partitioned}
 use Rattle.s3_types.specs.declared.reply.Reply.{Reply}
 use Rattle.path_keys.specs.Paths.{Path, below}
-use Rattle.job_operations.specs.Walks.{Sweep, sweep_start, sweep_asks, sweep_hears}
-use Rattle.sweep.specs.Fitting.{FitsSweep}
+use Rattle.list_walk.specs.Walks.{Sweep, sweep_start, sweep_asks, sweep_hears}
+use Rattle.list_walk.specs.Fitting.{FitsSweep}
 
 -- the prefixes, the sweep below the first of them, and the prefix of the keys that stay
 pub record Deletion : Type 0 where

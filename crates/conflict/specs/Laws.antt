@@ -8,7 +8,7 @@ use Rattle.job_model.specs.JobScript.{Script}
 use Rattle.job_model.specs.declared.ends.TaskEnd.TheVariants as ends
 use Rattle.job_operations.specs.Outputs.{Picks, ordered, wanted_paths}
 use Rattle.job_operations.specs.Conflicts.{partitions}
-use Rattle.job_operations.specs.Walks.{Sweep, sweep_start}
+use Rattle.list_walk.specs.Walks.{Sweep, sweep_start}
 use Rattle.job_operations.specs.TaskCommits.{TaskCommit, Checking, TaskCommitOver, checking, task_commit_asks, task_commit_hears}
 use Rattle.job_operations.specs.JobCommits.{Sets, Commit, Replacing, replaced, replacing, commit_asks, commit_hears}
 use Rattle.conflict.specs.Checks.{check_asks, found_below, left_after}

@@ -1,13 +1,14 @@
 ghost use Rattle.std.specs.Prelude.{◌≡◌, ◌++◌, ◌∷◌, [], codes, map, IfOk, OnOk};
-ghost use Rattle.job_operations.specs.Walks.{sweep_start};
+ghost use Rattle.list_walk.specs.Walks.{sweep_start};
 ghost use Rattle.conflict.specs.Deletions.{prefix_below, deleted, spared, FitsDeletion, deletion_asks, deletion_hears};
 
 use crate::absent::partition_prefix;
+use list_walk::{AllBut, Sweep};
+use magic_paths::dest_prefix;
 use path_keys::S3Path;
 use s3_types::{Bucket, Committer, Reply, Request, Sequence, Text, TextList, put};
 use std::alloc::{AllocError, Global};
 use std::marker::Model;
-use sweep::{AllBut, Sweep, dest_prefix};
 
 /// What the keys below the magic directories of a destination begin with.
 fn magic_prefix(alloc: Global, dest: &S3Path) -> Result<Text, AllocError>
@@ -110,10 +111,7 @@ impl DeleteKept {
         let Some(prefix) = self.prefixes.as_slice().get(self.at) else {
             return Ok(None);
         };
-        match self.sweep.request(alloc, bucket, prefix) {
-            Ok(request) => Ok(Some(request)),
-            Err(error) => Err(error),
-        }
+        self.sweep.ask(alloc, bucket, prefix)
     }
 
     /// Takes the reply to its present request. After want of memory it is of no more use.

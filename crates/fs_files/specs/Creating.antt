@@ -24,7 +24,7 @@ use Rattle.fs_tree.specs.Tree.{is_marker, HasDir}
 use Rattle.fs_tree.specs.Changes.{MakesFile}
 use Rattle.fs_tree.proofs.Begins.{both, begins_trans, begins_marker, marker_is, marker_at}
 use Rattle.fs_tree.proofs.Above.{NoSlash, Cut, cut, none_above, more_above, above_begins, begins_above}
-use Rattle.fs_ops.specs.Sweeping.{gone_in, kept_out}
+use Rattle.bucket_walks.proofs.Below.{gone_in, kept_out}
 use Rattle.fs_files.specs.Placed.{object_of}
 
 -- these are markers of directories above a path

@@ -10,7 +10,7 @@ use Rattle.request_frame.specs.Members.{IsIn}
 use Rattle.request_frame.proofs.Members.{same_or_other, text_here, text_other, none_some}
 use Rattle.bucket_ops.specs.Asks.{edited}
 use Rattle.fs_tree.specs.Tree.{Stands}
-use Rattle.fs_ops.specs.Sweeping.{is_in}
+use Rattle.bucket_walks.proofs.Below.{is_in}
 use Rattle.fs_moves.specs.declared.copying.Copying.{Copying}
 use Rattle.fs_moves.specs.Copies.{Move, IsOneOf, sources, targets, copied_all, copy_of, copy_asks, has_more, copied_next, IsCopying, IsCopied, copies_left, LessCopies, AreFree}
 

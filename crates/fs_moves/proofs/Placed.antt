@@ -19,7 +19,8 @@ use Rattle.fs_tree.specs.Moves.{IsMove, is_too_long, IsFileMoved, IsDirMoved}
 use Rattle.fs_tree.proofs.Begins.{begins_more, one_begins}
 use Rattle.fs_tree.proofs.Dropping.{marker_key}
 use Rattle.fs_tree.proofs.Moving.{rest_after, marker_not_below}
-use Rattle.fs_ops.specs.Sweeping.{keys_below, below_stands, stands_below}
+use Rattle.bucket_walks.specs.Walking.{keys_below}
+use Rattle.bucket_walks.proofs.Below.{below_stands, stands_below}
 use Rattle.fs_moves.specs.Keys.{new_key, with_front, new_keys}
 use Rattle.fs_moves.specs.Copies.{Move, IsOneOf, sources, targets, copied_all, AreFree, moves_to, moves_of}
 use Rattle.fs_moves.proofs.CopyLaws.{is_source, is_target}

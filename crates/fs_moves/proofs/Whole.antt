@@ -15,7 +15,7 @@ use Rattle.fs_tree.specs.Changes.{parent, marker_if, IsMarked}
 use Rattle.fs_tree.specs.Moves.{IsMove, IsWhole}
 use Rattle.fs_tree.proofs.Begins.{begins_all}
 use Rattle.fs_tree.proofs.Dropping.{marker_key}
-use Rattle.fs_ops.specs.Sweeping.{is_in, gone_in, kept_out}
+use Rattle.bucket_walks.proofs.Below.{is_in, gone_in, kept_out}
 use Rattle.fs_moves.specs.Copies.{Move, IsOneOf, sources, targets, copied_all, AreFree}
 use Rattle.fs_moves.proofs.CopyLaws.{map_front, in_targets, in_sources, is_target, is_source, one_in_take, copies_keep, not_target, copied_stand, all_stand}
 

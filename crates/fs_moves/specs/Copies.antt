@@ -6,7 +6,7 @@ use Rattle.s3_types.specs.Answer.{copied}
 use Rattle.request_frame.specs.Members.{RisesFrom}
 use Rattle.dir_markers.specs.Markers.{marker_of}
 use Rattle.fs_tree.specs.Tree.{Stands}
-use Rattle.fs_ops.specs.Sweeping.{keys_below}
+use Rattle.bucket_walks.specs.Walking.{keys_below}
 use Rattle.fs_moves.specs.Keys.{new_key}
 use Rattle.bucket_ops.specs.Asks.{Ask, Copy, Page}
 use Rattle.fs_moves.specs.declared.copying.Copying.{Copying}

@@ -2,9 +2,9 @@ ghost use Rattle.std.specs.Prelude.{◌≡◌, drop, IfOk};
 ghost use Rattle.bucket_ops.specs.Asks.{request_of};
 ghost use Rattle.fs_moves.specs.Copies.{copy_of, copy_asks, has_more, copied_next};
 
+use list_walk::keys_behind;
 use s3_types::{Bucket, Key, KeyList, PageLimit, Request, Text};
 use std::alloc::AllocError;
-use sweep::keys_behind;
 
 /// Keys that are copied one by one, in order, and their new keys; so many of them are copied.
 #[derive(Drop)]

@@ -5,15 +5,11 @@ use Rattle.std.proofs.lemmas.Bool.{false≢true, eqb-true}
 use Rattle.std.proofs.lemmas.List.{append_cancel_left, append_cancel_right}
 use Rattle.std.specs.Option.{option_map}
 use Rattle.std.specs.List.{filter, list_all}
-use Rattle.std.specs.List.Sorted.{IsStrictlySortedBy}
-use Rattle.std.specs.Map.{keys_of}
 use Rattle.std.specs.FinMap as fin
-use Rattle.std.specs.FinMap.Entries.{find}
-use Rattle.std.specs.Ordering.{is_lt, eq_by_cmp}
-use Rattle.std.proofs.lemmas.Map.Keys.{sorted_head, sorted_tail}
-use Rattle.proof_base.specs.Order.{text_cmp, text_total, text_ties}
+use Rattle.std.specs.Ordering.{is_lt}
+use Rattle.proof_base.specs.Order.{text_cmp}
 use Rattle.proof_base.proofs.Bools.{not_so}
-use Rattle.proof_base.proofs.Less.{lt, irrefl}
+use Rattle.proof_base.proofs.Less.{lt}
 use Rattle.proof_base.proofs.Tree.{tied, map_sorted}
 use Rattle.words.specs.Parts.{is_other}
 use Rattle.s3_types.specs.Store.{Objects}
@@ -22,7 +18,8 @@ use Rattle.s3_types.specs.declared.object.Object.{Object}
 use Rattle.s3_types.specs.declared.reply.PageEntry.{PageEntry}
 use Rattle.s3_types.specs.declared.reply.PageEntry.TheVariants.{Object as Single, Prefix}
 use Rattle.request_frame.specs.Members.{IsIn, RisesFrom}
-use Rattle.request_frame.proofs.Members.{some_is, none_some, false_true, nat_true, eq_nat, text_exact, text_true, text_false, in_map, map_in, in_filter, filter_in}
+use Rattle.request_frame.proofs.Members.{some_is, none_some, nat_true, eq_nat, text_exact, in_map, map_in, in_filter, filter_in}
+use Rattle.request_frame.proofs.Flat.{found_in, found_at}
 use Rattle.request_frame.specs.Walk.{walked, text_of as walked_text}
 use Rattle.request_frame.proofs.Listed.{walked_listed}
 use Rattle.dir_markers.specs.declared.status.Status.{Status}
@@ -167,35 +164,6 @@ folded_all last (y ∷ ys) x i = by (is_again last y) refl i (folded_all last ys
     by true e (inr j) old new = subst (λ b. HasText (text_in x) (cond b (folded_from last ys) (y ∷ folded_from (Some (text_in y)) ys)) ⊎ (last ≡ Some (text_in x))) (sym e) (old j)
     by false e (inl h) old new = subst (λ b. HasText (text_in x) (cond b (folded_from last ys) (y ∷ folded_from (Some (text_in y)) ys)) ⊎ (last ≡ Some (text_in x))) (sym e) (inl (y, inl refl, ap text_in (sym h)))
     by false e (inr j) old new = subst (λ b. HasText (text_in x) (cond b (folded_from last ys) (y ∷ folded_from (Some (text_in y)) ys)) ⊎ (last ≡ Some (text_in x))) (sym e) (later (new j))
-
--- entries of a map, and what stands
-
-found_in : (es : List Entry) (k : List ℕ) (x : Object) → find text_cmp k es ≡ Some x → IsIn (k, x) es
-found_in [] k x e = absurd (none_some refl e)
-found_in (p ∷ es) k x e = by (eq_by_cmp text_cmp k p.0) refl (found_in es k x)
-  where
-    by : (b : Bool) → eq_by_cmp text_cmp k p.0 ≡ b → (find text_cmp k es ≡ Some x → IsIn (k, x) es) → IsIn (k, x) (p ∷ es)
-    by true h old =
-        let same : k ≡ p.0 = text_exact k p.0 (tied _ h) in
-        let value : p.1 ≡ x = some_is (sym (ap (λ b. cond b (Some p.1) (find text_cmp k es)) h) ∙ e) in
-        inl (ap (λ q. (q, x)) same ∙ ap (λ v. (p.0, v)) (sym value))
-    by false h old = inr (old (sym (ap (λ b. cond b (Some p.1) (find text_cmp k es)) h) ∙ e))
-
-above_all : (k : List ℕ) (es : List Entry) (e : Entry) → Rattle.std.specs.List.AllByRecursion (λ q. text_cmp k q ≡ Rattle.std.specs.declared.cmp.Ordering.TheVariants.Less) (keys_of es) → IsIn e es → lt text_cmp k e.0 ≡ true
-above_all k [] e a i = absurd i
-above_all k (p ∷ es) e a (inl is) = ap (λ (x : Entry). lt text_cmp k x.0) is ∙ ap is_lt a.0
-above_all k (p ∷ es) e a (inr i) = above_all k es e a.1 i
-
-found_at : (es : List Entry) (e : Entry) → IsStrictlySortedBy text_cmp (keys_of es) → IsIn e es → find text_cmp e.0 es ≡ Some e.1
-found_at [] e s i = absurd i
-found_at (p ∷ es) e s (inl is) =
-    let tie : eq_by_cmp text_cmp e.0 p.0 ≡ true = sym (text_ties e.0 p.0) ∙ text_true e.0 p.0 (ap (λ (x : Entry). x.0) is) in
-    ap (λ b. cond b (Some p.1) (find text_cmp e.0 es)) tie ∙ ap (λ (x : Entry). Some x.1) (sym is)
-found_at (p ∷ es) e s (inr i) =
-    let above : lt text_cmp p.0 e.0 ≡ true = above_all p.0 es e (sorted_head text_cmp p.0 (keys_of es) s) i in
-    let other : e.0 ≡ p.0 → ⊥ = λ h. false_true (irrefl text_total p.0) (ap (lt text_cmp p.0) (sym h) ∙ above) in
-    let tie : eq_by_cmp text_cmp e.0 p.0 ≡ false = sym (text_ties e.0 p.0) ∙ text_false e.0 p.0 other in
-    ap (λ b. cond b (Some p.1) (find text_cmp e.0 es)) tie ∙ found_at es e (sorted_tail text_cmp p.0 (keys_of es) s) i
 
 module _ (q : List ℕ) (z : Objects) where
   abbrev all : List PageEntry

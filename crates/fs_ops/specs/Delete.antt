@@ -14,8 +14,8 @@ use Rattle.bucket_ops.specs.declared.look.Look.{Look}
 use Rattle.bucket_ops.specs.declared.look.Look.TheVariants.{There}
 use Rattle.bucket_ops.specs.Looks.{look_of}
 use Rattle.bucket_ops.specs.Asks.{Ask, Page, Put, is_look}
-use Rattle.job_operations.specs.Walks.{sweep_start, sweep_hears, all_go}
-use Rattle.job_operations.specs.Walks as walks
+use Rattle.list_walk.specs.Walks.{sweep_start, sweep_hears, all_go}
+use Rattle.list_walk.specs.Walks as walks
 use Rattle.fs_tree.specs.declared.answers.FsRefusal.{FsRefusal}
 use Rattle.fs_tree.specs.declared.answers.FsRefusal.TheVariants.{NotFound, NotEmpty, IsRoot}
 use Rattle.fs_tree.specs.Tree.{SomeBelow, NoneBelow, marker, HasFile, IsAbsent, IsEmpty, HasChildren}
@@ -26,7 +26,8 @@ use Rattle.fs_ops.specs.declared.delete.Inside.TheVariants.{Empty, MarkerAlone, 
 use Rattle.fs_ops.specs.declared.delete.DeleteStage.{DeleteStage}
 use Rattle.fs_ops.specs.declared.delete.DeleteStage.TheVariants.{Here, DropFile, Below, DropMarker, Sweep, Parent, PutMarker}
 use Rattle.fs_ops.specs.Places.{look_asks, below_asks, drop_asks, drop_marker_asks, prefix_of, NoFileAt}
-use Rattle.fs_ops.specs.Sweeping.{sweep_asks, fits, IsSweeping, sweep_left}
+use Rattle.bucket_walks.specs.Sweeping.{sweep_asks, IsSweeping, sweep_left}
+use Rattle.bucket_walks.specs.Walking.{fits}
 
 -- a path, and whether what is below it goes with it
 pub record Deletion : Type 0 where

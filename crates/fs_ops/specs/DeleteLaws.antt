@@ -21,10 +21,11 @@ use Rattle.bucket_ops.specs.declared.look.Look.{Look}
 use Rattle.bucket_ops.specs.declared.look.Look.TheVariants.{There, Nothing, NoBucket, Other}
 use Rattle.bucket_ops.specs.Looks.{look_of}
 use Rattle.bucket_ops.specs.Asks.{reply_in, edited}
+use Rattle.bucket_ops.specs.AskLaws.{gone_still}
 use Rattle.bucket_ops.specs.Phases.{IsPhases, MayAsk}
 use Rattle.dir_markers.specs.Markers.{marker_of}
-use Rattle.job_operations.specs.Walks.{sweep_start, sweep_hears, all_go, Listing, Deleting}
-use Rattle.job_operations.specs.Walks as walks
+use Rattle.list_walk.specs.Walks.{sweep_start, sweep_hears, all_go, Listing, Deleting}
+use Rattle.list_walk.specs.Walks as walks
 use Rattle.fs_tree.specs.declared.answers.FsRefusal.TheVariants.{NotFound, NotEmpty, IsRoot, NoSuchBucket}
 use Rattle.fs_tree.specs.Tree.{Stands, SomeBelow, NoneBelow, marker, IsEmpty, HasChildren}
 use Rattle.fs_tree.specs.Changes.{parent, marker_if, IsMarked, IsWithoutBelow}
@@ -38,9 +39,23 @@ use Rattle.fs_ops.specs.Steps.{goes_by, IsStages}
 use Rattle.fs_ops.specs.StepLaws.{phases_of}
 use Rattle.fs_ops.specs.AtPathLaws.{looks_there}
 use Rattle.fs_ops.specs.Looks.{IsSeen, head_tells, page_tells, none_listed}
-use Rattle.fs_ops.specs.Sweeping.{sweep_asks, fits, IsSweeping, IsSwept, sweep_begins, sweep_goes, sweep_fits, sweep_left, LessLeft, sweep_falls, sweep_stays, is_in, keys_below, below_stands, stands_below, gone_in, kept_out, without_below}
+use Rattle.bucket_walks.specs.Sweeping.{sweep_asks, IsSweeping, IsSwept, sweep_left, LessLeft}
+use Rattle.bucket_walks.specs.Walking.{fits, keys_below}
+use Rattle.bucket_walks.proofs.Sweeps.{sweep_begins, sweep_goes, sweep_fits, sweep_falls, sweep_stays}
+use Rattle.bucket_walks.proofs.Below.{is_in, below_stands, stands_below, gone_in, kept_out}
 use Rattle.fs_ops.specs.Deleting.{deletes}
 use Rattle.fs_ops.specs.Delete.{Deletion, Answer, first, asks, up_to, up, here as here_at, on_here, inside, children, entries_in, on_inside, swept, on_sweep, on_parent, on, Removed, holds, IsDue, sends, ends, GoesWith, IsKept, always, gives, left}
+
+-- without all keys below a prefix none is left there, and the others are as they were
+without_below : (x : ℕ) (q : List ℕ) (z : Objects) → IsWithoutBelow (x ∷ q) z (without z (keys_below (x ∷ q) z))
+without_below x q z = record {
+  gone = λ k b. by k b (fin.get z k) refl;
+  others = λ k b. kept_out z (keys_below (x ∷ q) z) k (λ i. false≢true (sym b ∙ (below_stands (x ∷ q) z k i).0));
+}
+  where
+    by : (k : List ℕ) → begins (x ∷ q) k ≡ true → (o : Option Object) → fin.get z k ≡ o → fin.get (without z (keys_below (x ∷ q) z)) k ≡ None
+    by k b None e = gone_still z (keys_below (x ∷ q) z) k e
+    by k b (Some v) e = gone_in z (keys_below (x ∷ q) z) k (stands_below x q z k v b e)
 
 -- ---- what the first two entries below a directory tell
 
@@ -161,7 +176,7 @@ module _ (recursive : Bool) (z : Objects) where
   sweeping : (x : ℕ) (p : List ℕ) (w : walks.Sweep) (m : Objects) → fin.get z (x ∷ p) ≡ None → SomeBelow z (marker_of (x ∷ p)) → recursive ≡ true → IsSweeping (marker_of (x ∷ p)) z w m
       → On (x ∷ p) (on_sweep (D (x ∷ p)) w (reply_in m (sweep_asks (marker_of (x ∷ p)) w)) (fits (reply_in m (sweep_asks (marker_of (x ∷ p)) w)))) (edited (sweep_asks (marker_of (x ∷ p)) w) m)
   sweeping x p w m f s e h =
-      subst (λ b. On (x ∷ p) (on_sweep (D (x ∷ p)) w (reply_in m (sweep_asks (marker_of (x ∷ p)) w)) b) (edited (sweep_asks (marker_of (x ∷ p)) w) m)) (sym (sweep_fits (marker_of (x ∷ p)) z w m))
+      subst (λ b. On (x ∷ p) (on_sweep (D (x ∷ p)) w (reply_in m (sweep_asks (marker_of (x ∷ p)) w)) b) (edited (sweep_asks (marker_of (x ∷ p)) w) m)) (sym (sweep_fits (marker_of (x ∷ p)) w m))
       (after_sweep x p (edited (sweep_asks (marker_of (x ∷ p)) w) m) (sweep_hears all_go w (reply_in m (sweep_asks (marker_of (x ∷ p)) w))) f s e (sweep_goes (marker_of (x ∷ p)) z w m h))
 
   parent_seen : (p k : List ℕ) (m : Objects) (l : Look) → marker_if (parent p) ≡ Some k → Removed (D p) z m → IsSeen l (SomeBelow m k) (NoneBelow m k) → On p (on_parent k l) m
@@ -303,7 +318,7 @@ module _ (o : Deletion) (z : Objects) where
 
 falls_sweep : (o : Deletion) (w : walks.Sweep) (m : Objects) → Falls (left o) (on_sweep o w (reply_in m (sweep_asks (prefix_of o.path) w)) (fits (reply_in m (sweep_asks (prefix_of o.path) w)))) (edited (sweep_asks (prefix_of o.path) w) m) (sweep_left (prefix_of o.path) w m + 2)
 falls_sweep o w m =
-    subst (λ b. Falls (left o) (on_sweep o w (reply_in m (sweep_asks (prefix_of o.path) w)) b) (edited (sweep_asks (prefix_of o.path) w) m) (sweep_left (prefix_of o.path) w m + 2)) (sym (sweep_fits (prefix_of o.path) m w m))
+    subst (λ b. Falls (left o) (on_sweep o w (reply_in m (sweep_asks (prefix_of o.path) w)) b) (edited (sweep_asks (prefix_of o.path) w) m) (sweep_left (prefix_of o.path) w m + 2)) (sym (sweep_fits (prefix_of o.path) w m))
     (fall_swept o m (sweep_hears all_go w (reply_in m (sweep_asks (prefix_of o.path) w))) (edited (sweep_asks (prefix_of o.path) w) m) (sweep_left (prefix_of o.path) w m) (sweep_falls (prefix_of o.path) w m))
 
 still_look : (p : List ℕ) (m : Objects) → edited (asks (record { path = p; recursive = false }) Here) m ≡ m

@@ -10,7 +10,6 @@ pub mod Read
 pub mod ReadLaws
 pub mod Make
 pub mod MakeLaws
-pub mod Sweeping
 pub mod Delete
 pub mod List
 pub mod Children

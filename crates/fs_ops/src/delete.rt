@@ -1,27 +1,27 @@
 ghost use Rattle.std.specs.Prelude.{◌≡◌, true, IfOk, Err};
 ghost use Rattle.path_keys.specs.Paths.{is_key};
-ghost use Rattle.s3_types.specs.Pages.{text_in};
-ghost use Rattle.proof_base.specs.Order.{text_eq};
-ghost use Rattle.job_operations.specs.Walks as walks;
+ghost use Rattle.list_walk.specs.Walks as walks;
 ghost use Rattle.bucket_ops.specs.Asks.{request_of};
 ghost use Rattle.fs_tree.specs.Changes.{parent, marker_if};
 ghost use Rattle.fs_tree.specs.declared.answers.FsRefusal.TheVariants.{NoSuchBucket};
 ghost use Rattle.fs_ops.specs.Delete as delete;
 ghost use Rattle.fs_ops.specs.Delete.{on_here, inside, on_inside, on_below, on_sweep, on_parent, up, up_to};
-ghost use Rattle.fs_ops.specs.Sweeping.{fits, sweep_asks};
+ghost use Rattle.bucket_walks.specs.Walking.{fits};
+ghost use Rattle.bucket_walks.specs.Sweeping.{sweep_asks};
 ghost use Rattle.fs_ops.specs.Steps.{goes_by};
 ghost use Rattle.fs_ops.specs.DeleteLaws.{delete_laws, delete_asked};
 
 use crate::place::Place;
 use bucket_ops::{Look, Phases, seen_in};
+use bucket_walks::fits;
 use dir_markers::after_delete;
 use fs_tree::FsRefusal;
+use list_walk::{AllKeys, text_of};
 use operations::Step;
 use path_keys::S3Path;
 use s3_types::{Bucket, Bytes, Key, PageEntry, PageLimit, Reply, Request, Text};
 use std::alloc::{AllocError, Global};
 use std::marker::Model;
-use sweep::{AllKeys, fits_page};
 
 /// What stands below a path.
 #[derive(Clone, Copy, Debug)]
@@ -44,7 +44,7 @@ pub enum DeleteStage {
     /// The marker of an empty directory is deleted.
     DropMarker,
     /// All keys below the path are listed and deleted.
-    Sweep(sweep::Sweep),
+    Sweep(list_walk::Sweep),
     /// Whether something is left below the directory above, whose marker this is.
     Parent(Key),
     /// The marker of the directory above is put.
@@ -78,15 +78,6 @@ impl Model for DeletePath {
 
 type Answer = Result<(), FsRefusal>;
 
-fn is_at(entry: &PageEntry, text: &Text) -> bool
-    ensures { result ≡ text_eq (text_in entry.now) text.now }
-{
-    match entry {
-        PageEntry::Object { key, .. } => key.as_text() == text,
-        PageEntry::Prefix(prefix) => prefix == text,
-    }
-}
-
 /// What the first two entries below a path tell.
 fn first_below(prefix: &Text, entries: &[PageEntry]) -> Inside
     ensures { result ≡ inside prefix.now entries.now }
@@ -94,7 +85,7 @@ fn first_below(prefix: &Text, entries: &[PageEntry]) -> Inside
     match entries.first() {
         None => Inside::Empty,
         Some(entry) => {
-            if entries.len() == 1 && is_at(entry, prefix) {
+            if entries.len() == 1 && text_of(entry) == prefix {
                 Inside::MarkerAlone
             } else {
                 Inside::Children
@@ -110,13 +101,6 @@ fn on_parent(marker: Key, seen: Look) -> Step<DeleteStage, Answer>
         Look::There => Step::End(Ok(())),
         _ => Step::Next(DeleteStage::PutMarker(marker)),
     }
-}
-
-/// Whether a walk or a sweep may be told a reply. Takes no memory.
-pub fn fits(reply: &Reply) -> bool
-    ensures { result ≡ fits reply.now }
-{
-    fits_page(reply)
 }
 
 fn up_to(above: &Option<Key>) -> Result<Step<DeleteStage, Answer>, AllocError>
@@ -170,7 +154,7 @@ impl DeletePath {
             Inside::MarkerAlone => Step::Next(DeleteStage::DropMarker),
             Inside::Children => {
                 if self.recursive {
-                    Step::Next(DeleteStage::Sweep(sweep::Sweep::new(self.alloc)))
+                    Step::Next(DeleteStage::Sweep(list_walk::Sweep::new(self.alloc)))
                 } else {
                     Step::End(Err(FsRefusal::NotEmpty))
                 }
@@ -191,7 +175,7 @@ impl DeletePath {
 
     fn on_sweep(
         &self,
-        sweep: sweep::Sweep,
+        sweep: list_walk::Sweep,
         reply: &Reply,
     ) -> Result<Step<DeleteStage, Answer>, AllocError>
         ensures { IfOk result (λ step. step ≡ on_sweep self.now sweep reply.now (fits reply.now)) }

@@ -33,7 +33,7 @@ mod stat;
 
 pub use above::keys_above;
 pub use at_path::PathStage;
-pub use delete::{DeletePath, fits, marker_above};
+pub use delete::{DeletePath, marker_above};
 pub use list::{ListDir, last_element, rest_of};
 pub use make_dirs::MakeDirs;
 pub use place::Place;

@@ -1,5 +1,4 @@
 ghost use Rattle.std.specs.Prelude.{◌≡◌, ◌∷◌, [], Some, IfOk, OnOk, Err, option_map};
-ghost use Rattle.s3_types.specs.Pages.{text_in};
 ghost use Rattle.fs_tree.specs.Answers.{Lists};
 ghost use Rattle.fs_tree.specs.Changes.{own_name};
 ghost use Rattle.fs_tree.specs.declared.answers.FsRefusal.TheVariants.{NoSuchBucket};
@@ -13,6 +12,7 @@ use crate::place::Place;
 use bucket_ops::{Look, Phases, seen_in};
 use dir_markers::Status;
 use fs_tree::{DirEntry, DirList, FsRefusal};
+use list_walk::text_of;
 use operations::Step;
 use path_keys::{S3Path, first_element};
 use s3_types::{Bucket, PageEntry, PageLimit, Reply, Request, Text};
@@ -144,16 +144,6 @@ fn add(
     }
 }
 
-/// The key, or the common prefix.
-fn text_of(entry: &PageEntry) -> Result<Text, AllocError>
-    ensures { IfOk result (λ text. text ≡ text_in entry.now) }
-{
-    match entry {
-        PageEntry::Object { key, .. } => key.as_text().clone(),
-        PageEntry::Prefix(text) => text.clone(),
-    }
-}
-
 /// Adds the children that the entries of a page show, and gives the text of the last of them, or the mark where there
 /// is none.
 fn add_all(
@@ -169,7 +159,7 @@ fn add_all(
     let mut last = mark;
     for entry in entries {
         add(alloc, prefix, found, entry)?;
-        last = text_of(entry)?;
+        last = text_of(entry).clone()?;
     }
     Ok(last)
 }

@@ -19,7 +19,7 @@ use Rattle.fs_tree.proofs.Begins.{begins_trans}
 use Rattle.fs_tree.proofs.Above.{key_no_marker}
 use Rattle.fs_tree.proofs.Moving.{place_above, place_apart, moves_file, moves_dir}
 use Rattle.fs_ops.specs.StepLaws.{same_scene}
-use Rattle.fs_ops.specs.Sweeping.{IsDeleting}
+use Rattle.bucket_walks.specs.Sweeping.{IsDeleting}
 use Rattle.fs_moves.specs.Copies.{Move, sources, copied_all, AreFree, moves_of}
 use Rattle.fs_moves.proofs.Whole.{AreWhole, whole_copying, whole_emptying, whole_marked, is_whole}
 use Rattle.fs_moves.proofs.Placed.{file_free, file_to, file_from, file_apart, file_moved, dir_free, dir_to, dir_from, dir_apart, dir_moved}

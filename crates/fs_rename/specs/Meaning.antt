@@ -8,7 +8,8 @@ use Rattle.fs_tree.specs.Changes.{parent, marker_if, IsMarked}
 use Rattle.fs_tree.specs.Moves.{IsAtOrBelow, inside, IsPlace, AllFit}
 use Rattle.fs_tree.specs.Renames.{Renames}
 use Rattle.fs_ops.specs.Places.{prefix_of, NoFileAt}
-use Rattle.fs_ops.specs.Sweeping.{IsWalking, IsDeleting, IsDeleted}
+use Rattle.bucket_walks.specs.Walking.{IsWalking}
+use Rattle.bucket_walks.specs.Sweeping.{IsDeleting, IsDeleted}
 use Rattle.fs_moves.specs.Copies.{sources, copied_all, IsCopying, moves_of}
 use Rattle.fs_rename.specs.declared.stages.Spot.{Spot}
 use Rattle.fs_rename.specs.declared.stages.Spot.TheVariants.{Source, Target, Inside, Above}
@@ -64,7 +65,7 @@ IsMoved o z n = (d : Bool) × (i : Bool) × (q : List ℕ) × MayGo o z d i q ×
 
 abbrev pub holds : Renaming → Objects → RenameStage → Objects → Type 0
 holds o z (Looking s b d) m = (m ≡ z) × Before o z s d × NoFileIf b z (path_at o s)
-holds o z (Walk i keys) m = (m ≡ z) × ((q : List ℕ) × IsReady o z true i q) × IsWalking (prefix_of o.source) z keys
+holds o z (Walk i found) m = (m ≡ z) × ((q : List ℕ) × IsReady o z true i q) × IsWalking (prefix_of o.source) z found
 holds o z (Copy c) m = (d : Bool) × (i : Bool) × (q : List ℕ) × MayGo o z d i q × IsCopying z (moves_of d o.source q z) c m
 holds o z (Batch w) m = (d : Bool) × (i : Bool) × (q : List ℕ) × MayGo o z d i q × IsDeleted (copied_all z (moves_of d o.source q z)) (sources (moves_of d o.source q z)) (Some w) m
 holds o z (Parent k) m = (marker_if (parent o.source) ≡ Some k) × IsMoved o z m

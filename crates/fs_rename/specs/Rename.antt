@@ -11,8 +11,8 @@ use Rattle.bucket_ops.specs.declared.look.Look.TheVariants.{There, Nothing as No
 use Rattle.bucket_ops.specs.Looks.{look_of}
 use Rattle.bucket_ops.specs.Asks.{Ask, Page, Put}
 use Rattle.dir_markers.specs.Markers.{marker_of}
-use Rattle.job_operations.specs.Walks.{Walked, More, Whole, walked, Listing, sweep_hears, deleting, all_go}
-use Rattle.job_operations.specs.Walks as walks
+use Rattle.list_walk.specs.Walks.{keys_on, Walked, More, Whole, walked_entries, sweep_hears, deleting, all_go}
+use Rattle.list_walk.specs.Walks as walks
 use Rattle.fs_tree.specs.declared.rename.RenameRefusal.{RenameRefusal}
 use Rattle.fs_tree.specs.declared.rename.RenameRefusal.TheVariants.{SourceMissing, SourceRoot, UnderSource, TargetFile, TargetExists, ParentMissing, ParentIsFile, NoSuchBucket, TooLong}
 use Rattle.fs_tree.specs.Changes.{parent, marker_if}
@@ -20,7 +20,8 @@ use Rattle.fs_tree.specs.Moves.{inside}
 use Rattle.fs_ops.specs.Places.{key_if, prefix_of, look_asks, below_asks}
 use Rattle.fs_ops.specs.Delete.{entries_in}
 use Rattle.fs_ops.specs.Steps.{unless}
-use Rattle.fs_ops.specs.Sweeping.{sweep_asks, fits}
+use Rattle.bucket_walks.specs.Sweeping.{sweep_asks}
+use Rattle.bucket_walks.specs.Walking.{walk_asks, fits}
 use Rattle.fs_moves.specs.declared.copying.CopyStep.{CopyStep}
 use Rattle.fs_moves.specs.declared.copying.CopyStep.TheVariants.{Next as NextCopy, All}
 use Rattle.fs_moves.specs.Keys.{fitting, new_keys}
@@ -174,14 +175,14 @@ abbrev pub listed_to : Renaming → Option (List ℕ) → List (List ℕ) → St
 listed_to o None ks = End (Err SourceMissing)
 listed_to o (Some q) ks = with_places ks (new_keys (prefix_of o.source) (marker_of q) ks)
 
-abbrev pub on_walked : Renaming → Bool → Walked (List ℕ) → Step RenameStage Answer
-on_walked o i (More keys) = Next (Walk i keys)
-on_walked o i (Whole keys) = listed_to o (place_at o i) keys
+abbrev pub on_walked : Renaming → Bool → Walked PageEntry → Step RenameStage Answer
+on_walked o i (More found) = Next (Walk i found)
+on_walked o i (Whole found) = listed_to o (place_at o i) (keys_on found)
 
 -- a reply that a walk may not be told leads nowhere
-abbrev pub on_walk : Renaming → Bool → List (List ℕ) → Reply → Bool → Step RenameStage Answer
-on_walk o i keys r true = on_walked o i (walked keys r)
-on_walk o i keys r false = Next (Walk i keys)
+abbrev pub on_walk : Renaming → Bool → List PageEntry → Reply → Bool → Step RenameStage Answer
+on_walk o i found r true = on_walked o i (walked_entries found r)
+on_walk o i found r false = Next (Walk i found)
 
 -- whether something is left below the directory above the source is looked at, unless that is the root
 abbrev pub up_to : Option (List ℕ) → Step RenameStage Answer
@@ -214,7 +215,7 @@ first o = Looking Source false false
 
 abbrev pub asks : Renaming → RenameStage → Ask
 asks o (Looking s b d) = look_at_asks o s b
-asks o (Walk i keys) = sweep_asks (prefix_of o.source) (Listing keys)
+asks o (Walk i found) = walk_asks (prefix_of o.source) found
 asks o (Copy c) = copy_asks c
 asks o (Batch w) = sweep_asks (prefix_of o.source) w
 asks o (Parent k) = Page k false [] 1
@@ -222,7 +223,7 @@ asks o (PutMarker k) = Put k []
 
 abbrev pub on : Renaming → RenameStage → Reply → Step RenameStage Answer
 on o (Looking s b d) r = looked o s d (kind_of (is_root_at o s) b (seen_at o s b r))
-on o (Walk i keys) r = on_walk o i keys r (fits r)
+on o (Walk i found) r = on_walk o i found r (fits r)
 on o (Copy c) r = on_copied o (copied_next (has_more c) c)
 on o (Batch w) r = on_batch o w r (fits r)
 on o (Parent k) r = on_parent k (look_of r)

@@ -9,6 +9,7 @@ use Rattle.proof_base.specs.Order.{text_cmp, text_total}
 use Rattle.proof_base.proofs.Less.{irrefl}
 use Rattle.s3_types.specs.Store.{Objects}
 use Rattle.s3_types.specs.Pages.{page, listed, begins}
+use Rattle.s3_types.specs.declared.reply.PageEntry.{PageEntry}
 use Rattle.request_frame.specs.Members.{IsIn}
 use Rattle.request_frame.proofs.Flat.{listed_rises}
 use Rattle.operations.specs.declared.plan.Step.{Step}
@@ -20,8 +21,8 @@ use Rattle.bucket_ops.specs.Looks.{look_of}
 use Rattle.bucket_ops.specs.Asks.{reply_in, edited, is_look}
 use Rattle.bucket_ops.specs.Phases.{IsPhases, MayAsk}
 use Rattle.dir_markers.specs.Markers.{marker_of}
-use Rattle.job_operations.specs.Walks.{Walked, More, Whole, walked, Listing, Deleting, sweep_hears, deleting, all_go}
-use Rattle.job_operations.specs.Walks as walks
+use Rattle.list_walk.specs.Walks.{keys_on, Walked, More, Whole, walked_entries, Listing, Deleting, sweep_hears, deleting, all_go}
+use Rattle.list_walk.specs.Walks as walks
 use Rattle.fs_tree.specs.declared.rename.RenameRefusal.TheVariants.{SourceMissing, UnderSource, TargetFile, TargetExists, ParentMissing, ParentIsFile, NoSuchBucket, TooLong}
 use Rattle.fs_tree.specs.Tree.{SomeBelow, NoneBelow, marker, HasFile, IsDirectory, IsAbsent}
 use Rattle.fs_tree.specs.Changes.{parent, marker_if, IsMarked}
@@ -31,7 +32,12 @@ use Rattle.fs_tree.specs.Renames.{RenamesPath, Renames}
 use Rattle.fs_tree.proofs.Begins.{marker_at, begins_all, begins_trans, begins_marker}
 use Rattle.fs_ops.specs.Places.{key_if, prefix_of}
 use Rattle.fs_ops.specs.StepLaws.{not_missing}
-use Rattle.fs_ops.specs.Sweeping.{keys_below, IsWalking, IsWalked, IsDeleted, sweep_asks, fits, sweep_fits, walk_goes, walk_falls, batch_goes, deleting_all, sweep_falls, sweep_stays, stands_below}
+use Rattle.bucket_walks.specs.Walking.{keys_below, walk_asks, IsWalking, IsWalked, fits}
+use Rattle.bucket_walks.specs.Sweeping.{IsDeleted, sweep_asks}
+use Rattle.bucket_walks.proofs.Sweeps.{sweep_fits, sweep_falls, sweep_stays}
+use Rattle.bucket_walks.proofs.Walks.{walk_fits, walk_goes, walk_falls}
+use Rattle.bucket_walks.proofs.Batches.{batch_goes, deleting_all}
+use Rattle.bucket_walks.proofs.Below.{stands_below}
 use Rattle.fs_ops.specs.DeleteLaws.{parent_page}
 use Rattle.fs_ops.specs.Looks.{IsSeen}
 use Rattle.fs_moves.specs.declared.copying.Copying.{Copying}
@@ -215,14 +221,14 @@ module _ (x : ℕ) (p t : List ℕ) (z : Objects) where
   walk_to i [] h keys e = absurd h.free
   walk_to i (y ∷ q) h keys e = placed i y q h keys e (new_keys (marker_of (x ∷ p)) (marker_of (y ∷ q)) keys) refl
 
-  walked_on : (i : Bool) (q : List ℕ) → IsReady O z true i q → (w : Walked (List ℕ)) → IsWalked (marker_of (x ∷ p)) z w → On (on_walked O i w) z
-  walked_on i q h (More keys) w = (refl, (q, h), w)
-  walked_on i q h (Whole keys) w = subst (λ v. On (listed_to O v keys) z) (sym h.at) (walk_to i q h keys w)
+  walked_on : (i : Bool) (q : List ℕ) → IsReady O z true i q → (w : Walked PageEntry) → IsWalked (marker_of (x ∷ p)) z w → On (on_walked O i w) z
+  walked_on i q h (More found) w = (refl, (q, h), w)
+  walked_on i q h (Whole found) w = subst (λ v. On (listed_to O v (keys_on found)) z) (sym h.at) (walk_to i q h (keys_on found) (ap keys_on w))
 
-  walking : (i : Bool) (q : List ℕ) (keys : List (List ℕ)) → IsReady O z true i q → IsWalking (marker_of (x ∷ p)) z keys → On (on_walk O i keys (reply_in z (sweep_asks (marker_of (x ∷ p)) (Listing keys))) (fits (reply_in z (sweep_asks (marker_of (x ∷ p)) (Listing keys))))) z
-  walking i q keys h w =
-      subst (λ b. On (on_walk O i keys (reply_in z (sweep_asks (marker_of (x ∷ p)) (Listing keys))) b) z) (sym (sweep_fits (marker_of (x ∷ p)) z (Listing keys) z))
-      (walked_on i q h (walked keys (reply_in z (sweep_asks (marker_of (x ∷ p)) (Listing keys)))) (walk_goes (marker_of (x ∷ p)) z keys w))
+  walking : (i : Bool) (q : List ℕ) (found : List PageEntry) → IsReady O z true i q → IsWalking (marker_of (x ∷ p)) z found → On (on_walk O i found (reply_in z (walk_asks (marker_of (x ∷ p)) found)) (fits (reply_in z (walk_asks (marker_of (x ∷ p)) found)))) z
+  walking i q found h w =
+      subst (λ b. On (on_walk O i found (reply_in z (walk_asks (marker_of (x ∷ p)) found)) b) z) (sym (walk_fits (marker_of (x ∷ p)) found z))
+      (walked_on i q h (walked_entries found (reply_in z (walk_asks (marker_of (x ∷ p)) found))) (walk_goes (marker_of (x ∷ p)) z found w))
 
   -- ---- the copies, the batches and the marker
 
@@ -248,7 +254,7 @@ module _ (x : ℕ) (p t : List ℕ) (z : Objects) where
       → On (on_batch O w (reply_in m (sweep_asks (marker_of (x ∷ p)) w)) (fits (reply_in m (sweep_asks (marker_of (x ∷ p)) w)))) (edited (sweep_asks (marker_of (x ∷ p)) w) m)
   batch_on d i q g (Listing keys) m h = absurd h
   batch_on d i q g (Deleting k ks) m h =
-      subst (λ b. On (on_batch O (Deleting k ks) (reply_in m (sweep_asks (marker_of (x ∷ p)) (Deleting k ks))) b) (edited (sweep_asks (marker_of (x ∷ p)) (Deleting k ks)) m)) (sym (sweep_fits (marker_of (x ∷ p)) z (Deleting k ks) m))
+      subst (λ b. On (on_batch O (Deleting k ks) (reply_in m (sweep_asks (marker_of (x ∷ p)) (Deleting k ks))) b) (edited (sweep_asks (marker_of (x ∷ p)) (Deleting k ks)) m)) (sym (sweep_fits (marker_of (x ∷ p)) (Deleting k ks) m))
       (batches d i q g (deleting (drop 1000 (k ∷ ks))) (edited (sweep_asks (marker_of (x ∷ p)) (Deleting k ks)) m)
       (batch_goes (copied_all z (moves_of d (x ∷ p) q z)) (sources (moves_of d (x ∷ p) q z)) (k ∷ ks) m h))
 
@@ -274,8 +280,8 @@ module _ (x : ℕ) (p t : List ℕ) (z : Objects) where
   step (Looking s b d) m h =
       subst (On (on O (Looking s b d) (reply_in m (look_at_asks O s b)))) (sym (still O s b m))
       (subst (λ m. On (on O (Looking s b d) (reply_in m (look_at_asks O s b))) m) (sym h.0) (stage_look s b d h.1 h.2))
-  step (Walk i keys) m h =
-      subst (λ m. On (on_walk O i keys (reply_in m (sweep_asks (marker_of (x ∷ p)) (Listing keys))) (fits (reply_in m (sweep_asks (marker_of (x ∷ p)) (Listing keys))))) m) (sym h.0) (walking i h.1.0 keys h.1.1 h.2)
+  step (Walk i found) m h =
+      subst (λ m. On (on_walk O i found (reply_in m (walk_asks (marker_of (x ∷ p)) found)) (fits (reply_in m (walk_asks (marker_of (x ∷ p)) found)))) m) (sym h.0) (walking i h.1.0 found h.1.1 h.2)
   step (Copy c) m h = copied_on h.0 h.1 h.2 h.3 (copied_next (has_more c) c) (edited (copy_asks c) m) (copying_goes z (moves_of h.0 (x ∷ p) h.2 z) c m h.4)
   step (Batch w) m h = batch_on h.0 h.1 h.2 h.3 w m h.4
   step (Parent k) m h = parent_seen k m (look_of (page 1 (listed k false [] m))) h.0 h.1 (parent_page (parent (x ∷ p)) k m h.0)
@@ -312,14 +318,14 @@ told false true NoBucket e f = absurd (cc)
 told false true Other e f = absurd (cc)
 told false false l e f = false≢true e
 
-falls_walk : (o : Renaming) (i : Bool) (keys : List (List ℕ)) (m : Objects) → Falls (left o) (on o (Walk i keys) (reply_in m (asks o (Walk i keys)))) m (left o (Walk i keys) m)
-falls_walk o i keys m =
-    subst (λ b. Falls (left o) (on_walk o i keys (reply_in m (sweep_asks (prefix_of o.source) (Listing keys))) b) m (left o (Walk i keys) m)) (sym (sweep_fits (prefix_of o.source) m (Listing keys) m))
-    (fall_walked o m i (walked keys (reply_in m (sweep_asks (prefix_of o.source) (Listing keys)))) _ (walk_falls (prefix_of o.source) keys m))
+falls_walk : (o : Renaming) (i : Bool) (found : List PageEntry) (m : Objects) → Falls (left o) (on o (Walk i found) (reply_in m (asks o (Walk i found)))) m (left o (Walk i found) m)
+falls_walk o i found m =
+    subst (λ b. Falls (left o) (on_walk o i found (reply_in m (walk_asks (prefix_of o.source) found)) b) m (left o (Walk i found) m)) (sym (walk_fits (prefix_of o.source) found m))
+    (fall_walked o m i (walked_entries found (reply_in m (walk_asks (prefix_of o.source) found))) _ (walk_falls (prefix_of o.source) found m))
 
 falls_batch : (o : Renaming) (w : walks.Sweep) (m : Objects) → Falls (left o) (on o (Batch w) (reply_in m (asks o (Batch w)))) (edited (asks o (Batch w)) m) (left o (Batch w) m)
 falls_batch o w m =
-    subst (λ b. Falls (left o) (on_batch o w (reply_in m (sweep_asks (prefix_of o.source) w)) b) (edited (sweep_asks (prefix_of o.source) w) m) (left o (Batch w) m)) (sym (sweep_fits (prefix_of o.source) m w m))
+    subst (λ b. Falls (left o) (on_batch o w (reply_in m (sweep_asks (prefix_of o.source) w)) b) (edited (sweep_asks (prefix_of o.source) w) m) (left o (Batch w) m)) (sym (sweep_fits (prefix_of o.source) w m))
     (fall_swept o (edited (sweep_asks (prefix_of o.source) w) m) (sweep_hears all_go w (reply_in m (sweep_asks (prefix_of o.source) w))) _ (sweep_falls (prefix_of o.source) w m))
 
 falls_copied : (o : Renaming) (c : Copying) (m : Objects) (b : Bool) → LessCopies (copied_next b c) (copies_left c) → Falls (left o) (on_copied o (copied_next b c)) m (left o (Copy c) m)
@@ -330,7 +336,7 @@ falls : (o : Renaming) (z : Objects) (s : RenameStage) (m : Objects) → holds o
 falls o z (Looking s b d) m h =
     subst (λ n. Falls (left o) (on o (Looking s b d) (reply_in m (look_at_asks o s b))) n (left o (Looking s b d) m)) (sym (still o s b m))
     (fall_looked o m s d b (kind_of (is_root_at o s) b (seen_at o s b (reply_in m (look_at_asks o s b)))) (told (is_root_at o s) b (seen_at o s b (reply_in m (look_at_asks o s b)))))
-falls o z (Walk i keys) m h = falls_walk o i keys m
+falls o z (Walk i found) m h = falls_walk o i found m
 falls o z (Copy c) m h = falls_copied o c (edited (copy_asks c) m) (has_more c) (copying_falls c h.4.some)
 falls o z (Batch w) m h = falls_batch o w m
 falls o z (Parent k) m h = fall_parent o m k (look_of (reply_in m (asks o (Parent k))))

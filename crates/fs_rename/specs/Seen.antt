@@ -24,7 +24,8 @@ use Rattle.fs_tree.proofs.Moving.{rest_after}
 use Rattle.fs_ops.specs.Places.{NoFileAt}
 use Rattle.fs_ops.specs.Looks.{IsSeen, head_tells, page_tells}
 use Rattle.fs_ops.specs.Showing.{cmp_behind}
-use Rattle.fs_ops.specs.Sweeping.{keys_below, below_stands, stands_below}
+use Rattle.bucket_walks.specs.Walking.{keys_below}
+use Rattle.bucket_walks.proofs.Below.{below_stands, stands_below}
 use Rattle.fs_rename.specs.declared.stages.Kind.{Kind}
 use Rattle.fs_rename.specs.declared.stages.Kind.TheVariants.{File, Directory, Nothing}
 use Rattle.fs_rename.specs.Rename.{asks_at, inside_asks, first_is, seen_inside, is_root, kind_of}

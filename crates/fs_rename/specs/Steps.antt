@@ -5,11 +5,14 @@ use Rattle.s3_types.specs.Store.{Objects}
 use Rattle.operations.specs.Plans.{Falls}
 use Rattle.bucket_ops.specs.declared.look.Look.{Look}
 use Rattle.bucket_ops.specs.declared.look.Look.TheVariants.{There, Nothing as NothingThere, NoBucket, Other}
-use Rattle.job_operations.specs.Walks.{Walked, More, Whole, walked, Listing, Deleting, sweep_start, deleting}
-use Rattle.job_operations.specs.Walks as walks
+use Rattle.s3_types.specs.declared.reply.PageEntry.{PageEntry}
+use Rattle.list_walk.specs.Walks.{keys_on, Walked, More, Whole, Deleting, sweep_start, deleting}
+use Rattle.list_walk.specs.Walks as walks
 use Rattle.fs_tree.specs.Changes.{parent, marker_if}
 use Rattle.fs_ops.specs.Places.{prefix_of, key_if}
-use Rattle.fs_ops.specs.Sweeping.{sweep_left, LessLeft, LessWalked}
+use Rattle.bucket_walks.specs.Sweeping.{sweep_left, LessLeft}
+use Rattle.bucket_walks.specs.Walking.{walk_left, LessWalked}
+use Rattle.bucket_walks.proofs.Sweeps.{length_keys}
 use Rattle.fs_moves.specs.declared.copying.CopyStep.TheVariants.{All}
 use Rattle.fs_moves.specs.Keys.{fitting}
 use Rattle.fs_moves.specs.Copies.{copies_left}
@@ -32,7 +35,7 @@ looks_left s true = 1
 
 abbrev pub left : Renaming → RenameStage → Objects → ℕ
 left o (Looking s b d) m = 2 * sweep_left (prefix_of o.source) sweep_start m + 4 + looks_left s b
-left o (Walk i keys) m = 2 * sweep_left (prefix_of o.source) (Listing keys) m + 4
+left o (Walk i found) m = 2 * walk_left (prefix_of o.source) found m + 4
 left o (Copy c) m = copies_left c + length c.keys + 4
 left o (Batch w) m = sweep_left (prefix_of o.source) w m + 3
 left o (Parent k) m = 1
@@ -110,9 +113,9 @@ module _ (o : Renaming) (m : Objects) where
   fall_listed None ks n h = tt
   fall_listed (Some q) ks n h = fall_places ks _ n h
 
-  pub fall_walked : (i : Bool) (w : Walked (List ℕ)) (n : ℕ) → LessWalked (prefix_of o.source) m w n → Falls (left o) (on_walked o i w) m (2 * n + 4)
-  fall_walked i (More keys) n h = omega (arith, h)
-  fall_walked i (Whole keys) n h = fall_listed (place_at o i) keys (2 * n + 4) (omega (arith, h))
+  pub fall_walked : (i : Bool) (w : Walked PageEntry) (n : ℕ) → LessWalked (prefix_of o.source) m w n → Falls (left o) (on_walked o i w) m (2 * n + 4)
+  fall_walked i (More found) n h = omega (arith, h)
+  fall_walked i (Whole found) n h = fall_listed (place_at o i) (keys_on found) (2 * n + 4) (let e = length_keys found in omega (arith, e, h))
 
   fall_up : (u : Option (List ℕ)) (n : ℕ) → 1 < n → Falls (left o) (up_to u) m n
   fall_up None n h = tt

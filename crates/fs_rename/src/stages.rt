@@ -1,14 +1,12 @@
 ghost use Rattle.std.specs.Prelude.{◌≡◌, false, Some, IfOk, Ok, Err};
 ghost use Rattle.std.specs.Option.{option_copied};
-ghost use Rattle.proof_base.specs.Order.{text_eq};
-ghost use Rattle.s3_types.specs.Pages.{text_in};
 ghost use Rattle.bucket_ops.specs.Asks.{request_of};
 ghost use Rattle.bucket_ops.specs.Looks.{look_of};
-ghost use Rattle.job_operations.specs.Walks.{deleting};
+ghost use Rattle.list_walk.specs.Walks.{deleting};
 ghost use Rattle.fs_tree.specs.declared.rename.RenameRefusal.TheVariants.{NoSuchBucket};
 ghost use Rattle.fs_ops.specs.Delete.{entries_in};
 ghost use Rattle.fs_ops.specs.Places.{key_if};
-ghost use Rattle.fs_ops.specs.Sweeping.{fits};
+ghost use Rattle.bucket_walks.specs.Walking.{fits};
 ghost use Rattle.fs_moves.specs.Keys.{fitting};
 ghost use Rattle.fs_rename.specs.Rename.{first_is, seen_inside, seen_at, kind_of, one_copy, file_to, place_at, go, begun, on_kind, on_source, on_target, on_inside, on_above, found, looked, with_places, listed_to, on_walked, on_walk, up_to, up, swept, on_copied, on_batch, on_parent, first, asks, on, goes, is_root, is_root_at};
 ghost use Rattle.fs_rename.specs.Meaning.{holds, gives, always, sends};
@@ -17,13 +15,13 @@ ghost use Rattle.fs_rename.specs.RenameLaws.{rename_laws, rename_asked};
 
 use crate::names::RenameNames;
 use bucket_ops::{Look, Phases, seen_in};
+use bucket_walks::fits;
 use fs_moves::{Base, CopyStep, Copying};
-use fs_ops::fits;
 use fs_tree::RenameRefusal;
+use list_walk::{AllKeys, KeyWalk, Sweep, text_of};
 use operations::Step;
 use s3_types::{Bucket, Bytes, Key, KeyList, PageEntry, PageLimit, Reply, Request, Text};
 use std::alloc::AllocError;
-use sweep::{AllKeys, KeyWalk, Sweep};
 
 /// The paths that a renaming looks at: the source, the target, the new place inside the target, and the path above
 /// the target.
@@ -70,22 +68,13 @@ pub enum RenameStage {
 
 type Answer = Result<(), RenameRefusal>;
 
-fn is_at(entry: &PageEntry, text: &Text) -> bool
-    ensures { result ≡ text_eq (text_in entry.now) text.now }
-{
-    match entry {
-        PageEntry::Object { key, .. } => key.as_text() == text,
-        PageEntry::Prefix(prefix) => prefix == text,
-    }
-}
-
 /// Whether the first of these entries is the path itself.
 fn first_is(path: &Text, entries: &[PageEntry]) -> Look
     ensures { result ≡ first_is path.now entries.now }
 {
     match entries.first() {
         Some(entry) => {
-            if is_at(entry, path) {
+            if text_of(entry) == path {
                 Look::There
             } else {
                 Look::Nothing
@@ -342,7 +331,7 @@ impl RenameNames {
         if walk.hear(reply)? {
             Ok(Step::Next(RenameStage::Walk { inside, walk }))
         } else {
-            self.listed_to(inside, walk.into_keys())
+            self.listed_to(inside, walk.keys(self.alloc)?)
         }
     }
 
@@ -357,7 +346,7 @@ impl RenameNames {
     {
         match step {
             CopyStep::Next(copying) => Ok(Step::Next(RenameStage::Copy(copying))),
-            CopyStep::All(keys) => match Sweep::of(keys) {
+            CopyStep::All(keys) => match Sweep::of(self.alloc, keys) {
                 Some(sweep) => Ok(Step::Next(RenameStage::Batch(sweep))),
                 None => self.up(),
             },

@@ -19,13 +19,13 @@ use Rattle.s3_types.specs.declared.request.Committer.{Committer}
 use Rattle.s3_types.specs.declared.request.Committer.TheVariants.{Magic, Directory, Partitioned}
 use Rattle.s3_types.specs.declared.request.Request.{Request}
 use Rattle.s3_types.specs.declared.request.Request.TheVariants.{PutObject, CopyObject, CompleteUpload}
-use Rattle.sweep.specs.Left.{keys_left, walk_left, sweep_left, thousands, one_if as one}
-use Rattle.sweep.proofs.Counting.{count, count_more}
-use Rattle.sweep.proofs.Listing.{is_left, listed_count}
-use Rattle.sweep.proofs.Growing.{grows, growth}
+use Rattle.list_walk.specs.Left.{keys_left, walk_left, sweep_left, thousands, one_if as one}
+use Rattle.list_walk.proofs.Counting.{count, count_more}
+use Rattle.list_walk.proofs.Listing.{is_left, listed_count}
+use Rattle.list_walk.proofs.Growing.{grows, growth}
 use Rattle.job_model.specs.JobScript.{Script}
 use Rattle.job_model.specs.Attempts.{Who}
-use Rattle.job_operations.specs.Walks.{Sweep, Listing, Deleting, last_of, sweep_start}
+use Rattle.list_walk.specs.Walks.{Sweep, Listing, Deleting, last_of, sweep_start}
 use Rattle.job_operations.specs.TaskCommits as commits
 use Rattle.job_operations.specs.TaskCommits.{TaskCommit, attempt_prefix}
 use Rattle.job_operations.specs.TaskAborts as aborts

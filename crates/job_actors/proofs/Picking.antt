@@ -13,7 +13,7 @@ use Rattle.request_frame.proofs.Members.{some_is, none_some}
 use Rattle.job_model.specs.JobScript.{Script}
 use Rattle.job_model.specs.Known.{Known}
 use Rattle.job_model.specs.declared.ends.Pick.{Pick}
-use Rattle.job_operations.specs.Walks as walks
+use Rattle.list_walk.specs.Walks as walks
 use Rattle.job_operations.specs.Setup as setups
 use Rattle.job_operations.specs.Setup.{setup_asks}
 use Rattle.job_operations.specs.Cleanups as cleans

@@ -14,7 +14,7 @@ use Rattle.magic_paths.specs.Layout.{set_key}
 use Rattle.magic_paths.proofs.Tails.{begins_behind, below_is}
 use Rattle.pending_json.specs.Pending.{Pending}
 use Rattle.request_frame.proofs.Members.{some_is, none_some, false_true, true_or_false}
-use Rattle.sweep.specs.Left.{adds_key, one_if}
+use Rattle.list_walk.specs.Left.{adds_key, one_if}
 use Rattle.commit_laws.specs.Laws.{widest, prefixes_most, if_staging, rise_of as commit_rise_of}
 use Rattle.job_model.specs.Attempts.{Who, actor_of}
 use Rattle.job_model.specs.Files.{File}
@@ -24,7 +24,7 @@ use Rattle.job_model.specs.Legal.{IsLegal}
 use Rattle.job_model.specs.JobScript.{Script}
 use Rattle.job_operations.specs.Records.{attempt_dir, marker_key, record_key}
 use Rattle.job_operations.specs.Uploading.{Uploading, Creating, Sending, upload_asks}
-use Rattle.job_operations.specs.Walks.{Sweep, Listing, Deleting}
+use Rattle.list_walk.specs.Walks.{Sweep, Listing, Deleting}
 use Rattle.job_operations.specs.Setup as setups
 use Rattle.job_operations.specs.Writes as writes
 use Rattle.job_operations.specs.TaskCommits as commits

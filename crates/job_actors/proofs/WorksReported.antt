@@ -15,7 +15,7 @@ use Rattle.job_model.specs.declared.events.Op.TheVariants as ops
 use Rattle.job_model.specs.declared.events.Event.{Event}
 use Rattle.job_model.specs.declared.events.Event.TheVariants.{Do, Start, Step, Run, Kill, Mix, Restart, Recover}
 use Rattle.job_model.specs.declared.ends.EventEnd.{EventEnd}
-use Rattle.job_operations.specs.Walks.{Sweep, sweep_hears}
+use Rattle.list_walk.specs.Walks.{Sweep, sweep_hears}
 use Rattle.job_operations.specs.Lanes.{Turn, again, follow, dealt, revert}
 use Rattle.job_operations.specs.JobCommits.{Sets, all_commits, set_read, is_no_magic, Commit, Fetching, Replacing, Completing, Marking, Reverting, CommitOver, completing, replacing, fetching, fetched, swept, reverting, worn_completion, commit_misses, commit_tells, commit_start}
 use Rattle.job_operations.specs.Operations.{Setting, Operation, TheSetup, TheWrite, TheTaskCommit, TheTaskAbort, TheCommit, TheClean, who, tells, start_of}

@@ -11,7 +11,7 @@ use Rattle.job_model.specs.JobScript.{Script}
 use Rattle.job_model.specs.declared.ends.SetupEnd.TheVariants as setups
 use Rattle.job_model.specs.declared.ends.EventEnd.TheVariants.{Done}
 use Rattle.job_operations.specs.Setup.{Setup, SetupOver}
-use Rattle.job_operations.specs.Walks.{Sweep}
+use Rattle.list_walk.specs.Walks.{Sweep}
 use Rattle.job_operations.specs.JobCommits.{Sets, picks_of, replaced, Commit, Fetching, Replacing, Completing, Marking, Reverting, CommitOver}
 use Rattle.job_operations.specs.Operations.{Setting, Operation, TheSetup, TheCommit, Running}
 use Rattle.job_promise.specs.Seen.{Seen}

@@ -24,7 +24,7 @@ use Rattle.job_setup.specs.Left.{setup_left}
 use Rattle.cleanup.specs.Fits.{FitsDriving as clean_fits}
 use Rattle.cleanup.specs.Left.{clean_left}
 use Rattle.commit_laws.specs.Laws.{FitsFew, left, rise as commit_rise}
-use Rattle.sweep.specs.Left.{adds_key, one_if}
+use Rattle.list_walk.specs.Left.{adds_key, one_if}
 use Rattle.job_actors.specs.declared.act.Act.{Act}
 use Rattle.job_actors.specs.declared.act.Act.TheVariants.{Setup, Write, CommitTask, AbortTask, Commit, Clean}
 

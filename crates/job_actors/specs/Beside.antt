@@ -6,7 +6,7 @@ use Rattle.s3_types.specs.Pages.{begins}
 use Rattle.s3_types.specs.declared.request.Request.{Request}
 use Rattle.request_frame.specs.Frame.{changed_keys}
 use Rattle.request_frame.specs.Members.{IsIn}
-use Rattle.sweep.specs.Left.{adds_key}
+use Rattle.list_walk.specs.Left.{adds_key}
 use Rattle.machine.specs.declared.retrying.Retrying.{Retrying}
 use Rattle.job_model.specs.Jobs.{Task}
 use Rattle.job_operations.specs.Writes.{Write as Writing}

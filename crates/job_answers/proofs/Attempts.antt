@@ -21,8 +21,8 @@ use Rattle.job_model.specs.Known.{Drawn, Known}
 use Rattle.job_operations.specs.Outputs.{files}
 use Rattle.job_operations.specs.Knowledge.{drawn_in, first_drawn}
 use Rattle.job_operations.specs.Records.{file_key, record_key, record_text}
-use Rattle.job_operations.specs.Walks.{keys_on, last_of, page_after}
-use Rattle.job_operations.specs.Walks as walks
+use Rattle.list_walk.specs.Walks.{keys_on, last_of, page_after}
+use Rattle.list_walk.specs.Walks as walks
 use Rattle.job_operations.specs.Uploading.{Creating, Sending, file_parts}
 use Rattle.job_operations.specs.Writes as writes
 use Rattle.job_operations.specs.Writes.{Write}
@@ -31,7 +31,7 @@ use Rattle.job_operations.specs.TaskCommits.{TaskCommit, Looking, Reading, Publi
 use Rattle.job_operations.specs.TaskAborts.{TaskAbort, Dropping, Sweeping, Removing, TaskAbortOver}
 use Rattle.job_operations.specs.AtWork.{write_wants, task_commit_wants, task_abort_wants}
 use Rattle.job_promise.specs.Seen.{is_magic}
-use Rattle.sweep.specs.Fitting.{FitsPage}
+use Rattle.list_walk.specs.Fitting.{FitsPage}
 use Rattle.task_requests.specs.Writing.{is_new, FitsCreate, FitsPart, write_fits}
 use Rattle.task_requests.specs.Publishing.{IsPending, FitsRecord}
 use Rattle.task_laws.specs.Commits.{FitsListing, commit_fits}

@@ -16,7 +16,7 @@ use Rattle.job_model.specs.Legal.{IsLegal}
 use Rattle.job_model.specs.JobScript.{Script}
 use Rattle.job_model.specs.declared.ends.CommitEnd.{CommitEnd}
 use Rattle.job_operations.specs.Outputs.{same_path}
-use Rattle.job_operations.specs.Walks.{Listing, Deleting}
+use Rattle.list_walk.specs.Walks.{Listing, Deleting}
 use Rattle.job_operations.specs.Lanes.{Turn, dealt}
 use Rattle.job_operations.specs.JobCommits.{Commit, Fetching, Replacing, Completing, Marking, Reverting, CommitOver, picks_of, set_request, completing, replaced, replacing, decided, commit_start, commit_asks, commit_tells}
 use Rattle.job_operations.specs.Operations.{Setting, Operation, asks}

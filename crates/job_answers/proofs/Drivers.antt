@@ -28,7 +28,7 @@ use Rattle.job_promise.specs.Seen.{Seen}
 use Rattle.magic_paths.specs.Layout.{magic_prefix}
 use Rattle.job_setup.specs.Fits as setups
 use Rattle.cleanup.specs.Fits as cleans
-use Rattle.sweep.specs.Fitting.{FitsSweep}
+use Rattle.list_walk.specs.Fitting.{FitsSweep}
 use Rattle.commit_laws.specs.Fitting.{SpellsSet, FitsReply, FitsCommit}
 use Rattle.job_facts.specs.Told.{Told}
 use Rattle.job_facts.specs.Stores.{sets_at}

@@ -14,7 +14,7 @@ use Rattle.job_model.specs.JobScript.{Script}
 use Rattle.job_operations.specs.Outputs.{files}
 use Rattle.job_operations.specs.Records.{record_key}
 use Rattle.job_operations.specs.Uploading.{Uploaded, GoesOn, AllSent, IsGone, upload_hears}
-use Rattle.job_operations.specs.Walks.{Walked, More, Whole, walked}
+use Rattle.list_walk.specs.Walks.{Walked, More, Whole, walked}
 use Rattle.job_operations.specs.TaskCommits.{TaskCommit, Looking, Reading, Publishing, Checking, Uploads, Storing, Renaming, TaskCommitOver, to_check, storing, checking, checked, reading, looked, looked_at, read_record, uploaded, renamed, least_missing, in_order, task_commit_start, task_commit_start_by, task_commit_hears, task_commit_after}
 use Rattle.job_operations.specs.JobCommits.{Commit, Fetching, Replacing, Completing, Marking, Reverting, CommitOver}
 use Rattle.job_promise.specs.Seen.{Seen}

@@ -33,7 +33,7 @@ use Rattle.job_operations.specs.Outputs.{Picks, files, files_picked, wanted_belo
 use Rattle.job_operations.specs.Conflicts.{partitions}
 use Rattle.job_operations.specs.TaskCommits.{partition_prefix}
 use Rattle.job_operations.specs.Records.{file_key, mark_text, files_set}
-use Rattle.job_operations.specs.Walks.{Sweep, Listing, Deleting, sweep_hears}
+use Rattle.list_walk.specs.Walks.{Sweep, Listing, Deleting, sweep_hears}
 use Rattle.job_operations.specs.JobCommits.{Sets, picks_of, set_request, set_read, Commit, Fetching, Replacing, Completing, Marking, Reverting, CommitOver, commit_asks, commit_tells, commit_start, is_no_magic, replaced, replacing, decided, fetching, fetched, swept}
 use Rattle.job_operations.specs.AtWork.{job_of, read_script, sets_in, with_set, sets_after}
 use Rattle.commit_parts.specs.Relatives.{relative_of}

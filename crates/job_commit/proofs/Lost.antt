@@ -7,7 +7,7 @@ use Rattle.job_operations.specs.Lanes.{Turn}
 use Rattle.job_operations.specs.JobCommits.{Sets, all_commits, completing}
 use Rattle.job_operations.specs.AtWork.{Committing}
 use Rattle.commit_parts.specs.Undos.{undo_request}
-use Rattle.job_operations.specs.Walks.{Sweep}
+use Rattle.list_walk.specs.Walks.{Sweep}
 use Rattle.job_commit.specs.Stages.{operation_of, replacing_at, reverting_from, first_lost, lost_in}
 use Rattle.job_commit.specs.Turns.{lost_of}
 use Rattle.job_commit.specs.Holds.{attempts_of}

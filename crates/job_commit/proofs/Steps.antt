@@ -14,7 +14,7 @@ use Rattle.job_model.specs.declared.ends.CommitEnd.{CommitEnd}
 use Rattle.job_model.specs.declared.ends.CommitEnd.TheVariants as ends
 use Rattle.job_operations.specs.Outputs.{Picks, same_path, wanted_paths}
 use Rattle.job_operations.specs.Conflicts.{partitions}
-use Rattle.job_operations.specs.Walks.{Sweep, sweep_start, sweep_hears}
+use Rattle.list_walk.specs.Walks.{Sweep, sweep_start, sweep_hears}
 use Rattle.job_operations.specs.Lanes.{Turn, fresh_turn, again, follow, dealt, revert}
 use Rattle.job_operations.specs.JobCommits.{Sets, all_commits, Commit, Fetching, completing, reverting, fetching, decided, replaced, replacing, worn_completion, picks_of, set_request, commit_hears}
 use Rattle.job_operations.specs.LaneTable.{In, Table}

@@ -10,7 +10,7 @@ use Rattle.commit_parts.specs.Undos.{undo_request}
 use Rattle.commit_parts.specs.declared.places.Place.{Place}
 use Rattle.commit_parts.specs.declared.undo.Undo.{Undo}
 use Rattle.commit_laws.specs.Fitting.{missed_of}
-use Rattle.job_operations.specs.Walks.{Sweep}
+use Rattle.list_walk.specs.Walks.{Sweep}
 use Rattle.job_commit.specs.Stages.{replacing_at, reverting_from, operation_of, missed_in}
 use Rattle.job_commit.specs.Holds.{attempts_of, StepHolds, Holds}
 use Rattle.job_commit.specs.declared.step.Step.{Step}

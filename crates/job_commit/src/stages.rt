@@ -3,7 +3,7 @@ ghost use Rattle.job_operations.specs.Lanes.{nth, dealt};
 ghost use Rattle.job_operations.specs.JobCommits.{all_commits, commit_asks, Marking, fetching, decided, replaced, replacing, completing, picks_of};
 ghost use Rattle.job_operations.specs.Outputs.{same_path, wanted_paths};
 ghost use Rattle.job_operations.specs.Conflicts.{partitions};
-ghost use Rattle.job_operations.specs.Walks.{sweep_start};
+ghost use Rattle.list_walk.specs.Walks.{sweep_start};
 ghost use Rattle.conflict.specs.Deletions.{deleted, deletion_asks, spared};
 ghost use Rattle.conflict.specs.Laws.{commit_deleting};
 ghost use Rattle.commit_parts.specs.Undos.{undo_request, number_in};

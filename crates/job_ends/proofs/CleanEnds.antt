@@ -26,7 +26,7 @@ use Rattle.job_model.specs.declared.ends.CleanEnd.{CleanEnd}
 use Rattle.job_model.specs.declared.ends.CleanEnd.TheVariants as cleans
 use Rattle.job_model.specs.declared.ends.OpEnd.TheVariants as ends
 use Rattle.job_operations.specs.View.{view}
-use Rattle.job_operations.specs.Walks.{uploads_after, Walked, More, Whole, walked_uploads, Sweep, Listing, Deleting, sweep_hears, all_go}
+use Rattle.list_walk.specs.Walks.{uploads_after, Walked, More, Whole, walked_uploads, Sweep, Listing, Deleting, sweep_hears, all_go}
 use Rattle.job_operations.specs.Setup.{dest_prefix}
 use Rattle.job_operations.specs.Cleanups.{Clean, Walking, Aborting, Sweeping, Naming, Removing, CleanOver, clean_start, clean_asks, clean_hears, clean_after, clean_over, aborted, aborting, walking, sweeping, removing, naming}
 use Rattle.job_operations.specs.Operations.{Setting, wants, advance, over}

@@ -22,7 +22,7 @@ use Rattle.job_model.specs.declared.ends.Stage.{Stage}
 use Rattle.job_model.specs.declared.ends.Stage.TheVariants as stages
 use Rattle.job_operations.specs.Outputs.{same_path}
 use Rattle.job_operations.specs.Records.{mark_text}
-use Rattle.job_operations.specs.Walks.{Sweep, sweep_hears}
+use Rattle.list_walk.specs.Walks.{Sweep, sweep_hears}
 use Rattle.job_operations.specs.Lanes.{Turn, again, follow, dealt, nth, completion, revert}
 use Rattle.job_operations.specs.JobCommits.{Sets, picks_of, all_commits, set_read, Commit, Fetching, Replacing, Completing, Marking, Reverting, CommitOver, completing, is_no_magic, replaced, replacing, decided, fetching, fetched, swept, reverting, worn_completion, commit_asks, commit_hears, commit_misses, commit_tells, commit_start}
 use Rattle.job_operations.specs.LaneTable.{RequestsApart, Sound, AllSound}

@@ -18,7 +18,7 @@ use Rattle.job_model.specs.Legal.{IsLegal}
 use Rattle.job_operations.specs.Records.{files_set}
 use Rattle.job_model.specs.JobScript.{Script}
 use Rattle.job_operations.specs.Outputs.{Picks}
-use Rattle.job_operations.specs.Walks.{Sweep, Listing, Deleting, sweep_asks}
+use Rattle.list_walk.specs.Walks.{Sweep, Listing, Deleting, sweep_asks}
 use Rattle.job_operations.specs.JobCommits.{Sets, picks_of, set_request, set_read, Commit, Fetching, Replacing, Completing, Marking, Reverting, CommitOver, fetched, commit_asks, commit_tells}
 use Rattle.job_operations.specs.Operations.{Setting}
 use Rattle.job_promise.specs.Seen.{Seen, see, is_begun, is_reading, picks_by}

@@ -26,7 +26,7 @@ use Rattle.job_model.specs.JobScript.{Script}
 use Rattle.job_model.specs.declared.ends.CommitEnd.{CommitEnd}
 use Rattle.job_model.specs.declared.ends.Stage.TheVariants as stages
 use Rattle.job_operations.specs.Outputs.{same_path}
-use Rattle.job_operations.specs.Walks.{Sweep, Listing, Deleting, sweep_hears}
+use Rattle.list_walk.specs.Walks.{Sweep, Listing, Deleting, sweep_hears}
 use Rattle.job_operations.specs.Lanes.{Turn, again, follow, dealt, nth, completion, revert}
 use Rattle.job_operations.specs.LaneTable.{In, Tabled}
 use Rattle.job_operations.specs.JobCommits.{Sets, picks_of, all_commits, set_request, set_read, Commit, Fetching, Replacing, Completing, Marking, Reverting, CommitOver, is_no_magic, completing, replaced, replacing, decided, fetching, fetched, swept, reverting, worn_completion, commit_start, commit_asks, commit_hears, commit_misses, commit_tells, stage_of}

@@ -37,7 +37,7 @@ use Rattle.job_model.specs.declared.ends.SetupEnd.{SetupEnd}
 use Rattle.job_model.specs.declared.ends.SetupEnd.TheVariants as setups
 use Rattle.job_operations.specs.View.{view, is_file_path}
 use Rattle.job_operations.specs.Conflicts.{checks_all}
-use Rattle.job_operations.specs.Walks.{Sweep, Listing, Deleting, sweep_asks, walked_by, keys_on, last_of, page_after, sweep_hears, all_go}
+use Rattle.list_walk.specs.Walks.{Sweep, Listing, Deleting, sweep_asks, walked_by, keys_on, last_of, page_after, sweep_hears, all_go}
 use Rattle.job_operations.specs.Setup.{Setup, Heading, Checking, Clearing, Sweeping, SetupOver, dest_prefix, lacks_bucket, if_bucket, headed, checked, checked_on, checked_by, first_shown, cleared, sweeping, setup_start, setup_asks, setup_hears, setup_after, setup_over}
 use Rattle.job_operations.specs.Operations.{Setting, wants, advance, over}
 use Rattle.job_promise.specs.OperationEnds.{IsLeastShown, IsFree, SetupIs}

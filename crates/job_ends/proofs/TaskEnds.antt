@@ -33,7 +33,7 @@ use Rattle.job_operations.specs.Outputs.{files, paths_of}
 use Rattle.job_operations.specs.Conflicts.{partitions, checks_partitions}
 use Rattle.job_operations.specs.Knowledge.{as_made}
 use Rattle.job_operations.specs.Records.{record_key}
-use Rattle.job_operations.specs.Walks.{Walked, More, Whole, walked, Sweep, sweep_hears, all_go}
+use Rattle.list_walk.specs.Walks.{Walked, More, Whole, walked, Sweep, sweep_hears, all_go}
 use Rattle.job_operations.specs.Uploading.{Uploaded, GoesOn, AllSent, IsGone, upload_hears}
 use Rattle.job_operations.specs.Writes as writes
 use Rattle.job_operations.specs.TaskCommits as commits

@@ -20,7 +20,7 @@ use Rattle.job_model.specs.declared.ends.TaskEnd.{TaskEnd}
 use Rattle.job_model.specs.declared.ends.TaskEnd.TheVariants as tasks
 use Rattle.job_model.specs.Known.{Drawn, Known}
 use Rattle.job_operations.specs.Knowledge.{learn, as_made}
-use Rattle.job_operations.specs.Walks.{Listing, Deleting, walked, walked_by, keys_on, last_of, page_after, deleting, swept, all_go}
+use Rattle.list_walk.specs.Walks.{Listing, Deleting, walked, walked_by, keys_on, last_of, page_after, deleting, swept, all_go}
 use Rattle.job_operations.specs.TaskCommits.{attempt_prefix}
 use Rattle.job_operations.specs.TaskAborts.{TaskAbort, Dropping, Sweeping, Removing, TaskAbortOver, task_abort_asks, task_abort_after, task_abort_hears, task_abort_start, task_abort_by, removing, dropped, dropping, sweeping}
 use Rattle.job_promise.specs.Seen.{Seen, see}

@@ -16,7 +16,7 @@ use Rattle.path_keys.specs.Paths.{below}
 use Rattle.magic_paths.proofs.Tails.{begins_behind, below_is as paths_below}
 use Rattle.job_operations.specs.Setup.{dest_prefix}
 use Rattle.job_operations.specs.TaskCommits.{partition_prefix}
-use Rattle.job_operations.specs.Walks.{Sweep, sweep_hears}
+use Rattle.list_walk.specs.Walks.{Sweep, sweep_hears}
 use Rattle.job_facts.proofs.Legal.{some_dest}
 use Rattle.job_facts.proofs.JobCommitting.{dest_below}
 use Rattle.pending_json.specs.Pending.{Pending}

@@ -21,7 +21,7 @@ use Rattle.job_model.specs.JobScript.{Script}
 use Rattle.job_model.specs.Known.{Known}
 use Rattle.job_operations.specs.Records.{attempt_dir, record_key}
 use Rattle.job_operations.specs.Uploading.{Uploading, Creating, Sending, upload_asks}
-use Rattle.job_operations.specs.Walks.{Listing, Deleting}
+use Rattle.list_walk.specs.Walks.{Listing, Deleting}
 use Rattle.job_operations.specs.Writes.{Write, Marking, Recording, WriteOver, write_asks}
 use Rattle.job_operations.specs.Writes as writes
 use Rattle.job_operations.specs.TaskCommits.{TaskCommit, Looking, Reading, Publishing, Checking, Storing, Renaming, TaskCommitOver, task_commit_asks, attempt_prefix, temporary_path}

@@ -14,7 +14,7 @@ use Rattle.job_operations.specs.Outputs.{files}
 use Rattle.job_model.specs.Known.{Drawn, Known}
 use Rattle.job_operations.specs.Knowledge.{learn, is_set_key}
 use Rattle.job_operations.specs.Records.{files_set}
-use Rattle.job_operations.specs.Walks.{Listing, Deleting}
+use Rattle.list_walk.specs.Walks.{Listing, Deleting}
 use Rattle.job_operations.specs.Writes.{Write, Marking, Recording, WriteOver, write_start_by, write_start, write_asks}
 use Rattle.job_operations.specs.Writes as writes
 use Rattle.job_operations.specs.TaskCommits.{TaskCommit, Looking, Reading, Publishing, Checking, Storing, Renaming, TaskCommitOver, to_check, task_commit_start_by, task_commit_start, task_commit_asks}

@@ -21,7 +21,7 @@ use Rattle.magic_paths.specs.Layout.{magic_prefix, cluster_prefix}
 use Rattle.job_model.specs.Legal.{IsLegal}
 use Rattle.job_model.specs.JobScript.{Script}
 use Rattle.job_operations.specs.Setup.{dest_prefix}
-use Rattle.job_operations.specs.Walks.{Listing, Deleting, walked, walked_by, walked_uploads, keys_on, last_of, last_ref, page_after, uploads_after, deleting, swept, all_go}
+use Rattle.list_walk.specs.Walks.{Listing, Deleting, walked, walked_by, walked_uploads, keys_on, last_of, last_ref, page_after, uploads_after, deleting, swept, all_go}
 use Rattle.job_operations.specs.Cleanups.{Clean, Walking, Aborting, Sweeping, Naming, Removing, CleanOver, clean_asks, clean_after, clean_hears, aborted, aborting, walking, sweeping, removing, naming}
 use Rattle.job_promise.specs.Headline.{Same}
 use Rattle.job_operations.specs.View.{view}

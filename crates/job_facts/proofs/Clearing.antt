@@ -22,7 +22,7 @@ use Rattle.sendings.specs.Retries.{Retried, step}
 use Rattle.magic_paths.specs.Layout.{magic_prefix, cluster_prefix}
 use Rattle.job_model.specs.JobScript.{Script}
 use Rattle.job_operations.specs.Setup.{dest_prefix}
-use Rattle.job_operations.specs.Walks.{Sweep, Listing, Deleting, walked_by, walked_uploads, last_ref, uploads_after, sweep_asks, sweep_hears, all_go}
+use Rattle.list_walk.specs.Walks.{Sweep, Listing, Deleting, walked_by, walked_uploads, last_ref, uploads_after, sweep_asks, sweep_hears, all_go}
 use Rattle.job_operations.specs.Cleanups.{Clean, Walking, Aborting, Sweeping, Naming, Removing, CleanOver, clean_asks, clean_after, clean_hears, aborted, aborting, walking, sweeping, removing, naming}
 use Rattle.job_promise.specs.Scope.{NoneLive, NoClusterFile, NothingLeft}
 use Rattle.job_promise.specs.Seen.{is_magic, is_staging}

@@ -20,7 +20,7 @@ use Rattle.job_model.specs.declared.ends.Stage.TheVariants as stages
 use Rattle.job_operations.specs.Outputs.{same_path}
 use Rattle.job_operations.specs.Knowledge.{drawn_for, drawn_in}
 use Rattle.job_operations.specs.Records.{file_key, file_record}
-use Rattle.job_operations.specs.Walks.{Sweep, Listing, Deleting, sweep_asks, sweep_hears}
+use Rattle.list_walk.specs.Walks.{Sweep, Listing, Deleting, sweep_asks, sweep_hears}
 use Rattle.job_operations.specs.Lanes.{Turn, nth, abort, deletion, again, follow, dealt, chosen, undo, in_turn, is_tried, is_unsent, revert}
 use Rattle.job_operations.specs.JobCommits.{Sets, all_commits, picks_of, Commit, Fetching, Replacing, Completing, Marking, Reverting, CommitOver, set_request, set_read, commit_asks, commit_hears, commit_misses, commit_tells, commit_start, completing, is_no_magic, replaced, replacing, decided, fetching, fetched, swept, reverting, worn_completion}
 use Rattle.job_operations.specs.Cleanups.{Clean, Walking, Aborting, Sweeping, Naming, Removing, CleanOver, clean_asks}

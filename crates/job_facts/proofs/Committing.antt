@@ -21,7 +21,7 @@ use Rattle.job_operations.specs.Outputs.{files}
 use Rattle.job_model.specs.Known.{Drawn, Known}
 use Rattle.job_operations.specs.Knowledge.{learn, is_set_key}
 use Rattle.job_operations.specs.Records.{record_key, set_text}
-use Rattle.job_operations.specs.Walks.{walked, walked_by, keys_on, last_of, page_after}
+use Rattle.list_walk.specs.Walks.{walked, walked_by, keys_on, last_of, page_after}
 use Rattle.job_operations.specs.Uploading.{Uploading, Uploaded, GoesOn, AllSent, IsGone, upload_asks, upload_hears}
 use Rattle.job_operations.specs.TaskCommits.{TaskCommit, Looking, Reading, Publishing, Checking, Uploads, Storing, Renaming, TaskCommitOver, task_commit_asks, task_commit_after, task_commit_hears, attempt_prefix, temporary_path, partition_prefix, reading, looked, looked_at, read_record, storing, checking, checked, uploaded, renamed, least_missing, in_order}
 use Rattle.job_promise.specs.Seen.{Seen, see, is_magic, is_staging}

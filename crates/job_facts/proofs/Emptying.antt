@@ -21,7 +21,7 @@ use Rattle.s3_types.specs.declared.journal.Outcome.TheVariants.{Answered, Slow, 
 use Rattle.s3_types.specs.Requests.{only_reads}
 use Rattle.magic_paths.specs.Layout.{magic_prefix}
 use Rattle.job_model.specs.JobScript.{Script}
-use Rattle.job_operations.specs.Walks.{Sweep, Listing, Deleting, walked, walked_by, keys_on, last_of, page_after, deleting, swept, sweep_asks, sweep_hears, all_go}
+use Rattle.list_walk.specs.Walks.{Sweep, Listing, Deleting, walked, walked_by, keys_on, last_of, page_after, deleting, swept, sweep_asks, sweep_hears, all_go}
 use Rattle.request_frame.specs.Members.{IsIn, last_from}
 use Rattle.request_frame.specs.Held.{HasBucket}
 use Rattle.request_frame.proofs.Members.{none_some, text_true, in_append, in_front, in_back, in_filter, filter_in}

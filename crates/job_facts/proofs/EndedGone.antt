@@ -12,7 +12,7 @@ use Rattle.s3_types.specs.declared.journal.Outcome.TheVariants.{Answered, Slow, 
 use Rattle.pending_json.specs.Pending.{Pending}
 use Rattle.job_model.specs.Legal.{IsLegal}
 use Rattle.job_model.specs.JobScript.{Script}
-use Rattle.job_operations.specs.Walks.{Sweep, Listing, Deleting, sweep_asks}
+use Rattle.list_walk.specs.Walks.{Sweep, Listing, Deleting, sweep_asks}
 use Rattle.job_operations.specs.Lanes.{nth, completion, abort, deletion}
 use Rattle.job_operations.specs.JobCommits.{all_commits, Commit, Fetching, Replacing, Completing, Marking, Reverting, CommitOver, set_request, commit_asks}
 use Rattle.job_operations.specs.LaneTable.{Tabled}

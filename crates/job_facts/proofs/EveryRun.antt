@@ -25,7 +25,7 @@ use Rattle.job_model.specs.declared.ends.SetupEnd.{SetupEnd}
 use Rattle.job_model.specs.declared.ends.SetupEnd.TheVariants as setups
 use Rattle.job_operations.specs.Outputs.{Picks}
 use Rattle.job_operations.specs.Setup.{Setup, Heading, Checking, Clearing, Sweeping, SetupOver, setup_start, setup_asks, setup_after}
-use Rattle.job_operations.specs.Walks.{Listing, Deleting}
+use Rattle.list_walk.specs.Walks.{Listing, Deleting}
 use Rattle.job_operations.specs.Writes.{write_start}
 use Rattle.job_operations.specs.TaskCommits.{task_commit_start}
 use Rattle.job_operations.specs.TaskAborts.{task_abort_start}

@@ -23,7 +23,7 @@ use Rattle.job_model.specs.Legal.{IsLegal}
 use Rattle.job_model.specs.JobScript.{Script}
 use Rattle.job_operations.specs.View.{is_file_path}
 use Rattle.job_operations.specs.Records.{mark_text}
-use Rattle.job_operations.specs.Walks.{Sweep, Listing, Deleting, sweep_asks, page_after}
+use Rattle.list_walk.specs.Walks.{Sweep, Listing, Deleting, sweep_asks, page_after}
 use Rattle.job_operations.specs.JobCommits.{picks_of, Commit, Fetching, Replacing, Completing, Marking, Reverting, CommitOver, set_request, commit_start, commit_asks, commit_tells}
 use Rattle.job_operations.specs.Operations.{Setting, Operation, asks}
 use Rattle.job_promise.specs.Seen.{Seen}

@@ -20,7 +20,7 @@ use Rattle.s3_types.specs.declared.journal.Outcome.TheVariants.{Answered, Slow, 
 use Rattle.sendings.specs.Retries.{Retried, step}
 use Rattle.job_model.specs.JobScript.{Script}
 use Rattle.job_operations.specs.Setup.{dest_prefix}
-use Rattle.job_operations.specs.Walks.{Sweep, Listing, Deleting, walked_by, walked_uploads, last_ref, uploads_after, sweep_hears, all_go}
+use Rattle.list_walk.specs.Walks.{Sweep, Listing, Deleting, walked_by, walked_uploads, last_ref, uploads_after, sweep_hears, all_go}
 use Rattle.job_operations.specs.Cleanups.{Clean, Walking, Aborting, Sweeping, Naming, Removing, CleanOver, clean_asks, clean_after, clean_hears, aborted, aborting, walking, sweeping, removing, naming}
 use Rattle.request_frame.specs.Held.{HasBucket}
 use Rattle.request_frame.proofs.Members.{some_is, false_true, eq_nat, text_true, in_append}

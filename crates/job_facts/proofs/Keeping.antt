@@ -34,7 +34,7 @@ use Rattle.job_facts.specs.Fits.{Fits, FitsWrite, FitsCommit, FitsAbort}
 use Rattle.job_facts.specs.Turning.{Turns}
 use Rattle.job_facts.specs.Filed.{FileStands}
 use Rattle.job_facts.specs.Emptying.{OnlyThose, EmptiesBy}
-use Rattle.job_operations.specs.Walks.{Sweep, Listing, Deleting}
+use Rattle.list_walk.specs.Walks.{Sweep, Listing, Deleting}
 use Rattle.job_facts.proofs.JobCommitting.{no_magic, replaced_under}
 use Rattle.job_facts.proofs.Replacing.{empty_fetching, others_fetching}
 use Rattle.job_facts.proofs.Whose.{who_other}

@@ -22,7 +22,7 @@ use Rattle.job_model.specs.JobScript.{Script}
 use Rattle.job_model.specs.Known.{Known}
 use Rattle.job_operations.specs.Setup.{dest_prefix, Setup, Heading, Checking, Clearing, Sweeping, SetupOver, setup_asks}
 use Rattle.job_operations.specs.Uploading.{Uploading, Creating, Sending, upload_asks}
-use Rattle.job_operations.specs.Walks.{Listing, Deleting, page_after}
+use Rattle.list_walk.specs.Walks.{Listing, Deleting, page_after}
 use Rattle.job_operations.specs.Writes.{Write, Marking, Recording, WriteOver, write_asks}
 use Rattle.job_operations.specs.Writes as writes
 use Rattle.job_operations.specs.TaskCommits.{TaskCommit, Looking, Reading, Publishing, Storing, Renaming, TaskCommitOver, task_commit_asks}

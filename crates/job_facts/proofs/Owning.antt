@@ -12,7 +12,7 @@ use Rattle.job_model.specs.Legal.{IsLegal}
 use Rattle.job_model.specs.JobScript.{Script}
 use Rattle.job_model.specs.Known.{Drawn, Known}
 use Rattle.job_operations.specs.Records.{file_key}
-use Rattle.job_operations.specs.Walks.{Listing, Deleting}
+use Rattle.list_walk.specs.Walks.{Listing, Deleting}
 use Rattle.job_operations.specs.Uploading.{Uploading, Creating, Sending, upload_asks}
 use Rattle.job_operations.specs.Writes.{Write, Marking, Recording, WriteOver, write_asks}
 use Rattle.job_operations.specs.Writes as writes

@@ -33,7 +33,7 @@ use Rattle.job_operations.specs.Outputs.{files}
 use Rattle.job_operations.specs.Knowledge.{is_set_key, is_set_path}
 use Rattle.job_operations.specs.Records.{record_key}
 use Rattle.job_operations.specs.Uploading.{Uploading, Creating, Sending, Uploaded, GoesOn, AllSent, IsGone, sending, created, sent_part, upload_asks, upload_hears, file_parts}
-use Rattle.job_operations.specs.Walks.{walked, walked_by, keys_on, last_of, page_after}
+use Rattle.list_walk.specs.Walks.{walked, walked_by, keys_on, last_of, page_after}
 use Rattle.job_operations.specs.Writes.{Write, Marking, Recording, WriteOver, writing, write_start_by, write_start, write_asks, write_over, write_hears, write_after}
 use Rattle.job_operations.specs.Writes as writes
 use Rattle.job_operations.specs.TaskCommits.{TaskCommit, Looking, Reading, Publishing, Checking, Storing, Renaming, TaskCommitOver, reading, looked, looked_at, least_missing, least_of, in_order, read_record, storing, checking, checked, renamed, to_check, task_commit_start_by, task_commit_start, task_commit_asks, task_commit_over, task_commit_hears, task_commit_after, attempt_prefix, temporary_path}

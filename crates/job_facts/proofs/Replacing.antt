@@ -23,7 +23,7 @@ use Rattle.job_operations.specs.Outputs.{Picks, paths_of, same_path}
 use Rattle.job_operations.specs.Conflicts.{partitions, keeps, keeps_of}
 use Rattle.job_operations.specs.Setup.{dest_prefix}
 use Rattle.job_operations.specs.View.{is_folder, is_file_path}
-use Rattle.job_operations.specs.Walks.{Sweep, Listing, Deleting, sweep_asks, page_after}
+use Rattle.list_walk.specs.Walks.{Sweep, Listing, Deleting, sweep_asks, page_after}
 use Rattle.job_operations.specs.Lanes.{Turn, dealt}
 use Rattle.job_operations.specs.JobCommits.{Sets, all_commits, picks_of, Commit, Fetching, CommitOver, completing, is_no_magic, replaced, replacing, decided, fetching, fetched}
 use Rattle.job_operations.specs.Operations.{Setting}

@@ -11,7 +11,7 @@ use Rattle.s3_types.specs.declared.journal.Entry.{Entry}
 use Rattle.path_keys.specs.Paths.{below}
 use Rattle.magic_paths.specs.Layout.{success_key}
 use Rattle.sendings.specs.Retries.{Retried}
-use Rattle.job_operations.specs.Walks.{Sweep}
+use Rattle.list_walk.specs.Walks.{Sweep}
 use Rattle.request_frame.specs.Members.{IsIn}
 use Rattle.job_model.specs.Attempts.{Who}
 use Rattle.job_model.specs.Legal.{IsLegal}

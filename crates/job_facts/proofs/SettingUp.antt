@@ -32,7 +32,7 @@ use Rattle.job_model.specs.declared.ends.SetupEnd.TheVariants as ends
 use Rattle.job_operations.specs.Conflicts.{checks_all}
 use Rattle.job_operations.specs.View.{view, is_folder, is_file_path}
 use Rattle.job_operations.specs.Setup.{Setup, Heading, Checking, Clearing, Sweeping, SetupOver, dest_prefix, if_bucket, headed, checked, checked_on, checked_by, first_shown, cleared, sweeping, setup_asks, setup_hears, setup_after}
-use Rattle.job_operations.specs.Walks.{Sweep, Listing, Deleting, Walked, More, Whole, walked, keys_on, page_after, sweep_asks, sweep_hears, all_go}
+use Rattle.list_walk.specs.Walks.{Sweep, Listing, Deleting, Walked, More, Whole, walked, keys_on, page_after, sweep_asks, sweep_hears, all_go}
 use Rattle.job_operations.proofs.Faults.{if_bucket_so}
 use Rattle.job_promise.specs.Headline.{Same}
 use Rattle.job_promise.specs.Scope.{NoClusterFile}

@@ -41,7 +41,7 @@ use Rattle.job_facts.specs.Filed.{Gone, Decides, FileStands, Wants}
 use Rattle.job_facts.specs.FiledLaws.{Commits}
 use Rattle.job_facts.specs.Driver.{AllUnder}
 use Rattle.job_facts.specs.Emptying.{OnlyThose, EmptiesBy}
-use Rattle.job_operations.specs.Walks.{Sweep, Listing, Deleting, sweep_asks, sweep_hears}
+use Rattle.list_walk.specs.Walks.{Sweep, Listing, Deleting, sweep_asks, sweep_hears}
 use Rattle.job_operations.specs.Conflicts.{keeps_of}
 use Rattle.job_operations.specs.Setup.{dest_prefix}
 use Rattle.pending_json.specs.declared.records.PendingSet.{PendingSet}

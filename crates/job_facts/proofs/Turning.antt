@@ -17,7 +17,7 @@ use Rattle.pending_json.specs.declared.records.PendingSet.{PendingSet}
 use Rattle.job_model.specs.Legal.{IsLegal}
 use Rattle.job_model.specs.JobScript.{Script}
 use Rattle.job_operations.specs.Outputs.{same_path}
-use Rattle.job_operations.specs.Walks.{Sweep, Listing, Deleting, sweep_asks, sweep_hears}
+use Rattle.list_walk.specs.Walks.{Sweep, Listing, Deleting, sweep_asks, sweep_hears}
 use Rattle.job_operations.specs.Lanes.{Turn, nth, completion, again, follow, dealt, revert}
 use Rattle.job_operations.specs.Operations.{Setting}
 use Rattle.job_model.specs.declared.ends.CommitEnd.{CommitEnd}

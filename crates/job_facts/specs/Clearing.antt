@@ -14,7 +14,7 @@ use Rattle.magic_paths.specs.Layout.{cluster_prefix}
 use Rattle.job_model.specs.JobScript.{Script}
 use Rattle.job_model.specs.declared.ends.CleanEnd.TheVariants as ends
 use Rattle.job_operations.specs.Setup.{dest_prefix}
-use Rattle.job_operations.specs.Walks.{last_ref}
+use Rattle.list_walk.specs.Walks.{last_ref}
 use Rattle.job_operations.specs.Cleanups.{Clean, Walking, Aborting, Sweeping, Naming, Removing, CleanOver, clean_start, clean_asks, clean_after}
 use Rattle.job_promise.specs.Scope.{NoneLive, NothingLeft}
 use Rattle.job_promise.specs.Seen.{is_magic, is_staging}

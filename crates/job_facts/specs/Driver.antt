@@ -13,7 +13,7 @@ use Rattle.job_model.specs.Known.{Drawn}
 use Rattle.job_operations.specs.Records.{files_set}
 use Rattle.job_operations.specs.JobCommits.{Sets, Commit, Fetching, Replacing, Completing, Marking, Reverting, CommitOver, is_no_magic}
 use Rattle.job_operations.specs.Setup.{dest_prefix}
-use Rattle.job_operations.specs.Walks.{Sweep, Listing, Deleting}
+use Rattle.list_walk.specs.Walks.{Sweep, Listing, Deleting}
 use Rattle.job_operations.specs.Cleanups.{Clean, Walking, Aborting, Sweeping, Naming, Removing, CleanOver}
 use Rattle.job_facts.specs.Foreign.{IsDriving}
 use Rattle.job_facts.specs.Facts.{AreCommits, knowing}

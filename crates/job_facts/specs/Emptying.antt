@@ -9,7 +9,7 @@ use Rattle.magic_paths.specs.Layout.{magic_prefix}
 use Rattle.job_model.specs.JobScript.{Script}
 use Rattle.job_model.specs.declared.ends.SetupEnd.TheVariants as ends
 use Rattle.job_operations.specs.Setup.{Setup, Heading, Checking, Clearing, Sweeping, SetupOver}
-use Rattle.job_operations.specs.Walks.{Sweep, Listing, Deleting, last_of, all_go}
+use Rattle.list_walk.specs.Walks.{Sweep, Listing, Deleting, last_of, all_go}
 use Rattle.job_promise.specs.Seen.{is_magic}
 use Rattle.request_frame.specs.Members.{IsIn}
 use Rattle.request_frame.specs.Held.{HasBucket}

@@ -11,7 +11,7 @@ use Rattle.job_model.specs.declared.ends.TaskEnd.TheVariants as tasks
 use Rattle.job_operations.specs.Outputs.{files}
 use Rattle.job_model.specs.Known.{Drawn, Known}
 use Rattle.job_operations.specs.Records.{file_key}
-use Rattle.job_operations.specs.Walks.{Sweep, Listing, Deleting}
+use Rattle.list_walk.specs.Walks.{Sweep, Listing, Deleting}
 use Rattle.job_operations.specs.Uploading.{Uploading, Creating, Sending, file_parts}
 use Rattle.job_operations.specs.Writes.{Write, Marking, Recording, WriteOver}
 use Rattle.job_operations.specs.Writes as writes

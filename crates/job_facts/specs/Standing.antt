@@ -13,7 +13,7 @@ use Rattle.job_model.specs.declared.ends.TaskEnd.{TaskEnd}
 use Rattle.job_model.specs.declared.ends.TaskEnd.TheVariants as tasks
 use Rattle.job_operations.specs.Outputs.{files}
 use Rattle.job_operations.specs.Records.{record_key}
-use Rattle.job_operations.specs.Walks.{last_of}
+use Rattle.list_walk.specs.Walks.{last_of}
 use Rattle.job_operations.specs.Writes.{Write, Marking, Recording, WriteOver}
 use Rattle.job_operations.specs.Writes as writes
 use Rattle.job_operations.specs.TaskCommits.{TaskCommit, Looking, Reading, Publishing, Checking, Storing, Renaming, TaskCommitOver}

@@ -51,7 +51,7 @@ use Rattle.job_model.specs.JobScript.{Script}
 use Rattle.job_operations.specs.Outputs.{files}
 use Rattle.job_operations.specs.Records.{record_key}
 use Rattle.job_operations.specs.Uploading.{Uploaded, GoesOn, AllSent, IsGone, upload_hears}
-use Rattle.job_operations.specs.Walks.{Walked, More, Whole, walked}
+use Rattle.list_walk.specs.Walks.{Walked, More, Whole, walked}
 use Rattle.job_operations.specs.Writes.{write_start}
 use Rattle.job_operations.specs.TaskAborts.{task_abort_start}
 use Rattle.job_facts.specs.Told.{known}

@@ -20,7 +20,7 @@ use Rattle.job_model.specs.declared.states.ActorStage.{ActorStage}
 use Rattle.job_model.specs.declared.states.ActorStage.TheVariants as stage
 use Rattle.job_operations.specs.Outputs.{files}
 use Rattle.job_operations.specs.Knowledge.{as_made}
-use Rattle.job_operations.specs.Walks.{Sweep, sweep_hears, all_go}
+use Rattle.list_walk.specs.Walks.{Sweep, sweep_hears, all_go}
 use Rattle.job_operations.specs.Uploading.{Uploaded, GoesOn, AllSent, IsGone, upload_hears}
 use Rattle.job_operations.specs.Writes as writes
 use Rattle.job_operations.specs.Writes.{write_start, write_over, write_after}

@@ -23,7 +23,7 @@ use Rattle.job_model.specs.declared.ends.OpEnd.TheVariants as ends
 use Rattle.job_model.specs.declared.ends.SetupEnd.TheVariants as setups
 use Rattle.job_operations.specs.Outputs.{files}
 use Rattle.job_operations.specs.Conflicts.{checks_all}
-use Rattle.job_operations.specs.Walks.{Walked, More, Whole, walked, walked_uploads, Sweep, sweep_hears, all_go, keys_on}
+use Rattle.list_walk.specs.Walks.{Walked, More, Whole, walked, walked_uploads, Sweep, sweep_hears, all_go, keys_on}
 use Rattle.job_model.specs.Known.{Drawn}
 use Rattle.job_operations.specs.Uploading.{Uploaded, GoesOn, AllSent, IsGone, upload_hears}
 use Rattle.job_operations.specs.Setup as setup

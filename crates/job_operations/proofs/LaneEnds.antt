@@ -20,7 +20,7 @@ use Rattle.job_model.specs.declared.ends.CommitEnd.TheVariants as commits
 use Rattle.job_model.specs.declared.ends.Stage.{Stage}
 use Rattle.job_model.specs.declared.ends.Stage.TheVariants as stages
 use Rattle.job_operations.specs.Outputs.{same_path, shared_by, first_shared, two_where, writes, wanted_paths, Picks}
-use Rattle.job_operations.specs.Walks.{Sweep, Listing, Deleting, sweep_start, sweep_asks, sweep_hears}
+use Rattle.list_walk.specs.Walks.{Sweep, Listing, Deleting, sweep_start, sweep_asks, sweep_hears}
 use Rattle.job_operations.specs.Records.{mark_text}
 use Rattle.job_operations.specs.Lanes.{Turn, fresh_turn, again, follow, dealt, nth, completion, revert}
 use Rattle.job_operations.specs.JobCommits.{Sets, picks_of, all_commits, set_read, set_request, Commit, Fetching, Replacing, Completing, Marking, Reverting, CommitOver, completing, is_no_magic, replaced, replacing, decided, fetching, fetched, swept, reverting, worn_completion, commit_asks, commit_hears, commit_misses, commit_tells, commit_start, commit_over, stage_of}

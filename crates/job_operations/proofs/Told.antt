@@ -17,7 +17,7 @@ use Rattle.job_model.specs.JobScript.{Script}
 use Rattle.job_operations.specs.Outputs.{files, paths_of}
 use Rattle.job_operations.specs.Conflicts.{checks_partitions, partitions}
 use Rattle.job_operations.specs.Records.{record_key, set_text}
-use Rattle.job_operations.specs.Walks.{Walked, More, Whole, walked, keys_on}
+use Rattle.list_walk.specs.Walks.{Walked, More, Whole, walked, keys_on}
 use Rattle.job_operations.specs.Uploading.{Creating, Sending}
 use Rattle.path_keys.specs.Paths.{relative_in}
 use Rattle.s3_types.specs.declared.reply.Reply.TheVariants.{Head}

@@ -13,7 +13,7 @@ use Rattle.job_model.specs.JobScript.{Script}
 use Rattle.job_model.specs.declared.ends.CleanEnd.{CleanEnd}
 use Rattle.job_model.specs.declared.ends.CleanEnd.TheVariants as ends
 use Rattle.job_operations.specs.Setup.{dest_prefix}
-use Rattle.job_operations.specs.Walks.{Walked, More, Whole, uploads_after, walked_uploads, Sweep, sweep_start, sweep_asks, sweep_hears, all_go}
+use Rattle.list_walk.specs.Walks.{Walked, More, Whole, uploads_after, walked_uploads, Sweep, sweep_start, sweep_asks, sweep_hears, all_go}
 
 pub data Clean : Type 0 where
   -- lists the live uploads below the destination, with those so far

@@ -26,7 +26,7 @@ use Rattle.job_model.specs.declared.ends.Stage.{Stage}
 use Rattle.job_model.specs.declared.ends.Stage.TheVariants as stages
 use Rattle.job_operations.specs.Outputs.{Picks, wanted_paths, same_path}
 use Rattle.job_operations.specs.Conflicts.{partitions}
-use Rattle.job_operations.specs.Walks.{Sweep, sweep_start, sweep_asks, sweep_hears}
+use Rattle.list_walk.specs.Walks.{Sweep, sweep_start, sweep_asks, sweep_hears}
 use Rattle.job_operations.specs.Records.{mark_text}
 use Rattle.job_operations.specs.Setup.{dest_prefix}
 use Rattle.job_operations.specs.TaskCommits.{partition_prefix}

@@ -1,7 +1,6 @@
 pub mod View
 pub mod Outputs
 pub mod Conflicts
-pub mod Walks
 pub mod Knowledge
 pub mod Records
 pub mod Setup

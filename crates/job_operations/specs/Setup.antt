@@ -15,7 +15,7 @@ use Rattle.job_model.specs.declared.ends.SetupEnd.{SetupEnd}
 use Rattle.job_model.specs.declared.ends.SetupEnd.TheVariants as ends
 use Rattle.job_operations.specs.View.{is_file_path}
 use Rattle.job_operations.specs.Conflicts.{checks_all}
-use Rattle.job_operations.specs.Walks.{Walked, More, Whole, keys_on, page_after, walked, Sweep, sweep_start, sweep_asks, sweep_hears, all_go}
+use Rattle.list_walk.specs.Walks.{Walked, More, Whole, keys_on, page_after, walked, Sweep, sweep_start, sweep_asks, sweep_hears, all_go}
 
 pub data Setup : Type 0 where
   -- looks at the destination's own key

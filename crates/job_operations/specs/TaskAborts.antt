@@ -10,7 +10,7 @@ use Rattle.job_model.specs.Attempts.{Who}
 use Rattle.job_model.specs.JobScript.{Script}
 use Rattle.job_model.specs.declared.ends.TaskEnd.{TaskEnd}
 use Rattle.job_model.specs.declared.ends.TaskEnd.TheVariants as ends
-use Rattle.job_operations.specs.Walks.{Sweep, sweep_start, sweep_asks, sweep_hears, all_go}
+use Rattle.list_walk.specs.Walks.{Sweep, sweep_start, sweep_asks, sweep_hears, all_go}
 use Rattle.job_model.specs.Known.{Drawn, Known}
 use Rattle.job_operations.specs.Knowledge.{as_made}
 use Rattle.job_operations.specs.TaskCommits.{attempt_prefix, temporary_path}

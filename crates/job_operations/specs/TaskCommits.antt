@@ -20,7 +20,7 @@ use Rattle.job_model.specs.declared.ends.TaskEnd.{TaskEnd}
 use Rattle.job_model.specs.declared.ends.TaskEnd.TheVariants as ends
 use Rattle.job_operations.specs.Outputs.{files, paths_of}
 use Rattle.job_operations.specs.Conflicts.{partitions, checks_partitions}
-use Rattle.job_operations.specs.Walks.{Walked, More, Whole, page_after, walked}
+use Rattle.list_walk.specs.Walks.{Walked, More, Whole, page_after, walked}
 use Rattle.job_model.specs.Known.{Known}
 use Rattle.job_operations.specs.Records.{file_key, attempt_dir, record_key, set_text}
 use Rattle.job_operations.specs.Uploading.{Uploading, Creating, Uploaded, GoesOn, AllSent, IsGone, upload_asks, upload_hears}

@@ -15,13 +15,13 @@ use Rattle.job_model.specs.Jobs.{Job}
 use Rattle.job_model.specs.declared.ends.SetupEnd.TheVariants as ends
 use Rattle.job_operations.specs.AtWork.{job_script}
 use Rattle.job_operations.specs.Conflicts.{checks_all}
-use Rattle.job_operations.specs.Walks.{Walked, More, Whole, keys_on, walked, page_after, Sweep, sweep_start, sweep_asks, sweep_hears, all_go}
+use Rattle.list_walk.specs.Walks.{Walked, More, Whole, keys_on, walked, page_after, Sweep, sweep_start, sweep_asks, sweep_hears, all_go}
 use Rattle.job_operations.specs.Setup.{Setup, Heading, Checking, Clearing, Sweeping, SetupOver, setup_asks, setup_hears, lacks_bucket, if_bucket, headed, first_shown, checked_on, checked_by, checked, cleared, sweeping}
 use Rattle.job_operations.proofs.Faults.{if_bucket_so}
-use Rattle.sweep.specs.Fitting.{FitsPage, FitsSweep}
-use Rattle.sweep.specs.Left.{walk_left, left_of, adds_key, one_if}
-use Rattle.sweep.specs.Laws.{LessWalk}
-use Rattle.sweep.proofs.Falling.{walk_laws, sweep_laws}
+use Rattle.list_walk.specs.Fitting.{FitsPage, FitsSweep}
+use Rattle.list_walk.specs.Left.{walk_left, left_of, adds_key, one_if}
+use Rattle.list_walk.specs.Laws.{LessWalk}
+use Rattle.list_walk.proofs.Falling.{walk_laws, sweep_laws}
 use Rattle.job_setup.specs.Fits.{FitsSetup}
 use Rattle.job_setup.specs.Left.{cleared_left, left_at}
 use Rattle.job_setup.specs.Laws.{SetupsEnd}

@@ -20,7 +20,7 @@ use Rattle.job_model.specs.Plans.{IsJob}
 use Rattle.job_operations.specs.View.{is_folder}
 use Rattle.job_model.specs.declared.ends.SetupEnd.{SetupEnd}
 use Rattle.job_model.specs.declared.ends.SetupEnd.TheVariants.{Conflict}
-use Rattle.job_operations.specs.Walks.{walked, walked_by, keys_on, Sweep}
+use Rattle.list_walk.specs.Walks.{walked, walked_by, keys_on, Sweep}
 use Rattle.job_operations.specs.Setup.{Clearing, SetupOver, first_shown, shown_path, or_next, checked, checked_by, checked_on}
 use Rattle.job_setup.specs.Files.{path_behind, first_of}
 use Rattle.job_setup.specs.Held.{setup_at}

@@ -12,7 +12,7 @@ use Rattle.job_model.specs.Jobs.{Job}
 use Rattle.job_model.specs.JobScript.{Script}
 use Rattle.job_operations.specs.AtWork.{job_script, setup_wants, setup_told}
 use Rattle.job_operations.specs.Conflicts.{checks_all}
-use Rattle.job_operations.specs.Walks.{Walked, More, Whole, keys_on, walked, Sweep, sweep_hears, all_go}
+use Rattle.list_walk.specs.Walks.{Walked, More, Whole, keys_on, walked, Sweep, sweep_hears, all_go}
 use Rattle.job_operations.specs.Setup.{Setup, Heading, Checking, Clearing, Sweeping, SetupOver, setup_asks, setup_hears, if_bucket, headed, first_shown, checked_on, checked_by, checked, cleared, sweeping}
 use Rattle.job_operations.proofs.Faults.{if_bucket_so}
 use Rattle.job_setup.specs.Fits.{FitsDriving, standing, standing_of}

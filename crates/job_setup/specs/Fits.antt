@@ -6,7 +6,7 @@ use Rattle.job_model.specs.declared.ends.SetupEnd.TheVariants.{StoreFault, NoMem
 use Rattle.machine.specs.Standing.{Standing, Fine, Faulted, Broken}
 use Rattle.job_operations.specs.AtWork.{Driving}
 use Rattle.job_operations.specs.Setup.{Setup, Heading, Checking, Clearing, Sweeping, SetupOver, lacks_bucket}
-use Rattle.sweep.specs.Fitting.{FitsPage, FitsSweep}
+use Rattle.list_walk.specs.Fitting.{FitsPage, FitsSweep}
 
 -- a page that is not folded has keys alone; that the bucket is not there fits at each request
 abbrev pub FitsSetup : Setup → Reply → Type 0

@@ -3,7 +3,7 @@ use Rattle.std.specs.Prelude.{ℕ, cond, List, []}
 use Rattle.job_model.specs.JobScript.{Script}
 use Rattle.job_model.specs.declared.ends.SetupEnd.{SetupEnd}
 use Rattle.job_operations.specs.Conflicts.{checks_all}
-use Rattle.job_operations.specs.Walks.{Sweep}
+use Rattle.list_walk.specs.Walks.{keys_on, Sweep}
 use Rattle.job_operations.specs.Setup.{Setup, Heading, Checking, Clearing, Sweeping, SetupOver}
 use Rattle.job_setup.specs.declared.held.Held.{Held}
 use Rattle.job_setup.specs.declared.held.Stage.{Stage}
@@ -18,7 +18,7 @@ setup_at stages.Sweeping keys sweep end = Sweeping sweep
 setup_at stages.Over keys sweep end = SetupOver end
 
 abbrev pub setup_of : Held → Setup
-setup_of h = setup_at h.stage h.walk h.sweep h.end
+setup_of h = setup_at h.stage (keys_on h.walk) h.sweep h.end
 
 -- nothing stands at the destination's own key
 abbrev pub found_nothing : Script → Setup

@@ -1,18 +1,19 @@
 ghost use Rattle.std.specs.Prelude.{◌≡◌, false, IfOk, OnOk};
 ghost use Rattle.job_operations.specs.AtWork.{job_script};
 ghost use Rattle.job_operations.specs.Conflicts.{checks_all};
-ghost use Rattle.job_operations.specs.Walks.{sweep_hears, all_go};
+ghost use Rattle.list_walk.specs.Walks.{keys_on, sweep_hears, all_go};
 ghost use Rattle.job_operations.specs.Setup.{SetupOver, setup_start, setup_asks, setup_hears, lacks_bucket, headed, checked, cleared, sweeping};
 ghost use Rattle.job_setup.specs.Held.{setup_of, found_nothing};
-ghost use Rattle.sweep.specs.Fitting.{FitsPage, FitsSweep};
+ghost use Rattle.list_walk.specs.Fitting.{FitsPage, FitsSweep};
 ghost use Rattle.job_setup.specs.Fits.{FitsSetup};
 
 use crate::files::first_shown;
-use crate::requests::{clear_request, head_request, page_request};
+use crate::requests::{clear_request, head_request, page_request, sweep_request};
 use job_model::{JobPlan, SetupEnd};
+use list_walk::{AllKeys, KeyWalk, Sweep};
+use magic_paths::dest_prefix;
 use s3_types::{Committer, Mode, Refusal, Reply, Request, put};
 use std::alloc::{AllocError, Global};
-use sweep::{AllKeys, KeyWalk, Sweep, dest_prefix, sweep_request};
 
 /// Where a set-up stands.
 #[derive(Clone, Copy, Debug)]
@@ -123,7 +124,7 @@ impl Held {
     fn hear_page(&mut self, alloc: Global, plan: &JobPlan, reply: &Reply) -> Result<(), AllocError>
         requires stage { self.old.stage ≡ Stage.Checking }
         requires fits { FitsPage reply.now }
-        ensures { OnOk result (setup_of self.new ≡ checked (job_script plan.now) self.old.walk reply.now) }
+        ensures { OnOk result (setup_of self.new ≡ checked (job_script plan.now) (keys_on self.old.walk) reply.now) }
     {
         let Reply::Page { entries, .. } = reply else {
             return Ok(());

@@ -2,13 +2,13 @@ ghost use Rattle.std.specs.Prelude.{◌≡◌, ◌≤◌, ◌++◌, length, code
 ghost use Rattle.s3_types.specs.Names.{is_key_path};
 ghost use Rattle.s3_types.specs.declared.request.Request.TheVariants.{HeadObject, DeleteObject};
 ghost use Rattle.magic_paths.specs.Layout as layout;
-ghost use Rattle.job_operations.specs.Walks.{page_after};
+ghost use Rattle.list_walk.specs.Walks.{keys_on, page_after, sweep_asks};
 
-use magic_paths::success_key;
+use list_walk::{KeyWalk, Sweep};
+use magic_paths::{dest_prefix, magic_prefix, success_key};
 use path_keys::S3Path;
-use s3_types::{Key, Request};
+use s3_types::{Key, Request, Text};
 use std::alloc::{AllocError, Global};
-use sweep::{KeyWalk, dest_prefix};
 
 /// The request for the head of the object at a destination's own key, which has 1 to 400 bytes.
 pub fn head_request(dest: &S3Path) -> Result<Option<Request>, AllocError>
@@ -29,7 +29,7 @@ pub fn page_request(
     dest: &S3Path,
     walk: &KeyWalk,
 ) -> Result<Option<Request>, AllocError>
-    ensures { IfOk result (λ request. request ≡ Some (page_after dest.now.bucket (dest.now.key ++ codes "/") walk.now)) }
+    ensures { IfOk result (λ request. request ≡ Some (page_after dest.now.bucket (dest.now.key ++ codes "/") (keys_on walk.now))) }
 {
     let prefix = dest_prefix(alloc, dest)?;
     match walk.request(dest.bucket(), &prefix) {
@@ -50,4 +50,17 @@ pub fn clear_request(alloc: Global, dest: &S3Path) -> Result<Option<Request>, Al
         Ok(request) => Ok(Some(request)),
         Err(error) => Err(error),
     }
+}
+
+/// The next request of the sweep of a job's magic directory.
+pub fn sweep_request(
+    alloc: Global,
+    dest: &S3Path,
+    job: &Text,
+    sweep: &Sweep,
+) -> Result<Option<Request>, AllocError>
+    ensures { IfOk result (λ request. request ≡ Some (sweep_asks dest.now.bucket (layout.magic_prefix dest.now.key job.now) sweep.now)) }
+{
+    let prefix = magic_prefix(alloc, dest, job)?;
+    sweep.ask(alloc, dest.bucket(), &prefix)
 }

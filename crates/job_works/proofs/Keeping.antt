@@ -15,7 +15,7 @@ use Rattle.job_model.specs.Known.{Known}
 use Rattle.job_model.specs.Legal.{IsLegal}
 use Rattle.job_model.specs.JobScript.{Script}
 use Rattle.job_model.specs.declared.ends.Pick.{Pick}
-use Rattle.job_operations.specs.Walks.{Listing, Deleting}
+use Rattle.list_walk.specs.Walks.{Listing, Deleting}
 use Rattle.job_operations.specs.JobCommits.{Sets, picks_of, set_request, set_read, Commit, Fetching, Replacing, Completing, Marking, Reverting, CommitOver, commit_asks}
 use Rattle.job_operations.specs.Operations.{Setting, TheCommit, wants}
 use Rattle.job_promise.specs.Seen.{Seen, see, see_by, see_all, nothing_seen, is_begun, is_reading}

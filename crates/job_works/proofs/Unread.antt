@@ -16,7 +16,7 @@ use Rattle.job_model.specs.JobScript.{Script}
 use Rattle.job_model.specs.declared.ends.CommitEnd.{CommitEnd}
 use Rattle.job_operations.specs.Outputs.{Picks, same_path}
 use Rattle.job_operations.specs.Records.{files_set}
-use Rattle.job_operations.specs.Walks.{Sweep, sweep_hears}
+use Rattle.list_walk.specs.Walks.{Sweep, sweep_hears}
 use Rattle.job_operations.specs.Lanes.{Turn, again, follow, dealt, revert}
 use Rattle.job_operations.specs.JobCommits.{Sets, picks_of, all_commits, set_request, set_read, ok_set, Commit, Fetching, Replacing, Completing, Marking, Reverting, CommitOver, is_no_magic, completing, replaced, replacing, decided, fetching, fetched, swept, reverting, worn_completion, commit_start, commit_asks, commit_misses, commit_tells}
 use Rattle.job_operations.specs.Operations.{Setting, Operation, TheSetup, TheWrite, TheTaskCommit, TheTaskAbort, TheCommit, TheClean, who, asks, tells}

@@ -1,5 +1,5 @@
-pub mod Appends
 pub mod Walks
-pub mod Kinds
-pub mod PageLaws
-pub mod WalkLaws
+pub mod Fitting
+pub mod Kept
+pub mod Left
+pub mod Laws

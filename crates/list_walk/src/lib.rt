@@ -1,25 +1,24 @@
-//! Listings of a store page by page: all keys below a prefix, the entries of a folder, and live uploads.
+//! Walks over listings page by page, and sweeps, which list all keys below a prefix and then delete those
+//! that are to go: plain data that operations hold, and what they have left among others that send.
 //!
 //! # What is proved
 //!
-//! `list`: Alone on a scene, whatever is lost: what it gives is exactly the keys, the folder entries or
-//! the live uploads below the prefix, in order, for any number of pages (`found`). It changes nothing
-//! (`same`), journals honestly whatever its end (`journal`), and tells a fault only where something was
-//! lost (`fault`). Each request is for a page below the prefix, and is sent at most `retries + 1`
-//! times; StoreFault comes exactly where one wore out (`performed`).
+//! `KeyWalk`, `UploadWalk`, `Sweep` and laws: They ask what a walk or a sweep asks, and go where it goes, for any
+//! test on keys; a walk over keys keeps their lengths too. What they have left among others that send falls by
+//! the answer that is due (`walks_end`, `sweeps_end`, `upload_walks_end`). `fits_page` is true exactly
+//! where a reply fits a walk over keys.
 #![tactic(auto)]
 
-mod flat;
-mod folder;
-mod listing;
-mod page;
-mod uploads;
-mod walk;
-mod walk_end;
+mod fitting;
+mod key_test;
+mod key_walk;
+mod laws;
+mod sweeping;
+mod upload_walk;
 
-pub use flat::{FlatWalk, Keys};
-pub use folder::{Folder, FolderWalk};
-pub use listing::{Listing, list};
-pub use uploads::{UploadWalk, Uploads};
-pub use walk::{Kind, PageEnd, Walk};
-pub use walk_end::WalkEnd;
+pub use fitting::fits_page;
+pub use key_test::{AllBut, AllKeys, KeyTest};
+pub use key_walk::{KeyWalk, text_of};
+pub use laws::{growth, sweeps_end, upload_walks_end, walks_end};
+pub use sweeping::{Sweep, batch_request, keys_behind};
+pub use upload_walk::UploadWalk;

@@ -1,4 +1,4 @@
-ghost use Rattle.std.specs.Prelude.{◌≡◌, ◌≤◌, true, IfOk, length};
+ghost use Rattle.std.specs.Prelude.{◌≡◌, ◌≤◌, ◌++◌, true, IfOk, length, codes};
 ghost use Rattle.s3_types.specs.Names.{are_elements, is_job_id};
 ghost use Rattle.path_keys.specs.Paths.{below};
 ghost use Rattle.magic_paths.specs.Layout as keys;
@@ -52,6 +52,14 @@ pub fn success_key(alloc: Global, dest: &S3Path) -> Result<Key, AllocError>
 {
     let text = success_text(alloc, dest.key().as_str())?;
     Ok(Key::new(Text::new(alloc, text)?))
+}
+
+/// What the keys below a destination begin with: its key and a `/`.
+pub fn dest_prefix(alloc: Global, dest: &S3Path) -> Result<Text, AllocError>
+    ensures { IfOk result (λ prefix. prefix ≡ dest.now.key ++ codes "/") }
+{
+    let key = dest.key().as_str();
+    Text::new(alloc, format!(in alloc; "{key}/")?)
 }
 
 /// What the keys of all that is below a job's magic directory begin with: `DEST/__magic/job-ID/`.

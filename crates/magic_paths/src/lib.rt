@@ -21,7 +21,7 @@ mod texts;
 pub use finals::{final_path, is_magic};
 pub use laws::places_apart;
 pub use layout::{
-    attempt_dir, cluster_prefix, file_key, magic_prefix, set_key, staged_set_path, success_key,
-    temporary_path,
+    attempt_dir, cluster_prefix, dest_prefix, file_key, magic_prefix, set_key, staged_set_path,
+    success_key, temporary_path,
 };
 pub use refusal::MagicRefusal;

@@ -119,7 +119,7 @@ last_append l (k ∷ ks) more = last_append k ks more
 
 -- ---- all that stands is listed
 
-found_in : (es : List Entry) (k : List ℕ) (x : Object) → find text_cmp k es ≡ Some x → IsIn (k, x) es
+pub found_in : (es : List Entry) (k : List ℕ) (x : Object) → find text_cmp k es ≡ Some x → IsIn (k, x) es
 found_in [] k x e = absurd (none_some refl e)
 found_in (p ∷ es) k x e = by (eq_by_cmp text_cmp k p.0) refl (found_in es k x)
   where
@@ -136,7 +136,7 @@ above_all k (p ∷ es) e a (inl is) = ap (λ (x : Entry). text_cmp k x.0) is ∙
 above_all k (p ∷ es) e a (inr i) = above_all k es e a.1 i
 
 -- one of entries that rise is what is found at its key
-found_at : (es : List Entry) (e : Entry) → IsStrictlySortedBy text_cmp (keys_of es) → IsIn e es → find text_cmp e.0 es ≡ Some e.1
+pub found_at : (es : List Entry) (e : Entry) → IsStrictlySortedBy text_cmp (keys_of es) → IsIn e es → find text_cmp e.0 es ≡ Some e.1
 found_at [] e s i = absurd i
 found_at (p ∷ es) e s (inl is) =
     let key : e.0 ≡ p.0 = ap (λ (x : Entry). x.0) is in

@@ -88,7 +88,7 @@ fn answer_row(rt: &impl Print, alloc: Global, stores: &mut Stores, words: &str) 
         "back" => stores.go_back(),
         "many" => put_keys(alloc, &mut stores.now),
         "walk" => show_objects(rt, &stores.now),
-        "keys" | "folder" => show_walk(rt, alloc, &stores.now, verb, rest),
+        "keys" => show_walk(rt, alloc, &stores.now, rest),
         "joined" => show_joined(rt, alloc, rest),
         "direct" => show_stream(rt, alloc, StreamMode::Direct, rest),
         "delayed" => show_stream(rt, alloc, StreamMode::Delayed, rest),

@@ -1,29 +1,30 @@
 ghost use Rattle.std.specs.Prelude.{◌≡◌, ◌≤◌, false, IfOk};
 ghost use Rattle.s3_types.specs.Fates.{is_answer};
 
-use crate::replies::{show_entries, show_outcome};
+use crate::replies::show_outcome;
 use crate::requests::answer;
-use crate::spelling::{cut, plain};
+use crate::spelling::cut;
 use anyhow::{Context, Result, bail};
-use list_walk::{Folder, Keys, Kind, list};
+use bucket_ops::perform_in;
+use fs_ops::ListDir;
+use fs_tree::{DirEntry, DirList, FsRefusal};
 use machine::DriveStop;
+use path_keys::S3Path;
 use s3_service::Service;
-use s3_types::{
-    Actor, Bucket, Fate, FateFault, Fates, Journal, Key, PageEntry, Sequence, Text, let_go,
-};
+use s3_types::{Actor, Fate, FateFault, Fates, Journal, let_go};
 use std::alloc::{AllocError, Global};
 use store_link::{Lossy, MemStore};
 
-/// How many keys there are below `d/`.
+/// How many keys there are.
 const KEYS: u32 = 1_001;
 
 /// How often a request may be sent again.
 const RETRIES: u32 = 3;
 
-/// Puts the keys below `d/`, the last of them first.
+/// Puts the keys, the last of them first.
 pub fn put_keys(alloc: Global, service: &mut Service) -> Result<()> {
     for number in (0..KEYS).rev() {
-        let words = format!(in alloc; "do 1:2 8:4 'lake 8:7 'd/k{number:04} 8:0 8:3 'abc")?;
+        let words = format!(in alloc; "do 1:2 8:4 'lake 8:5 'k{number:04} 8:0 8:3 'abc")?;
         let_go(answer(alloc, service, words.as_str())?);
     }
     Ok(())
@@ -77,64 +78,50 @@ fn losing(alloc: Global, service: &Service, fates: Fates) -> Result<Lossy, Alloc
     Ok(Lossy::new(MemStore::new(alloc, service.copy()?), fates))
 }
 
-/// What a walk finds of a kind.
-type Found<E> = Result<Option<Sequence<E>>, DriveStop>;
+/// What a listing of the bucket's root answers.
+type Listed = Result<Result<DirList, FsRefusal>, DriveStop>;
 
-/// What a walk of the driver finds below a prefix of the bucket `lake`.
-fn found_by<K: Kind>(
-    alloc: Global,
-    kind: K,
-    prefix: &str,
-    store: &mut Lossy,
-    journal: &mut Journal,
-) -> Result<Found<K::Entry>>
+/// What the driver finds at the root of the bucket `lake`.
+fn listed(alloc: Global, store: &mut Lossy, journal: &mut Journal) -> Result<Listed>
     requires { store.old.requests ≡ 0 }
 {
-    let bucket = Bucket::read(alloc, b"lake")?;
-    let prefix = Text::copied(alloc, prefix)?;
-    let found = list(
+    let root = S3Path::read(alloc, "s3a://lake")?;
+    let bucket = root.bucket().clone()?;
+    let dir = ListDir::new(alloc, &root)?;
+    Ok(perform_in(
         alloc,
-        kind,
         bucket,
-        prefix,
+        dir,
         RETRIES,
         store,
         Actor::Driver,
         1,
         journal,
-    );
-    Ok(found)
+    ))
 }
 
-/// How many of the keys stand at the place of their number.
-fn in_order(alloc: Global, keys: &[Key]) -> Result<u32> {
+/// How many of the files stand at the place of their number.
+fn in_order(alloc: Global, entries: &[DirEntry]) -> Result<u32> {
     let mut count = 0u32;
-    for (key, number) in keys.iter().zip(0..KEYS) {
-        let text = format!(in alloc; "d/k{number:04}")?;
-        if key.as_bytes() == text.as_bytes() {
+    for (entry, number) in entries.iter().zip(0..KEYS) {
+        let text = format!(in alloc; "k{number:04}")?;
+        if entry.name.as_bytes() == text.as_bytes() {
             count = count.saturating_add(1);
         }
     }
     Ok(count)
 }
 
-fn show_keys(rt: &impl Print, alloc: Global, found: &Found<Key>) -> Result<()> {
-    match found {
-        Ok(Some(keys)) => {
-            let count = in_order(alloc, keys.as_slice())?;
-            print!(rt; ": {count} of {} keys", keys.len())?
+fn show_listed(rt: &impl Print, alloc: Global, listed: &Listed) -> Result<()> {
+    match listed {
+        Ok(Ok(entries)) => {
+            let count = in_order(alloc, entries.as_slice())?;
+            print!(rt; ": {count} of {} keys", entries.len())?
         }
-        Ok(None) => print!(rt; ": no bucket")?,
+        Ok(Err(_)) => print!(rt; ": refused")?,
         Err(stop) => print!(rt; ": {stop:?}")?,
     }
     Ok(())
-}
-
-fn show_folder(rt: &impl Print, found: &Found<PageEntry>) -> Result<()> {
-    match found {
-        Ok(Some(entries)) => show_entries(rt, entries),
-        _ => Ok(()),
-    }
 }
 
 fn show_sendings(rt: &impl Print, journal: &Journal) -> Result<()> {
@@ -145,65 +132,25 @@ fn show_sendings(rt: &impl Print, journal: &Journal) -> Result<()> {
     Ok(())
 }
 
-/// What is walked.
-#[derive(Clone, Copy)]
-struct Below<'w> {
-    alloc: Global,
-    prefix: &'w str,
-}
-
-fn walk_keys(rt: &impl Print, at: Below<'_>, store: &mut Lossy, journal: &mut Journal) -> Result<()>
-    requires { store.old.requests ≡ 0 }
-{
-    let found = found_by(at.alloc, Keys, at.prefix, store, journal)?;
-    show_sendings(rt, journal)?;
-    let shown = show_keys(rt, at.alloc, &found);
-    let_go(found);
-    shown
-}
-
-fn walk_folder(
-    rt: &impl Print,
-    at: Below<'_>,
-    store: &mut Lossy,
-    journal: &mut Journal,
-) -> Result<()>
-    requires { store.old.requests ≡ 0 }
-{
-    let found = found_by(at.alloc, Folder, at.prefix, store, journal)?;
-    let shown = show_folder(rt, &found);
-    let_go(found);
-    shown
-}
-
-fn walk(rt: &impl Print, alloc: Global, verb: &str, prefix: &str, store: &mut Lossy) -> Result<()>
+fn walk(rt: &impl Print, alloc: Global, store: &mut Lossy) -> Result<()>
     requires { store.old.requests ≡ 0 }
 {
     let mut journal = Journal::new(alloc);
-    let at = Below { alloc, prefix };
-    let shown = if verb == "folder" {
-        walk_folder(rt, at, store, &mut journal)
-    } else {
-        walk_keys(rt, at, store, &mut journal)
-    };
+    let listed = listed(alloc, store, &mut journal)?;
+    show_sendings(rt, &journal)?;
+    let shown = show_listed(rt, alloc, &listed);
+    let_go(listed);
     let_go(journal);
     shown
 }
 
-/// `keys|folder PREFIX FATE FIRST COUNT`: walks below a prefix in a copy of the store, and shows each sending,
-/// and how many of the keys stand at their places, or the folder's entries.
-pub fn show_walk(
-    rt: &impl Print,
-    alloc: Global,
-    service: &Service,
-    verb: &str,
-    words: &str,
-) -> Result<()> {
+/// `keys FATE FIRST COUNT`: lists the bucket's root in a copy of the store, and shows each sending, and how many of
+/// the files stand at their places.
+pub fn show_walk(rt: &impl Print, alloc: Global, service: &Service, words: &str) -> Result<()> {
     print!(rt; ":")?;
-    let (prefix, fates) = cut(words);
-    let fates = fates_in(alloc, fates)?;
+    let fates = fates_in(alloc, words)?;
     let mut store = losing(alloc, service, fates)?;
-    let shown = walk(rt, alloc, verb, plain(prefix), &mut store);
+    let shown = walk(rt, alloc, &mut store);
     let_go(store);
     shown
 }

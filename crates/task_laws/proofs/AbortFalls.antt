@@ -12,12 +12,12 @@ use Rattle.job_model.specs.Known.{Drawn}
 use Rattle.job_model.specs.JobScript.{Script}
 use Rattle.job_operations.specs.AtWork.{task_script, who_of, task_abort_wants, task_abort_told}
 use Rattle.job_operations.specs.Measures.{FallsAmong}
-use Rattle.job_operations.specs.Walks.{Sweep, sweep_start, sweep_asks, sweep_hears, all_go}
+use Rattle.list_walk.specs.Walks.{Sweep, sweep_start, sweep_asks, sweep_hears, all_go}
 use Rattle.job_operations.specs.TaskCommits.{attempt_prefix}
 use Rattle.job_operations.specs.TaskAborts.{TaskAbort, Dropping, Sweeping, Removing, TaskAbortOver, task_abort_asks, task_abort_hears, removing, dropped, dropping, sweeping}
-use Rattle.sweep.specs.Fitting.{FitsSweep}
-use Rattle.sweep.specs.Left.{left_of, adds_key, one_if}
-use Rattle.sweep.proofs.Falling.{sweep_laws}
+use Rattle.list_walk.specs.Fitting.{FitsSweep}
+use Rattle.list_walk.specs.Left.{left_of, adds_key, one_if}
+use Rattle.list_walk.proofs.Falling.{sweep_laws}
 use Rattle.task_laws.specs.Aborts.{FitsAbort, abort_fits, own_left, after_left, abort_left_at, abort_left}
 
 pub one_most : (b : Bool) → one_if b ≤ 1

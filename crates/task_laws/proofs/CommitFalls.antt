@@ -25,13 +25,13 @@ use Rattle.job_operations.specs.Measures.{FallsAmong}
 use Rattle.job_operations.specs.Outputs.{files}
 use Rattle.job_operations.specs.Records.{record_key}
 use Rattle.job_operations.specs.Uploading.{Uploading, Creating, Sending, file_parts, sending, created, sent_part, upload_hears}
-use Rattle.job_operations.specs.Walks.{Walked, More, Whole, page_after, walked}
+use Rattle.list_walk.specs.Walks.{Walked, More, Whole, page_after, walked}
 use Rattle.job_operations.specs.TaskCommits as commits
 use Rattle.job_operations.specs.TaskCommits.{TaskCommit, Looking, Reading, Publishing, Checking, Storing, Renaming, TaskCommitOver, attempt_prefix, partition_prefix, task_commit_asks, task_commit_hears, in_order, reading, looked_at, looked, read_record, least_missing, storing, checking, checked, uploaded, renamed}
-use Rattle.sweep.specs.Fitting.{FitsPage}
-use Rattle.sweep.specs.Left.{walk_left, adds_key}
-use Rattle.sweep.specs.Laws.{LessWalk}
-use Rattle.sweep.proofs.Falling.{walk_laws}
+use Rattle.list_walk.specs.Fitting.{FitsPage}
+use Rattle.list_walk.specs.Left.{walk_left, adds_key}
+use Rattle.list_walk.specs.Laws.{LessWalk}
+use Rattle.list_walk.proofs.Falling.{walk_laws}
 use Rattle.task_requests.specs.Publishing.{FitsRecord}
 use Rattle.task_requests.specs.Writing.{FitsCreate, FitsPart, FitsUpload}
 use Rattle.task_laws.specs.Commits.{FitsListing, FitsCommit, commit_fits, upload_left, uploads_left, commit_left_at, commit_left}

@@ -8,7 +8,7 @@ use Rattle.machine.specs.Standing.{Standing, Fine}
 use Rattle.job_model.specs.Known.{Drawn}
 use Rattle.job_model.specs.JobScript.{Script}
 use Rattle.job_operations.specs.AtWork.{Attempting, task_script, task_abort_wants, task_abort_told}
-use Rattle.job_operations.specs.Walks.{Sweep, sweep_hears, all_go}
+use Rattle.list_walk.specs.Walks.{Sweep, sweep_hears, all_go}
 use Rattle.job_operations.specs.TaskAborts.{TaskAbort, Dropping, Sweeping, Removing, TaskAbortOver, task_abort_over, task_abort_hears, removing, dropped, dropping, sweeping}
 use Rattle.asking.specs.Asks.{AskLaws}
 use Rattle.task_laws.specs.Standing.{standing_by}

@@ -7,11 +7,11 @@ use Rattle.s3_types.specs.declared.reply.Reply.{Reply}
 use Rattle.job_model.specs.Attempts.{Who}
 use Rattle.job_model.specs.JobScript.{Script}
 use Rattle.job_operations.specs.AtWork.{Attempting, task_script, who_of}
-use Rattle.job_operations.specs.Walks.{Sweep, sweep_start}
+use Rattle.list_walk.specs.Walks.{Sweep, sweep_start}
 use Rattle.job_operations.specs.TaskCommits.{attempt_prefix}
 use Rattle.job_operations.specs.TaskAborts.{TaskAbort, Dropping, Sweeping, Removing, TaskAbortOver}
-use Rattle.sweep.specs.Fitting.{FitsSweep}
-use Rattle.sweep.specs.Left.{sweep_left}
+use Rattle.list_walk.specs.Fitting.{FitsSweep}
+use Rattle.list_walk.specs.Left.{sweep_left}
 
 -- a page that is not folded has keys alone, and the bucket is there
 abbrev pub FitsAbort : TaskAbort → Reply → Type 0

@@ -12,7 +12,7 @@ use Rattle.job_model.specs.JobScript.{Script}
 use Rattle.job_operations.specs.AtWork.{Attempting, task_script, who_of, task_commit_wants, task_commit_told}
 use Rattle.job_operations.specs.Outputs.{files}
 use Rattle.job_operations.specs.Uploading.{Uploading, Creating, Sending, file_parts, sending, created, sent_part, upload_hears}
-use Rattle.job_operations.specs.Walks.{Walked, More, Whole, walked}
+use Rattle.list_walk.specs.Walks.{Walked, More, Whole, walked}
 use Rattle.job_operations.specs.TaskCommits as commits
 use Rattle.job_operations.specs.TaskCommits.{TaskCommit, Looking, Reading, Publishing, Checking, Storing, Renaming, TaskCommitOver, task_commit_over, task_commit_hears, reading, looked_at, looked, read_record, storing, checking, checked, uploaded, renamed}
 use Rattle.asking.specs.Asks.{AskLaws}

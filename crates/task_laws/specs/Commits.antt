@@ -11,11 +11,11 @@ use Rattle.job_model.specs.JobScript.{Script}
 use Rattle.job_operations.specs.AtWork.{Attempting, task_script, who_of}
 use Rattle.job_operations.specs.Outputs.{files}
 use Rattle.job_operations.specs.Uploading.{Uploading, Creating, Sending, file_parts}
-use Rattle.job_operations.specs.Walks.{keys_on}
+use Rattle.list_walk.specs.Walks.{keys_on}
 use Rattle.job_operations.specs.TaskCommits as commits
 use Rattle.job_operations.specs.TaskCommits.{TaskCommit, Looking, Reading, Publishing, Checking, Storing, Renaming, TaskCommitOver, attempt_prefix}
-use Rattle.sweep.specs.Fitting.{FitsPage}
-use Rattle.sweep.specs.Left.{walk_left}
+use Rattle.list_walk.specs.Fitting.{FitsPage}
+use Rattle.list_walk.specs.Left.{walk_left}
 use Rattle.task_requests.specs.Publishing.{FitsRecord}
 use Rattle.task_requests.specs.Writing.{FitsUpload}
 

@@ -22,7 +22,7 @@ use Rattle.job_operations.specs.AtWork.{Attempting, task_script, who_of, with_kn
 use Rattle.job_operations.specs.Knowledge.{is_set_key}
 use Rattle.job_operations.specs.Outputs.{files}
 use Rattle.job_operations.specs.Records.{record_key}
-use Rattle.job_operations.specs.Walks.{walked, walked_by}
+use Rattle.list_walk.specs.Walks.{keys_on, walked, walked_by}
 use Rattle.job_operations.specs.TaskCommits as commits
 use Rattle.job_operations.specs.Uploading.{Creating, Sending}
 use Rattle.job_operations.specs.TaskCommits.{TaskCommit, Looking, Reading, Publishing, Checking, Storing, Renaming, TaskCommitOver, task_commit_start_by, task_commit_asks, task_commit_hears, in_order, reading, looked, looked_at, least_missing, read_record}
@@ -222,7 +222,7 @@ told_as t new h after r p e q g b =
     ap (λ (x : Task). let m : Attempting TaskCommit = record { plan = x; operation = commit_of x after } in m) e
     ∙ (ap (λ (o : TaskCommit). let m : Attempting TaskCommit = record { plan = with_sent t p; operation = o } in m) g
     ∙ (ap (λ c. let m : Attempting TaskCommit = record { plan = with_sent t c; operation = task_commit_hears (task_script t) t.minimum (who_of t) (commit_of t h) r false } in m) q
-    ∙ sym (got_by t h.listing h.walk (picked t.files h.places) h.at h.end r b)))
+    ∙ sym (got_by t h.listing (keys_on h.walk) (picked t.files h.places) h.at h.end r b)))
 
 asks_known : (w : Script) (a : Who) (k : Known) (o : TaskCommit) (b : Bool) → task_commit_asks w a (known_if b k) o ≡ task_commit_asks w a k o
 asks_known w a k o false = refl

@@ -13,6 +13,7 @@ use Rattle.job_operations.specs.AtWork.{task_script, who_of, with_known}
 use Rattle.job_operations.specs.Records.{record_key}
 use Rattle.job_operations.specs.TaskCommits.{TaskCommit, Looking, Publishing, TaskCommitOver, least_of, reading}
 use Rattle.task_magic.specs.declared.committing.Committing.{Committing}
+use Rattle.list_walk.specs.Walks.{keys_on}
 use Rattle.task_requests.specs.Publishing.{picked, AreReady, are_places}
 
 -- ---- where it stands
@@ -24,7 +25,7 @@ commit_by true keys cs at None = Looking keys
 commit_by false keys cs at None = reading cs (drop at cs)
 
 abbrev pub commit_of : Task → Committing → TaskCommit
-commit_of t c = commit_by c.listing c.walk (picked t.files c.places) c.at c.end
+commit_of t c = commit_by c.listing (keys_on c.walk) (picked t.files c.places) c.at c.end
 
 -- ---- what is kept
 

@@ -2,7 +2,7 @@ ghost use Rattle.std.specs.Prelude.{◌≡◌, ◌+◌, ◌<◌, Bool, length, d
 ghost use Rattle.s3_types.specs.declared.request.Request.TheVariants.{GetObject};
 ghost use Rattle.s3_types.specs.declared.request.Committer.TheVariants.{Magic};
 ghost use Rattle.job_operations.specs.AtWork.{task_script, who_of};
-ghost use Rattle.job_operations.specs.Walks.{page_after};
+ghost use Rattle.list_walk.specs.Walks.{page_after, keys_on};
 ghost use Rattle.job_operations.specs.TaskCommits.{attempt_prefix, Looking, reading, task_commit_asks, task_commit_hears};
 ghost use Rattle.task_requests.specs.Publishing.{picked};
 ghost use Rattle.task_laws.specs.Commits.{FitsCommit};
@@ -11,9 +11,9 @@ ghost use Rattle.task_magic.specs.Committing.{HoldsCommit, commit_of, Keeps, rec
 use crate::listing::{Listed, files_of_keys, missing, record_at};
 use asking::Asked;
 use job_model::{TaskEnd, TaskPlan};
+use list_walk::KeyWalk;
 use s3_types::{Key, KeyList, Refusal, Reply, Request, Sequence, put};
 use std::alloc::{AllocError, Global};
-use sweep::KeyWalk;
 use task_machines::{Holds, TaskMachine, TheCommit};
 use task_requests::{bucket_of, directory, prefix, publish_request};
 
@@ -38,7 +38,7 @@ pub type CommitTask = TaskMachine<TheCommit, Committing>;
 /// The request for the next page of the attempt's directory.
 fn page_request(alloc: Global, plan: &TaskPlan, walk: &KeyWalk) -> Asked
     ensures { IfOk result (λ request. request ≡ Some (page_after plan.now.job.dest.bucket
-        (attempt_prefix (task_script plan.now) (who_of plan.now)) walk.now)) }
+        (attempt_prefix (task_script plan.now) (who_of plan.now)) (keys_on walk.now))) }
 {
     let prefix = prefix(alloc, plan)?;
     match walk.request(bucket_of(plan), &prefix) {
@@ -135,19 +135,20 @@ impl Committing {
         requires end { self.old.end ≡ None }
         requires listing { self.old.listing ≡ true }
         requires keeps { Keeps plan.now self.old }
-        requires fits { FitsCommit (task_script plan.now) (who_of plan.now) plan.now.known (Looking self.old.walk) reply.now }
+        requires fits { FitsCommit (task_script plan.now) (who_of plan.now) plan.now.known (Looking (keys_on self.old.walk)) reply.now }
         ensures keeps { Keeps plan.now self.new }
         ensures goes { OnOk result (commit_of plan.now self.new ≡ task_commit_hears (task_script plan.now)
-            plan.now.minimum (who_of plan.now) (Looking self.old.walk) reply.now false) }
+            plan.now.minimum (who_of plan.now) (Looking (keys_on self.old.walk)) reply.now false) }
     {
         if self.walk.hear(reply)? {
             return Ok(());
         }
+        let keys = self.walk.keys(alloc)?;
         let Listed {
             places,
             records,
             seen,
-        } = files_of_keys(alloc, plan, self.walk.keys().as_slice())?;
+        } = files_of_keys(alloc, plan, keys.as_slice())?;
         if let Some(key) = missing(alloc, plan, seen.as_slice())? {
             let name = key.as_text().clone()?;
             self.finish(TaskEnd::Gone(name));

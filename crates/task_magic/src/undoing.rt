@@ -1,7 +1,7 @@
 ghost use Rattle.std.specs.Prelude.{◌≡◌, IfOk, OnOk, Some};
 ghost use Rattle.s3_types.specs.declared.request.Committer.TheVariants.{Magic};
 ghost use Rattle.job_operations.specs.AtWork.{task_script, who_of};
-ghost use Rattle.job_operations.specs.Walks.{sweep_asks};
+ghost use Rattle.list_walk.specs.Walks.{sweep_asks};
 ghost use Rattle.job_operations.specs.TaskCommits.{attempt_prefix};
 ghost use Rattle.job_operations.specs.TaskAborts.{task_abort_hears};
 ghost use Rattle.task_laws.specs.Aborts.{FitsAbort};
@@ -9,9 +9,9 @@ ghost use Rattle.task_magic.specs.Undoing.{abort_of, kept_if};
 
 use asking::Asked;
 use job_model::{TaskEnd, TaskPlan};
+use list_walk::{AllKeys, Sweep};
 use s3_types::{Reply, put};
 use std::alloc::{AllocError, Global};
-use sweep::{AllKeys, Sweep};
 use task_machines::{Holds, TaskMachine, TheAbort};
 use task_requests::{abort_request, bucket_of, made, prefix};
 
@@ -42,10 +42,7 @@ fn sweep_request(alloc: Global, plan: &TaskPlan, sweep: &Sweep) -> Asked
         (attempt_prefix (task_script plan.now) (who_of plan.now)) sweep.now)) }
 {
     let prefix = prefix(alloc, plan)?;
-    match sweep.request(alloc, bucket_of(plan), &prefix) {
-        Ok(request) => Ok(Some(request)),
-        Err(error) => Err(error),
-    }
+    sweep.ask(alloc, bucket_of(plan), &prefix)
 }
 
 impl Undoing {

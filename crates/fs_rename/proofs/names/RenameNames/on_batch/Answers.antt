@@ -1,5 +1,6 @@
-use Rattle.fs_ops.proofs.Fitting.{sweep_fits_so}
+use Rattle.std.proofs.Common.{sym, ◌∙◌}
+use Rattle.bucket_walks.proofs.Sweeps.{sweep_fits_so}
 use Rattle.fs_rename.proofs.names.RenameNames.on_batch.Goals as goal
 
 pub hear-requires : goal.hear-requires
-hear-requires c = sweep_fits_so c.fits.result c.args.sweep c.args.reply.now c.fits.ensures c.if-not-fits.false
+hear-requires c = sweep_fits_so c.args.sweep c.args.reply.now (sym c.fits.ensures ∙ c.if-not-fits.false)

@@ -1,6 +1,6 @@
-use Rattle.job_operations.specs.Walks.{Listing}
-use Rattle.fs_ops.proofs.Fitting.{sweep_fits_so}
+use Rattle.std.proofs.Common.{sym, ◌∙◌}
+use Rattle.bucket_walks.proofs.Walks.{fits_decides}
 use Rattle.fs_rename.proofs.names.RenameNames.on_walk.Goals as goal
 
 pub hear-requires : goal.hear-requires
-hear-requires c = sweep_fits_so c.fits.result (Listing c.args.walk) c.args.reply.now c.fits.ensures c.if-not-fits.false
+hear-requires c = (fits_decides c.args.reply.now).0 (sym c.fits.ensures ∙ c.if-not-fits.false)

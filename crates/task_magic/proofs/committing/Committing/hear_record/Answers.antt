@@ -1,5 +1,6 @@
 use Rattle.std.proofs.Common.{◌∙◌, ap, sym, length, arith, subst}
 use Rattle.std.proofs.lemmas.Option.{slice_get_within}
+use Rattle.list_walk.specs.Walks.{keys_on}
 use Rattle.task_requests.specs.Publishing.{picked}
 use Rattle.task_magic.specs.Committing.{commit_by, commit_of, HoldsCommit}
 use Rattle.task_magic.proofs.Committed.{within_at, goes_gone_at, goes_read_at, keeps_read_at}
@@ -12,7 +13,7 @@ pub returns-then-is_no_key-clause-goes : goal.returns-then-is_no_key-clause-goes
 returns-then-is_no_key-clause-goes c =
     let h = c.args.self.now in
     ap (commit_of c.args.plan.now) c.finish.ensures
-    ∙ goes_gone_at c.args.plan.now h.listing h.walk h.places h.at c.args.place h.end c.args.reply.now c.requires.end c.requires.listing c.requires.at c.requires.fits
+    ∙ goes_gone_at c.args.plan.now h.listing (keys_on h.walk) h.places h.at c.args.place h.end c.args.reply.now c.requires.end c.requires.listing c.requires.at c.requires.fits
     c.in_ok-name.name (sym c.is_no_key.ensures ∙ c.if-is_no_key.true) (c.in_ok-name.ensures.cases ∙ (c.as_text.ensures.text ∙ c.in_ok-key.ensures))
 
 pub behind-self-requires : goal.behind-self-requires
@@ -22,10 +23,10 @@ pub returns-clause-keeps : goal.returns-clause-keeps
 returns-clause-keeps c =
     let h = c.args.self.now in
     subst (HoldsCommit c.args.plan.now h.places h.records) (sym c.behind-self.ensures)
-    (keeps_read_at c.args.plan.now h.listing h.walk h.places h.at c.args.place h.end c.args.reply.now c.requires.end c.requires.listing c.requires.at c.requires.fits h.records (sym c.is_no_key.ensures ∙ c.if-is_no_key.false) c.requires.keeps)
+    (keeps_read_at c.args.plan.now h.listing (keys_on h.walk) h.places h.at c.args.place h.end c.args.reply.now c.requires.end c.requires.listing c.requires.at c.requires.fits h.records (sym c.is_no_key.ensures ∙ c.if-is_no_key.false) c.requires.keeps)
 
 pub returns-clause-goes : goal.returns-clause-goes
 returns-clause-goes c =
     let h = c.args.self.now in
-    ap (λ n. commit_by h.listing h.walk (picked c.args.plan.now.files h.places) n h.end) c.behind-self.ensures
-    ∙ goes_read_at c.args.plan.now h.listing h.walk h.places h.at c.args.place h.end c.args.reply.now c.requires.end c.requires.listing c.requires.at c.requires.fits (sym c.is_no_key.ensures ∙ c.if-is_no_key.false)
+    ap (λ n. commit_by h.listing (keys_on h.walk) (picked c.args.plan.now.files h.places) n h.end) c.behind-self.ensures
+    ∙ goes_read_at c.args.plan.now h.listing (keys_on h.walk) h.places h.at c.args.place h.end c.args.reply.now c.requires.end c.requires.listing c.requires.at c.requires.fits (sym c.is_no_key.ensures ∙ c.if-is_no_key.false)

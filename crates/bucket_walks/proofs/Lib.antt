@@ -1,0 +1,4 @@
+pub mod Below
+pub mod Walks
+pub mod Batches
+pub mod Sweeps

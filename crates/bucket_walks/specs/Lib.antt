@@ -1,0 +1,4 @@
+pub mod Walking
+pub mod Sweeping
+pub mod Uploads
+pub mod UploadLaws

@@ -1,0 +1,47 @@
+-- Batch after batch.
+use Rattle.std.proofs.Common.{◌≡◌, ℕ, ◌+◌, ◌-◌, ◌<◌, ◌≤◌, nat_lt, ◌&&◌, Bool, true, false, List, [], ◌∷◌, length, drop, Some, None, refl, sym, ap, ◌∙◌, arith, length-drop}
+use Rattle.std.proofs.lemmas.List.{drop-drop}
+use Rattle.proof_base.proofs.Numbers.{below_is, below_not}
+use Rattle.s3_types.specs.declared.reply.Reply.{Reply}
+use Rattle.list_walk.specs.Walks.{deleting, sweep_hears}
+use Rattle.list_walk.specs.Kept.{deleting_from, sweep_at, from_if, next_from}
+
+hears_from : (goes : List ℕ → Bool) (r : Reply) (l : List (List ℕ)) → 0 < length l → sweep_hears goes (deleting_from l) r ≡ deleting (drop 1000 l)
+hears_from goes r [] h = absurd (omega arith)
+hears_from goes r (k ∷ ks) h = refl
+
+some_left : (l : List (List ℕ)) → 0 < length l → deleting l ≡ Some (deleting_from l)
+some_left [] h = absurd (omega arith)
+some_left (k ∷ ks) h = refl
+
+none_left : (l : List (List ℕ)) → length l ≡ 0 → deleting l ≡ None
+none_left [] h = refl
+none_left (k ∷ ks) h = absurd (omega arith)
+
+hears_at : (goes : List ℕ → Bool) (r : Reply) (keys : List (List ℕ)) (from : ℕ) → from < length keys → sweep_hears goes (deleting_from (drop from keys)) r ≡ deleting (drop (from + 1000) keys)
+hears_at goes r keys from h = hears_from goes r (drop from keys) (omega (arith, length-drop from keys)) ∙ ap deleting (drop-drop 1000 from keys)
+
+next_is : (a b : Bool) (from n len : ℕ) → nat_lt from len ≡ a → nat_lt 1000 (len - from) ≡ b → from_if (a && b) (from + 1000) ≡ Some n → (n ≡ from + 1000) × (from < len) × (1000 < len - from)
+next_is true true from n len x y h = let e : n ≡ from + 1000 = cc in (e, below_is from len x, below_is 1000 (len - from) y)
+next_is true false from n len x y h = absurd (cc)
+next_is false b from n len x y h = absurd (cc)
+
+last_is : (a b : Bool) (from len : ℕ) → nat_lt from len ≡ a → nat_lt 1000 (len - from) ≡ b → from_if (a && b) (from + 1000) ≡ None → len ≤ from + 1000
+last_is true true from len x y h = absurd (cc)
+last_is true false from len x y h = let i = below_not 1000 (len - from) y in omega (arith, i)
+last_is false b from len x y h = let i = below_not from len x in omega (arith, i)
+
+-- a batch is gone, and the next one is due
+pub batch_next : (goes : List ℕ → Bool) (r : Reply) (listing : Bool) (found keys : List (List ℕ)) (from n : ℕ) → listing ≡ false → next_from from (length keys) ≡ Some n → sweep_hears goes (sweep_at listing found keys from) r ≡ Some (sweep_at listing found keys n)
+batch_next goes r true found keys from n h e = absurd (cc)
+batch_next goes r false found keys from n h e =
+    let w = next_is (nat_lt from (length keys)) (nat_lt 1000 (length keys - from)) from n (length keys) refl refl e in
+    hears_at goes r keys from w.1 ∙ ap (λ n. deleting (drop n keys)) (sym w.0)
+    ∙ some_left (drop n keys) (omega (arith, length-drop n keys, w.0, w.1, w.2))
+
+-- the last batch is gone
+pub batch_last : (goes : List ℕ → Bool) (r : Reply) (listing : Bool) (found keys : List (List ℕ)) (from : ℕ) → listing ≡ false → from < length keys → next_from from (length keys) ≡ None → sweep_hears goes (sweep_at listing found keys from) r ≡ None
+batch_last goes r true found keys from h l e = absurd (cc)
+batch_last goes r false found keys from h l e =
+    let i = last_is (nat_lt from (length keys)) (nat_lt 1000 (length keys - from)) from (length keys) refl refl e in
+    hears_at goes r keys from l ∙ none_left (drop (from + 1000) keys) (omega (arith, length-drop (from + 1000) keys, i))

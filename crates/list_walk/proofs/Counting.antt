@@ -1,0 +1,96 @@
+-- How many entries of a finite map pass a test, before and after one is put in or taken out.
+use Rattle.std.proofs.Common.{◌≡◌, ℕ, ◌+◌, ◌≤◌, Bool, true, false, not, cond, List, [], ◌∷◌, length, Some, None, refl, sym, ap, subst, ◌∙◌, arith}
+use Rattle.std.specs.FinMap.{FinMap, insert, remove, entries, entries_sorted, from_entries, from_sorted, entries-from_sorted, get-from_sorted, get-from_entries, get-entries, get-remove, entries-insert, same_map}
+use Rattle.std.specs.FinMap.Entries.{find, put, by_order, where_key, is_sorted-where_key, find-where_key}
+use Rattle.std.specs.List.{filter}
+use Rattle.std.specs.Ordering.{eq_by_cmp, is_eq}
+use Rattle.std.specs.Cmp.{IsTotalOrder, alike_right, eq_by_cmp_equiv}
+use Rattle.std.specs.declared.cmp.Ordering.{Ordering}
+use Rattle.std.specs.declared.cmp.Ordering.TheVariants.{Less, Equal, Greater}
+use Rattle.std.proofs.lemmas.Map.Lookups.{CmpEqualImpliesEq}
+use Rattle.proof_base.proofs.Tree.{entries_empty}
+use Rattle.list_walk.specs.Left.{one_if as one}
+
+abbrev pub count : {E : Type 0} → (E → Bool) → List E → ℕ
+count t es = length (filter t es)
+
+pub count_more : {E : Type 0} (t : E → Bool) (e : E) (es : List E) → count t (e ∷ es) ≡ one (t e) + count t es
+count_more t e es = by (t e)
+  where
+    by : (b : Bool) → length (cond b (e ∷ filter t es) (filter t es)) ≡ one b + length (filter t es)
+    by true = omega arith
+    by false = omega arith
+
+pub one_most : (b : Bool) → one b ≤ 1
+one_most true = omega arith
+one_most false = omega arith
+
+-- those that pass another test too are no more
+pub count_where : {E : Type 0} (t q : E → Bool) (es : List E) → count t (filter q es) ≤ count t es
+count_where t q [] = omega arith
+count_where t q (e ∷ es) = by (q e) (count_where t q es)
+  where
+    by : (b : Bool) → count t (filter q es) ≤ count t es → count t (cond b (e ∷ filter q es) (filter q es)) ≤ count t (e ∷ es)
+    by true ih = omega (arith, ih, count_more t e (filter q es), count_more t e es)
+    by false ih = omega (arith, ih, count_more t e es)
+
+module _ {K X : Type 0} (R : K → K → Ordering) (t : K × X → Bool) where
+  pub count_put : (k : K) (v : X) (es : List (K × X)) → count t (put R k v es) ≤ count t es + 1
+  count_put k v [] = let m = one_most (t (k, v)) in omega (arith, count_more t (k, v) [], m)
+  count_put k v (e ∷ es) = by (R k e.0) (count_put k v es)
+    where
+      by : (r : Ordering) → count t (put R k v es) ≤ count t es + 1 → count t (by_order r ((k, v) ∷ e ∷ es) ((e.0, v) ∷ es) (e ∷ put R k v es)) ≤ count t (e ∷ es) + 1
+      by Less ih = let m = one_most (t (k, v)) in omega (arith, count_more t (k, v) (e ∷ es), m)
+      by Equal ih = let m = one_most (t (e.0, v)) in omega (arith, count_more t (e.0, v) es, count_more t e es, m)
+      by Greater ih = omega (arith, ih, count_more t e (put R k v es), count_more t e es)
+
+  -- a key that is new
+  pub count_new : (k : K) (v : X) (es : List (K × X)) → find R k es ≡ None → count t (put R k v es) ≡ one (t (k, v)) + count t es
+  count_new k v [] h = count_more t (k, v) []
+  count_new k v (e ∷ es) h = by (R k e.0) refl (count_new k v es)
+    where
+      by : (r : Ordering) → R k e.0 ≡ r → (find R k es ≡ None → count t (put R k v es) ≡ one (t (k, v)) + count t es) → count t (by_order r ((k, v) ∷ e ∷ es) ((e.0, v) ∷ es) (e ∷ put R k v es)) ≡ one (t (k, v)) + count t (e ∷ es)
+      by Less i ih = count_more t (k, v) (e ∷ es)
+      by Equal i ih = absurd (some_none (sym (ap (λ r. cond (is_eq r) (Some e.1) (find R k es)) i) ∙ h))
+        where
+          some_none : Some e.1 ≡ None → ⊥
+          some_none g = cc
+      by Greater i ih =
+          let g : find R k es ≡ None = sym (ap (λ r. cond (is_eq r) (Some e.1) (find R k es)) i) ∙ h in
+          omega (arith, ih g, count_more t e (put R k v es), count_more t e es)
+
+module _ {K X : Type 0} {R : K → K → Ordering} (o : IsTotalOrder R) where
+  -- what a map has without a key
+  pub entries_removed : CmpEqualImpliesEq R → (m : FinMap R X) (k : K) → entries (remove m k) ≡ where_key R (λ x. not (eq_by_cmp R k x)) (entries m)
+  entries_removed exact m k =
+      ap entries (same_map o exact (remove m k) (from_sorted (where_key R (λ x. not (eq_by_cmp R k x)) (entries m))) (λ q.
+      get-remove o m k q
+      ∙ sym (get-from_sorted R (where_key R (λ x. not (eq_by_cmp R k x)) (entries m)) q (is_sorted-where_key R (λ x. not (eq_by_cmp R k x)) (entries m) (entries_sorted m))
+      ∙ find-where_key R (λ x. not (eq_by_cmp R k x)) q (λ x e. ap (λ r. not (is_eq r)) (sym (alike_right o q x k e))) (entries m)
+      ∙ turned (eq_by_cmp R k q) (find R q (entries m)) None
+      ∙ ap (λ b. cond b None (find R q (entries m))) ((eq_by_cmp_equiv o).symm k q)
+      ∙ ap (cond (eq_by_cmp R q k) None) (sym (get-entries m q)))))
+      ∙ entries-from_sorted R (where_key R (λ x. not (eq_by_cmp R k x)) (entries m)) (is_sorted-where_key R (λ x. not (eq_by_cmp R k x)) (entries m) (entries_sorted m))
+    where
+      turned : {A : Type 0} (b : Bool) (x y : A) → cond (not b) x y ≡ cond b y x
+      turned true x y = refl
+      turned false x y = refl
+
+  pub count_insert : (t : K × X → Bool) (m : FinMap R X) (k : K) (v : X) → count t (entries (insert m k v)) ≤ count t (entries m) + 1
+  count_insert t m k v = subst (λ l. count t l ≤ count t (entries m) + 1) (sym (entries-insert o m k v)) (count_put R t k v (entries m))
+
+  pub count_remove : CmpEqualImpliesEq R → (t : K × X → Bool) (m : FinMap R X) (k : K) → count t (entries (remove m k)) ≤ count t (entries m)
+  count_remove exact t m k = subst (λ l. count t l ≤ count t (entries m)) (sym (entries_removed exact m k)) (count_where t (λ e. not (eq_by_cmp R k e.0)) (entries m))
+
+  -- each key is new in the entries behind it
+  abbrev pub AreNew : List (K × X) → Type 0
+  AreNew [] = Unit {0}
+  AreNew (e ∷ es) = (find R e.0 es ≡ None) × AreNew es
+
+  -- the map that such entries make has as many
+  pub count_made : (t : K × X → Bool) (es : List (K × X)) → AreNew es → count t (entries (from_entries {R = R} es)) ≡ count t es
+  count_made t [] h = ap (count t) (entries_empty R)
+  count_made t (e ∷ es) h =
+      ap (count t) (entries-insert o (from_entries {R = R} es) e.0 e.1)
+      ∙ count_new R t e.0 e.1 (entries (from_entries {R = R} es)) (sym (get-entries (from_entries {R = R} es) e.0) ∙ get-from_entries o es e.0 ∙ h.0)
+      ∙ ap (λ n. one (t e) + n) (count_made t es h.1) ∙ sym (count_more t e es)

@@ -1,0 +1,21 @@
+-- What the tests of replies say.
+use Rattle.std.proofs.Common.{◌≡◌, Bool, true, false, List, [], ◌∷◌, Decides, refl, sym, ap, subst, ◌∙◌}
+use Rattle.std.proofs.lemmas.Bool.{true≢false}
+use Rattle.std.proofs.lemmas.Bool.Decides.{Decides-at, Decides-and}
+use Rattle.std.specs.List.{list_all}
+use Rattle.s3_types.specs.declared.reply.Reply.{Reply}
+use Rattle.s3_types.specs.declared.reply.Reply.TheVariants.{Page}
+use Rattle.s3_types.specs.declared.reply.PageEntry.{PageEntry}
+use Rattle.s3_types.specs.declared.reply.PageEntry.TheVariants.{Object as Single, Prefix}
+use Rattle.list_walk.specs.Fitting.{IsKey, is_key, AreKeys, FitsPage}
+
+key_decides : (e : PageEntry) → Decides (is_key e) (IsKey e)
+key_decides (Single k n) = (λ _. tt, λ _. refl)
+key_decides (Prefix t) = (λ e. absurd (true≢false (sym e)), λ h. absurd h)
+
+pub keys_decide : (es : List PageEntry) → Decides (list_all is_key es) (AreKeys es)
+keys_decide [] = (λ _. tt, λ _. refl)
+keys_decide (e ∷ es) = Decides-and (is_key e) (list_all is_key es) (key_decides e) (keys_decide es)
+
+pub page_tells : (r : Reply) (entries shown : List PageEntry) (more is : Bool) → r ≡ Page entries more → shown ≡ entries → is ≡ list_all is_key shown → Decides is (FitsPage r)
+page_tells r entries shown more is e s h = subst (λ x. Decides is (FitsPage x)) (sym e) (Decides-at is (list_all is_key entries) (h ∙ ap (list_all is_key) s) (keys_decide entries))

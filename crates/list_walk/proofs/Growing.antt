@@ -1,0 +1,167 @@
+-- What one request adds to what is there.
+use Rattle.std.proofs.Common.{◌≡◌, ℕ, ◌+◌, ◌≤◌, Bool, true, false, cond, List, [], ◌∷◌, length, nat_lt, Option, Some, None, Result, Ok, Err, refl, sym, ap, subst, ◌∙◌, arith}
+use Rattle.std.specs.FinMap as fin
+use Rattle.std.specs.FinMap.{get-insert}
+use Rattle.std.specs.List.{filter}
+use Rattle.std.specs.Ordering.{eq_by_cmp, nat_cmp}
+use Rattle.std.specs.Cmp.{nat_cmp_total}
+use Rattle.std.specs.declared.cmp.Ordering.TheVariants.{Equal}
+use Rattle.std.proofs.lemmas.Map.Lookups.{exact_bytes}
+use Rattle.proof_base.specs.Order.{text_cmp, text_total}
+use Rattle.proof_base.proofs.Tree.{tied, entries_empty}
+use Rattle.s3_types.specs.Names.{is_bucket}
+use Rattle.s3_types.specs.Store.{Scene, Objects, Files, Upload, Uploads, BucketContent, Content, new_bucket}
+use Rattle.s3_types.specs.Answer.{apply, apply_at, apply_in, bucket_of, made, without, copied, completed, renamed, aborted, part_put}
+use Rattle.s3_types.specs.Pages.{begins, listed}
+use Rattle.s3_types.specs.Multipart as uploads
+use Rattle.s3_types.specs.Multipart.{live, is_part_number, joined, ref_of, with_part}
+use Rattle.s3_types.specs.declared.object.Object.{Object}
+use Rattle.s3_types.specs.declared.limits.TheConstants.{MOST_ENTRIES}
+use Rattle.s3_types.specs.declared.reply.Refusal.{Refusal}
+use Rattle.s3_types.specs.declared.request.Request.{Request}
+use Rattle.s3_types.specs.declared.request.Request.TheVariants.{MakeBucket, PutObject, DeleteObject, DeleteObjects, CopyObject, CreateUpload, UploadPart, CompleteUpload, AbortUpload, ClusterPut, ClusterRename, ClusterGet, ClusterDelete, ClusterList}
+use Rattle.s3_types.specs.declared.request.UploadRef.{UploadRef}
+use Rattle.list_walk.specs.Left.{count_in, in_bucket, files_left, adds_key, sets_upload, one_if}
+use Rattle.list_walk.specs.Laws.{Growth}
+use Rattle.list_walk.proofs.Counting.{count, count_insert, count_remove}
+use Rattle.list_walk.proofs.Listing.{is_left, listed_count, is_left_ref, refs_count, count_mapped}
+
+exact_numbers : (i j : ℕ) → nat_cmp i j ≡ Equal → i ≡ j
+exact_numbers i j e = fin.nat_cmp-IsAntisymmetric i j e
+
+-- ---- in a bucket
+
+module _ (f : BucketContent → ℕ) (d : ℕ) where
+  grown : (s : Scene) (r : Request) (o : Option BucketContent) → fin.get s.content.buckets (bucket_of r) ≡ o → ((c : BucketContent) (n m : ℕ) → f (apply_in c n m r) ≤ f c + d)
+      → (b : List ℕ) → count_in f (fin.get (apply_at o s.content r).buckets b) ≤ count_in f (fin.get s.content.buckets b) + d
+  grown s r None e h b = omega arith
+  grown s r (Some c) e h b =
+      subst (λ x. count_in f x ≤ count_in f (fin.get s.content.buckets b) + d) (sym (get-insert text_total s.content.buckets (bucket_of r) (apply_in c s.content.next s.content.minimum r) b))
+      (by (eq_by_cmp text_cmp b (bucket_of r)) refl)
+    where
+      by : (t : Bool) → eq_by_cmp text_cmp b (bucket_of r) ≡ t → count_in f (cond t (Some (apply_in c s.content.next s.content.minimum r)) (fin.get s.content.buckets b)) ≤ count_in f (fin.get s.content.buckets b) + d
+      by true t =
+          subst (λ x. f (apply_in c s.content.next s.content.minimum r) ≤ count_in f x + d) (sym e ∙ ap (fin.get s.content.buckets) (sym (exact_bytes b (bucket_of r) (tied (text_cmp b (bucket_of r)) t))))
+          (h c s.content.next s.content.minimum)
+      by false t = omega arith
+
+  grown_new : f new_bucket ≡ 0 → (c : Content) (name : List ℕ) (o : Option BucketContent) (b : List ℕ) → count_in f (fin.get (made c name o).buckets b) ≤ count_in f (fin.get c.buckets b) + d
+  grown_new z c name (Some x) b = omega arith
+  grown_new z c name None b = by (is_bucket name)
+    where
+      there : (t : Bool) → count_in f (cond t (Some new_bucket) (fin.get c.buckets b)) ≤ count_in f (fin.get c.buckets b) + d
+      there true = omega (arith, z)
+      there false = omega arith
+
+      by : (t : Bool) → count_in f (fin.get (cond t (record { buckets = fin.insert c.buckets name new_bucket; next = c.next; minimum = c.minimum }) c).buckets b) ≤ count_in f (fin.get c.buckets b) + d
+      by true = subst (λ x. count_in f x ≤ count_in f (fin.get c.buckets b) + d) (sym (get-insert text_total c.buckets name new_bucket b)) (there (eq_by_cmp text_cmp b name))
+      by false = omega arith
+
+  pub grows : f new_bucket ≡ 0 → (s : Scene) (r : Request) → ((c : BucketContent) (n m : ℕ) → f (apply_in c n m r) ≤ f c + d) → (b : List ℕ) → in_bucket (apply s r) b f ≤ in_bucket s b f + d
+  grows z s (MakeBucket name) h b = grown_new z s.content name (fin.get s.content.buckets name) b
+  grows z s (ClusterPut path bytes) h b = omega arith
+  grows z s (ClusterRename source target) h b = omega arith
+  grows z s (ClusterGet path) h b = omega arith
+  grows z s (ClusterDelete path) h b = omega arith
+  grows z s (ClusterList p) h b = omega arith
+  grows z s r h b = grown s r (fin.get s.content.buckets (bucket_of r)) refl h b
+
+-- ---- keys
+
+module _ (p a : List ℕ) where
+  more_keys : (m : Objects) (k : List ℕ) (x : Object) → length (listed p false a (fin.insert m k x)) ≤ length (listed p false a m) + 1
+  more_keys m k x = let i = count_insert text_total (is_left p a) m k x in omega (arith, i, listed_count p a m, listed_count p a (fin.insert m k x))
+
+  no_more_keys : (m : Objects) (k : List ℕ) → length (listed p false a (fin.remove m k)) ≤ length (listed p false a m)
+  no_more_keys m k = let i = count_remove text_total exact_bytes (is_left p a) m k in omega (arith, i, listed_count p a m, listed_count p a (fin.remove m k))
+
+  keys_without : (m : Objects) (ks : List (List ℕ)) → length (listed p false a (without m ks)) ≤ length (listed p false a m)
+  keys_without m [] = omega arith
+  keys_without m (k ∷ ks) = let i = keys_without (fin.remove m k) ks in let j = no_more_keys m k in omega (arith, i, j)
+
+  keys_deleted : (b : Bool) (m : Objects) (ks : List (List ℕ)) → length (listed p false a (cond b m (without m ks))) ≤ length (listed p false a m)
+  keys_deleted true m ks = omega arith
+  keys_deleted false m ks = keys_without m ks
+
+  keys_copied : (m : Objects) (k : List ℕ) (o : Option Object) → length (listed p false a (copied m k o)) ≤ length (listed p false a m) + 1
+  keys_copied m k (Some x) = more_keys m k x
+  keys_copied m k None = omega arith
+
+  keys_completed : (c : BucketContent) (k : List ℕ) (id : ℕ) (r : Result (List ℕ) Refusal) → length (listed p false a (completed c k id r).objects) ≤ length (listed p false a c.objects) + 1
+  keys_completed c k id (Ok bytes) = more_keys c.objects k (record { bytes = bytes; header = None })
+  keys_completed c k id (Err r) = omega arith
+
+  keys_by : (r : Request) (c : BucketContent) (n m : ℕ) → length (listed p false a (apply_in c n m r).objects) ≤ length (listed p false a c.objects) + one_if (adds_key r)
+  keys_by (PutObject b k bytes header) c n m = more_keys c.objects k (record { bytes = bytes; header = header })
+  keys_by (DeleteObject b k) c n m = let i = no_more_keys c.objects k in omega (arith, i)
+  keys_by (DeleteObjects b ks) c n m = let i = keys_deleted (nat_lt MOST_ENTRIES (length ks)) c.objects ks in omega (arith, i)
+  keys_by (CopyObject b source target) c n m = keys_copied c.objects target (fin.get c.objects source)
+  keys_by (CompleteUpload b k id ns) c n m = keys_completed c k id (joined (live c.uploads k id) ns m)
+  keys_by _ c n m = omega arith
+
+  none_new : length (listed p false a new_bucket.objects) ≡ 0
+  none_new = listed_count p a fin.empty ∙ ap (count (is_left p a)) (entries_empty text_cmp)
+
+-- ---- uploads
+
+module _ (p : List ℕ) (a : Option UploadRef) where
+  more_refs : (m : Uploads) (i : ℕ) (u : Upload) → length (uploads.listed p a (fin.insert m i u)) ≤ length (uploads.listed p a m) + 1
+  more_refs m i u = let j = count_insert nat_cmp_total (λ e. is_left_ref p a (ref_of e).0) m i u in omega (arith, j, refs_count p a m, refs_count p a (fin.insert m i u))
+
+  no_more_refs : (m : Uploads) (i : ℕ) → length (uploads.listed p a (fin.remove m i)) ≤ length (uploads.listed p a m)
+  no_more_refs m i = let j = count_remove nat_cmp_total exact_numbers (λ e. is_left_ref p a (ref_of e).0) m i in omega (arith, j, refs_count p a m, refs_count p a (fin.remove m i))
+
+  refs_put : (b : Bool) (m : Uploads) (i : ℕ) (u : Upload) → length (uploads.listed p a (cond b (fin.insert m i u) m)) ≤ length (uploads.listed p a m) + 1
+  refs_put true m i u = more_refs m i u
+  refs_put false m i u = omega arith
+
+  refs_parted : (m : Uploads) (i : ℕ) (o : Option Upload) (n : ℕ) (bytes : List ℕ) → length (uploads.listed p a (part_put m i o n bytes)) ≤ length (uploads.listed p a m) + 1
+  refs_parted m i None n bytes = omega arith
+  refs_parted m i (Some u) n bytes = refs_put (is_part_number n) m i (with_part u n bytes)
+
+  refs_aborted : (m : Uploads) (i : ℕ) (o : Option Upload) → length (uploads.listed p a (aborted m i o)) ≤ length (uploads.listed p a m)
+  refs_aborted m i (Some u) = no_more_refs m i
+  refs_aborted m i None = omega arith
+
+  refs_completed : (c : BucketContent) (k : List ℕ) (id : ℕ) (r : Result (List ℕ) Refusal) → length (uploads.listed p a (completed c k id r).uploads) ≤ length (uploads.listed p a c.uploads)
+  refs_completed c k id (Ok bytes) = no_more_refs c.uploads id
+  refs_completed c k id (Err r) = omega arith
+
+  refs_by : (r : Request) (c : BucketContent) (n m : ℕ) → length (uploads.listed p a (apply_in c n m r).uploads) ≤ length (uploads.listed p a c.uploads) + one_if (sets_upload r)
+  refs_by (CreateUpload b k) c n m = more_refs c.uploads n (record { key = k; parts = fin.empty })
+  refs_by (UploadPart b k id number bytes) c n m = refs_parted c.uploads id (live c.uploads k id) number bytes
+  refs_by (CompleteUpload b k id ns) c n m = let i = refs_completed c k id (joined (live c.uploads k id) ns m) in omega (arith, i)
+  refs_by (AbortUpload b k id) c n m = let i = refs_aborted c.uploads id (live c.uploads k id) in omega (arith, i)
+  refs_by _ c n m = omega arith
+
+  no_refs_new : length (uploads.listed p a new_bucket.uploads) ≡ 0
+  no_refs_new = refs_count p a fin.empty ∙ ap (count (λ e. is_left_ref p a (ref_of e).0)) (entries_empty nat_cmp)
+
+-- ---- files
+
+module _ (p : List ℕ) where
+  files_count : (m : Files) → length (filter (begins p) (fin.keys m)) ≡ count (λ e. begins p e.0) (fin.entries m)
+  files_count m = count_mapped (λ e. e.0) (begins p) (fin.entries m)
+
+  more_files : (m : Files) (k : List ℕ) (x : List ℕ) → length (filter (begins p) (fin.keys (fin.insert m k x))) ≤ length (filter (begins p) (fin.keys m)) + 1
+  more_files m k x = let i = count_insert text_total (λ e. begins p e.0) m k x in omega (arith, i, files_count m, files_count (fin.insert m k x))
+
+  no_more_files : (m : Files) (k : List ℕ) → length (filter (begins p) (fin.keys (fin.remove m k))) ≤ length (filter (begins p) (fin.keys m))
+  no_more_files m k = let i = count_remove text_total exact_bytes (λ e. begins p e.0) m k in omega (arith, i, files_count m, files_count (fin.remove m k))
+
+  files_renamed : (m : Files) (source target : List ℕ) (o : Option (List ℕ)) → length (filter (begins p) (fin.keys (renamed m source target o))) ≤ length (filter (begins p) (fin.keys m)) + 1
+  files_renamed m source target (Some bytes) = let i = more_files (fin.remove m source) target bytes in let j = no_more_files m source in omega (arith, i, j)
+  files_renamed m source target None = omega arith
+
+  files_by : (s : Scene) (r : Request) → files_left p (apply s r) ≤ files_left p s + 1
+  files_by s (ClusterPut path bytes) = more_files s.files path bytes
+  files_by s (ClusterRename source target) = files_renamed s.files source target (fin.get s.files source)
+  files_by s (ClusterDelete path) = let i = no_more_files s.files path in omega (arith, i)
+  files_by s _ = omega arith
+
+pub growth : Growth
+growth = record {
+  keys = λ b p a s r. grows (λ c. length (listed p false a c.objects)) (one_if (adds_key r)) (none_new p a) s r (keys_by p a r) b;
+  refs = λ b p a s r. grows (λ c. length (uploads.listed p a c.uploads)) (one_if (sets_upload r)) (no_refs_new p a) s r (refs_by p a r) b;
+  files = files_by;
+}

@@ -1,0 +1,151 @@
+-- How many keys and uploads are listed.
+use Rattle.std.proofs.Common.{◌≡◌, ℕ, ◌+◌, zero, suc, Bool, true, false, ◌&&◌, cond, List, [], ◌∷◌, ◌++◌, length, map, take, drop, Option, Some, None, refl, sym, ap, ◌∙◌, arith}
+use Rattle.std.specs.FinMap as fin
+use Rattle.std.specs.FinMap.Entries.{find}
+use Rattle.std.specs.List.{filter, AllByRecursion}
+use Rattle.std.specs.List.Sorted.{IsStrictlySortedBy}
+use Rattle.std.specs.Map.{keys_of}
+use Rattle.std.specs.Ordering.{is_lt, is_eq, nat_cmp, ordering_then}
+use Rattle.std.specs.Cmp.{IsTotalOrder, nat_cmp_total}
+use Rattle.std.specs.declared.cmp.Ordering.{Ordering}
+use Rattle.std.specs.declared.cmp.Ordering.TheVariants.{Less, Equal, Greater}
+use Rattle.std.proofs.lemmas.Cmp.{then_total, on_total}
+use Rattle.std.proofs.lemmas.Map.Keys.{sorted_head, sorted_tail}
+use Rattle.proof_base.specs.Order.{text_cmp, text_total}
+use Rattle.proof_base.proofs.Less.{lt, lt_trans}
+use Rattle.proof_base.proofs.Tree.{map_sorted}
+use Rattle.s3_types.specs.Store.{Objects, Upload, Uploads}
+use Rattle.s3_types.specs.Pages.{begins, entry_of, listed, text_in}
+use Rattle.s3_types.specs.Multipart as uploads
+use Rattle.s3_types.specs.Multipart.{ref_cmp, ref_of, refs, is_behind}
+use Rattle.s3_types.specs.declared.object.Object.{Object}
+use Rattle.s3_types.specs.declared.request.UploadRef.{UploadRef}
+use Rattle.s3_types.specs.declared.reply.PageEntry.{PageEntry}
+use Rattle.request_frame.specs.Walk.{walked}
+use Rattle.request_frame.proofs.Listed.{walked_listed, listed_behind}
+use Rattle.list_walk.specs.Walks.{keys_on, last_of}
+use Rattle.list_walk.specs.Left.{one_if as one}
+use Rattle.list_walk.proofs.Counting.{count, count_more, AreNew, count_made}
+
+-- ---- keys
+
+-- a key below p behind a text
+abbrev pub is_left : List ℕ → List ℕ → List ℕ × Object → Bool
+is_left p a e = begins p e.0 && lt text_cmp a e.0
+
+-- all of these keys are behind a
+abbrev Behind : List ℕ → List (List ℕ) → Type 0
+Behind a ks = AllByRecursion (λ k. text_cmp a k ≡ Less) ks
+
+behind_all : (p a : List ℕ) (es : List (List ℕ × Object)) → Behind a (keys_of es) → count (is_left p a) es ≡ count (λ e. begins p e.0) es
+behind_all p a [] h = refl
+behind_all p a (e ∷ es) h =
+    count_more (is_left p a) e es
+    ∙ ap (λ b. one (begins p e.0 && b) + count (is_left p a) es) (ap is_lt h.0)
+    ∙ ap (λ n. one (begins p e.0 && true) + n) (behind_all p a es h.1)
+    ∙ ap (λ b. one b + count (λ e. begins p e.0) es) (and_true (begins p e.0))
+    ∙ sym (count_more (λ e. begins p e.0) e es)
+  where
+    and_true : (b : Bool) → (b && true) ≡ b
+    and_true true = refl
+    and_true false = refl
+
+behind_too : (a k : List ℕ) (ks : List (List ℕ)) → lt text_cmp a k ≡ true → Behind k ks → Behind a ks
+behind_too a k [] l h = tt
+behind_too a k (q ∷ ks) l h = (less (text_cmp a q) (lt_trans text_total a k q l (ap is_lt h.0)), behind_too a k ks l h.1)
+  where
+    less : (r : Ordering) → is_lt r ≡ true → r ≡ Less
+    less Less e = refl
+    less Equal e = absurd (cc)
+    less Greater e = absurd (cc)
+
+walked_count : (p a : List ℕ) (es : List (List ℕ × Object)) → IsStrictlySortedBy text_cmp (keys_of es) → length (walked p false a es) ≡ count (is_left p a) es
+walked_count p a [] s = refl
+walked_count p a (e ∷ es) s =
+    by (begins p e.0) (lt text_cmp a e.0) refl (λ b. walked_count p b es (sorted_tail text_cmp e.0 (keys_of es) s))
+    ∙ sym (count_more (is_left p a) e es)
+  where
+    later : Behind e.0 (keys_of es)
+    later = sorted_head text_cmp e.0 (keys_of es) s
+
+    by : (b c : Bool) → lt text_cmp a e.0 ≡ c → ((m : List ℕ) → length (walked p false m es) ≡ count (is_left p m) es)
+        → length (cond (b && c) (entry_of p false e ∷ walked p false e.0 es) (walked p false a es)) ≡ one (b && c) + count (is_left p a) es
+    by true true t ih =
+        let i = ih e.0 in let j = behind_all p e.0 es later in let k = behind_all p a es (behind_too a e.0 (keys_of es) t later) in
+        omega (arith, i, j, k)
+    by true false t ih = let i = ih a in omega (arith, i)
+    by false c t ih = let i = ih a in omega (arith, i)
+
+-- as many are listed as there are left
+pub listed_count : (p a : List ℕ) (m : Objects) → length (listed p false a m) ≡ count (is_left p a) (fin.entries m)
+listed_count p a m = ap length (sym (walked_listed p false a m)) ∙ walked_count p a (fin.entries m) (map_sorted text_cmp m)
+
+-- the last of these, or the text before them
+abbrev pub last_from : List ℕ → List (List ℕ) → List ℕ
+last_from a [] = a
+last_from a (k ∷ ks) = last_from k ks
+
+pub last_append : (keys ks : List (List ℕ)) → last_of (keys ++ ks) ≡ last_from (last_of keys) ks
+last_append [] [] = refl
+last_append [] (k ∷ ks) = last_append (k ∷ []) ks
+last_append (q ∷ []) [] = refl
+last_append (q ∷ []) (k ∷ ks) = last_append (k ∷ []) ks
+last_append (q ∷ r ∷ keys) ks = last_append (r ∷ keys) ks
+
+-- what is listed behind a page are the others
+pub behind_page : (p a : List ℕ) (m : Objects) (n : ℕ) (l : List PageEntry) → listed p false a m ≡ l → listed p false (last_from a (keys_on (take n l))) m ≡ drop n l
+behind_page p a m zero l h = h
+behind_page p a m (suc n) [] h = h
+behind_page p a m (suc n) (x ∷ xs) h = behind_page p (text_in x) m n xs (listed_behind p false a m x xs h)
+
+-- ---- uploads
+
+pub refs_total : IsTotalOrder ref_cmp
+refs_total = then_total (on_total (λ r. r.key) text_total) (on_total (λ r. r.upload) nat_cmp_total)
+
+abbrev pub is_left_ref : List ℕ → Option UploadRef → UploadRef → Bool
+is_left_ref p a r = begins p r.key && is_behind a r
+
+apart : (k q : List ℕ) (i j : ℕ) → nat_cmp i j ≡ Less → is_eq (ordering_then (text_cmp k q) (nat_cmp i j)) ≡ false
+apart k q i j h = by (text_cmp k q) (nat_cmp i j) h
+  where
+    by : (r s : Ordering) → s ≡ Less → is_eq (ordering_then r s) ≡ false
+    by Less s e = refl
+    by Equal s e = ap is_eq e
+    by Greater s e = refl
+
+new_ref : (e : ℕ × Upload) (es : List (ℕ × Upload)) → AllByRecursion (λ j. nat_cmp e.0 j ≡ Less) (keys_of es) → find ref_cmp (ref_of e).0 (map ref_of es) ≡ None
+new_ref e [] h = refl
+new_ref e (f ∷ es) h = ap (λ b. cond b (Some tt) (find ref_cmp (ref_of e).0 (map ref_of es))) (apart e.1.key f.1.key e.0 f.0 h.0) ∙ new_ref e es h.1
+
+new_refs : (es : List (ℕ × Upload)) → IsStrictlySortedBy nat_cmp (keys_of es) → AreNew refs_total (map ref_of es)
+new_refs [] s = tt
+new_refs (e ∷ es) s = (new_ref e es (sorted_head nat_cmp e.0 (keys_of es) s), new_refs es (sorted_tail nat_cmp e.0 (keys_of es) s))
+
+pub count_mapped : {A B : Type 0} (f : A → B) (t : B → Bool) (xs : List A) → count t (map f xs) ≡ count (λ x. t (f x)) xs
+count_mapped f t [] = refl
+count_mapped f t (x ∷ xs) = count_more t (f x) (map f xs) ∙ ap (λ n. one (t (f x)) + n) (count_mapped f t xs) ∙ sym (count_more (λ x. t (f x)) x xs)
+
+count_both : {A : Type 0} (p q : A → Bool) (xs : List A) → count p (filter q xs) ≡ count (λ x. p x && q x) xs
+count_both p q [] = refl
+count_both p q (x ∷ xs) = by (q x) (count_both p q xs) ∙ sym (count_more (λ x. p x && q x) x xs)
+  where
+    by : (b : Bool) → count p (filter q xs) ≡ count (λ x. p x && q x) xs → count p (cond b (x ∷ filter q xs) (filter q xs)) ≡ one (p x && b) + count (λ x. p x && q x) xs
+    by true ih = count_more p x (filter q xs) ∙ ap (λ n. one (p x) + n) ih ∙ ap (λ b. one b + count (λ x. p x && q x) xs) (sym (and_true (p x)))
+      where
+        and_true : (b : Bool) → (b && true) ≡ b
+        and_true true = refl
+        and_true false = refl
+    by false ih = let z : one (p x && false) ≡ 0 = ap one (and_false (p x)) in omega (arith, ih, z)
+      where
+        and_false : (b : Bool) → (b && false) ≡ false
+        and_false true = refl
+        and_false false = refl
+
+-- as many are listed as there are left
+pub refs_count : (p : List ℕ) (a : Option UploadRef) (m : Uploads) → length (uploads.listed p a m) ≡ count (λ e. is_left_ref p a (ref_of e).0) (fin.entries m)
+refs_count p a m =
+    count_both (λ r. begins p r.key) (is_behind a) (map (λ e. e.0) (fin.entries (refs m)))
+    ∙ count_mapped (λ e. e.0) (is_left_ref p a) (fin.entries (refs m))
+    ∙ count_made refs_total (λ e. is_left_ref p a e.0) (map ref_of (fin.entries m)) (new_refs (fin.entries m) (map_sorted nat_cmp m))
+    ∙ count_mapped ref_of (λ e. is_left_ref p a e.0) (fin.entries m)

@@ -1,0 +1,75 @@
+-- What is left of the live uploads behind a page of them.
+use Rattle.std.proofs.Common.{◌≡◌, ℕ, zero, suc, Bool, true, false, cond, List, [], ◌∷◌, ◌++◌, length, take, drop, map, Option, Some, None, refl, sym, ap, subst, ◌∙◌}
+use Rattle.std.proofs.lemmas.Map.Keys.{sorted_head, sorted_tail}
+use Rattle.std.specs.List.{filter, AllByRecursion}
+use Rattle.std.specs.List.Sorted.{IsStrictlySortedBy}
+use Rattle.std.specs.FinMap as fin
+use Rattle.std.specs.Ordering.{is_lt}
+use Rattle.std.specs.declared.cmp.Ordering.TheVariants.{Less}
+use Rattle.proof_base.proofs.Less.{lt, irrefl, lt_trans, lt_not}
+use Rattle.proof_base.proofs.Tree.{map_sorted}
+use Rattle.s3_types.specs.Store.{Uploads}
+use Rattle.s3_types.specs.Pages.{begins}
+use Rattle.s3_types.specs.Multipart.{ref_cmp, refs, is_behind, listed}
+use Rattle.s3_types.specs.declared.request.UploadRef.{UploadRef}
+use Rattle.list_walk.specs.Walks.{last_ref}
+use Rattle.list_walk.proofs.Listing.{refs_total}
+
+-- what comes behind those that come behind m does too
+up : (m : Option UploadRef) → (y z : UploadRef) → is_behind m y ≡ true → lt ref_cmp y z ≡ true → is_behind m z ≡ true
+up None y z h l = refl
+up (Some a) y z h l = lt_trans refs_total a y z h l
+
+-- all of them come behind y
+abbrev Later : UploadRef → List UploadRef → Type 0
+Later y zs = AllByRecursion (λ z. ref_cmp y z ≡ Less) zs
+
+all_pass : (f : UploadRef → Bool) (y : UploadRef) (zs : List UploadRef) → ((z : UploadRef) → lt ref_cmp y z ≡ true → f z ≡ true) → Later y zs → filter f zs ≡ zs
+all_pass f y [] u h = refl
+all_pass f y (z ∷ zs) u h = ap (λ b. cond b (z ∷ filter f zs) (filter f zs)) (u z (ap is_lt h.0)) ∙ ap (λ l. z ∷ l) (all_pass f y zs u h.1)
+
+later_first : (q f : UploadRef → Bool) (y : UploadRef) (zs : List UploadRef) (x : UploadRef) (xs : List UploadRef) → Later y zs → filter q (filter f zs) ≡ x ∷ xs → lt ref_cmp y x ≡ true
+later_first q f y [] x xs l h = absurd (cc)
+later_first q f y (z ∷ zs) x xs l h = by (f z) refl (q z) refl (later_first q f y zs x xs l.1)
+  where
+    by : (b : Bool) → f z ≡ b → (c : Bool) → q z ≡ c → (filter q (filter f zs) ≡ x ∷ xs → lt ref_cmp y x ≡ true) → lt ref_cmp y x ≡ true
+    by false n c e ih = ih (ap (λ b. filter q (cond b (z ∷ filter f zs) (filter f zs))) (sym n) ∙ h)
+    by true t false e ih = ih (ap (λ b. cond b (z ∷ filter q (filter f zs)) (filter q (filter f zs))) (sym e) ∙ ap (λ b. filter q (cond b (z ∷ filter f zs) (filter f zs))) (sym t) ∙ h)
+    by true t true e ih =
+        let g : z ∷ filter q (filter f zs) ≡ x ∷ xs = ap (λ b. cond b (z ∷ filter q (filter f zs)) (filter q (filter f zs))) (sym e) ∙ ap (λ b. filter q (cond b (z ∷ filter f zs) (filter f zs))) (sym t) ∙ h in
+        let i : z ≡ x = cc in
+        subst (λ x. lt ref_cmp y x ≡ true) i (ap is_lt l.0)
+
+refs_behind : (q : UploadRef → Bool) (m : Option UploadRef) (ys : List UploadRef) (x : UploadRef) (xs : List UploadRef) → IsStrictlySortedBy ref_cmp ys → filter q (filter (is_behind m) ys) ≡ x ∷ xs → filter q (filter (is_behind (Some x)) ys) ≡ xs
+refs_behind q m [] x xs s h = absurd (cc)
+refs_behind q m (y ∷ ys) x xs s h = by (is_behind m y) refl (q y) refl (refs_behind q m ys x xs (sorted_tail ref_cmp y ys s))
+  where
+    later : Later y ys
+    later = sorted_head ref_cmp y ys s
+
+    -- y is passed over
+    over : filter q (filter (is_behind m) ys) ≡ x ∷ xs → (filter q (filter (is_behind m) ys) ≡ x ∷ xs → filter q (filter (is_behind (Some x)) ys) ≡ xs) → filter q (filter (is_behind (Some x)) (y ∷ ys)) ≡ xs
+    over g ih =
+        ap (λ b. filter q (cond b (y ∷ filter (is_behind (Some x)) ys) (filter (is_behind (Some x)) ys))) (lt_not refs_total y x (later_first q (is_behind m) y ys x xs later g))
+        ∙ ih g
+
+    by : (b : Bool) → is_behind m y ≡ b → (c : Bool) → q y ≡ c → (filter q (filter (is_behind m) ys) ≡ x ∷ xs → filter q (filter (is_behind (Some x)) ys) ≡ xs) → filter q (filter (is_behind (Some x)) (y ∷ ys)) ≡ xs
+    by false n c e ih = over (ap (λ b. filter q (cond b (y ∷ filter (is_behind m) ys) (filter (is_behind m) ys))) (sym n) ∙ h) ih
+    by true t false e ih = over (ap (λ b. cond b (y ∷ filter q (filter (is_behind m) ys)) (filter q (filter (is_behind m) ys))) (sym e) ∙ ap (λ b. filter q (cond b (y ∷ filter (is_behind m) ys) (filter (is_behind m) ys))) (sym t) ∙ h) ih
+    by true t true e ih =
+        let g : y ∷ filter q (filter (is_behind m) ys) ≡ x ∷ xs = ap (λ b. cond b (y ∷ filter q (filter (is_behind m) ys)) (filter q (filter (is_behind m) ys))) (sym e) ∙ ap (λ b. filter q (cond b (y ∷ filter (is_behind m) ys) (filter (is_behind m) ys))) (sym t) ∙ h in
+        let i : y ≡ x = cc in
+        let j : filter q (filter (is_behind m) ys) ≡ xs = cc in
+        subst (λ x. filter q (filter (is_behind (Some x)) (y ∷ ys)) ≡ xs) i
+        (ap (λ b. filter q (cond b (y ∷ filter (is_behind (Some y)) ys) (filter (is_behind (Some y)) ys))) (irrefl refs_total y)
+        ∙ ap (filter q) (all_pass (is_behind (Some y)) y ys (λ z l. l) later ∙ sym (all_pass (is_behind m) y ys (λ z l. up m y z t l) later)) ∙ j)
+
+pub refs_append : (a : Option UploadRef) (found rs : List UploadRef) → last_ref a (found ++ rs) ≡ last_ref (last_ref a found) rs
+refs_append a [] rs = refl
+refs_append a (r ∷ found) rs = refs_append (Some r) found rs
+
+-- what is listed behind a page are the others
+pub behind_uploads : (p : List ℕ) (us : Uploads) (n : ℕ) (m : Option UploadRef) (l : List UploadRef) → listed p m us ≡ l → listed p (last_ref m (take n l)) us ≡ drop n l
+behind_uploads p us zero m l h = h
+behind_uploads p us (suc n) m [] h = h
+behind_uploads p us (suc n) m (x ∷ xs) h = behind_uploads p us n (Some x) xs (refs_behind (λ r. begins p r.key) m (map (λ e. e.0) (fin.entries (refs us))) x xs (map_sorted ref_cmp (refs us)) h)

@@ -1,0 +1,69 @@
+-- What walks and sweeps have left in a scene.
+use Rattle.std.specs.Prelude.{ℕ, ◌+◌, ◌*◌, ◌/◌, Bool, true, false, List, ◌∷◌, length, Option, Some, None}
+use Rattle.std.specs.FinMap as fin
+use Rattle.std.specs.List.{filter}
+use Rattle.s3_types.specs.Store.{Scene, BucketContent}
+use Rattle.s3_types.specs.Pages.{begins, listed}
+use Rattle.s3_types.specs.Multipart as uploads
+use Rattle.s3_types.specs.declared.request.Request.{Request}
+use Rattle.s3_types.specs.declared.request.Request.TheVariants.{PutObject, CopyObject, CompleteUpload, CreateUpload, UploadPart}
+use Rattle.s3_types.specs.declared.request.UploadRef.{UploadRef}
+use Rattle.list_walk.specs.Walks.{Sweep, Listing, Deleting, last_of, last_ref}
+
+-- how many of something a bucket has: none where it is not there
+abbrev pub count_in : (BucketContent → ℕ) → Option BucketContent → ℕ
+count_in f (Some c) = f c
+count_in f None = 0
+
+abbrev pub in_bucket : Scene → List ℕ → (BucketContent → ℕ) → ℕ
+in_bucket s b f = count_in f (fin.get s.content.buckets b)
+
+-- the keys below a prefix behind a text
+abbrev pub keys_left : List ℕ → List ℕ → List ℕ → Scene → ℕ
+keys_left b p after s = in_bucket s b (λ c. length (listed p false after c.objects))
+
+-- the live uploads below a prefix behind one of them
+abbrev pub refs_left : List ℕ → List ℕ → Option UploadRef → Scene → ℕ
+refs_left b p after s = in_bucket s b (λ c. length (uploads.listed p after c.uploads))
+
+-- the cluster's files below a prefix
+abbrev pub files_left : List ℕ → Scene → ℕ
+files_left p s = length (filter (begins p) (fin.keys s.files))
+
+-- so many thousands, the last one perhaps begun alone
+abbrev pub thousands : ℕ → ℕ
+thousands n = (n + 999) / 1000
+
+-- a walk over keys: at most so many pages are to come
+abbrev pub walk_left : List ℕ → List ℕ → List (List ℕ) → Scene → ℕ
+walk_left b p keys s = 1 + thousands (keys_left b p (last_of keys) s)
+
+-- a sweep: at most so many pages and batches, where a key that is to be listed counts for its page and for its batch
+abbrev pub sweep_left : List ℕ → List ℕ → Sweep → Scene → ℕ
+sweep_left b p (Listing keys) s = 1 + thousands (length keys + 2 * keys_left b p (last_of keys) s)
+sweep_left b p (Deleting k ks) s = thousands (length (k ∷ ks))
+
+abbrev pub left_of : List ℕ → List ℕ → Option Sweep → Scene → ℕ
+left_of b p (Some w) s = sweep_left b p w s
+left_of b p None s = 0
+
+-- a walk over live uploads with a request for each of them: at most so many pages and requests
+abbrev pub uploads_left : List ℕ → List ℕ → List UploadRef → Scene → ℕ
+uploads_left b p found s = 1 + (length found + 2 * refs_left b p (last_ref None found) s)
+
+-- a request that may add a key
+abbrev pub adds_key : Request → Bool
+adds_key (PutObject n k bytes header) = true
+adds_key (CopyObject n source target) = true
+adds_key (CompleteUpload n k id parts) = true
+adds_key _ = false
+
+-- a request that sets an upload
+abbrev pub sets_upload : Request → Bool
+sets_upload (CreateUpload n k) = true
+sets_upload (UploadPart n k id number bytes) = true
+sets_upload _ = false
+
+abbrev pub one_if : Bool → ℕ
+one_if true = 1
+one_if false = 0

@@ -1,0 +1,87 @@
+ghost use Rattle.std.specs.Prelude.{◌≡◌, ◌++◌, [], IfOk, OnOk, None};
+ghost use Rattle.list_walk.specs.Walks.{last_ref, uploads_after, walked_uploads, walked_by};
+
+use s3_types::{Bucket, PageLimit, Reply, Request, Text, UploadList, UploadRef};
+use std::alloc::{AllocError, Global};
+use std::marker::Model;
+
+/// The last of the uploads, where there is one.
+fn last_upload(uploads: &[UploadRef]) -> Result<Option<UploadRef>, AllocError>
+    ensures { IfOk result (λ last. last ≡ last_ref None uploads.now) }
+{
+    match uploads.last() {
+        Some(upload) => Ok(Some(upload.clone()?)),
+        None => Ok(None),
+    }
+}
+
+/// Adds the uploads of a page.
+fn add_uploads(found: &mut UploadList, entries: &[UploadRef]) -> Result<(), AllocError>
+    ensures { OnOk result (found.new ≡ found.old ++ entries.now) }
+{
+    for upload in entries {
+        found.push(upload.clone()?)?;
+    }
+    Ok(())
+}
+
+/// A walk over the live uploads below a prefix, page by page, seen as the uploads so far.
+#[derive(Drop)]
+pub struct UploadWalk {
+    found: UploadList,
+}
+
+impl Model for UploadWalk {
+    ghost use Rattle.std.specs.Prelude.{List};
+    ghost use Rattle.s3_types.specs.declared.request.UploadRef.{UploadRef};
+
+    ghost Value = { List UploadRef };
+
+    ghost view = { λ w. w.found };
+}
+
+impl UploadWalk {
+    /// No page was listed yet. Takes no memory.
+    pub fn new(alloc: Global) -> UploadWalk
+        ensures { result ≡ [] }
+    {
+        UploadWalk {
+            found: UploadList::new(alloc),
+        }
+    }
+
+    /// The uploads so far. Takes no memory.
+    pub fn found(&self) -> &UploadList
+        ensures { result.now ≡ self.now }
+    {
+        &self.found
+    }
+
+    /// Gives up the uploads so far. Takes no memory.
+    pub fn into_found(self) -> UploadList
+        ensures { result ≡ self }
+    {
+        self.found
+    }
+
+    /// The request for the next page, of at most 1,000 uploads.
+    pub fn request(&self, bucket: &Bucket, prefix: &Text) -> Result<Request, AllocError>
+        ensures { IfOk result (λ request. request ≡ uploads_after bucket.now prefix.now self.now) }
+    {
+        let after = last_upload(self.found.as_slice())?;
+        Request::list_uploads(bucket, prefix, &after, PageLimit::new(PageLimit::MOST))
+    }
+
+    /// Takes a reply, and says whether more pages remain. After want of memory the uploads are some of those.
+    pub fn hear(&mut self, reply: &Reply) -> Result<bool, AllocError>
+        ensures { IfOk result (λ more. walked_uploads self.old reply.now ≡ walked_by more self.new) }
+    {
+        match reply {
+            Reply::Uploads { entries, more } => {
+                add_uploads(&mut self.found, entries.as_slice())?;
+                Ok(*more)
+            }
+            _ => Ok(true),
+        }
+    }
+}
