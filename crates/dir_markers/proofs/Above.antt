@@ -1,17 +1,18 @@
 -- The directories above a key.
-use Rattle.std.proofs.Common.{◌≡◌, ℕ, ◌+◌, ◌<◌, ◌≤◌, ◌-◌, ◌&&◌, ◌==◌, nat_le, nat_lt, slice_index, take, if◌then◌else◌, eq-eqb, Bool, true, false, List, [], ◌∷◌, ◌++◌, map, length, refl, sym, ap, ◌∙◌, arith, length-append, append_assoc}
+use Rattle.std.proofs.Common.{◌≡◌, ℕ, suc, ◌+◌, ◌<◌, ◌≤◌, ◌-◌, ◌&&◌, ◌==◌, nat_le, nat_lt, slice_index, take, if◌then◌else◌, eq-eqb, Bool, true, false, List, [], ◌∷◌, ◌++◌, map, length, refl, sym, ap, subst, ◌∙◌, arith, length-append, append_assoc}
 use Rattle.std.specs.List.{list_all, join_with_byte}
 use Rattle.std.proofs.Math.Seq.{get_or-append_seam, take-append_seam}
-use Rattle.std.proofs.lemmas.Bool.{false≢true}
-use Rattle.std.proofs.lemmas.List.{append-nil}
+use Rattle.std.proofs.lemmas.Bool.{false≢true, and_parts, leb-true}
+use Rattle.std.proofs.lemmas.List.{append-nil, length-take}
+use Rattle.std.proofs.lemmas.List.Folds.{list_all-append}
 use Rattle.std.proofs.lemmas.Bool.Decides.{nat_tests}
 use Rattle.proof_base.proofs.Numbers.{at_most_so}
 use Rattle.words.specs.Parts.{parts_of, parts_from}
 use Rattle.words.proofs.Pieces.{join_parts, one_part}
 use Rattle.words.specs.Parts.{is_other}
-use Rattle.s3_types.specs.Names.{are_elements, is_key_path, trimmed}
+use Rattle.s3_types.specs.Names.{is_element, are_elements, is_key_path, trimmed}
 use Rattle.path_keys.specs.Paths.{is_key}
-use Rattle.path_keys.proofs.Keys.{some_key}
+use Rattle.path_keys.proofs.Keys.{some_key, key_from}
 use Rattle.path_keys.proofs.Last.{parts_round}
 use Rattle.dir_markers.specs.Markers.{marker_of, fronts, keys_above}
 
@@ -71,12 +72,36 @@ marker_is_key key some k =
     all_three a b c h i j = rw (h, i, j) refl
 
 -- what stands before a key's last `/` is not the root
+trimmed_short : (key : List ℕ) → length (trimmed key) ≤ length key
+trimmed_short key = by (nat_lt 0 (length key) && (slice_index key (length key - 1) == 47))
+  where
+    by : (b : Bool) → length (if b then take (length key - 1) key else key) ≤ length key
+    by true = omega (arith, length-take (length key - 1) key)
+    by false = omega arith
+
 pub front_some : (key front back : List ℕ) → is_key key ≡ true → key ≡ front ++ 47 ∷ back → 0 < length front
 unfolding parts_from
 front_some key [] back k e =
     let is = some_key key (omega (arith, ap length e)) k in
     absurd (false≢true (sym (ap are_elements e) ∙ is.0))
 front_some key (x ∷ xs) back k e = omega arith
+
+some_front : (front : List ℕ) → are_elements front ≡ true → 0 < length front
+unfolding parts_from
+some_front [] a = absurd (false≢true a)
+some_front (x ∷ xs) a = omega arith
+
+-- what stands before the last `/` of what an object's key names
+pub parent_key : (key path front back : List ℕ) → is_key_path key ≡ true → path ≡ trimmed key → path ≡ front ++ 47 ∷ back → list_all (is_other 47) back ≡ true
+    → (0 < length front) × (is_key front ≡ true)
+parent_key key path front back k p e h =
+    let two = and_parts (nat_le 1 (length key) && nat_le (length key) 1024) (are_elements (trimmed key)) k in
+    let most : length key ≤ 1024 = leb-true (length key) 1024 (and_parts (nat_le 1 (length key)) (nat_le (length key) 1024) two.0).1 in
+    let short : length path ≤ length key = subst (λ t. length t ≤ length key) (sym p) (trimmed_short key) in
+    let long : length path ≡ length front + suc (length back) = ap length e ∙ length-append front (47 ∷ back) in
+    let all : are_elements path ≡ true = ap are_elements p ∙ two.1 in
+    let front_all : are_elements front ≡ true = (and_parts (are_elements front) _ (sym (ap (list_all is_element) (parts_round path front back e h) ∙ list_all-append is_element (parts_of 47 front) (back ∷ [])) ∙ all)).0 in
+    (some_front front front_all, key_from front front_all (omega (arith, most, short, long)))
 
 -- a key without a `/` stands below the root
 pub none_above : (key : List ℕ) (found : List (List ℕ)) → list_all (is_other 47) key ≡ true → found ≡ found ++ map marker_of (keys_above key)

@@ -1,4 +1,5 @@
-ghost use Rattle.std.specs.Prelude.{◌≡◌, ◌++◌, ◌<◌, true, length, map, IfOk, OnOk};
+ghost use Rattle.std.specs.Prelude.{◌≡◌, ◌++◌, ◌<◌, ◌≤◌, true, length, map, IfOk, OnOk};
+ghost use Rattle.s3_types.specs.Names.{are_elements, is_key_path, trimmed};
 ghost use Rattle.path_keys.specs.Paths.{is_key};
 ghost use Rattle.dir_markers.specs.Markers.{marker_of, keys_above, created, deleted};
 
@@ -39,6 +40,33 @@ fn add_above(alloc: Global, key: &str, markers: &mut KeyList) -> Result<(), Allo
     };
     add_above(alloc, front, markers)?;
     markers.push(marker(alloc, front)?)
+}
+
+/// The key without the `/` at its end, where it has one.
+fn path_in(key: &Key) -> &str
+    ensures path { result.now ≡ trimmed key.now }
+    ensures key { is_key_path key.now ≡ true }
+{
+    let text = key.as_text().as_str();
+    match text.strip_suffix('/') {
+        Some(path) => path,
+        None => text,
+    }
+}
+
+/// The markers of all directories above the file or directory whose key or marker this is, from the root on,
+/// without the root.
+pub fn markers_above(alloc: Global, key: &Key) -> Result<KeyList, AllocError>
+    ensures { IfOk result (λ markers. markers ≡ map marker_of (keys_above (trimmed key.now))) }
+{
+    let mut markers = KeyList::new(alloc);
+    let Some((front, _)) = path_in(key).rsplit_once('/') else {
+        return Ok(markers);
+    };
+    add_above(alloc, front, &mut markers)?;
+    let parent = marker(alloc, front)?;
+    markers.push(parent)?;
+    Ok(markers)
 }
 
 /// The markers that are to be deleted after a file was made: none where markers are kept, else those of all

@@ -1,5 +1,6 @@
 pub mod Tree
 pub mod Changes
+pub mod MarkerTool
 pub mod Answers
 pub mod Moves
 pub mod Renames

@@ -10,9 +10,11 @@
 ghost use Rattle.fs_tree.specs.Changes.{ListChildren};
 
 mod answers;
+mod markers;
 mod rename;
 
 pub use answers::{DirEntry, DirList, FsRefusal};
+pub use markers::{MarkerEntry, MarkerKind, MarkerList};
 pub use rename::RenameRefusal;
 
 /// What a listing shows.

@@ -1,0 +1,22 @@
+use s3_types::{Key, Sequence};
+
+/// What a marker is to the tree. (Hadoop, S3A: directory markers, the marker tool.)
+#[derive(Clone, Copy, Debug, PartialEq, Eq)]
+pub enum MarkerKind {
+    /// It has no bytes, and another key begins with it: the directory stands without it.
+    Surplus,
+    /// It has no bytes, and no other key begins with it: it is an empty directory.
+    Leaf,
+    /// It has bytes.
+    Odd,
+}
+
+/// A marker below a path.
+#[derive(Drop)]
+pub struct MarkerEntry {
+    pub key: Key,
+    pub kind: MarkerKind,
+}
+
+/// The markers below a path, in the order of their keys.
+pub type MarkerList = Sequence<MarkerEntry>;

@@ -1,0 +1,62 @@
+-- The markers of a listing: what each is, which are surplus, and which are missing (Hadoop, S3A: directory markers, the marker tool).
+use Rattle.std.specs.Prelude.{ℕ, ◌==◌, ◌&&◌, not, Bool, true, false, cond, List, [], ◌∷◌, ◌++◌, map, if◌then◌else◌}
+use Rattle.std.specs.List.{filter}
+use Rattle.s3_types.specs.Names.{trimmed}
+use Rattle.s3_types.specs.Pages.{begins, text_in}
+use Rattle.s3_types.specs.declared.reply.PageEntry.{PageEntry}
+use Rattle.s3_types.specs.declared.reply.PageEntry.TheVariants.{Object as Single, Prefix}
+use Rattle.dir_markers.specs.Markers.{marker_of, keys_above}
+use Rattle.fs_tree.specs.Tree.{is_marker}
+use Rattle.fs_tree.specs.declared.markers.MarkerKind.{MarkerKind}
+use Rattle.fs_tree.specs.declared.markers.MarkerKind.TheVariants.{Surplus, Leaf, Odd}
+use Rattle.fs_tree.specs.declared.markers.MarkerEntry.{MarkerEntry}
+
+-- whether the next key begins with it: those that do stand right behind it
+abbrev pub goes_on : List ℕ → List PageEntry → Bool
+goes_on k [] = false
+goes_on k (e ∷ es) = begins k (text_in e)
+
+-- what a marker of so many bytes is, where another key begins with it or not
+abbrev pub kind_of : ℕ → Bool → MarkerKind
+kind_of n more = if n == 0 then (if more then Surplus else Leaf) else Odd
+
+-- an entry's marker, if it is one, by the entries behind it
+abbrev pub marker_at : PageEntry → List PageEntry → List MarkerEntry
+marker_at (Prefix t) es = []
+marker_at (Single k n) es = cond (is_marker k) (record { key = k; kind = kind_of n (goes_on k es) } ∷ []) []
+
+-- the markers of a listing
+abbrev pub markers_in : List PageEntry → List MarkerEntry
+markers_in [] = []
+markers_in (e ∷ es) = marker_at e es ++ markers_in es
+
+-- whether the directory stands without it
+abbrev pub is_surplus : MarkerKind → Bool
+is_surplus Surplus = true
+is_surplus _ = false
+
+-- the keys of the surplus ones
+abbrev pub surplus_in : List PageEntry → List (List ℕ)
+surplus_in es = map (λ x. x.key) (filter (λ x. is_surplus x.kind) (markers_in es))
+
+-- the markers of the directories above what a key or a marker names
+abbrev pub markers_above : List ℕ → List (List ℕ)
+markers_above k = map marker_of (keys_above (trimmed k))
+
+-- whether a marker is below the path, and the key before does not begin with it
+abbrev pub is_due : List ℕ → List ℕ → List ℕ → Bool
+is_due q before t = begins q t && not (begins t before)
+
+-- the markers that an entry wants and the key before it does not
+abbrev pub missing_at : List ℕ → List ℕ → PageEntry → List (List ℕ)
+missing_at q before (Prefix t) = []
+missing_at q before (Single k n) = filter (is_due q before) (markers_above k)
+
+-- the missing ones, below a path whose prefix this is, behind a key
+abbrev pub missing_from : List ℕ → List ℕ → List PageEntry → List (List ℕ)
+missing_from q before [] = []
+missing_from q before (e ∷ es) = missing_at q before e ++ missing_from q (text_in e) es
+
+-- the missing ones of a listing
+abbrev pub missing_in : List ℕ → List PageEntry → List (List ℕ)
+missing_in q es = missing_from q [] es
