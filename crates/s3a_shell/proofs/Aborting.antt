@@ -12,11 +12,10 @@ use Rattle.request_frame.proofs.Members.{same_or_not, nat_gone, nat_left}
 use Rattle.fs_files.specs.Placed.{placed}
 use Rattle.fs_files.specs.WritingLaws.{placed_same, placed_by}
 use Rattle.path_keys.specs.Paths.{Path, below}
-use Rattle.list_walk.specs.Kinds.{uploads_from}
+use Rattle.bucket_walks.specs.Uploads.{uploads_from, IsStill}
 use Rattle.request_frame.proofs.Members.{some_is}
 use Rattle.s3a_shell.specs.declared.said.Said.{Said}
 use Rattle.s3a_shell.specs.Texts.{fine}
-use Rattle.list_walk.specs.Walks.{IsStill}
 use Rattle.s3a_shell.specs.declared.session.Session.{Session}
 use Rattle.s3a_shell.specs.Sendings.{Sent, AppliedOrNot}
 use Rattle.s3a_shell.specs.Uploading.{AreEnded, after_aborts, AfterSome, aborted_line, AbortedIn, EndedSome, AbortedSome, DidAbort}

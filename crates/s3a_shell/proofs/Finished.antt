@@ -9,16 +9,19 @@ use Rattle.s3_service.specs.Ids.{AreBelow}
 use Rattle.request_frame.specs.Held.{upload_in, upload_at}
 use Rattle.bucket_ops.specs.Asks.{with_objects_if, objects_at}
 use Rattle.bucket_ops.specs.Phases.{InScene, GivesIn}
+use Rattle.dir_markers.specs.declared.marker.MarkerPolicy.{MarkerPolicy}
+use Rattle.dir_markers.specs.declared.marker.MarkerPolicy.TheVariants.{Keep, Delete}
 use Rattle.fs_tree.specs.Answers.{Stats, Reads, Lists, Makes, Deletes}
+use Rattle.fs_tree.specs.MarkerTool.{Audits, Cleans, Fills}
 use Rattle.fs_tree.specs.declared.answers.FsRefusal.{FsRefusal}
 use Rattle.fs_tree.specs.declared.answers.FsRefusal.TheVariants.{NoSuchBucket}
 use Rattle.fs_tree.specs.declared.rename.RenameRefusal.TheVariants.{NoSuchBucket as NoBucket}
 use Rattle.fs_tree.specs.Renames.{Renames}
 use Rattle.path_keys.specs.Paths.{Path}
 use Rattle.s3a_words.specs.declared.command.Command.{Command}
-use Rattle.s3a_words.specs.declared.command.Command.TheVariants.{Init, Mb, Ls, Stat, Cat, Put, PutForce, Mkdir, Mv, Rm, Rmr, Uploads, AbortUploads, Job, Gen}
+use Rattle.s3a_words.specs.declared.command.Command.TheVariants.{Init, Mb, Ls, Stat, Cat, Put, PutForce, PutDrop, Mkdir, Mv, Rm, Rmr, Uploads, AbortUploads, Markers, CleanMarkers, FillMarkers, Job, Gen}
 use Rattle.s3a_shell.specs.declared.said.Said.{Said}
-use Rattle.s3a_shell.specs.Texts.{status_line, entry_lines, bytes_alone, nothing}
+use Rattle.s3a_shell.specs.Texts.{status_line, entry_lines, marker_lines, cleaned_line, filled_line, bytes_alone, nothing}
 use Rattle.s3a_shell.specs.Doings.{Did, most_input, CreatedUnless, Does}
 use Rattle.s3a_shell.specs.Stays.{bucket_in}
 use Rattle.s3a_shell.specs.Moving.{DidMove}
@@ -71,9 +74,9 @@ module _ (z s : Scene) (first : (b : List ℕ) → NoneFrom z.content.next z.con
   still : (b : List ℕ) → s.content.next ≡ z.content.next → NoneFrom z.content.next s.content b
   still b e = subst (λ n. NoneFrom n s.content b) e (last b)
 
-  put_ended : (p : Path) (bytes : List ℕ) (overwrite : Bool) (what : Said) (t : Bool) → CreatedUnless t p bytes overwrite z what s → NoneFrom z.content.next s.content p.bucket
-  put_ended p bytes overwrite what true h = still p.bucket (ap (λ (s : Scene). s.content.next) h.1)
-  put_ended p bytes overwrite what false h = λ id l. h.none id l (first p.bucket id l)
+  put_ended : (p : Path) (bytes : List ℕ) (overwrite : Bool) (policy : MarkerPolicy) (what : Said) (t : Bool) → CreatedUnless t p bytes overwrite policy z what s → NoneFrom z.content.next s.content p.bucket
+  put_ended p bytes overwrite policy what true h = still p.bucket (ap (λ (s : Scene). s.content.next) h.1)
+  put_ended p bytes overwrite policy what false h = λ id l. h.none id l (first p.bucket id l)
 
   did_ended : {A : Type 0} (p : Path) (gives : Objects → Result A FsRefusal → Objects → Type 0) (text : A → List ℕ) (what : Said) → Did p gives text z what s → NoneFrom z.content.next s.content p.bucket
   did_ended p gives text what h = still p.bucket (given_next p.bucket gives (Err NoSuchBucket) z h.answer s h.given)
@@ -83,8 +86,9 @@ module _ (z s : Scene) (first : (b : List ℕ) → NoneFrom z.content.next z.con
   does_ended (Ls p) bytes what h = did_ended p (Lists p.key) entry_lines what h
   does_ended (Stat p) bytes what h = did_ended p (Stats p.key) status_line what h
   does_ended (Cat p) bytes what h = did_ended p (Reads p.key) bytes_alone what h
-  does_ended (Put p) bytes what h = put_ended p bytes false what (nat_lt most_input (length bytes)) h
-  does_ended (PutForce p) bytes what h = put_ended p bytes true what (nat_lt most_input (length bytes)) h
+  does_ended (Put p) bytes what h = put_ended p bytes false Keep what (nat_lt most_input (length bytes)) h
+  does_ended (PutForce p) bytes what h = put_ended p bytes true Keep what (nat_lt most_input (length bytes)) h
+  does_ended (PutDrop p) bytes what h = put_ended p bytes false Delete what (nat_lt most_input (length bytes)) h
   does_ended (Mkdir p) bytes what h = did_ended p (Makes p.key) nothing what h
   does_ended (Mv from to) bytes what h = still from.bucket (move_next from to z what s h)
   does_ended (Rm p) bytes what h = did_ended p (Deletes false p.key) nothing what h
@@ -92,5 +96,8 @@ module _ (z s : Scene) (first : (b : List ℕ) → NoneFrom z.content.next z.con
   does_ended (Uploads p) bytes what h = still p.bucket (ap (λ (s : Scene). s.content.next) h.1)
   does_ended (AbortUploads p) bytes what h = still p.bucket (abort_next p z what s (fin.get z.content.buckets p.bucket) h)
   does_ended (Init m) bytes what h = absurd h
+  does_ended (Markers p) bytes what h = did_ended p (Audits p.key) marker_lines what h
+  does_ended (CleanMarkers p) bytes what h = did_ended p (Cleans p.key) cleaned_line what h
+  does_ended (FillMarkers p) bytes what h = did_ended p (Fills p.key) filled_line what h
   does_ended Job bytes what h = absurd h
   does_ended (Gen seed tasks files) bytes what h = absurd h

@@ -13,7 +13,7 @@ use Rattle.machine.specs.Turns.{AreBy}
 use Rattle.s3a_shell.specs.declared.session.Session.{Session}
 use Rattle.s3_types.specs.Requests.{only_reads}
 use Rattle.request_frame.proofs.Reading.{reads_nothing}
-use Rattle.list_walk.specs.Walks.{IsStill}
+use Rattle.bucket_walks.specs.Uploads.{IsStill}
 use Rattle.s3a_shell.specs.Sendings.{Sends, Sent, IsCounted, AppliedOrNot, answered_by}
 
 after_both : (s : Scene) (es fs : List Entry) → after_all s (es ++ fs) ≡ after_all (after_all s es) fs

@@ -10,7 +10,7 @@ use Rattle.s3_types.specs.declared.request.UploadRef.{UploadRef}
 use Rattle.path_keys.specs.Paths.{Path, below}
 use Rattle.s3a_shell.specs.declared.said.Said.{Said}
 use Rattle.s3a_shell.specs.Texts.{fine}
-use Rattle.list_walk.specs.Kinds.{uploads_from}
+use Rattle.bucket_walks.specs.Uploads.{uploads_from}
 use Rattle.request_frame.proofs.Members.{some_is}
 use Rattle.s3a_shell.specs.Uploading.{sizes_of, sizes_in, upload_line, upload_lines, asked_line, asked_lines, ListedIn, DidList}
 

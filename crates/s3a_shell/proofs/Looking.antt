@@ -10,8 +10,7 @@ use Rattle.s3_types.specs.declared.journal.Entry.{Entry}
 use Rattle.log_format.specs.Change.{is_changing}
 use Rattle.bucket_ops.specs.Asks.{Ask, Head, Get, Page, Put, Drop, DropAll, Copy, is_look, request_of, objects_at}
 use Rattle.bucket_ops.specs.Phases.{SendsAt, SendsIn}
-use Rattle.list_walk.specs.Kinds.{ask_uploads}
-use Rattle.list_walk.specs.Walks.{IsPageOf}
+use Rattle.bucket_walks.specs.Uploads.{IsPageOf}
 use Rattle.s3a_shell.specs.declared.session.Session.{Session}
 use Rattle.s3a_shell.specs.Sendings.{Asked, answered_by, is_change, has_changed}
 use Rattle.s3_types.specs.declared.reply.Reply.{Reply}
@@ -52,8 +51,8 @@ looked_same b look z a c l h = asked_same (SendsIn b look (λ m x. is_look x ≡
     by r (Some m) g = ap is_changing g.1 ∙ look_only b g.0 g.2
 
 -- of a walk over uploads
-pub walked_same : (b p : List ℕ) (old new part : List Entry) → new ≡ old ++ part → AllByRecursion (λ e. IsPageOf ask_uploads b p e.request) part → has_changed new ≡ has_changed old
-walked_same b p old new part e h = more_same old part new e (none_changes part (each_so (IsPageOf ask_uploads b p) (λ r g. ap is_changing g.1) part h))
+pub walked_same : (b p : List ℕ) (old new part : List Entry) → new ≡ old ++ part → AllByRecursion (λ e. IsPageOf b p e.request) part → has_changed new ≡ has_changed old
+walked_same b p old new part e h = more_same old part new e (none_changes part (each_so (IsPageOf b p) (λ r g. ap is_changing g.1) part h))
 
 -- of one request
 pub read_same : (a c : Session) (r : Request) (reply : Reply) → is_changing r ≡ false → c.journal.entries ≡ a.journal.entries ++ answered_by r reply ∷ [] → has_changed c.journal.entries ≡ has_changed a.journal.entries

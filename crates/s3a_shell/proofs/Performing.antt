@@ -1,5 +1,5 @@
 -- What performing an operation over a store that answers every request sends.
-use Rattle.std.specs.Prelude.{◌≡◌, ◌⊎◌, ℕ, ◌+◌, ◌<◌, ◌≤◌, nat_lt, Bool, true, false, List, [], ◌∷◌, length, codes, Option, Some, None, Result, Ok, Err, IfOk, OnOk}
+use Rattle.std.specs.Prelude.{◌≡◌, ℕ, ◌+◌, ◌<◌, ◌≤◌, nat_lt, Bool, true, false, List, [], ◌∷◌, length, codes, Option, Some, None, Result, Ok, Err, IfOk, OnOk}
 use Rattle.std.proofs.Common.{refl, sym, ap, subst, ◌∙◌, inl, inr, arith}
 use Rattle.std.proofs.lemmas.Bool.Decides.{nat_tests}
 use Rattle.std.specs.FinMap as fin
@@ -15,20 +15,20 @@ use Rattle.s3_types.specs.declared.journal.Outcome.{Outcome}
 use Rattle.s3_types.specs.declared.journal.Outcome.TheVariants.{Answered, Slow, RequestLost, ReplyLost}
 use Rattle.s3_types.specs.declared.journal.Entry.{Entry}
 use Rattle.path_keys.specs.Paths.{Path, is_key}
-use Rattle.list_walk.specs.Walks.{IsStill}
+use Rattle.bucket_walks.specs.Uploads.{IsStill}
 use Rattle.machine.specs.Counted.{AreAnswered}
 use Rattle.machine.specs.declared.driving.DriveStop.{DriveStop}
 use Rattle.operations.specs.Performed.{Performed}
 use Rattle.bucket_ops.specs.Phases.{InScene, GivesIn, AlwaysIn}
 use Rattle.bucket_ops.specs.Asks.{objects_at, with_objects}
 use Rattle.bucket_ops.specs.AskLaws.{with_same}
-use Rattle.dir_markers.specs.declared.marker.MarkerPolicy.TheVariants.{Keep}
+use Rattle.dir_markers.specs.declared.marker.MarkerPolicy.{MarkerPolicy}
 use Rattle.fs_tree.specs.Answers.{Creates, Deletes}
 use Rattle.fs_tree.specs.declared.answers.FsRefusal.{FsRefusal}
 use Rattle.fs_tree.specs.declared.answers.FsRefusal.TheVariants.{NoSuchBucket}
 use Rattle.fs_ops.specs.Delete.{Deletion, gives}
 use Rattle.fs_ops.specs.Deleting.{deletes_in}
-use Rattle.fs_files.specs.Placed.{InFile, IsFileOrNot, NoneLeft, object_of}
+use Rattle.fs_files.specs.Placed.{InFile, NoneLeft}
 use Rattle.fs_files.specs.Create.{IsUndone, GivesFile, least as least_of, always_in, AlwaysFile}
 use Rattle.fs_files.specs.WritingLaws.{placed_same}
 use Rattle.fs_files.specs.Creation.{Creation}
@@ -37,7 +37,7 @@ use Rattle.s3a_shell.specs.Texts.{said, nothing, refusing}
 use Rattle.s3a_shell.specs.declared.session.Session.{Session}
 use Rattle.s3a_shell.specs.Sendings.{Sent, Asked, IsCounted}
 use Rattle.s3a_shell.proofs.Joining.{sent_as}
-use Rattle.s3a_shell.specs.Doings.{Did, most_input, Created, CreatedUnless, FileOrNot, DidPut, refusal_word, refused_or_fine, DidMake}
+use Rattle.s3a_shell.specs.Doings.{Did, most_input, Created, CreatedUnless, IsMadeOrNot, FileOrNot, DidPut, refusal_word, refused_or_fine, DidMake}
 
 one : (o : Outcome) → fate_of o ≡ Answer → is_unanswered o ≡ false
 one (Answered r) h = refl
@@ -106,44 +106,40 @@ deleted_at path recursive z s o a r is key given told =
     did_if path (Deletes recursive path.key) nothing z s a r
     (subst (λ (o : Deletion). GivesIn path.bucket (Deletes o.recursive o.path) (Err NoSuchBucket) z a s) is (deletes_in path.bucket o z a s key given)) told
 
-pub created_if : {E : Type 0} (path : Path) (bytes : List ℕ) (overwrite : Bool) (z s : Scene) (a : Result (Unit {0}) FsRefusal) (r : Result Said E)
-    → InFile (fin.get z.content.buckets path.bucket) (λ m n. Creates path bytes overwrite Keep m a n) (a ≡ Err NoSuchBucket) z path.bucket s × IsUndone a z s → NoneLeft z path.bucket s
-    → IfOk r (λ w. w ≡ said nothing a) → IfOk r (λ w. Created path bytes overwrite z w s)
-created_if path bytes overwrite z s a (Ok w) g n e = record { answer = a; given = g.0; undone = g.1; none = n; told = e }
-created_if path bytes overwrite z s a (Err x) g n e = tt
+pub created_if : {E : Type 0} (path : Path) (bytes : List ℕ) (overwrite : Bool) (policy : MarkerPolicy) (z s : Scene) (a : Result (Unit {0}) FsRefusal) (r : Result Said E)
+    → InFile (fin.get z.content.buckets path.bucket) (λ m n. Creates path bytes overwrite policy m a n) (a ≡ Err NoSuchBucket) z path.bucket s × IsUndone a z s → NoneLeft z path.bucket s
+    → IfOk r (λ w. w ≡ said nothing a) → IfOk r (λ w. Created path bytes overwrite policy z w s)
+created_if path bytes overwrite policy z s a (Ok w) g n e = record { answer = a; given = g.0; undone = g.1; none = n; told = e }
+created_if path bytes overwrite policy z s a (Err x) g n e = tt
 
 -- and what the making of a file gave
-pub file_if : {E : Type 0} (path : Path) (bytes copy : List ℕ) (block : ℕ) (overwrite : Bool) (z s : Scene) (file : Creation) (a : Result (Unit {0}) FsRefusal) (r : Result Said E)
-    → copy ≡ bytes → file ≡ record { path = path; bytes = copy; block = block; overwrite = overwrite; policy = Keep } → z.content.minimum ≤ block → GivesFile file z a s × (least_of file z → NoneLeft z file.path.bucket s)
-    → IfOk r (λ w. w ≡ said nothing a) → IfOk r (λ w. Created path bytes overwrite z w s)
-file_if path bytes copy block overwrite z s file a r same is least gives told =
+pub file_if : {E : Type 0} (path : Path) (bytes copy : List ℕ) (block : ℕ) (overwrite : Bool) (policy : MarkerPolicy) (z s : Scene) (file : Creation) (a : Result (Unit {0}) FsRefusal) (r : Result Said E)
+    → copy ≡ bytes → file ≡ record { path = path; bytes = copy; block = block; overwrite = overwrite; policy = policy } → z.content.minimum ≤ block → GivesFile file z a s × (least_of file z → NoneLeft z file.path.bucket s)
+    → IfOk r (λ w. w ≡ said nothing a) → IfOk r (λ w. Created path bytes overwrite policy z w s)
+file_if path bytes copy block overwrite policy z s file a r same is least gives told =
     let of_copy = subst (λ (o : Creation). GivesFile o z a s × (least_of o z → NoneLeft z o.path.bucket s)) is gives in
-    created_if path bytes overwrite z s a r
-    (subst (λ (b : List ℕ). InFile (fin.get z.content.buckets path.bucket) (λ m n. Creates path b overwrite Keep m a n) (a ≡ Err NoSuchBucket) z path.bucket s × IsUndone a z s) same (of_copy.0 least)) (of_copy.1 least) told
+    created_if path bytes overwrite policy z s a r
+    (subst (λ (b : List ℕ). InFile (fin.get z.content.buckets path.bucket) (λ m n. Creates path b overwrite policy m a n) (a ≡ Err NoSuchBucket) z path.bucket s × IsUndone a z s) same (of_copy.0 least)) (of_copy.1 least) told
 
 -- and at any moment of it
-file_or_not : (path : Path) (bytes : List ℕ) (block : ℕ) (overwrite : Bool) (z m : Objects) → always_in (record { path = path; bytes = bytes; block = block; overwrite = overwrite; policy = Keep }) z m → IsFileOrNot z path.key bytes m
-file_or_not path bytes block overwrite z m (inl e) = inl e
-file_or_not path bytes block overwrite z m (inr h) = by h.1
-  where
-    by : (m ≡ fin.insert z path.key (object_of bytes)) ⊎ (m ≡ fin.insert z path.key (object_of bytes)) → IsFileOrNot z path.key bytes m
-    by (inl e) = inr e
-    by (inr e) = inr e
+file_or_not : (path : Path) (bytes : List ℕ) (block : ℕ) (overwrite : Bool) (policy : MarkerPolicy) (z m : Objects) → always_in (record { path = path; bytes = bytes; block = block; overwrite = overwrite; policy = policy }) z m → IsMadeOrNot policy path bytes z m
+file_or_not path bytes block overwrite policy z m (inl e) = inl e
+file_or_not path bytes block overwrite policy z m (inr h) = inr h.1
 
-pub file_stands : (path : Path) (bytes copy : List ℕ) (block : ℕ) (overwrite : Bool) (z s : Scene) (file : Creation) → copy ≡ bytes → file ≡ record { path = path; bytes = copy; block = block; overwrite = overwrite; policy = Keep } → z.content.minimum ≤ block → AlwaysFile file z s
-    → FileOrNot path bytes z s
-file_stands path bytes copy block overwrite z s file same is least h =
-    subst (λ (b : List ℕ). FileOrNot path b z s) same (by (fin.get z.content.buckets path.bucket) (subst (λ (o : Creation). AlwaysFile o z s) is h least))
+pub file_stands : (path : Path) (bytes copy : List ℕ) (block : ℕ) (overwrite : Bool) (policy : MarkerPolicy) (z s : Scene) (file : Creation) → copy ≡ bytes → file ≡ record { path = path; bytes = copy; block = block; overwrite = overwrite; policy = policy } → z.content.minimum ≤ block
+    → AlwaysFile file z s → FileOrNot policy path bytes z s
+file_stands path bytes copy block overwrite policy z s file same is least h =
+    subst (λ (b : List ℕ). FileOrNot policy path b z s) same (by (fin.get z.content.buckets path.bucket) (subst (λ (o : Creation). AlwaysFile o z s) is h least))
   where
-    by : (o : Option BucketContent) → InFile o (always_in (record { path = path; bytes = copy; block = block; overwrite = overwrite; policy = Keep })) (Unit {0}) z path.bucket s → InFile o (λ m n. IsFileOrNot m path.key copy n) (Unit {0}) z path.bucket s
+    by : (o : Option BucketContent) → InFile o (always_in (record { path = path; bytes = copy; block = block; overwrite = overwrite; policy = policy })) (Unit {0}) z path.bucket s → InFile o (IsMadeOrNot policy path copy) (Unit {0}) z path.bucket s
     by None g = g
-    by (Some c) g = record { content = g.content; next = g.next; scene = g.scene; later = g.later; objects = file_or_not path copy block overwrite c.objects g.content.objects g.objects }
+    by (Some c) g = record { content = g.content; next = g.next; scene = g.scene; later = g.later; objects = file_or_not path copy block overwrite policy c.objects g.content.objects g.objects }
 
 -- before all
-pub none_stands : (path : Path) (bytes : List ℕ) (z : Scene) → FileOrNot path bytes z z
-none_stands path bytes z = by (fin.get z.content.buckets path.bucket) refl
+pub none_stands : (policy : MarkerPolicy) (path : Path) (bytes : List ℕ) (z : Scene) → FileOrNot policy path bytes z z
+none_stands policy path bytes z = by (fin.get z.content.buckets path.bucket) refl
   where
-    by : (o : Option BucketContent) → fin.get z.content.buckets path.bucket ≡ o → InFile o (λ m n. IsFileOrNot m path.key bytes n) (Unit {0}) z path.bucket z
+    by : (o : Option BucketContent) → fin.get z.content.buckets path.bucket ≡ o → InFile o (IsMadeOrNot policy path bytes) (Unit {0}) z path.bucket z
     by None e = (refl, tt)
     by (Some c) e = record { content = c; next = z.content.next; scene = sym (placed_same z path.bucket c e); later = record { drawn = omega arith; uploads = λ id l. refl }; objects = inl refl }
 
@@ -155,17 +151,17 @@ made_if name z s o (Err x) e f g = tt
 
 -- ---- the putting of a file
 
-large : {E : Type 0} (path : Path) (bytes : List ℕ) (overwrite : Bool) (z : Scene) (r : Result Said E) → IfOk r (λ w. w ≡ refusing (codes "too-large") None) → IfOk r (λ w. CreatedUnless true path bytes overwrite z w z)
-large path bytes overwrite z (Ok w) e = (e, refl)
-large path bytes overwrite z (Err x) e = tt
+large : {E : Type 0} (path : Path) (bytes : List ℕ) (overwrite : Bool) (policy : MarkerPolicy) (z : Scene) (r : Result Said E) → IfOk r (λ w. w ≡ refusing (codes "too-large") None) → IfOk r (λ w. CreatedUnless true path bytes overwrite policy z w z)
+large path bytes overwrite policy z (Ok w) e = (e, refl)
+large path bytes overwrite policy z (Err x) e = tt
 
 -- too many bytes are refused
-pub large_if : {E : Type 0} (path : Path) (bytes : List ℕ) (overwrite : Bool) (z : Scene) (r : Result Said E) → most_input < length bytes → IfOk r (λ w. w ≡ refusing (codes "too-large") None) → IfOk r (λ w. DidPut path bytes overwrite z w z)
-large_if path bytes overwrite z r h e =
+pub large_if : {E : Type 0} (path : Path) (bytes : List ℕ) (overwrite : Bool) (policy : MarkerPolicy) (z : Scene) (r : Result Said E) → most_input < length bytes → IfOk r (λ w. w ≡ refusing (codes "too-large") None) → IfOk r (λ w. DidPut path bytes overwrite policy z w z)
+large_if path bytes overwrite policy z r h e =
     let test : nat_lt most_input (length bytes) ≡ true = grind (arith, nat_tests) in
-    subst (λ (t : Bool). IfOk r (λ w. CreatedUnless t path bytes overwrite z w z)) (sym test) (large path bytes overwrite z r e)
+    subst (λ (t : Bool). IfOk r (λ w. CreatedUnless t path bytes overwrite policy z w z)) (sym test) (large path bytes overwrite policy z r e)
 
-pub small_if : {E : Type 0} (path : Path) (bytes : List ℕ) (overwrite : Bool) (z s : Scene) (r : Result Said E) → length bytes ≤ most_input → IfOk r (λ w. Created path bytes overwrite z w s) → IfOk r (λ w. DidPut path bytes overwrite z w s)
-small_if path bytes overwrite z s r h e =
+pub small_if : {E : Type 0} (path : Path) (bytes : List ℕ) (overwrite : Bool) (policy : MarkerPolicy) (z s : Scene) (r : Result Said E) → length bytes ≤ most_input → IfOk r (λ w. Created path bytes overwrite policy z w s) → IfOk r (λ w. DidPut path bytes overwrite policy z w s)
+small_if path bytes overwrite policy z s r h e =
     let test : nat_lt most_input (length bytes) ≡ false = grind (arith, nat_tests) in
-    subst (λ (t : Bool). IfOk r (λ w. CreatedUnless t path bytes overwrite z w s)) (sym test) e
+    subst (λ (t : Bool). IfOk r (λ w. CreatedUnless t path bytes overwrite policy z w s)) (sym test) e

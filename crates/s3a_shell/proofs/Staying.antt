@@ -11,17 +11,19 @@ use Rattle.s3_types.specs.Answer.{made}
 use Rattle.bucket_ops.specs.Asks.{objects_of, with_objects_if, with_objects}
 use Rattle.bucket_ops.specs.Phases.{InScene, GivesIn}
 use Rattle.path_keys.specs.Paths.{Path}
-use Rattle.dir_markers.specs.declared.marker.MarkerPolicy.TheVariants.{Keep}
+use Rattle.dir_markers.specs.declared.marker.MarkerPolicy.{MarkerPolicy}
+use Rattle.dir_markers.specs.declared.marker.MarkerPolicy.TheVariants.{Keep, Delete}
 use Rattle.fs_tree.specs.Answers.{Stats, Reads, Lists, Creates, Makes, Deletes}
+use Rattle.fs_tree.specs.MarkerTool.{Audits, Cleans, Fills}
 use Rattle.fs_tree.specs.declared.answers.FsRefusal.{FsRefusal}
 use Rattle.fs_tree.specs.declared.answers.FsRefusal.TheVariants.{NoSuchBucket}
 use Rattle.fs_tree.specs.declared.rename.RenameRefusal.TheVariants.{NoSuchBucket as NoBucket}
 use Rattle.fs_tree.specs.Renames.{Renames}
 use Rattle.fs_files.specs.Placed.{InFile}
 use Rattle.s3a_words.specs.declared.command.Command.{Command}
-use Rattle.s3a_words.specs.declared.command.Command.TheVariants.{Init, Mb, Ls, Stat, Cat, Put, PutForce, Mkdir, Mv, Rm, Rmr, Uploads, AbortUploads, Job, Gen}
+use Rattle.s3a_words.specs.declared.command.Command.TheVariants.{Init, Mb, Ls, Stat, Cat, Put, PutForce, PutDrop, Mkdir, Mv, Rm, Rmr, Uploads, AbortUploads, Markers, CleanMarkers, FillMarkers, Job, Gen}
 use Rattle.s3a_shell.specs.declared.said.Said.{Said}
-use Rattle.s3a_shell.specs.Texts.{status_line, entry_lines, bytes_alone, nothing}
+use Rattle.s3a_shell.specs.Texts.{status_line, entry_lines, marker_lines, cleaned_line, filled_line, bytes_alone, nothing}
 use Rattle.s3a_shell.specs.Doings.{Did, most_input, CreatedUnless, Does}
 use Rattle.s3a_shell.specs.Stays.{OnlyIn, bucket_in, IsBelow, ended_by}
 use Rattle.s3a_shell.specs.Moving.{DidMove}
@@ -78,9 +80,9 @@ made_only b c None e = by (is_bucket b)
         only_placed b none c new_bucket c.next le (λ id h g. fin.get-empty nat_cmp id ∙ ap (λ (o : Option BucketContent). upload_in o id) (sym e))
     by false = only_same b none c
 
-put_only : (p : Path) (bytes : List ℕ) (overwrite : Bool) (z : Scene) (what : Said) (s : Scene) (t : Bool) → CreatedUnless t p bytes overwrite z what s → OnlyIn p.bucket none z.content s.content
-put_only p bytes overwrite z what s true h = subst (λ (t : Scene). OnlyIn p.bucket none z.content t.content) (sym h.1) (only_same p.bucket none z.content)
-put_only p bytes overwrite z what s false h = file_only p.bucket (λ m n. Creates p bytes overwrite Keep m h.answer n) (h.answer ≡ Err NoSuchBucket) z s h.given
+put_only : (p : Path) (bytes : List ℕ) (overwrite : Bool) (policy : MarkerPolicy) (z : Scene) (what : Said) (s : Scene) (t : Bool) → CreatedUnless t p bytes overwrite policy z what s → OnlyIn p.bucket none z.content s.content
+put_only p bytes overwrite policy z what s true h = subst (λ (t : Scene). OnlyIn p.bucket none z.content t.content) (sym h.1) (only_same p.bucket none z.content)
+put_only p bytes overwrite policy z what s false h = file_only p.bucket (λ m n. Creates p bytes overwrite policy m h.answer n) (h.answer ≡ Err NoSuchBucket) z s h.given
 
 did_only : {A : Type 0} (p : Path) (gives : Objects → Result A FsRefusal → Objects → Type 0) (text : A → List ℕ) (z : Scene) (what : Said) (s : Scene) → Did p gives text z what s → OnlyIn p.bucket none z.content s.content
 did_only p gives text z what s h = given_only p.bucket gives (Err NoSuchBucket) z h.answer s h.given
@@ -109,8 +111,9 @@ does_only (Mb name) bytes z what s h = subst (λ (t : Scene). OnlyIn name none z
 does_only (Ls p) bytes z what s h = did_only p (Lists p.key) entry_lines z what s h
 does_only (Stat p) bytes z what s h = did_only p (Stats p.key) status_line z what s h
 does_only (Cat p) bytes z what s h = did_only p (Reads p.key) bytes_alone z what s h
-does_only (Put p) bytes z what s h = put_only p bytes false z what s (nat_lt most_input (length bytes)) h
-does_only (PutForce p) bytes z what s h = put_only p bytes true z what s (nat_lt most_input (length bytes)) h
+does_only (Put p) bytes z what s h = put_only p bytes false Keep z what s (nat_lt most_input (length bytes)) h
+does_only (PutForce p) bytes z what s h = put_only p bytes true Keep z what s (nat_lt most_input (length bytes)) h
+does_only (PutDrop p) bytes z what s h = put_only p bytes false Delete z what s (nat_lt most_input (length bytes)) h
 does_only (Mkdir p) bytes z what s h = did_only p (Makes p.key) nothing z what s h
 does_only (Mv from to) bytes z what s h = move_only from to z what s h
 does_only (Rm p) bytes z what s h = did_only p (Deletes false p.key) nothing z what s h
@@ -118,5 +121,8 @@ does_only (Rmr p) bytes z what s h = did_only p (Deletes true p.key) nothing z w
 does_only (Init m) bytes z what s h = absurd h
 does_only (Uploads p) bytes z what s h = subst (λ (t : Scene). OnlyIn p.bucket none z.content t.content) (sym h.1) (only_same p.bucket none z.content)
 does_only (AbortUploads p) bytes z what s h = abort_only p z what s h
+does_only (Markers p) bytes z what s h = did_only p (Audits p.key) marker_lines z what s h
+does_only (CleanMarkers p) bytes z what s h = did_only p (Cleans p.key) cleaned_line z what s h
+does_only (FillMarkers p) bytes z what s h = did_only p (Fills p.key) filled_line z what s h
 does_only Job bytes z what s h = absurd h
 does_only (Gen seed tasks files) bytes z what s h = absurd h

@@ -13,7 +13,10 @@ use Rattle.s3_types.specs.declared.reply.Refusal.TheVariants.{BadName}
 use Rattle.path_keys.specs.Paths.{Path}
 use Rattle.bucket_ops.specs.Asks.{objects_of, with_objects_if, with_objects}
 use Rattle.bucket_ops.specs.Phases.{InScene, GivesIn}
+use Rattle.dir_markers.specs.declared.marker.MarkerPolicy.{MarkerPolicy}
+use Rattle.dir_markers.specs.declared.marker.MarkerPolicy.TheVariants.{Keep, Delete}
 use Rattle.fs_tree.specs.Answers.{Stats, Reads, Lists, Makes, Deletes}
+use Rattle.fs_tree.specs.MarkerTool.{Audits, Cleans, Fills}
 use Rattle.fs_tree.specs.declared.answers.FsRefusal.{FsRefusal}
 use Rattle.fs_tree.specs.declared.answers.FsRefusal.TheVariants.{NotFound, AlreadyExists, IsDirectory, NotDirectory, NotEmpty, NoSuchBucket}
 use Rattle.fs_tree.specs.declared.rename.RenameRefusal.{RenameRefusal}
@@ -21,9 +24,9 @@ use Rattle.fs_tree.specs.declared.rename.RenameRefusal.TheVariants.{SourceMissin
 use Rattle.fs_tree.specs.Renames.{Renames}
 use Rattle.fs_files.specs.Create.{IsUndone}
 use Rattle.s3a_words.specs.declared.command.Command.{Command}
-use Rattle.s3a_words.specs.declared.command.Command.TheVariants.{Init, Mb, Ls, Stat, Cat, Put, PutForce, Mkdir, Mv, Rm, Rmr, Uploads, AbortUploads, Job, Gen}
+use Rattle.s3a_words.specs.declared.command.Command.TheVariants.{Init, Mb, Ls, Stat, Cat, Put, PutForce, PutDrop, Mkdir, Mv, Rm, Rmr, Uploads, AbortUploads, Markers, CleanMarkers, FillMarkers, Job, Gen}
 use Rattle.s3a_shell.specs.declared.said.Said.{Said}
-use Rattle.s3a_shell.specs.Texts.{status_line, entry_lines, bytes_alone, nothing, said}
+use Rattle.s3a_shell.specs.Texts.{status_line, entry_lines, marker_lines, cleaned_line, filled_line, bytes_alone, nothing, said}
 use Rattle.s3a_shell.specs.Moving.{said_of_move, DidMove}
 use Rattle.s3a_shell.specs.Uploading.{AbortedIn}
 use Rattle.s3a_shell.specs.Doings.{Did, most_input, CreatedUnless, refusal_word, refused_or_fine, DidMake, Does}
@@ -56,6 +59,15 @@ deletes_keep recursive [] m n r h = h.1
 deletes_keep recursive (x ∷ p) m n NotFound h = h.1
 deletes_keep recursive (x ∷ p) m n NotEmpty h = h.3
 deletes_keep recursive (x ∷ p) m n _ h = absurd h
+
+audits_keep : (p : List ℕ) → Keeps (Audits p)
+audits_keep p m n r h = h.1
+
+cleans_keep : (p : List ℕ) → Keeps (Cleans p)
+cleans_keep p m n r h = h.1
+
+fills_keep : (p : List ℕ) → Keeps (Fills p)
+fills_keep p m n r h = h.1
 
 -- the objects that were there
 same_objects : (z : Scene) (b : List ℕ) (c : BucketContent) → fin.get z.content.buckets b ≡ Some c → with_objects z b c.objects ≡ z
@@ -116,9 +128,9 @@ make_keeps name z what s h e =
     let t = sym (ap (λ (w : Said). w.refused) h.0) ∙ e in
     h.1 ∙ ap (λ (c : Content). record { content = c; files = z.files }) (made_keeps z.content name (fin.get z.content.buckets name) t)
 
-put_keeps : (path : Path) (bytes : List ℕ) (overwrite : Bool) (z : Scene) (what : Said) (s : Scene) (t : Bool) → CreatedUnless t path bytes overwrite z what s → what.refused ≡ true → s ≡ z
-put_keeps path bytes overwrite z what s true h e = h.1
-put_keeps path bytes overwrite z what s false h e = by h.answer h.undone h.told
+put_keeps : (path : Path) (bytes : List ℕ) (overwrite : Bool) (policy : MarkerPolicy) (z : Scene) (what : Said) (s : Scene) (t : Bool) → CreatedUnless t path bytes overwrite policy z what s → what.refused ≡ true → s ≡ z
+put_keeps path bytes overwrite policy z what s true h e = h.1
+put_keeps path bytes overwrite policy z what s false h e = by h.answer h.undone h.told
   where
     by : (a : Result (Unit {0}) FsRefusal) → IsUndone a z s → what ≡ said nothing a → s ≡ z
     by (Ok x) u t = let no : false ≡ true = sym (ap (λ (w : Said). w.refused) t) ∙ e in absurd (cc)
@@ -134,8 +146,9 @@ does_keeps (Mb name) bytes z what s h e = make_keeps name z what s h e
 does_keeps (Ls p) bytes z what s h e = did_keeps p (Lists p.key) entry_lines z what s (lists_keep p.key) h e
 does_keeps (Stat p) bytes z what s h e = did_keeps p (Stats p.key) status_line z what s (stats_keep p.key) h e
 does_keeps (Cat p) bytes z what s h e = did_keeps p (Reads p.key) bytes_alone z what s (reads_keep p.key) h e
-does_keeps (Put p) bytes z what s h e = put_keeps p bytes false z what s (nat_lt most_input (length bytes)) h e
-does_keeps (PutForce p) bytes z what s h e = put_keeps p bytes true z what s (nat_lt most_input (length bytes)) h e
+does_keeps (Put p) bytes z what s h e = put_keeps p bytes false Keep z what s (nat_lt most_input (length bytes)) h e
+does_keeps (PutForce p) bytes z what s h e = put_keeps p bytes true Keep z what s (nat_lt most_input (length bytes)) h e
+does_keeps (PutDrop p) bytes z what s h e = put_keeps p bytes false Delete z what s (nat_lt most_input (length bytes)) h e
 does_keeps (Mkdir p) bytes z what s h e = did_keeps p (Makes p.key) nothing z what s (makes_keep p.key) h e
 does_keeps (Mv from to) bytes z what s h e = move_keeps from to z what s h e
 does_keeps (Rm p) bytes z what s h e = did_keeps p (Deletes false p.key) nothing z what s (deletes_keep false p.key) h e
@@ -143,5 +156,8 @@ does_keeps (Rmr p) bytes z what s h e = did_keeps p (Deletes true p.key) nothing
 does_keeps (Uploads p) bytes z what s h e = h.1
 does_keeps (AbortUploads p) bytes z what s h e = abort_keeps p z what s (fin.get z.content.buckets p.bucket) h e
 does_keeps (Init m) bytes z what s h e = absurd h
+does_keeps (Markers p) bytes z what s h e = did_keeps p (Audits p.key) marker_lines z what s (audits_keep p.key) h e
+does_keeps (CleanMarkers p) bytes z what s h e = did_keeps p (Cleans p.key) cleaned_line z what s (cleans_keep p.key) h e
+does_keeps (FillMarkers p) bytes z what s h e = did_keeps p (Fills p.key) filled_line z what s (fills_keep p.key) h e
 does_keeps Job bytes z what s h e = absurd h
 does_keeps (Gen seed tasks files) bytes z what s h e = absurd h

@@ -1,27 +1,31 @@
 -- What each command does and says.
-use Rattle.std.specs.Prelude.{◌≡◌, ℕ, nat_lt, Bool, true, false, List, [], length, codes, Option, Some, None, Result, Err}
+use Rattle.std.specs.Prelude.{◌≡◌, ◌⊎◌, ℕ, nat_lt, Bool, true, false, List, [], length, codes, Option, Some, None, Result, Err}
 use Rattle.std.specs.FinMap as fin
 use Rattle.s3_types.specs.Store.{Objects, Scene}
-use Rattle.s3_types.specs.Answer.{answer, apply}
+use Rattle.s3_types.specs.Answer.{answer, apply, without}
 use Rattle.s3_types.specs.declared.request.Request.TheVariants.{MakeBucket}
 use Rattle.s3_types.specs.declared.reply.Reply.{Reply}
 use Rattle.s3_types.specs.declared.reply.Reply.TheVariants.{Refused}
 use Rattle.s3_types.specs.declared.reply.Refusal.TheVariants.{BadName, BucketExists}
 use Rattle.path_keys.specs.Paths.{Path}
 use Rattle.bucket_ops.specs.Phases.{GivesIn, AlwaysIn}
-use Rattle.dir_markers.specs.declared.marker.MarkerPolicy.TheVariants.{Keep}
+use Rattle.dir_markers.specs.Markers.{created}
+use Rattle.dir_markers.specs.declared.marker.MarkerPolicy.{MarkerPolicy}
+use Rattle.dir_markers.specs.declared.marker.MarkerPolicy.TheVariants.{Keep, Delete}
 use Rattle.fs_tree.specs.Answers.{Stats, Reads, Lists, Creates, Makes, Deletes}
+use Rattle.fs_tree.specs.MarkerTool.{Audits, Cleans, Fills, IsCleaning, IsFilling}
 use Rattle.fs_tree.specs.declared.answers.FsRefusal.{FsRefusal}
 use Rattle.fs_tree.specs.declared.answers.FsRefusal.TheVariants.{NoSuchBucket}
 use Rattle.fs_ops.specs.Delete as delete
 use Rattle.fs_ops.specs.Make as make
-use Rattle.fs_files.specs.Placed.{InFile, IsFileOrNot, NoneLeft}
+use Rattle.fs_files.specs.Placed.{InFile, NoneLeft, object_of}
 use Rattle.fs_files.specs.Create.{IsUndone}
 use Rattle.fs_rename.specs.Public.{StandsWhole}
 use Rattle.s3a_words.specs.declared.command.Command.{Command}
-use Rattle.s3a_words.specs.declared.command.Command.TheVariants.{Mb, Ls, Stat, Cat, Put, PutForce, Mkdir, Mv, Rm, Rmr, Uploads, AbortUploads}
+use Rattle.s3a_words.specs.declared.command.Command.TheVariants.{Init, Mb, Ls, Stat, Cat, Put, PutForce, PutDrop, Mkdir, Mv, Rm, Rmr, Uploads, AbortUploads, Markers, CleanMarkers, FillMarkers, Job, Gen}
+use Rattle.s3a_words.specs.Kinds.{kind_of, is_on_buckets, is_look}
 use Rattle.s3a_shell.specs.declared.said.Said.{Said}
-use Rattle.s3a_shell.specs.Texts.{status_line, entry_lines, bytes_alone, nothing, fine, refusing, said}
+use Rattle.s3a_shell.specs.Texts.{status_line, entry_lines, marker_lines, cleaned_line, filled_line, bytes_alone, nothing, fine, refusing, said}
 use Rattle.s3a_shell.specs.Sendings.{AppliedOrNot}
 use Rattle.s3a_shell.specs.Moving.{renaming, DidMove}
 use Rattle.s3a_shell.specs.Uploading.{DidList, DidAbort, AbortedSome}
@@ -40,26 +44,35 @@ pub record Did {A : Type 0} (path : Path) (gives : Objects → Result A FsRefusa
 abbrev pub most_input : ℕ
 most_input = 67108864
 
--- a file was made, markers kept, or that was refused
-pub record Created (path : Path) (bytes : List ℕ) (overwrite : Bool) (z : Scene) (what : Said) (s : Scene) : Type 0 where
+-- a file was made, and the markers above it kept or deleted, or that was refused
+pub record Created (path : Path) (bytes : List ℕ) (overwrite : Bool) (policy : MarkerPolicy) (z : Scene) (what : Said) (s : Scene) : Type 0 where
   pub answer : Result (Unit {0}) FsRefusal
-  pub given : InFile (fin.get z.content.buckets path.bucket) (λ m n. Creates path bytes overwrite Keep m answer n) (answer ≡ Err NoSuchBucket) z path.bucket s
+  pub given : InFile (fin.get z.content.buckets path.bucket) (λ m n. Creates path bytes overwrite policy m answer n) (answer ≡ Err NoSuchBucket) z path.bucket s
   pub undone : IsUndone answer z s
   -- no upload that was begun since is live
   pub none : NoneLeft z path.bucket s
   pub told : what ≡ said nothing answer
 
 -- unless the input is too large, which is refused before all else
-abbrev pub CreatedUnless : Bool → Path → List ℕ → Bool → Scene → Said → Scene → Type 0
-CreatedUnless true path bytes overwrite z what s = (what ≡ refusing (codes "too-large") None) × (s ≡ z)
-CreatedUnless false path bytes overwrite z what s = Created path bytes overwrite z what s
+abbrev pub CreatedUnless : Bool → Path → List ℕ → Bool → MarkerPolicy → Scene → Said → Scene → Type 0
+CreatedUnless true path bytes overwrite policy z what s = (what ≡ refusing (codes "too-large") None) × (s ≡ z)
+CreatedUnless false path bytes overwrite policy z what s = Created path bytes overwrite policy z what s
 
--- at any moment the objects are as they were, or the file stands whole
-abbrev pub FileOrNot : Path → List ℕ → Scene → Scene → Type 0
-FileOrNot path bytes z s = InFile (fin.get z.content.buckets path.bucket) (λ m n. IsFileOrNot m path.key bytes n) (Unit {0}) z path.bucket s
+-- the objects with the file whole among them
+abbrev pub with_file : Path → List ℕ → Objects → Objects
+with_file path bytes m = fin.insert m path.key (object_of bytes)
 
-abbrev pub DidPut : Path → List ℕ → Bool → Scene → Said → Scene → Type 0
-DidPut path bytes overwrite z what s = CreatedUnless (nat_lt most_input (length bytes)) path bytes overwrite z what s
+-- the objects are as they were, or the file stands whole, and of the markers above it that go, all or none are gone
+abbrev pub IsMadeOrNot : MarkerPolicy → Path → List ℕ → Objects → Objects → Type 0
+IsMadeOrNot policy path bytes m n = (n ≡ m) ⊎ ((n ≡ with_file path bytes m) ⊎ (n ≡ without (with_file path bytes m) (created policy path)))
+
+-- so it is at any moment
+abbrev pub FileOrNot : MarkerPolicy → Path → List ℕ → Scene → Scene → Type 0
+FileOrNot policy path bytes z s = InFile (fin.get z.content.buckets path.bucket) (IsMadeOrNot policy path bytes) (Unit {0}) z path.bucket s
+
+-- a file was made of the input, or that was refused
+abbrev pub DidPut : Path → List ℕ → Bool → MarkerPolicy → Scene → Said → Scene → Type 0
+DidPut path bytes overwrite policy z what s = CreatedUnless (nat_lt most_input (length bytes)) path bytes overwrite policy z what s
 
 -- ---- a bucket
 
@@ -81,43 +94,33 @@ DidMake name z what s = (what ≡ refused_or_fine (refusal_word (answer z (MakeB
 
 -- the commands that work on a store
 abbrev pub is_of_shell : Command → Bool
-is_of_shell (Mb name) = true
-is_of_shell (Ls path) = true
-is_of_shell (Stat path) = true
-is_of_shell (Cat path) = true
-is_of_shell (Put path) = true
-is_of_shell (PutForce path) = true
-is_of_shell (Mkdir path) = true
-is_of_shell (Mv from to) = true
-is_of_shell (Rm path) = true
-is_of_shell (Rmr path) = true
-is_of_shell (Uploads path) = true
-is_of_shell (AbortUploads path) = true
-is_of_shell _ = false
+is_of_shell command = is_on_buckets (kind_of command)
 
 -- the commands that change nothing
 abbrev pub only_looks : Command → Bool
-only_looks (Ls path) = true
-only_looks (Stat path) = true
-only_looks (Cat path) = true
-only_looks (Uploads path) = true
-only_looks _ = false
+only_looks command = is_look (kind_of command)
 
 -- what a command does in a scene with the bytes of its input, says, and leaves
 abbrev pub Does : Command → List ℕ → Scene → Said → Scene → Type 0
+Does (Init minimum) bytes z what s = ⊥
 Does (Mb name) bytes z what s = DidMake name z what s
 Does (Ls path) bytes z what s = Did path (Lists path.key) entry_lines z what s
 Does (Stat path) bytes z what s = Did path (Stats path.key) status_line z what s
 Does (Cat path) bytes z what s = Did path (Reads path.key) bytes_alone z what s
-Does (Put path) bytes z what s = DidPut path bytes false z what s
-Does (PutForce path) bytes z what s = DidPut path bytes true z what s
+Does (Put path) bytes z what s = DidPut path bytes false Keep z what s
+Does (PutForce path) bytes z what s = DidPut path bytes true Keep z what s
+Does (PutDrop path) bytes z what s = DidPut path bytes false Delete z what s
 Does (Mkdir path) bytes z what s = Did path (Makes path.key) nothing z what s
 Does (Mv from to) bytes z what s = DidMove from to z what s
 Does (Rm path) bytes z what s = Did path (Deletes false path.key) nothing z what s
 Does (Rmr path) bytes z what s = Did path (Deletes true path.key) nothing z what s
 Does (Uploads path) bytes z what s = DidList path z what s
 Does (AbortUploads path) bytes z what s = DidAbort path z what s
-Does _ bytes z what s = ⊥
+Does (Markers path) bytes z what s = Did path (Audits path.key) marker_lines z what s
+Does (CleanMarkers path) bytes z what s = Did path (Cleans path.key) cleaned_line z what s
+Does (FillMarkers path) bytes z what s = Did path (Fills path.key) filled_line z what s
+Does Job bytes z what s = ⊥
+Does (Gen seed tasks files) bytes z what s = ⊥
 
 -- a path is deleted in part
 abbrev pub DeletedSome : Bool → Path → Scene → Scene → Type 0
@@ -125,12 +128,22 @@ DeletedSome recursive path z s = AlwaysIn path.bucket (delete.always (record { p
 
 -- what may stand at any moment of a command that was begun in the scene z, with the bytes of its input: wherever it stops, this is left
 abbrev pub MayStandAt : Command → List ℕ → Scene → Scene → Type 0
+MayStandAt (Init minimum) bytes z s = s ≡ z
 MayStandAt (Mb name) bytes z s = AppliedOrNot (MakeBucket name) z s
-MayStandAt (Put path) bytes z s = FileOrNot path bytes z s
-MayStandAt (PutForce path) bytes z s = FileOrNot path bytes z s
+MayStandAt (Ls path) bytes z s = s ≡ z
+MayStandAt (Stat path) bytes z s = s ≡ z
+MayStandAt (Cat path) bytes z s = s ≡ z
+MayStandAt (Put path) bytes z s = FileOrNot Keep path bytes z s
+MayStandAt (PutForce path) bytes z s = FileOrNot Keep path bytes z s
+MayStandAt (PutDrop path) bytes z s = FileOrNot Delete path bytes z s
 MayStandAt (Mkdir path) bytes z s = AlwaysIn path.bucket (make.always path.key) z s
 MayStandAt (Mv from to) bytes z s = StandsWhole (renaming from to) z s
 MayStandAt (Rm path) bytes z s = DeletedSome false path z s
 MayStandAt (Rmr path) bytes z s = DeletedSome true path z s
+MayStandAt (Uploads path) bytes z s = s ≡ z
 MayStandAt (AbortUploads path) bytes z s = AbortedSome path z s
-MayStandAt _ bytes z s = s ≡ z
+MayStandAt (Markers path) bytes z s = s ≡ z
+MayStandAt (CleanMarkers path) bytes z s = AlwaysIn path.bucket (IsCleaning path.key) z s
+MayStandAt (FillMarkers path) bytes z s = AlwaysIn path.bucket (IsFilling path.key) z s
+MayStandAt Job bytes z s = s ≡ z
+MayStandAt (Gen seed tasks files) bytes z s = s ≡ z

@@ -1,5 +1,5 @@
 -- The renaming of a path to another one: what is done and said.
-use Rattle.std.specs.Prelude.{◌≡◌, ℕ, List, [], codes, Option, Some, None, Result, Ok, Err}
+use Rattle.std.specs.Prelude.{◌≡◌, [], codes, Some, None, Result, Ok, Err}
 use Rattle.s3_types.specs.Store.{Scene}
 use Rattle.path_keys.specs.Paths.{Path}
 use Rattle.fs_tree.specs.declared.rename.RenameRefusal.{RenameRefusal}
@@ -8,28 +8,23 @@ use Rattle.fs_rename.specs.Public.{RenamingIn, RenamesIn}
 use Rattle.s3a_shell.specs.declared.said.Said.{Said}
 use Rattle.s3a_shell.specs.Texts.{fine, refusing}
 
--- a refusal's word
-abbrev pub word_of_move : RenameRefusal → List ℕ
-word_of_move SourceMissing = codes "source-missing"
-word_of_move SourceRoot = codes "source-root"
-word_of_move UnderSource = codes "under-source"
-word_of_move TargetFile = codes "target-file"
-word_of_move TargetExists = codes "target-exists"
-word_of_move ParentMissing = codes "parent-missing"
-word_of_move ParentIsFile = codes "parent-is-file"
-word_of_move OtherBucket = codes "other-bucket"
-word_of_move NoSuchBucket = codes "no-such-bucket"
-word_of_move (TooLong key) = codes "too-long"
-
--- the value that it keeps
-abbrev pub kept_of_move : RenameRefusal → Option (List ℕ)
-kept_of_move (TooLong key) = Some key
-kept_of_move _ = None
+-- a renaming's refusal
+abbrev pub refused_move : RenameRefusal → Said
+refused_move SourceMissing = refusing (codes "source-missing") None
+refused_move SourceRoot = refusing (codes "source-root") None
+refused_move UnderSource = refusing (codes "under-source") None
+refused_move TargetFile = refusing (codes "target-file") None
+refused_move TargetExists = refusing (codes "target-exists") None
+refused_move ParentMissing = refusing (codes "parent-missing") None
+refused_move ParentIsFile = refusing (codes "parent-is-file") None
+refused_move OtherBucket = refusing (codes "other-bucket") None
+refused_move NoSuchBucket = refusing (codes "no-such-bucket") None
+refused_move (TooLong key) = refusing (codes "too-long") (Some key)
 
 -- nothing, or the refusal
 abbrev pub said_of_move : Result (Unit {0}) RenameRefusal → Said
 said_of_move (Ok done) = fine []
-said_of_move (Err refusal) = refusing (word_of_move refusal) (kept_of_move refusal)
+said_of_move (Err refusal) = refused_move refusal
 
 -- the renaming of a path to another one
 abbrev pub renaming : Path → Path → RenamingIn

@@ -1,5 +1,5 @@
 -- What a command leaves as it was.
-use Rattle.std.specs.Prelude.{◌≡◌, ◌<◌, ◌≤◌, ℕ, List, [], Option, Some, None}
+use Rattle.std.specs.Prelude.{◌≡◌, ◌<◌, ◌≤◌, ℕ, List, Option, Some, None}
 use Rattle.std.specs.FinMap as fin
 use Rattle.s3_types.specs.Store.{BucketContent, Content}
 use Rattle.s3_types.specs.declared.request.UploadRef.{UploadRef}
@@ -7,7 +7,9 @@ use Rattle.path_keys.specs.Paths.{Path}
 use Rattle.request_frame.specs.Held.{upload_at}
 use Rattle.request_frame.specs.Members.{IsIn}
 use Rattle.s3a_words.specs.declared.command.Command.{Command}
-use Rattle.s3a_words.specs.declared.command.Command.TheVariants.{Mb, Ls, Stat, Cat, Put, PutForce, Mkdir, Mv, Rm, Rmr, Uploads, AbortUploads}
+use Rattle.s3a_words.specs.declared.kind.CommandKind.{CommandKind}
+use Rattle.s3a_words.specs.declared.kind.CommandKind.TheVariants.{Aborts}
+use Rattle.s3a_words.specs.Kinds.{kind_of, path_of}
 use Rattle.s3a_shell.specs.Uploading.{uploads_below}
 
 -- Every bucket but this one is as it was, and so are the uploads of this one that were begun before, but for those that are ended.
@@ -19,26 +21,18 @@ pub record OnlyIn (bucket : List ℕ) (Ended : ℕ → Type 0) (c d : Content) :
 
 -- the bucket that a command names
 abbrev pub bucket_in : Command → List ℕ
-bucket_in (Mb name) = name
-bucket_in (Ls path) = path.bucket
-bucket_in (Stat path) = path.bucket
-bucket_in (Cat path) = path.bucket
-bucket_in (Put path) = path.bucket
-bucket_in (PutForce path) = path.bucket
-bucket_in (Mkdir path) = path.bucket
-bucket_in (Mv from to) = from.bucket
-bucket_in (Rm path) = path.bucket
-bucket_in (Rmr path) = path.bucket
-bucket_in (Uploads path) = path.bucket
-bucket_in (AbortUploads path) = path.bucket
-bucket_in _ = []
+bucket_in command = (path_of command).bucket
 
 -- an upload of this id is live below a path
 abbrev pub IsBelow : Option BucketContent → Path → ℕ → Type 0
 IsBelow None path id = ⊥
 IsBelow (Some c) path id = (r : UploadRef) × IsIn r (uploads_below path c) × (r.upload ≡ id)
 
+-- the ids of the uploads that a command of this kind ends
+abbrev pub ends_at : CommandKind → Path → Content → ℕ → Type 0
+ends_at Aborts path c = λ id. IsBelow (fin.get c.buckets path.bucket) path id
+ends_at _ path c = λ id. ⊥
+
 -- the ids of the uploads that a command ends
 abbrev pub ended_by : Command → Content → ℕ → Type 0
-ended_by (AbortUploads path) c = λ id. IsBelow (fin.get c.buckets path.bucket) path id
-ended_by _ c = λ id. ⊥
+ended_by command c = ends_at (kind_of command) (path_of command) c

@@ -7,34 +7,10 @@ use Rattle.dir_markers.specs.declared.status.Status.TheVariants.{Directory, File
 use Rattle.fs_tree.specs.declared.answers.DirEntry.{DirEntry}
 use Rattle.fs_tree.specs.declared.answers.FsRefusal.{FsRefusal}
 use Rattle.fs_tree.specs.declared.answers.FsRefusal.TheVariants.{NotFound, AlreadyExists, IsDirectory, NotDirectory, NotEmpty, IsRoot, NoSuchBucket}
+use Rattle.fs_tree.specs.declared.markers.MarkerKind.{MarkerKind}
+use Rattle.fs_tree.specs.declared.markers.MarkerKind.TheVariants.{Surplus, Leaf, Odd}
+use Rattle.fs_tree.specs.declared.markers.MarkerEntry.{MarkerEntry}
 use Rattle.s3a_shell.specs.declared.said.Said.{Said}
-
--- ---- refusals
-
--- a refusal's word
-abbrev pub word_of : FsRefusal → List ℕ
-word_of NotFound = codes "not-found"
-word_of AlreadyExists = codes "already-exists"
-word_of IsDirectory = codes "is-directory"
-word_of (NotDirectory key) = codes "not-directory"
-word_of NotEmpty = codes "not-empty"
-word_of IsRoot = codes "is-root"
-word_of NoSuchBucket = codes "no-such-bucket"
-
--- the value that it keeps
-abbrev pub kept_in : FsRefusal → Option (List ℕ)
-kept_in NotFound = None
-kept_in AlreadyExists = None
-kept_in IsDirectory = None
-kept_in (NotDirectory key) = Some key
-kept_in NotEmpty = None
-kept_in IsRoot = None
-kept_in NoSuchBucket = None
-
--- `refused WORD`, and behind a blank the value that is kept
-abbrev pub refused_line : List ℕ → Option (List ℕ) → List ℕ
-refused_line word None = codes "refused " ++ (word ++ 10 ∷ [])
-refused_line word (Some kept) = codes "refused " ++ (word ++ (codes " " ++ (kept ++ 10 ∷ [])))
 
 -- ---- answers
 
@@ -55,6 +31,27 @@ entry_line entry = named_line entry.name entry.status
 abbrev pub entry_lines : List DirEntry → List ℕ
 entry_lines entries = flat_map entry_line entries
 
+abbrev pub kind_word : MarkerKind → List ℕ
+kind_word Surplus = codes "surplus"
+kind_word Leaf = codes "leaf"
+kind_word Odd = codes "odd"
+
+-- `surplus KEY`, `leaf KEY` or `odd KEY`
+abbrev pub marker_line : MarkerEntry → List ℕ
+marker_line entry = kind_word entry.kind ++ (codes " " ++ (entry.key ++ 10 ∷ []))
+
+-- a line for each of them
+abbrev pub marker_lines : List MarkerEntry → List ℕ
+marker_lines entries = flat_map marker_line entries
+
+-- `cleaned N`
+abbrev pub cleaned_line : ℕ → List ℕ
+cleaned_line count = codes "cleaned " ++ (decimal count ++ 10 ∷ [])
+
+-- `filled N`
+abbrev pub filled_line : ℕ → List ℕ
+filled_line count = codes "filled " ++ (decimal count ++ 10 ∷ [])
+
 -- the bytes alone
 abbrev pub bytes_alone : List ℕ → List ℕ
 bytes_alone bytes = bytes
@@ -69,11 +66,26 @@ nothing done = []
 abbrev pub fine : List ℕ → Said
 fine text = record { refused = false; text = text }
 
+-- `refused WORD`, and behind a blank the value that is kept
+abbrev pub refused_line : List ℕ → Option (List ℕ) → List ℕ
+refused_line word None = codes "refused " ++ (word ++ 10 ∷ [])
+refused_line word (Some kept) = codes "refused " ++ (word ++ (codes " " ++ (kept ++ 10 ∷ [])))
+
 -- a refusal with its word and the value that it keeps
 abbrev pub refusing : List ℕ → Option (List ℕ) → Said
 refusing word kept = record { refused = true; text = refused_line word kept }
 
+-- an operation's refusal
+abbrev pub refused : FsRefusal → Said
+refused NotFound = refusing (codes "not-found") None
+refused AlreadyExists = refusing (codes "already-exists") None
+refused IsDirectory = refusing (codes "is-directory") None
+refused (NotDirectory key) = refusing (codes "not-directory") (Some key)
+refused NotEmpty = refusing (codes "not-empty") None
+refused IsRoot = refusing (codes "is-root") None
+refused NoSuchBucket = refusing (codes "no-such-bucket") None
+
 -- an operation's answer, or its refusal
 abbrev pub said : {A : Type 0} → (A → List ℕ) → Result A FsRefusal → Said
 said text (Ok answer) = fine (text answer)
-said text (Err refusal) = refusing (word_of refusal) (kept_in refusal)
+said text (Err refusal) = refused refusal

@@ -17,17 +17,24 @@ pub const MOST_INPUT: usize = 67_108_864;
 
 impl Session {
     /// Makes a file of bytes that are not too many.
-    fn create(&mut self, path: &S3Path, bytes: &Bytes, overwrite: bool) -> Result<Said, AllocError>
+    fn create(
+        &mut self,
+        path: &S3Path,
+        bytes: &Bytes,
+        overwrite: bool,
+        policy: MarkerPolicy,
+    ) -> Result<Said, AllocError>
         requires few { length bytes.now ≤ most_input }
         requires counted { IsCounted self.old }
-        ensures did { IfOk result (λ what. Created path.now bytes.now overwrite self.old.store.scene what self.new.store.scene) }
-        ensures sent { OnOk result (Sent (FileOrNot path.now bytes.now self.old.store.scene) self.old self.new) }
+        ensures did { IfOk result (λ what. Created path.now bytes.now overwrite policy self.old.store.scene
+            what self.new.store.scene) }
+        ensures sent { OnOk result (Sent (FileOrNot policy path.now bytes.now self.old.store.scene) self.old self.new) }
     {
         let alloc = self.alloc;
         let minimum = self.store.service().minimum();
         let block = block_of(bytes.as_slice().len() as u64, 0, minimum);
         let bytes = bytes.clone()?;
-        let file = CreateFile::new(alloc, path, bytes, block, overwrite, MarkerPolicy::Keep)?;
+        let file = CreateFile::new(alloc, path, bytes, block, overwrite, policy)?;
         let store = &mut self.store;
         let journal = &mut self.journal;
         match perform(alloc, file, RETRIES, store, Actor::Shell, EVENT, journal) {
@@ -36,20 +43,23 @@ impl Session {
         }
     }
 
-    /// Makes a file of the input. Too many bytes are refused before all else.
+    /// Makes a file of the input, and keeps or deletes the markers above it. Too many bytes are refused before all
+    /// else.
     pub(crate) fn put(
         &mut self,
         path: &S3Path,
         bytes: &Bytes,
         overwrite: bool,
+        policy: MarkerPolicy,
     ) -> Result<Said, AllocError>
         requires { IsCounted self.old }
-        ensures did { IfOk result (λ what. DidPut path.now bytes.now overwrite self.old.store.scene what self.new.store.scene) }
-        ensures sent { OnOk result (Sent (FileOrNot path.now bytes.now self.old.store.scene) self.old self.new) }
+        ensures did { IfOk result (λ what. DidPut path.now bytes.now overwrite policy self.old.store.scene
+            what self.new.store.scene) }
+        ensures sent { OnOk result (Sent (FileOrNot policy path.now bytes.now self.old.store.scene) self.old self.new) }
     {
         if bytes.as_slice().len() > MOST_INPUT {
             return refusing(self.alloc, "too-large", None);
         }
-        self.create(path, bytes, overwrite)
+        self.create(path, bytes, overwrite, policy)
     }
 }

@@ -15,6 +15,7 @@
 
 mod buckets;
 mod files;
+mod markers;
 mod moves;
 mod obeying;
 mod paths;
@@ -24,5 +25,5 @@ mod statuses;
 mod uploads;
 
 pub use files::MOST_INPUT;
-pub use obeying::{ShellEnd, shell};
+pub use obeying::{ShellEnd, only_looks, shell};
 pub use said::Said;

@@ -1,6 +1,6 @@
-ghost use Rattle.std.specs.Prelude.{◌≡◌, IfOk, OnOk, option_map};
+ghost use Rattle.std.specs.Prelude.{◌≡◌, IfOk, OnOk};
 ghost use Rattle.fs_rename.specs.Public.{StandsWhole};
-ghost use Rattle.s3a_shell.specs.Moving.{word_of_move, kept_of_move, said_of_move, renaming, DidMove};
+ghost use Rattle.s3a_shell.specs.Moving.{refused_move, said_of_move, renaming, DidMove};
 ghost use Rattle.s3a_shell.specs.Sendings.{IsCounted, Sent};
 
 use crate::said::{Said, fine, refusing};
@@ -11,29 +11,21 @@ use path_keys::S3Path;
 use s3_types::{Actor, Bytes};
 use std::alloc::{AllocError, Global};
 
-fn word_of_move(refusal: &RenameRefusal) -> &'static str
-    ensures { result.now ≡ word_of_move refusal.now }
+/// The refusal of a renaming.
+fn refused_move(alloc: Global, refusal: &RenameRefusal) -> Result<Said, AllocError>
+    ensures { IfOk result (λ what. what ≡ refused_move refusal.now) }
 {
     match refusal {
-        RenameRefusal::SourceMissing => "source-missing",
-        RenameRefusal::SourceRoot => "source-root",
-        RenameRefusal::UnderSource => "under-source",
-        RenameRefusal::TargetFile => "target-file",
-        RenameRefusal::TargetExists => "target-exists",
-        RenameRefusal::ParentMissing => "parent-missing",
-        RenameRefusal::ParentIsFile => "parent-is-file",
-        RenameRefusal::OtherBucket => "other-bucket",
-        RenameRefusal::NoSuchBucket => "no-such-bucket",
-        RenameRefusal::TooLong(_) => "too-long",
-    }
-}
-
-fn kept_of_move(refusal: &RenameRefusal) -> Option<&str>
-    ensures { option_map (λ kept. kept.now) result ≡ kept_of_move refusal.now }
-{
-    match refusal {
-        RenameRefusal::TooLong(key) => Some(key.as_str()),
-        _ => None,
+        RenameRefusal::SourceMissing => refusing(alloc, "source-missing", None),
+        RenameRefusal::SourceRoot => refusing(alloc, "source-root", None),
+        RenameRefusal::UnderSource => refusing(alloc, "under-source", None),
+        RenameRefusal::TargetFile => refusing(alloc, "target-file", None),
+        RenameRefusal::TargetExists => refusing(alloc, "target-exists", None),
+        RenameRefusal::ParentMissing => refusing(alloc, "parent-missing", None),
+        RenameRefusal::ParentIsFile => refusing(alloc, "parent-is-file", None),
+        RenameRefusal::OtherBucket => refusing(alloc, "other-bucket", None),
+        RenameRefusal::NoSuchBucket => refusing(alloc, "no-such-bucket", None),
+        RenameRefusal::TooLong(key) => refusing(alloc, "too-long", Some(key.as_str())),
     }
 }
 
@@ -43,7 +35,7 @@ fn move_said(alloc: Global, answer: Result<(), RenameRefusal>) -> Result<Said, A
 {
     match answer {
         Ok(()) => Ok(fine(Bytes::empty())),
-        Err(refusal) => refusing(alloc, word_of_move(&refusal), kept_of_move(&refusal)),
+        Err(refusal) => refused_move(alloc, &refusal),
     }
 }
 
@@ -52,7 +44,8 @@ impl Session {
     pub(crate) fn rename(&mut self, from: &S3Path, to: &S3Path) -> Result<Said, AllocError>
         requires { IsCounted self.old }
         ensures did { IfOk result (λ what. DidMove from.now to.now self.old.store.scene what self.new.store.scene) }
-        ensures sent { OnOk result (Sent (StandsWhole (renaming from.now to.now) self.old.store.scene) self.old self.new) }
+        ensures sent { OnOk result (Sent (StandsWhole (renaming from.now to.now) self.old.store.scene)
+            self.old self.new) }
     {
         let alloc = self.alloc;
         let rename = Rename::new(alloc, from, to)?;

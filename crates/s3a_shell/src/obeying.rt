@@ -12,10 +12,11 @@ ghost use Rattle.s3a_shell.specs.Stays.{OnlyIn, bucket_in, ended_by};
 
 use crate::said::Said;
 use crate::session::Session;
+use dir_markers::MarkerPolicy;
 use log_format::is_changing;
 use s3_service::Service;
 use s3_types::{Bytes, Entry, Journal, Outcome, Reply, let_go};
-use s3a_words::Command;
+use s3a_words::{Command, CommandKind};
 use std::alloc::{AllocError, Global};
 
 /// What a command of the shell leaves: the store; whether that is to be kept; whether the command was refused; what is
@@ -61,6 +62,13 @@ fn has_changed(entries: &[Entry]) -> bool
     entries.iter().any(|entry| is_change(entry))
 }
 
+/// Whether a command only looks: `ls`, `stat`, `cat`, `uploads` and `markers` do. `shell` sends no change for it.
+pub fn only_looks(command: &Command) -> bool
+    ensures { result ≡ only_looks command.now }
+{
+    matches!(command.kind(), CommandKind::Looks)
+}
+
 impl Session {
     /// Does a command.
     fn obey(&mut self, command: &Command, bytes: &Bytes) -> Result<Said, AllocError>
@@ -76,14 +84,18 @@ impl Session {
             Command::Ls { path } => self.ls(path),
             Command::Stat { path } => self.stat(path),
             Command::Cat { path } => self.cat(path),
-            Command::Put { path } => self.put(path, bytes, false),
-            Command::PutForce { path } => self.put(path, bytes, true),
+            Command::Put { path } => self.put(path, bytes, false, MarkerPolicy::Keep),
+            Command::PutForce { path } => self.put(path, bytes, true, MarkerPolicy::Keep),
+            Command::PutDrop { path } => self.put(path, bytes, false, MarkerPolicy::Delete),
             Command::Mkdir { path } => self.mkdir(path),
             Command::Mv { from, to } => self.rename(from, to),
             Command::Rm { path } => self.remove(path, false),
             Command::Rmr { path } => self.remove(path, true),
             Command::Uploads { path } => self.uploads(path),
             Command::AbortUploads { path } => self.abort_uploads(path),
+            Command::Markers { path } => self.markers(path),
+            Command::CleanMarkers { path } => self.clean_markers(path),
+            Command::FillMarkers { path } => self.fill_markers(path),
             Command::Init { .. } => unreachable!(),
             Command::Job => unreachable!(),
             Command::Gen { .. } => unreachable!(),
@@ -124,8 +136,8 @@ impl Session {
 /// refusal: `refused WORD`, and behind a blank the value that is kept. `changed` tells whether some request was
 /// answered that is no read and no list and was not refused; where it is false, the store is as it was, and so it is
 /// where the command was refused. At any moment, wherever it stops, there stands what may stand then of the command
-/// (`MayStandAt`). `ls`, `stat`, `cat` and `uploads` send no change, and at the end no upload is live that the command began.
-/// Markers are kept, and each request is sent once. (Hadoop FileSystem specification.)
+/// (`MayStandAt`). `ls`, `stat`, `cat` and `uploads` send no change, and at the end no upload is live that the
+/// command began. Markers are kept, but by `put-drop`, and each request is sent once. (Hadoop FileSystem specification.)
 pub fn shell(
     alloc: Global,
     command: &Command,
@@ -138,17 +150,21 @@ pub fn shell(
       refused = end.refused;
       text = end.text;
     }) (moment service end.journal.entries (length end.journal.entries))) }
-    ensures content { IfOk result (λ end. end.service ≡ (moment service end.journal.entries (length end.journal.entries)).content) }
+    ensures content { IfOk result (λ end. end.service ≡
+        (moment service end.journal.entries (length end.journal.entries)).content) }
     ensures by { IfOk result (λ end. AreBy actors.Shell 0 end.journal.entries) }
     ensures answered { IfOk result (λ end. AreAnswered end.journal.entries) }
     ensures honest { IfOk result (λ end. IsHonest service end.journal.entries) }
-    ensures moments { IfOk result (λ end. (m : ℕ) → MayStandAt command.now bytes (opening service) (moment service end.journal.entries m)) }
+    ensures moments { IfOk result (λ end. (m : ℕ) →
+        MayStandAt command.now bytes (opening service) (moment service end.journal.entries m)) }
     ensures changed { IfOk result (λ end. end.changed ≡ has_changed end.journal.entries) }
     ensures same { IfOk result (λ end. end.changed ≡ false → end.service ≡ service) }
-    ensures ended { IfOk result (λ end. (id : ℕ) → service.next ≤ id → upload_at end.service (bucket_in command.now) id ≡ None) }
+    ensures ended { IfOk result (λ end. (id : ℕ) → service.next ≤ id →
+        upload_at end.service (bucket_in command.now) id ≡ None) }
     ensures reads { IfOk result (λ end. only_looks command.now ≡ true → end.changed ≡ false) }
     ensures refused { IfOk result (λ end. end.refused ≡ true → end.service ≡ service) }
-    ensures stays { IfOk result (λ end. OnlyIn (bucket_in command.now) (ended_by command.now service) service end.service) }
+    ensures stays { IfOk result (λ end.
+        OnlyIn (bucket_in command.now) (ended_by command.now service) service end.service) }
 {
     let mut session = Session::new(alloc, service);
     match session.obey(command, &bytes) {

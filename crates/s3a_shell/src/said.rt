@@ -1,5 +1,5 @@
-ghost use Rattle.std.specs.Prelude.{◌≡◌, IfOk, None, option_map, string_bytes};
-ghost use Rattle.s3a_shell.specs.Texts.{word_of, kept_in, refused_line, fine, refusing, said, bytes_alone, nothing};
+ghost use Rattle.std.specs.Prelude.{◌≡◌, IfOk, option_map, string_bytes};
+ghost use Rattle.s3a_shell.specs.Texts.{refused_line, fine, refusing, refused, said, bytes_alone, nothing};
 
 use fs_tree::FsRefusal;
 use s3_types::Bytes;
@@ -19,34 +19,6 @@ pub fn fine(text: Bytes) -> Said
     Said {
         refused: false,
         text,
-    }
-}
-
-fn word_of(refusal: &FsRefusal) -> &'static str
-    ensures { result.now ≡ word_of refusal.now }
-{
-    match refusal {
-        FsRefusal::NotFound => "not-found",
-        FsRefusal::AlreadyExists => "already-exists",
-        FsRefusal::IsDirectory => "is-directory",
-        FsRefusal::NotDirectory(_) => "not-directory",
-        FsRefusal::NotEmpty => "not-empty",
-        FsRefusal::IsRoot => "is-root",
-        FsRefusal::NoSuchBucket => "no-such-bucket",
-    }
-}
-
-fn kept_in(refusal: &FsRefusal) -> Option<&str>
-    ensures { option_map (λ kept. kept.now) result ≡ kept_in refusal.now }
-{
-    match refusal {
-        FsRefusal::NotFound => None,
-        FsRefusal::AlreadyExists => None,
-        FsRefusal::IsDirectory => None,
-        FsRefusal::NotDirectory(key) => Some(key.as_str()),
-        FsRefusal::NotEmpty => None,
-        FsRefusal::IsRoot => None,
-        FsRefusal::NoSuchBucket => None,
     }
 }
 
@@ -72,9 +44,17 @@ pub fn refusing(alloc: Global, word: &str, kept: Option<&str>) -> Result<Said, A
 
 /// The refusal of an operation.
 pub fn refused(alloc: Global, refusal: &FsRefusal) -> Result<Said, AllocError>
-    ensures { IfOk result (λ what. what ≡ refusing (word_of refusal.now) (kept_in refusal.now)) }
+    ensures { IfOk result (λ what. what ≡ refused refusal.now) }
 {
-    refusing(alloc, word_of(refusal), kept_in(refusal))
+    match refusal {
+        FsRefusal::NotFound => refusing(alloc, "not-found", None),
+        FsRefusal::AlreadyExists => refusing(alloc, "already-exists", None),
+        FsRefusal::IsDirectory => refusing(alloc, "is-directory", None),
+        FsRefusal::NotDirectory(key) => refusing(alloc, "not-directory", Some(key.as_str())),
+        FsRefusal::NotEmpty => refusing(alloc, "not-empty", None),
+        FsRefusal::IsRoot => refusing(alloc, "is-root", None),
+        FsRefusal::NoSuchBucket => refusing(alloc, "no-such-bucket", None),
+    }
 }
 
 /// What an operation says that answers bytes.

@@ -13,8 +13,8 @@
 //! (`usage`, `command`). The status that is due is one of the table's but 4 (`due`): 3 exactly where
 //! the input's count of faults rose, 5 exactly where the shelf's did (`read`, `shelf`). The status is 4
 //! exactly where the output's count rose; else it is the one that is due, and all that was written has
-//! gone out (`written`, `otherwise`, `out`). Nothing is taken from the input but for `job`, `put` and
-//! `put-force` (`unread`), nor where the shelf holds what is no store or failed as it was loaded; the
+//! gone out (`written`, `otherwise`, `out`). Nothing is taken from the input but for `job`, `put`,
+//! `put-force` and `put-drop` (`unread`), nor where the shelf holds what is no store or failed as it was loaded; the
 //! input of a script that is played was taken to its end. It asks that no device's count of faults
 //! stands at its end, 2^64 - 1. Left open: that `main` hands on the words and the folder that it was
 //! given.

@@ -7,7 +7,7 @@ use Rattle.s3_types.specs.declared.limits.TheConstants.{MOST_MINIMUM}
 use Rattle.s3a_words.specs.Numbers.{number_in, is_minimum, minimum_in, number_within}
 use Rattle.s3a_words.specs.Words.{path_named, alone, with_path, with_operand, moved, with_two, made, with_three, said, command_of, IsBounded}
 use Rattle.s3a_words.specs.declared.command.Command.{Command}
-use Rattle.s3a_words.specs.declared.command.Command.TheVariants.{Init, Mb, Ls, Stat, Cat, Put, PutForce, Mkdir, Rm, Rmr, Mv, Uploads, AbortUploads, Job, Gen}
+use Rattle.s3a_words.specs.declared.command.Command.TheVariants.{Init, Mb, Ls, Stat, Cat, Put, PutForce, PutDrop, Mkdir, Rm, Rmr, Mv, Uploads, AbortUploads, Markers, CleanMarkers, FillMarkers, Job, Gen}
 
 abbrev Of : Option Command → Type 0
 Of None = Unit {0}
@@ -35,7 +35,7 @@ alone_bounded name = either _ _ _ (is Job tt) (either _ _ _ (is (Init None) tt) 
 path_bounded : (name : List ℕ) (p : Path) → AreBounded (with_path name p)
 unfolding with_path
 path_bounded name p =
-    either _ _ _ (is (Ls p) tt) (either _ _ _ (is (Stat p) tt) (either _ _ _ (is (Cat p) tt) (either _ _ _ (is (Put p) tt) (either _ _ _ (is (PutForce p) tt) (either _ _ _ (is (Mkdir p) tt) (either _ _ _ (is (Rm p) tt) (either _ _ _ (is (Rmr p) tt) (either _ _ _ (is (Uploads p) tt) (either _ _ _ (is (AbortUploads p) tt) (none))))))))))
+    either _ _ _ (is (Ls p) tt) (either _ _ _ (is (Stat p) tt) (either _ _ _ (is (Cat p) tt) (either _ _ _ (is (Put p) tt) (either _ _ _ (is (PutForce p) tt) (either _ _ _ (is (PutDrop p) tt) (either _ _ _ (is (Mkdir p) tt) (either _ _ _ (is (Rm p) tt) (either _ _ _ (is (Rmr p) tt) (either _ _ _ (is (Uploads p) tt) (either _ _ _ (is (AbortUploads p) tt) (either _ _ _ (is (Markers p) tt) (either _ _ _ (is (CleanMarkers p) tt) (either _ _ _ (is (FillMarkers p) tt) none)))))))))))))
 
 named_bounded : (name : List ℕ) (o : Option Path) → AreBounded (option_and_then (with_path name) o)
 named_bounded name None = none

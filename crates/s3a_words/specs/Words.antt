@@ -6,7 +6,7 @@ use Rattle.path_keys.specs.Paths.{Path, path_in}
 use Rattle.path_keys.specs.declared.fault.PathFault.{PathFault}
 use Rattle.s3a_words.specs.Numbers.{minimum_in, number_within}
 use Rattle.s3a_words.specs.declared.command.Command.{Command}
-use Rattle.s3a_words.specs.declared.command.Command.TheVariants.{Init, Mb, Ls, Stat, Cat, Put, PutForce, Mkdir, Rm, Rmr, Mv, Uploads, AbortUploads, Job, Gen}
+use Rattle.s3a_words.specs.declared.command.Command.TheVariants.{Init, Mb, Ls, Stat, Cat, Put, PutForce, PutDrop, Mkdir, Rm, Rmr, Mv, Uploads, AbortUploads, Markers, CleanMarkers, FillMarkers, Job, Gen}
 use Rattle.s3a_words.specs.declared.command.WordFault.{WordFault}
 use Rattle.s3a_words.specs.declared.command.WordFault.TheVariants.{Usage, NoMemory}
 
@@ -38,11 +38,15 @@ with_path name path =
     else if bytes_eq name (codes "cat") then Some (Cat path)
     else if bytes_eq name (codes "put") then Some (Put path)
     else if bytes_eq name (codes "put-force") then Some (PutForce path)
+    else if bytes_eq name (codes "put-drop") then Some (PutDrop path)
     else if bytes_eq name (codes "mkdir") then Some (Mkdir path)
     else if bytes_eq name (codes "rm") then Some (Rm path)
     else if bytes_eq name (codes "rmr") then Some (Rmr path)
     else if bytes_eq name (codes "uploads") then Some (Uploads path)
     else if bytes_eq name (codes "abort-uploads") then Some (AbortUploads path)
+    else if bytes_eq name (codes "markers") then Some (Markers path)
+    else if bytes_eq name (codes "clean-markers") then Some (CleanMarkers path)
+    else if bytes_eq name (codes "fill-markers") then Some (FillMarkers path)
     else None
 
 -- what a name says with an operand: a number, a bucket's name, or a path

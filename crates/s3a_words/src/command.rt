@@ -18,6 +18,8 @@ pub enum Command {
     Put { path: S3Path },
     /// Makes a file of the input, also where one stands.
     PutForce { path: S3Path },
+    /// Makes a file of the input, where none stands, and deletes the markers of the directories above it.
+    PutDrop { path: S3Path },
     /// Makes a directory.
     Mkdir { path: S3Path },
     /// Deletes a file or an empty directory.
@@ -30,6 +32,12 @@ pub enum Command {
     Uploads { path: S3Path },
     /// Aborts the live uploads below a path.
     AbortUploads { path: S3Path },
+    /// Tells the markers at a path and below it.
+    Markers { path: S3Path },
+    /// Deletes the markers at a path and below it whose directories stand without them.
+    CleanMarkers { path: S3Path },
+    /// Puts the markers at a path and below it that directories lack.
+    FillMarkers { path: S3Path },
     /// Plays a script that is read from the input.
     Job,
     /// Plays a job whose script is made of a seed, with 1 to 200 tasks of 1 to 50 files each, and sums it up in a line.

@@ -3,12 +3,15 @@
 //! # What is proved
 //!
 //! `read_words`: Exactly the command that the words are, or Usage exactly where they are none.
+//! `Command::kind`: Of each command what it does with a store and with the input, by one table.
 #![tactic(auto)]
 
 mod command;
 mod grammar;
+mod kind;
 mod numbers;
 mod reading;
 
 pub use command::{Command, WordFault};
+pub use kind::CommandKind;
 pub use reading::read_words;

@@ -52,11 +52,15 @@ fn with_path(name: &str, path: S3Path) -> Option<Command>
         "cat" => Some(Command::Cat { path }),
         "put" => Some(Command::Put { path }),
         "put-force" => Some(Command::PutForce { path }),
+        "put-drop" => Some(Command::PutDrop { path }),
         "mkdir" => Some(Command::Mkdir { path }),
         "rm" => Some(Command::Rm { path }),
         "rmr" => Some(Command::Rmr { path }),
         "uploads" => Some(Command::Uploads { path }),
         "abort-uploads" => Some(Command::AbortUploads { path }),
+        "markers" => Some(Command::Markers { path }),
+        "clean-markers" => Some(Command::CleanMarkers { path }),
+        "fill-markers" => Some(Command::FillMarkers { path }),
         _ => None,
     }
 }
@@ -194,9 +198,10 @@ fn command_in(alloc: Global, words: &[Text]) -> Result<Option<Command>, AllocErr
 
 /// The command that the words are: word 0 is the folder, word 1 the command's name, and the others are its
 /// operands. The commands are `init`, `init MIN`, `mb NAME`, `job`, `gen SEED TASKS FILES`, with a path `ls`, `stat`,
-/// `cat`, `put`, `put-force`, `mkdir`, `rm`, `rmr`, `uploads` and `abort-uploads`, and with two paths `mv`. No word
-/// behind the folder begins with `-`. A number has 1 to 18 decimal digits, no sign and no leading zero; MIN is from 1 to
-/// 5,242,880, SEED from 0 to 4,294,967,295, TASKS from 1 to 200 and FILES from 1 to 50. A path is one that
+/// `cat`, `put`, `put-force`, `put-drop`, `mkdir`, `rm`, `rmr`, `uploads`, `abort-uploads`, `markers`, `clean-markers` and
+/// `fill-markers`, and with two paths `mv`. No word behind the folder begins with `-`. A number has 1 to 18 decimal
+/// digits, no sign and no leading zero; MIN is from 1 to 5,242,880, SEED from 0 to 4,294,967,295, TASKS from 1 to 200 and
+/// FILES from 1 to 50. A path is one that
 /// `S3Path::read` takes. Usage comes exactly where the words are no command, so for `--help` too.
 pub fn read_words(alloc: Global, words: &[Text]) -> Result<Command, WordFault>
     ensures exact { Reads (command_of words.now) result }

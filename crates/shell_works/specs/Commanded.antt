@@ -8,7 +8,8 @@ use Rattle.s3_types.specs.declared.journal.Entry.{Entry}
 use Rattle.machine.specs.Counted.{AreAnswered}
 use Rattle.machine.specs.Turns.{AreBy}
 use Rattle.s3a_words.specs.declared.command.Command.{Command}
-use Rattle.s3a_words.specs.declared.command.Command.TheVariants.{Init, Put, PutForce, Job, Gen}
+use Rattle.s3a_words.specs.declared.command.Command.TheVariants.{Init}
+use Rattle.s3a_words.specs.Kinds.{kind_of, is_put, is_play}
 use Rattle.request_frame.specs.Held.{upload_at}
 use Rattle.s3a_shell.specs.declared.said.Said.{Said}
 use Rattle.s3a_shell.specs.Doings.{only_looks, Does, MayStandAt}
@@ -22,15 +23,11 @@ use Rattle.kept_stores.specs.declared.held.Held.TheVariants.{Nothing, Store, Fau
 
 -- the commands that read the input
 abbrev pub takes_input : Command → Bool
-takes_input (Put path) = true
-takes_input (PutForce path) = true
-takes_input _ = false
+takes_input command = is_put (kind_of command)
 
 -- the commands that play a job
 abbrev pub plays : Command → Bool
-plays Job = true
-plays (Gen seed tasks files) = true
-plays _ = false
+plays command = is_play (kind_of command)
 
 -- the least size of a part in bytes, where none is given
 abbrev pub minimum_of : Option ℕ → ℕ

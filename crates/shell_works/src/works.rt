@@ -1,18 +1,19 @@
-ghost use Rattle.std.specs.Prelude.{◌≡◌, ◌≤◌, ◌^◌, true, false, [], codes, None, IfOk};
+ghost use Rattle.std.specs.Prelude.{◌≡◌, ◌⊎◌, ◌≤◌, ◌^◌, true, false, [], codes, None, IfOk};
+ghost use Rattle.s3_types.specs.Store.{Content};
 ghost use Rattle.kept_stores.specs.Stores.{fault_text};
 ghost use Rattle.kept_stores.specs.Works as works;
 ghost use Rattle.kept_stores.specs.Doing.{work_in};
 ghost use Rattle.kept_stores.specs.Outcomes.{IsSound};
 ghost use Rattle.s3a_words.specs.Words.{IsBounded};
-ghost use Rattle.s3a_shell.specs.Doings.{is_of_shell};
+ghost use Rattle.s3a_shell.specs.Doings.{is_of_shell, only_looks};
 ghost use Rattle.s3a_shell.specs.Texts.{refused_line};
 ghost use Rattle.shell_works.specs.Commanded.{takes_input, plays, minimum_of, init_work, work_said, Done, DoneOn, IsWork};
 
 use kept_stores::{Held, Work, fault_text};
 use s3_service::Service;
 use s3_types::{Bytes, Journal, MOST_MINIMUM, let_go};
-use s3a_shell::{ShellEnd, shell};
-use s3a_words::Command;
+use s3a_shell::{ShellEnd, only_looks, shell};
+use s3a_words::{Command, CommandKind};
 use std::alloc::{AllocError, Global};
 
 const DONE: u8 = 0;
@@ -21,26 +22,18 @@ const REFUSED: u8 = 1;
 
 const IMAGE_FAULT: u8 = 7;
 
-/// Whether a command reads the input: `put` and `put-force` do.
+/// Whether a command reads the input: `put`, `put-force` and `put-drop` do.
 pub fn takes_input(command: &Command) -> bool
     ensures { result ≡ takes_input command.now }
 {
-    match command {
-        Command::Put { .. } => true,
-        Command::PutForce { .. } => true,
-        _ => false,
-    }
+    matches!(command.kind(), CommandKind::Puts)
 }
 
 /// Whether a command plays a job: `job` and `gen` do.
 pub fn plays(command: &Command) -> bool
     ensures { result ≡ plays command.now }
 {
-    match command {
-        Command::Job => true,
-        Command::Gen { .. } => true,
-        _ => false,
-    }
+    matches!(command.kind(), CommandKind::Plays)
 }
 
 /// What is to be said where the shelf holds no store.
@@ -85,26 +78,42 @@ fn init_work(alloc: Global, minimum: Option<u64>, held: Held) -> Result<Work, Al
     }
 }
 
-/// What is to be done of what a command left.
-fn work_in(end: ShellEnd, opening: Service) -> Work
-    ensures { work_in result ≡ work_said end.refused end.changed opening end.text end.journal.entries }
+/// What is to be said of a command that was refused, or sent no change to the store, whatever that was.
+fn said(end: ShellEnd) -> Work
+    requires same { (end.refused ≡ true) ⊎ (end.changed ≡ false) }
+    ensures { (c : Content) → work_in result ≡ work_said end.refused end.changed c end.text end.journal.entries }
 {
     let ShellEnd {
         service,
-        changed,
+        changed: _,
         refused,
         text,
         journal,
     } = end;
     let_go(service);
-    if refused || !changed {
-        let_go(opening);
-        return Work::Says {
-            due: if refused { REFUSED } else { DONE },
-            text,
-            sent: journal,
-        };
+    Work::Says {
+        due: if refused { REFUSED } else { DONE },
+        text,
+        sent: journal,
     }
+}
+
+/// What is to be done of what a command left.
+fn work_in(end: ShellEnd, opening: Service) -> Work
+    ensures { work_in result ≡ work_said end.refused end.changed opening end.text end.journal.entries }
+{
+    if end.refused || !end.changed {
+        let_go(opening);
+        return said(end);
+    }
+    let ShellEnd {
+        service,
+        changed: _,
+        refused: _,
+        text,
+        journal,
+    } = end;
+    let_go(service);
     Work::Saves {
         opening,
         text,
@@ -112,7 +121,25 @@ fn work_in(end: ShellEnd, opening: Service) -> Work
     }
 }
 
-/// A command is done on a store, of which a copy is kept as it was.
+/// A command that only looks is done on a store, which is not copied.
+fn looked(
+    alloc: Global,
+    command: &Command,
+    bytes: Bytes,
+    service: Service,
+) -> Result<Work, AllocError>
+    requires one { is_of_shell command.now ≡ true }
+    requires looks { only_looks command.now ≡ true }
+    requires few { service.next ≤ 2 ^ 62 }
+    ensures { IfOk result (λ work. Done command.now bytes service (work_in work)) }
+{
+    match shell(alloc, command, service, bytes) {
+        Ok(end) => Ok(said(end)),
+        Err(error) => Err(error),
+    }
+}
+
+/// A command is done on a store, of which a copy is kept as it was, unless the command only looks.
 fn done(
     alloc: Global,
     command: &Command,
@@ -123,6 +150,9 @@ fn done(
     requires few { service.next ≤ 2 ^ 62 }
     ensures { IfOk result (λ work. Done command.now bytes service (work_in work)) }
 {
+    if only_looks(command) {
+        return looked(alloc, command, bytes, service);
+    }
     let Ok(opening) = service.copy() else {
         let_go(service);
         return Err(AllocError);

@@ -1,0 +1,10 @@
+use Rattle.fs_tree.specs.MarkerTool.{Fills, IsFilling}
+use Rattle.s3a_shell.specs.Texts.{filled_line}
+use Rattle.s3a_shell.proofs.Performing.{did_at, on_ok, sent_of}
+use Rattle.s3a_shell.proofs.session.Session.fill_markers.Goals as goal
+
+pub returns-clause-did : goal.returns-clause-did
+returns-clause-did c = did_at c.args.path.now Fills filled_line _ _ _ c.in_ok-answer.answer c.filled_said.result c.in_ok-filling.ensures c.in_ok-answer.ensures.given c.filled_said.ensures
+
+pub returns-clause-sent : goal.returns-clause-sent
+returns-clause-sent c = on_ok c.filled_said.result (sent_of c.args.path.now.bucket IsFilling _ _ _ _ c.in_ok-filling.ensures c.in_ok-answer.ensures.sent)

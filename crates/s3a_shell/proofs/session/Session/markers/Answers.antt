@@ -1,0 +1,15 @@
+use Rattle.fs_tree.specs.MarkerTool.{Audits}
+use Rattle.s3a_shell.specs.Texts.{marker_lines}
+use Rattle.s3a_shell.proofs.Looking.{looked_same}
+use Rattle.s3a_shell.proofs.Performing.{did_at, on_ok, sent_still}
+use Rattle.fs_ops.specs.AtPathLaws.{looks_there}
+use Rattle.s3a_shell.proofs.session.Session.markers.Goals as goal
+
+pub returns-clause-did : goal.returns-clause-did
+returns-clause-did c = did_at c.args.path.now Audits marker_lines _ _ _ c.in_ok-answer.answer c.markers_said.result c.in_ok-audit.ensures c.in_ok-answer.ensures.given c.markers_said.ensures
+
+pub returns-clause-sent : goal.returns-clause-sent
+returns-clause-sent c = on_ok c.markers_said.result (sent_still c.args.path.now.bucket _ _ c.in_ok-answer.ensures.sent)
+
+pub returns-clause-looks : goal.returns-clause-looks
+returns-clause-looks c = on_ok c.markers_said.result (looked_same c.args.path.now.bucket _ c.args.self.now.store.scene c.args.self.now c.perform_at.new.self (looks_there c.in_ok-audit.audit) c.in_ok-answer.ensures.asked)
