@@ -4,3 +4,4 @@ pub mod MarkerTool
 pub mod Answers
 pub mod Moves
 pub mod Renames
+pub mod Copies

@@ -10,10 +10,12 @@
 ghost use Rattle.fs_tree.specs.Changes.{ListChildren};
 
 mod answers;
+mod copy;
 mod markers;
 mod rename;
 
 pub use answers::{DirEntry, DirList, FsRefusal};
+pub use copy::{CopyCount, CopyRefusal};
 pub use markers::{MarkerEntry, MarkerKind, MarkerList};
 pub use rename::RenameRefusal;
 

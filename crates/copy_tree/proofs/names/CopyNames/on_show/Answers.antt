@@ -1,0 +1,6 @@
+use Rattle.std.proofs.Common.{sym, ◌∙◌}
+use Rattle.bucket_walks.proofs.Walks.{fits_decides}
+use Rattle.copy_tree.proofs.names.CopyNames.on_show.Goals as goal
+
+pub hear-requires : goal.hear-requires
+hear-requires c = (fits_decides c.args.reply.now).0 (sym c.fits.ensures ∙ c.if-not-fits.false)

@@ -1,0 +1,92 @@
+ghost use Rattle.std.specs.Prelude.{◌≡◌, ◌++◌, IfOk, OnOk};
+ghost use Rattle.std.specs.Option.{option_copied};
+ghost use Rattle.copy_tree.specs.Copy.{one_of, place_of};
+
+use fs_moves::Base;
+use fs_ops::{Place, keys_above};
+use path_keys::S3Path;
+use s3_types::{Key, KeyList};
+use std::alloc::{AllocError, Global};
+use std::marker::Model;
+
+/// The source and the target of a copy, the keys of the paths above the target and its own, the target as a new
+/// place, and whether one path is the other or below it.
+#[derive(Drop)]
+pub(crate) struct CopyNames {
+    pub(crate) alloc: Global,
+    pub(crate) source: Place,
+    pub(crate) target: Place,
+    pub(crate) above: KeyList,
+    to: Option<Base>,
+    pub(crate) overlap: bool,
+}
+
+impl Model for CopyNames {
+    ghost use Rattle.std.specs.Prelude.{◌≡◌};
+    ghost use Rattle.copy_tree.specs.Copy.{CopyPaths, overlaps, climb, place_of};
+
+    ghost Value = { CopyPaths };
+
+    ghost view = { λ o. record { source = o.source; target = o.target } };
+
+    ghost invariant = { λ o.
+        (o.above ≡ climb o.target) × (o.to ≡ place_of o.source o.target)
+        × (o.overlap ≡ overlaps (record { source = o.source; target = o.target })) };
+}
+
+/// Adds a key, if there is one.
+fn add_key(keys: &mut KeyList, key: Option<&Key>) -> Result<(), AllocError>
+    ensures { OnOk result (keys.new ≡ keys.old ++ one_of (option_copied key.entry)) }
+{
+    match key {
+        Some(key) => keys.push(key.clone()?),
+        None => Ok(()),
+    }
+}
+
+/// The target as a new place; there is none where the source or the target is the root.
+#[tactic(auto, using(crate::proofs::Places::source_none, crate::proofs::Places::target_none, crate::proofs::Places::target_some, crate::proofs::Places::target_elements))]
+fn target_base(alloc: Global, source: &S3Path, target: &S3Path) -> Result<Option<Base>, AllocError>
+    ensures { IfOk result (λ base. base ≡ place_of source.now.key target.now.key) }
+{
+    if source.is_root() {
+        return Ok(None);
+    }
+    if target.is_root() {
+        return Ok(None);
+    }
+    Ok(Some(Base::new(alloc, target.key().clone()?)?))
+}
+
+impl CopyNames {
+    pub(crate) fn of(
+        alloc: Global,
+        source: &S3Path,
+        target: &S3Path,
+    ) -> Result<CopyNames, AllocError>
+        ensures { IfOk result (λ names. names ≡ record { source = source.now.key; target = target.now.key }) }
+    {
+        let from = Place::of(alloc, source)?;
+        let place = Place::of(alloc, target)?;
+        let mut above = keys_above(alloc, target.key().as_str())?;
+        add_key(&mut above, place.key())?;
+        let to = target_base(alloc, source, target)?;
+        let overlap = place.prefix().starts_with(from.prefix())
+            || from.prefix().starts_with(place.prefix());
+        Ok(CopyNames {
+            alloc,
+            source: from,
+            target: place,
+            above,
+            to,
+            overlap,
+        })
+    }
+
+    /// The target as a new place. Takes no memory.
+    pub(crate) fn place(&self) -> Option<&Base>
+        ensures { option_copied result ≡ place_of self.now.source self.now.target }
+    {
+        self.to.as_ref()
+    }
+}

@@ -1,0 +1,406 @@
+ghost use Rattle.std.specs.Prelude.{◌≡◌, IfOk, Err, drop};
+ghost use Rattle.bucket_ops.specs.Asks.{request_of};
+ghost use Rattle.fs_tree.specs.declared.copy.CopyRefusal.TheVariants.{NoSuchBucket};
+ghost use Rattle.bucket_walks.specs.Walking.{fits};
+ghost use Rattle.copy_tree.specs.Copy as copy;
+ghost use Rattle.copy_tree.specs.Copy.{read_of, same_header, place_of};
+ghost use Rattle.copy_tree.specs.Meaning as meaning;
+ghost use Rattle.copy_tree.specs.CopyLaws.{copy_laws, copy_asked};
+
+use crate::names::CopyNames;
+use crate::parts::chosen;
+use bucket_ops::{Look, Phases, seen_in};
+use bucket_walks::fits;
+use fs_moves::{CopyStep, Copying};
+use fs_tree::{CopyCount, CopyRefusal};
+use list_walk::{KeyWalk, keys_behind};
+use operations::Step;
+use s3_types::{
+    Bucket, Bytes, Key, KeyList, LengthHeader, PageEntry, PageLimit, Reply, Request, Sequence,
+    Text, copied_keys,
+};
+use std::alloc::{AllocError, Global};
+
+/// The keys of a source and their new keys: those whose new key stands, and those whose new key is absent.
+#[derive(Drop)]
+pub struct Parts {
+    pub stood: KeyList,
+    pub stood_at: KeyList,
+    pub keys: KeyList,
+    pub places: KeyList,
+}
+
+/// Where a copy stands.
+#[derive(Drop)]
+pub enum CopyStage {
+    /// Whether a file stands at the source.
+    Here,
+    /// The keys below the source are listed.
+    Walk(KeyWalk),
+    /// Whether a file stands at this one of the paths above the target and its own, before these others.
+    Up {
+        keys: KeyList,
+        first: Key,
+        rest: KeyList,
+    },
+    /// The keys below the target are listed.
+    WalkTarget {
+        keys: KeyList,
+        places: KeyList,
+        walk: KeyWalk,
+    },
+    /// So many keys agree with their new keys; the next one is read.
+    Source {
+        parts: Parts,
+        done: usize,
+    },
+    /// And its new key is read, against what was read.
+    Target {
+        parts: Parts,
+        done: usize,
+        bytes: Bytes,
+        header: Option<LengthHeader>,
+    },
+    /// The keys are copied whose new key is absent.
+    Copy {
+        copying: Copying,
+        count: CopyCount,
+    },
+}
+
+type Answer = Result<CopyCount, CopyRefusal>;
+
+/// The reading of the first of these keys. Where there is none, the bucket is looked at.
+fn read_of(bucket: &Bucket, keys: &[Key]) -> Result<Request, AllocError>
+    ensures { IfOk result (λ request. request ≡ request_of bucket.now (read_of keys.now)) }
+{
+    match keys.first() {
+        Some(key) => Request::get_object(bucket, key),
+        None => Request::list_page(
+            bucket,
+            &Text::empty(),
+            false,
+            &Text::empty(),
+            PageLimit::new(1),
+        ),
+    }
+}
+
+fn here(alloc: Global, overlap: bool, seen: Look) -> Step<CopyStage, Answer>
+    ensures { result ≡ copy.here overlap seen }
+{
+    if overlap {
+        return Step::End(Err(CopyRefusal::Overlap));
+    }
+    match seen {
+        Look::There => Step::End(Err(CopyRefusal::SourceIsFile)),
+        _ => Step::Next(CopyStage::Walk(KeyWalk::new(alloc))),
+    }
+}
+
+fn count_of(parts: &Parts) -> CopyCount
+    ensures { result ≡ copy.count_of parts.now }
+{
+    CopyCount {
+        copied: parts.places.len() as u64,
+        skipped: parts.stood_at.len() as u64,
+    }
+}
+
+fn copies(count: CopyCount, keys: KeyList, places: KeyList) -> Step<CopyStage, Answer>
+    ensures { result ≡ copy.copies count keys places }
+{
+    if keys.len() == 0 {
+        return Step::End(Ok(count));
+    }
+    Step::Next(CopyStage::Copy {
+        copying: Copying::new(keys, places),
+        count,
+    })
+}
+
+/// All that stands agrees.
+fn begun(parts: Parts) -> Step<CopyStage, Answer>
+    ensures { result ≡ copy.begun parts }
+{
+    let count = count_of(&parts);
+    let Parts { keys, places, .. } = parts;
+    copies(count, keys, places)
+}
+
+fn on_copied(count: CopyCount, step: CopyStep) -> Step<CopyStage, Answer>
+    ensures { result ≡ copy.on_copied count step }
+{
+    match step {
+        CopyStep::Next(copying) => Step::Next(CopyStage::Copy { copying, count }),
+        CopyStep::All(_) => Step::End(Ok(count)),
+    }
+}
+
+fn parts_of(
+    alloc: Global,
+    keys: &[Key],
+    places: &[Key],
+    entries: &[PageEntry],
+) -> Result<Parts, AllocError>
+    ensures { IfOk result (λ parts. parts ≡ copy.parts_of keys.now places.now entries.now) }
+{
+    let stood = chosen(alloc, true, keys, places, entries)?;
+    let stood_at = chosen(alloc, true, places, places, entries)?;
+    let absent = chosen(alloc, false, keys, places, entries)?;
+    let absent_at = chosen(alloc, false, places, places, entries)?;
+    Ok(Parts {
+        stood,
+        stood_at,
+        keys: absent,
+        places: absent_at,
+    })
+}
+
+fn parted(parts: Parts) -> Step<CopyStage, Answer>
+    ensures { result ≡ copy.parted parts }
+{
+    if parts.stood.len() == 0 {
+        return begun(parts);
+    }
+    Step::Next(CopyStage::Source { parts, done: 0 })
+}
+
+fn on_read(parts: Parts, done: usize, reply: &Reply) -> Result<Step<CopyStage, Answer>, AllocError>
+    ensures { IfOk result (λ step. step ≡ copy.on_read parts done reply.now) }
+{
+    match reply {
+        Reply::Object { bytes, header } => Ok(Step::Next(CopyStage::Target {
+            parts,
+            done,
+            bytes: bytes.clone()?,
+            header: *header,
+        })),
+        _ => Ok(Step::End(Err(CopyRefusal::SourceMissing))),
+    }
+}
+
+fn same_header(one: Option<LengthHeader>, other: Option<LengthHeader>) -> bool
+    ensures { result ≡ same_header one other }
+{
+    match (one, other) {
+        (None, None) => true,
+        (Some(one), Some(other)) => one.get() == other.get(),
+        _ => false,
+    }
+}
+
+fn differ(places: &[Key]) -> Result<Step<CopyStage, Answer>, AllocError>
+    ensures { IfOk result (λ step. step ≡ copy.differ places.now) }
+{
+    match places.first() {
+        Some(key) => Ok(Step::End(Err(CopyRefusal::Differs(key.as_text().clone()?)))),
+        None => Ok(Step::End(Err(CopyRefusal::SourceMissing))),
+    }
+}
+
+fn agreed(parts: Parts, done: usize) -> Step<CopyStage, Answer>
+    ensures { result ≡ copy.agreed parts done }
+{
+    if 1 < keys_behind(parts.stood.as_slice(), done).len() {
+        Step::Next(CopyStage::Source {
+            parts,
+            done: done + 1,
+        })
+    } else {
+        begun(parts)
+    }
+}
+
+fn compared(parts: Parts, done: usize, same: bool) -> Result<Step<CopyStage, Answer>, AllocError>
+    ensures { IfOk result (λ step. step ≡ copy.compared parts done same) }
+{
+    if same {
+        Ok(agreed(parts, done))
+    } else {
+        differ(keys_behind(parts.stood_at.as_slice(), done))
+    }
+}
+
+fn on_compare(
+    parts: Parts,
+    done: usize,
+    read: &Bytes,
+    read_header: Option<LengthHeader>,
+    reply: &Reply,
+) -> Result<Step<CopyStage, Answer>, AllocError>
+    ensures { IfOk result (λ step. step ≡ copy.on_compare parts done read.now read_header reply.now) }
+{
+    match reply {
+        Reply::Object { bytes, header } => {
+            let same = read.as_slice() == bytes.as_slice() && same_header(read_header, *header);
+            compared(parts, done, same)
+        }
+        _ => Ok(Step::End(Err(CopyRefusal::SourceMissing))),
+    }
+}
+
+impl CopyNames {
+    /// No file stands at the target or above it.
+    fn placed(&self, keys: KeyList) -> Result<Step<CopyStage, Answer>, AllocError>
+        ensures { IfOk result (λ step. step ≡ copy.placed self.now (place_of self.now.source self.now.target) keys) }
+    {
+        let Some(base) = self.place() else {
+            return Ok(Step::End(Err(CopyRefusal::SourceMissing)));
+        };
+        match base.new_keys(self.alloc, self.source.prefix(), keys.as_slice())? {
+            Ok(places) => Ok(Step::Next(CopyStage::WalkTarget {
+                keys,
+                places,
+                walk: KeyWalk::new(self.alloc),
+            })),
+            Err(key) => Ok(Step::End(Err(CopyRefusal::TooLong(key.as_text().clone()?)))),
+        }
+    }
+
+    fn climbed(&self, keys: KeyList, rest: KeyList) -> Result<Step<CopyStage, Answer>, AllocError>
+        ensures { IfOk result (λ step. step ≡ copy.climbed self.now keys rest) }
+    {
+        let mut items = rest.into_vec();
+        if items.is_empty() {
+            return self.placed(keys);
+        }
+        let first = items.remove(0);
+        Ok(Step::Next(CopyStage::Up {
+            keys,
+            first,
+            rest: Sequence::from_vec(items),
+        }))
+    }
+
+    fn on_up(
+        &self,
+        keys: KeyList,
+        first: Key,
+        rest: KeyList,
+        seen: Look,
+    ) -> Result<Step<CopyStage, Answer>, AllocError>
+        ensures { IfOk result (λ step. step ≡ copy.on_up self.now keys first rest seen) }
+    {
+        match seen {
+            Look::There => Ok(Step::End(Err(CopyRefusal::TargetFile(first.as_text().clone()?)))),
+            _ => self.climbed(keys, rest),
+        }
+    }
+
+    /// All keys below the source were listed.
+    fn listed(&self, keys: KeyList) -> Result<Step<CopyStage, Answer>, AllocError>
+        ensures { IfOk result (λ step. step ≡ copy.listed self.now keys) }
+    {
+        if keys.len() == 0 {
+            return Ok(Step::End(Err(CopyRefusal::SourceMissing)));
+        }
+        self.climbed(keys, copied_keys(self.alloc, &self.above)?)
+    }
+
+    fn on_walk(&self, walk: KeyWalk, reply: &Reply) -> Result<Step<CopyStage, Answer>, AllocError>
+        ensures { IfOk result (λ step. step ≡ copy.on_walk self.now walk reply.now (fits reply.now)) }
+    {
+        let mut walk = walk;
+        if !fits(reply) {
+            return Ok(Step::Next(CopyStage::Walk(walk)));
+        }
+        if walk.hear(reply)? {
+            Ok(Step::Next(CopyStage::Walk(walk)))
+        } else {
+            self.listed(walk.keys(self.alloc)?)
+        }
+    }
+
+    fn on_show(
+        &self,
+        keys: KeyList,
+        places: KeyList,
+        walk: KeyWalk,
+        reply: &Reply,
+    ) -> Result<Step<CopyStage, Answer>, AllocError>
+        ensures { IfOk result (λ step. step ≡ copy.on_show keys places walk reply.now (fits reply.now)) }
+    {
+        let mut walk = walk;
+        if !fits(reply) {
+            return Ok(Step::Next(CopyStage::WalkTarget { keys, places, walk }));
+        }
+        if walk.hear(reply)? {
+            Ok(Step::Next(CopyStage::WalkTarget { keys, places, walk }))
+        } else {
+            let entries = walk.entries().as_slice();
+            Ok(parted(parts_of(self.alloc, keys.as_slice(), places.as_slice(), entries)?))
+        }
+    }
+}
+
+impl Phases for CopyNames {
+    type Stage = CopyStage;
+
+    type Answer = Result<CopyCount, CopyRefusal>;
+
+    ghost first = { copy.first };
+
+    ghost asks = { copy.asks };
+
+    ghost goes = { copy.goes };
+
+    ghost holds = { meaning.holds };
+
+    ghost gives = { meaning.gives };
+
+    ghost always = { meaning.always };
+
+    ghost sends = { meaning.sends };
+
+    ghost left = { meaning.left };
+
+    ghost absent = { Err NoSuchBucket };
+
+    ghost laws = { copy_laws };
+
+    ghost asked = { copy_asked };
+
+    fn start(&self) -> CopyStage {
+        CopyStage::Here
+    }
+
+    fn ask(&self, bucket: &Bucket, stage: &CopyStage) -> Result<Request, AllocError> {
+        match stage {
+            CopyStage::Here => self.source.look(bucket),
+            CopyStage::Walk(walk) => walk.request(bucket, self.source.prefix()),
+            CopyStage::Up { first, .. } => Request::head_object(bucket, first),
+            CopyStage::WalkTarget { walk, .. } => walk.request(bucket, self.target.prefix()),
+            CopyStage::Source { parts, done } => {
+                read_of(bucket, keys_behind(parts.stood.as_slice(), *done))
+            }
+            CopyStage::Target { parts, done, .. } => {
+                read_of(bucket, keys_behind(parts.stood_at.as_slice(), *done))
+            }
+            CopyStage::Copy { copying, .. } => copying.request(bucket),
+        }
+    }
+
+    fn next(&self, stage: CopyStage, reply: &Reply) -> Result<Step<CopyStage, Answer>, AllocError> {
+        let seen = seen_in(reply);
+        if let Look::NoBucket = seen {
+            return Ok(Step::End(Err(CopyRefusal::NoSuchBucket)));
+        }
+        match stage {
+            CopyStage::Here => Ok(here(self.alloc, self.overlap, seen)),
+            CopyStage::Walk(walk) => self.on_walk(walk, reply),
+            CopyStage::Up { keys, first, rest } => self.on_up(keys, first, rest, seen),
+            CopyStage::WalkTarget { keys, places, walk } => {
+                self.on_show(keys, places, walk, reply)
+            }
+            CopyStage::Source { parts, done } => on_read(parts, done, reply),
+            CopyStage::Target {
+                parts,
+                done,
+                bytes,
+                header,
+            } => on_compare(parts, done, &bytes, header, reply),
+            CopyStage::Copy { copying, count } => Ok(on_copied(count, copying.next())),
+        }
+    }
+}
