@@ -1,19 +1,16 @@
 //! `bench N [times [SIZE]]`: fills a bucket with N objects of SIZE bytes, 1 where it is absent, ten below
 //! each common prefix, lists a page of keys from its middle and a page of common prefixes, makes the
-//! store's image and copies it, reads a task's set of pending uploads, and audits N markers of another
-//! store. It prints how many objects, entries, bytes, uploads and markers there were of each and, where
-//! there is a second word, how many nanoseconds each took.
+//! store's image and copies it, and reads a task's set of pending uploads. It prints how many objects,
+//! entries, bytes and uploads there were of each and, where there is a second word, how many nanoseconds
+//! each took.
 #![tactic(auto)]
 
-mod audit;
 mod records;
 
 use anyhow::{Context, Result};
-use audit::{audited, marked};
-use path_keys::S3Path;
 use records::{commits_read, set_text};
 use s3_service::Service;
-use s3_types::{Bucket, Bytes, Key, MOST_MINIMUM, PageLimit, Reply, Request, Text, let_go};
+use s3_types::{Bucket, Bytes, Key, MOST_MINIMUM, PageLimit, Reply, Request, Text};
 use std::alloc::{AllocError, Global};
 use std::env;
 use std::rt::{Clock, Env};
@@ -160,17 +157,6 @@ fn time_records(rt: &impl Clock, alloc: Global) -> Result<Timed> {
     })
 }
 
-/// Audits the markers of a store with as many of them.
-fn time_audit(rt: &impl Clock, alloc: Global, markers: u32) -> Result<Timed> {
-    let path = S3Path::read(alloc, "s3a://lake")?;
-    let mut store = marked(alloc, &path, markers)?;
-    let start = Instant::now(rt)?;
-    let count = audited(alloc, &path, &mut store)?;
-    let took = start.elapsed(rt)?;
-    let_go(store);
-    Ok(Timed { count, took })
-}
-
 fn time_image(
     rt: &impl Clock,
     alloc: Global,
@@ -257,11 +243,5 @@ fn main(rt: HostRuntime) -> Result<()> {
     let alloc = rt.alloc();
     let asked = read_words(&rt)?;
     measured(&rt, alloc, asked)?;
-    show(&rt, "commits", time_records(&rt, alloc)?, asked.times)?;
-    show(
-        &rt,
-        "audit",
-        time_audit(&rt, alloc, asked.objects)?,
-        asked.times,
-    )
+    show(&rt, "commits", time_records(&rt, alloc)?, asked.times)
 }

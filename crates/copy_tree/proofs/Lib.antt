@@ -1,3 +1,2 @@
 pub mod Resume
-pub mod Places
 pub mod Ended

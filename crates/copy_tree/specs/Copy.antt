@@ -21,7 +21,7 @@ use Rattle.fs_ops.specs.Steps.{unless}
 use Rattle.bucket_walks.specs.Walking.{walk_asks, fits}
 use Rattle.fs_moves.specs.declared.copying.CopyStep.{CopyStep}
 use Rattle.fs_moves.specs.declared.copying.CopyStep.TheVariants.{Next as NextCopy, All}
-use Rattle.fs_moves.specs.Keys.{new_keys}
+use Rattle.fs_moves.specs.Keys.{place_of, new_keys}
 use Rattle.fs_moves.specs.Copies.{copy_asks, has_more, copied_next}
 use Rattle.copy_tree.specs.declared.stages.Parts.{Parts}
 use Rattle.copy_tree.specs.declared.stages.CopyStage.{CopyStage}
@@ -47,11 +47,6 @@ one_of (Some k) = k ∷ []
 
 abbrev pub climb : List ℕ → List (List ℕ)
 climb t = keys_above t ++ one_of (key_if t)
-
--- the target as a new place; nothing is copied to a root, or from one
-abbrev pub place_of : List ℕ → List ℕ → Option (List ℕ)
-place_of [] t = None
-place_of (x ∷ p) t = key_if t
 
 -- what stands at the first of these keys
 abbrev pub read_of : List (List ℕ) → Ask

@@ -28,7 +28,8 @@ use Rattle.fs_moves.proofs.CopyLaws.{copying_falls}
 use Rattle.copy_tree.specs.declared.stages.Parts.{Parts}
 use Rattle.copy_tree.specs.declared.stages.CopyStage.{CopyStage}
 use Rattle.copy_tree.specs.declared.stages.CopyStage.TheVariants.{Here, Walk, Up, WalkTarget, Source, Target, Copy}
-use Rattle.copy_tree.specs.Copy.{CopyPaths, asks, on, here, overlaps, on_walked, on_walk, listed, climbed, climb, place_of, on_up, placed, with_places, on_shown, on_show, parts_of, pairs, on_read, differ, compared, on_compare, begun, copies, count_of, on_copied}
+use Rattle.fs_moves.specs.Keys.{place_of}
+use Rattle.copy_tree.specs.Copy.{CopyPaths, asks, on, here, overlaps, on_walked, on_walk, listed, climbed, climb, on_up, placed, with_places, on_shown, on_show, parts_of, pairs, on_read, differ, compared, on_compare, begun, copies, count_of, on_copied}
 use Rattle.copy_tree.specs.Meaning.{holds, left}
 use Rattle.copy_tree.specs.PartLaws.{all_counted}
 

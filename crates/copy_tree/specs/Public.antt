@@ -1,33 +1,26 @@
 -- What the copy of all that is below a path to another one answers, and leaves (Hadoop FileSystem shell, cp).
-use Rattle.std.specs.Prelude.{◌≡◌, List, ℕ, Err}
+use Rattle.std.specs.Prelude.{Err}
 use Rattle.s3_types.specs.Store.{Scene}
 use Rattle.s3_types.specs.declared.request.Request.{Request}
-use Rattle.bucket_ops.specs.Phases.{GivesIn, AlwaysIn, SendsIn}
+use Rattle.bucket_ops.specs.Phases.{AlwaysIn, SendsIn}
 use Rattle.fs_tree.specs.declared.copy.CopyRefusal.TheVariants.{OtherBucket, NoSuchBucket}
 use Rattle.fs_tree.specs.Copies.{Copies, MayStandCopied}
+use Rattle.fs_moves.specs.Between.{Route, GivesBetween}
 use Rattle.copy_tree.specs.Copy.{CopyPaths, Answer, first, asks}
 use Rattle.copy_tree.specs.Meaning.{sends}
 
--- a copy by the buckets and the keys of its source and its target
-pub record CopyingIn : Type 0 where
-  pub bucket : List ℕ
-  pub source : List ℕ
-  pub to_bucket : List ℕ
-  pub target : List ℕ
-
 -- in one bucket it is what it is among the bucket's objects, and nothing else changes; between two buckets it is refused, before anything else, and nothing changes
-pub record CopiesIn (r : CopyingIn) (z : Scene) (a : Answer) (s : Scene) : Type 0 where
-  pub one : r.bucket ≡ r.to_bucket → GivesIn r.bucket (Copies r.source r.target) (Err NoSuchBucket) z a s
-  pub other : (r.bucket ≡ r.to_bucket → ⊥) → (a ≡ Err OtherBucket) × (s ≡ z)
+abbrev pub CopiesIn : Route → Scene → Answer → Scene → Type 0
+CopiesIn r z a s = GivesBetween r.bucket r.to_bucket (Copies r.source r.target) (Err NoSuchBucket) (Err OtherBucket) z a s
 
 -- by its keys alone
-abbrev pub paths_of : CopyingIn → CopyPaths
+abbrev pub paths_of : Route → CopyPaths
 paths_of r = record { source = r.source; target = r.target }
 
 -- what it may send: looks and reads, and copies of keys to their new keys, which are absent, where the source may be copied
-abbrev pub CopySends : CopyingIn → Scene → Request → Type 0
+abbrev pub CopySends : Route → Scene → Request → Type 0
 CopySends r z e = SendsIn r.bucket (asks (paths_of r) (first (paths_of r))) (sends (paths_of r)) z e
 
 -- at any moment each new key that was absent is so or is its source's copy, whole, and all else is as it was
-abbrev pub StandsCopied : CopyingIn → Scene → Scene → Type 0
+abbrev pub StandsCopied : Route → Scene → Scene → Type 0
 StandsCopied r z s = AlwaysIn r.bucket (MayStandCopied r.source r.target) z s

@@ -38,7 +38,7 @@ use Rattle.fs_moves.specs.declared.copying.CopyStep.{CopyStep}
 use Rattle.fs_moves.specs.declared.copying.CopyStep.TheVariants.{Next as NextCopy, All}
 use Rattle.fs_moves.specs.Keys.{new_key, new_keys}
 use Rattle.fs_moves.specs.Copies.{Move, IsOneOf, sources, targets, copied_all, copy_of, copy_asks, has_more, copied_next, IsCopying, IsCopied}
-use Rattle.fs_moves.proofs.CopyLaws.{in_sources, in_targets, copying_goes}
+use Rattle.fs_moves.proofs.CopyLaws.{some_left, in_sources, in_targets, copying_goes}
 use Rattle.fs_moves.proofs.Placed.{move_of, sources_to, all_found, first_long, to_dir_move}
 use Rattle.copy_tree.specs.declared.stages.Parts.{Parts}
 use Rattle.copy_tree.specs.declared.stages.CopyStage.{CopyStage}
@@ -50,11 +50,6 @@ use Rattle.copy_tree.specs.PartLaws.{chosen_sources, chosen_targets}
 use Rattle.copy_tree.specs.MoveLaws.{to_move, from_move, standing_rise, standing_each, standing_has, absent_each, tree_copied}
 
 -- ---- lists of moves
-
-some_left : (n : ℕ) (ps : List Move) → n < length ps → (s : Move) × (rest : List Move) × (drop n ps ≡ s ∷ rest)
-some_left n [] h = absurd (omega (arith, h))
-some_left zero (s ∷ ps) h = (s, ps, refl)
-some_left (suc n) (s ∷ ps) h = some_left n ps (omega (arith, h))
 
 behind_one : (n : ℕ) (ps : List Move) (s : Move) (rest : List Move) → drop n ps ≡ s ∷ rest → drop (suc n) ps ≡ rest
 behind_one zero [] s rest e = absurd (cc)

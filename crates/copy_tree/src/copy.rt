@@ -3,11 +3,11 @@ ghost use Rattle.operations.specs.Performed.{Performed};
 ghost use Rattle.copy_tree.specs.Public.{CopiesIn, StandsCopied, CopySends};
 
 use crate::names::CopyNames;
-use bucket_ops::perform_in;
+use fs_moves::perform_between;
 use fs_tree::{CopyCount, CopyRefusal};
 use machine::DriveStop;
 use path_keys::S3Path;
-use s3_types::{Actor, Bucket, Journal, ObjectStore, let_go};
+use s3_types::{Actor, Bucket, Journal, ObjectStore};
 use std::alloc::{AllocError, Global};
 use std::marker::Model;
 
@@ -24,9 +24,9 @@ pub struct CopyTree {
 }
 
 impl Model for CopyTree {
-    ghost use Rattle.copy_tree.specs.Public.{CopyingIn};
+    ghost use Rattle.fs_moves.specs.Between.{Route};
 
-    ghost Value = { CopyingIn };
+    ghost Value = { Route };
 
     ghost view = { λ r. record {
       bucket = r.bucket;
@@ -95,16 +95,9 @@ impl CopyTree {
             to_bucket,
             names,
         } = self;
-        if bucket != to_bucket {
-            let_go(bucket);
-            let_go(to_bucket);
-            let_go(names);
-            return Ok(Err(CopyRefusal::OtherBucket));
-        }
-        let_go(to_bucket);
-        match perform_in(alloc, bucket, names, retries, store, actor, event, journal) {
-            Ok(answer) => Ok(answer),
-            Err(stop) => Err(stop),
-        }
+        let refused = Err(CopyRefusal::OtherBucket);
+        perform_between(
+            alloc, bucket, to_bucket, names, refused, retries, store, actor, event, journal,
+        )
     }
 }

@@ -1,6 +1,7 @@
 ghost use Rattle.std.specs.Prelude.{◌≡◌, ◌++◌, IfOk, OnOk};
 ghost use Rattle.std.specs.Option.{option_copied};
-ghost use Rattle.copy_tree.specs.Copy.{one_of, place_of};
+ghost use Rattle.fs_moves.specs.Keys.{place_of};
+ghost use Rattle.copy_tree.specs.Copy.{one_of};
 
 use fs_moves::Base;
 use fs_ops::{Place, keys_above};
@@ -23,7 +24,8 @@ pub(crate) struct CopyNames {
 
 impl Model for CopyNames {
     ghost use Rattle.std.specs.Prelude.{◌≡◌};
-    ghost use Rattle.copy_tree.specs.Copy.{CopyPaths, overlaps, climb, place_of};
+    ghost use Rattle.fs_moves.specs.Keys.{place_of};
+    ghost use Rattle.copy_tree.specs.Copy.{CopyPaths, overlaps, climb};
 
     ghost Value = { CopyPaths };
 
@@ -44,20 +46,6 @@ fn add_key(keys: &mut KeyList, key: Option<&Key>) -> Result<(), AllocError>
     }
 }
 
-/// The target as a new place; there is none where the source or the target is the root.
-#[tactic(auto, using(crate::proofs::Places::source_none, crate::proofs::Places::target_none, crate::proofs::Places::target_some, crate::proofs::Places::target_elements))]
-fn target_base(alloc: Global, source: &S3Path, target: &S3Path) -> Result<Option<Base>, AllocError>
-    ensures { IfOk result (λ base. base ≡ place_of source.now.key target.now.key) }
-{
-    if source.is_root() {
-        return Ok(None);
-    }
-    if target.is_root() {
-        return Ok(None);
-    }
-    Ok(Some(Base::new(alloc, target.key().clone()?)?))
-}
-
 impl CopyNames {
     pub(crate) fn of(
         alloc: Global,
@@ -70,7 +58,7 @@ impl CopyNames {
         let place = Place::of(alloc, target)?;
         let mut above = keys_above(alloc, target.key().as_str())?;
         add_key(&mut above, place.key())?;
-        let to = target_base(alloc, source, target)?;
+        let to = Base::of_target(alloc, source, target)?;
         let overlap = place.prefix().starts_with(from.prefix())
             || from.prefix().starts_with(place.prefix());
         Ok(CopyNames {

@@ -3,7 +3,8 @@ ghost use Rattle.bucket_ops.specs.Asks.{request_of};
 ghost use Rattle.fs_tree.specs.declared.copy.CopyRefusal.TheVariants.{NoSuchBucket};
 ghost use Rattle.bucket_walks.specs.Walking.{fits};
 ghost use Rattle.copy_tree.specs.Copy as copy;
-ghost use Rattle.copy_tree.specs.Copy.{read_of, same_header, place_of};
+ghost use Rattle.fs_moves.specs.Keys.{place_of};
+ghost use Rattle.copy_tree.specs.Copy.{read_of, same_header};
 ghost use Rattle.copy_tree.specs.Meaning as meaning;
 ghost use Rattle.copy_tree.specs.CopyLaws.{copy_laws, copy_asked};
 

@@ -30,7 +30,7 @@ map_count : {X Y : Type 0} (f : X → Y) (xs : List X) → length (map f xs) ≡
 map_count f [] = refl
 map_count f (x ∷ xs) = ap suc (map_count f xs)
 
-some_left : (n : ℕ) (ps : List Move) → n < length ps → (p : Move) × (qs : List Move) × (drop n ps ≡ p ∷ qs)
+pub some_left : (n : ℕ) (ps : List Move) → n < length ps → (p : Move) × (qs : List Move) × (drop n ps ≡ p ∷ qs)
 some_left n [] h = absurd (omega (arith, h))
 some_left zero (p ∷ ps) h = (p, ps, refl)
 some_left (suc n) (p ∷ ps) h = some_left n ps (omega (arith, h))

@@ -2,6 +2,12 @@
 use Rattle.std.specs.Prelude.{ℕ, cond, List, [], ◌∷◌, ◌++◌, Option, Some, None, Result, Ok, Err}
 use Rattle.fs_tree.specs.Moves.{is_too_long}
 use Rattle.fs_ops.specs.List.{rest_of}
+use Rattle.fs_ops.specs.Places.{key_if}
+
+-- a target as a new place; nothing is moved to a root, or from one
+abbrev pub place_of : List ℕ → List ℕ → Option (List ℕ)
+place_of [] t = None
+place_of (x ∷ p) t = key_if t
 
 -- a key, unless it is over its limit
 abbrev pub fitting : List ℕ → Option (List ℕ)

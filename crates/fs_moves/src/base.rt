@@ -3,9 +3,10 @@ ghost use Rattle.s3_types.specs.Names.{are_elements, is_key_path};
 ghost use Rattle.dir_markers.specs.Markers.{marker_of};
 ghost use Rattle.fs_tree.specs.Tree.{is_marker};
 ghost use Rattle.fs_tree.specs.Moves.{is_too_long};
-ghost use Rattle.fs_moves.specs.Keys.{fitting, new_key, new_keys};
+ghost use Rattle.fs_moves.specs.Keys.{place_of, fitting, new_key, new_keys};
 
 use fs_ops::rest_of;
+use path_keys::S3Path;
 use s3_types::{Key, KeyList, Text};
 use std::alloc::{AllocError, Global};
 use std::marker::Model;
@@ -68,6 +69,24 @@ impl Base {
         let key = path.as_str();
         let prefix = Text::new(alloc, format!(in alloc; "{key}/")?)?;
         Ok(Base { path, prefix })
+    }
+
+    /// The target as a new place; there is none where the source or the target is the root.
+    #[tactic(auto, using(crate::proofs::Places::source_none, crate::proofs::Places::target_none, crate::proofs::Places::target_some, crate::proofs::Places::target_elements))]
+    pub fn of_target(
+        alloc: Global,
+        source: &S3Path,
+        target: &S3Path,
+    ) -> Result<Option<Base>, AllocError>
+        ensures { IfOk result (λ base. base ≡ place_of source.now.key target.now.key) }
+    {
+        if source.is_root() {
+            return Ok(None);
+        }
+        if target.is_root() {
+            return Ok(None);
+        }
+        Ok(Some(Base::new(alloc, target.key().clone()?)?))
     }
 
     /// The path. Takes no memory.

@@ -1,7 +1,7 @@
 -- The new place inside a directory, and the paths above the target.
 use Rattle.std.proofs.Common.{◌≡◌, inl, inr, ℕ, suc, ◌<◌, ◌&&◌, ◌==◌, Bool, true, false, List, [], ◌∷◌, ◌++◌, length, Option, Some, None, Result, IfOk, refl, sym, ap, subst, ◌∙◌, arith, if◌then◌else◌}
 use Rattle.std.specs.List.{list_all}
-use Rattle.std.proofs.lemmas.Bool.{false≢true, true≢false, eqb-true}
+use Rattle.std.proofs.lemmas.Bool.{false≢true, true≢false}
 use Rattle.std.proofs.lemmas.List.Folds.{list_all-append}
 use Rattle.words.specs.Parts.{parts_of}
 use Rattle.words.proofs.Pieces.{one_part, parts_append}
@@ -17,14 +17,8 @@ use Rattle.fs_tree.specs.Moves.{inside}
 use Rattle.fs_tree.proofs.Begins.{both, marker_is}
 use Rattle.fs_tree.proofs.Above.{Cut, cut, marker_ends}
 use Rattle.fs_ops.specs.Places.{key_if, prefix_of}
-use Rattle.fs_rename.specs.Rename.{place_by}
-
-not_zero : (n : ℕ) → (suc n == 0) ≡ true → ⊥
-not_zero n e = let z = eqb-true (suc n) 0 e in absurd (omega (arith, z))
-
-some_long : (s : List ℕ) → (length s == 0) ≡ false → 0 < length s
-some_long [] h = absurd (true≢false h)
-some_long (x ∷ s) h = omega arith
+use Rattle.fs_moves.proofs.Places.{not_zero, some_long}
+use Rattle.fs_rename.specs.Rename.{inside_of, place_by}
 
 -- ---- elements
 
@@ -72,24 +66,11 @@ inside_text s t name text f k h n e = ap are_elements e ∙ inside_elements s t 
 
 -- ---- the new places
 
-pub target_elements : (t : List ℕ) → (length t == 0) ≡ false → is_key t ≡ true → are_elements t ≡ true
-target_elements t f k = (some_key t (some_long t f) k).0
+pub inside_none : (s t : List ℕ) → (length s == 0) ≡ true → inside_of s t ≡ None
+inside_none [] t h = refl
+inside_none (x ∷ s) t h = absurd (not_zero (length s) h)
 
-pub root_none : (s t : List ℕ) (i : Bool) → (length s == 0) ≡ true → place_by s t i ≡ None
-root_none [] t i h = refl
-root_none (x ∷ s) t i h = absurd (not_zero (length s) h)
-
-pub target_none : (s t : List ℕ) → (length t == 0) ≡ true → place_by s t false ≡ None
-target_none [] t h = refl
-target_none (x ∷ s) [] h = refl
-target_none (x ∷ s) (y ∷ t) h = absurd (not_zero (length t) h)
-
-pub target_some : (s t : List ℕ) → (length s == 0) ≡ false → (length t == 0) ≡ false → place_by s t false ≡ Some t
-target_some [] t f g = absurd (true≢false f)
-target_some (x ∷ s) [] f g = absurd (true≢false g)
-target_some (x ∷ s) (y ∷ t) f g = refl
-
-pub inside_some : (s t : List ℕ) → (length s == 0) ≡ false → is_key s ≡ true → is_key t ≡ true → place_by s t true ≡ Some (inside s t)
+pub inside_some : (s t : List ℕ) → (length s == 0) ≡ false → is_key s ≡ true → is_key t ≡ true → inside_of s t ≡ Some (inside s t)
 inside_some [] t f k h = absurd (true≢false f)
 inside_some (x ∷ s) t f k h = key_is (inside (x ∷ s) t) (inside_elements (x ∷ s) t (omega arith) k h)
 
@@ -124,5 +105,6 @@ is_above r a b h e = subst (λ a. IfOk r (λ n. n ≡ a)) e h
 
 -- what has a new place is below a marker
 pub place_marker : (s t q : List ℕ) (i : Bool) → place_by s t i ≡ Some q → is_marker (prefix_of s) ≡ true
-place_marker [] t q i h = absurd (none_some refl h)
 place_marker (x ∷ s) t q i h = marker_is (x ∷ s)
+place_marker [] t q true h = absurd (none_some refl h)
+place_marker [] t q false h = absurd (none_some refl h)

@@ -7,8 +7,7 @@ use Rattle.request_frame.specs.Members.{IsIn}
 use Rattle.request_frame.proofs.Members.{none_some, in_front}
 use Rattle.path_keys.specs.Paths.{is_key}
 use Rattle.bucket_ops.specs.Asks.{objects_at}
-use Rattle.bucket_ops.specs.AskLaws.{with_same}
-use Rattle.bucket_ops.specs.Phases.{InScene, GivesIn, AlwaysIn}
+use Rattle.bucket_ops.specs.Phases.{GivesIn, AlwaysIn}
 use Rattle.dir_markers.specs.Markers.{marker_of}
 use Rattle.fs_tree.specs.declared.rename.RenameRefusal.TheVariants.{NoSuchBucket}
 use Rattle.fs_tree.specs.Tree.{is_marker, HasDir, HasFile, IsDirectory, IsAbsent}
@@ -145,11 +144,3 @@ renames_in b o z a s k l h =
 
 pub whole_in : (b : List ℕ) (o : Renaming) (z s : Scene) → is_key o.source ≡ true → AlwaysIn b (always o) z s → AlwaysIn b (MayStand o.source o.target) z s
 whole_in b o z s k h = same_scene (objects_at z b) z s b (λ m n. always o m n) (λ m n. MayStand o.source o.target m n) (Unit {0}) (λ m n g. stand_whole o m n k g) h
-
--- where nothing was sent, it stands so too
-pub still_in : (b p t : List ℕ) (z : Scene) → AlwaysIn b (MayStand p t) z z
-still_in b p t z = by (objects_at z b) refl
-  where
-    by : (x : Option Objects) → objects_at z b ≡ x → InScene x (λ m n. MayStand p t m n) (Unit {0}) z b z
-    by None e = (refl, tt)
-    by (Some m) e = (m, sym (with_same z b m e), inl refl)

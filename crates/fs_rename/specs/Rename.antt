@@ -24,7 +24,7 @@ use Rattle.bucket_walks.specs.Sweeping.{sweep_asks}
 use Rattle.bucket_walks.specs.Walking.{walk_asks, fits}
 use Rattle.fs_moves.specs.declared.copying.CopyStep.{CopyStep}
 use Rattle.fs_moves.specs.declared.copying.CopyStep.TheVariants.{Next as NextCopy, All}
-use Rattle.fs_moves.specs.Keys.{fitting, new_keys}
+use Rattle.fs_moves.specs.Keys.{place_of, fitting, new_keys}
 use Rattle.fs_moves.specs.Copies.{copy_asks, has_more, copied_next}
 use Rattle.fs_rename.specs.declared.stages.Spot.{Spot}
 use Rattle.fs_rename.specs.declared.stages.Spot.TheVariants.{Source, Target, Inside, Above}
@@ -41,11 +41,15 @@ pub record Renaming : Type 0 where
 abbrev pub Answer : Type 0
 Answer = Result (Unit {0}) RenameRefusal
 
--- the new place inside the target, or at it; a root is moved nowhere, and nothing is moved to it
+-- the path inside the target as a new place; a root is moved nowhere
+abbrev pub inside_of : List ℕ → List ℕ → Option (List ℕ)
+inside_of [] t = None
+inside_of (x ∷ p) t = key_if (inside (x ∷ p) t)
+
+-- the new place inside the target, or at it
 abbrev pub place_by : List ℕ → List ℕ → Bool → Option (List ℕ)
-place_by [] t i = None
-place_by (x ∷ p) t true = key_if (inside (x ∷ p) t)
-place_by (x ∷ p) t false = key_if t
+place_by p t true = inside_of p t
+place_by p t false = place_of p t
 
 abbrev pub place_at : Renaming → Bool → Option (List ℕ)
 place_at o i = place_by o.source o.target i

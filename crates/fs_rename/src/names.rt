@@ -2,7 +2,7 @@ ghost use Rattle.std.specs.Prelude.{◌≡◌, true, false, IfOk, Some};
 ghost use Rattle.std.specs.Option.{option_copied};
 ghost use Rattle.bucket_ops.specs.Asks.{request_of};
 ghost use Rattle.fs_tree.specs.Changes.{parent};
-ghost use Rattle.fs_rename.specs.Rename.{place_by, place_at, asks_at, inside_asks, look_at_asks, is_root_at};
+ghost use Rattle.fs_rename.specs.Rename.{inside_of, place_at, asks_at, inside_asks, look_at_asks, is_root_at};
 
 use crate::stages::Spot;
 use fs_moves::Base;
@@ -32,14 +32,15 @@ impl Model for RenameNames {
     ghost use Rattle.s3_types.specs.Pages.{begins};
     ghost use Rattle.fs_tree.specs.Changes.{parent, marker_if};
     ghost use Rattle.fs_ops.specs.Places.{prefix_of};
-    ghost use Rattle.fs_rename.specs.Rename.{Renaming, place_by};
+    ghost use Rattle.fs_moves.specs.Keys.{place_of};
+    ghost use Rattle.fs_rename.specs.Rename.{Renaming, inside_of};
 
     ghost Value = { Renaming };
 
     ghost view = { λ o. record { source = o.source; target = o.target } };
 
     ghost invariant = { λ o.
-        (o.above ≡ parent o.target) × (o.to_target ≡ place_by o.source o.target false) × (o.to_inside ≡ place_by o.source o.target true)
+        (o.above ≡ parent o.target) × (o.to_target ≡ place_of o.source o.target) × (o.to_inside ≡ inside_of o.source o.target)
         × (o.under ≡ begins (prefix_of o.source) (prefix_of o.target)) × (o.marker ≡ marker_if (parent o.source)) };
 }
 
@@ -53,25 +54,11 @@ fn place_above(alloc: Global, path: &S3Path) -> Result<Place, AllocError>
     }
 }
 
-/// The target as a new place; there is none where the source or the target is the root.
-#[tactic(auto, using(crate::proofs::Inside::root_none, crate::proofs::Inside::target_none, crate::proofs::Inside::target_some, crate::proofs::Inside::target_elements))]
-fn target_base(alloc: Global, source: &S3Path, target: &S3Path) -> Result<Option<Base>, AllocError>
-    ensures { IfOk result (λ base. base ≡ place_by source.now.key target.now.key false) }
-{
-    if source.is_root() {
-        return Ok(None);
-    }
-    if target.is_root() {
-        return Ok(None);
-    }
-    Ok(Some(Base::new(alloc, target.key().clone()?)?))
-}
-
 /// The path inside the target that bears the source's last element, as a new place; there is none where the
 /// source is the root.
-#[tactic(auto, using(crate::proofs::Inside::root_none, crate::proofs::Inside::inside_some, crate::proofs::Inside::inside_text))]
+#[tactic(auto, using(crate::proofs::Inside::inside_none, crate::proofs::Inside::inside_some, crate::proofs::Inside::inside_text))]
 fn inside_base(alloc: Global, source: &S3Path, target: &S3Path) -> Result<Option<Base>, AllocError>
-    ensures { IfOk result (λ base. base ≡ place_by source.now.key target.now.key true) }
+    ensures { IfOk result (λ base. base ≡ inside_of source.now.key target.now.key) }
 {
     if source.is_root() {
         return Ok(None);
@@ -111,7 +98,7 @@ impl RenameNames {
         let from = Place::of(alloc, source)?;
         let to = Place::of(alloc, target)?;
         let above = place_above(alloc, target)?;
-        let to_target = target_base(alloc, source, target)?;
+        let to_target = Base::of_target(alloc, source, target)?;
         let to_inside = inside_base(alloc, source, target)?;
         let marker = marker_above(alloc, source)?;
         let under = to.prefix().starts_with(from.prefix());

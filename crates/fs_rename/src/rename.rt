@@ -3,11 +3,11 @@ ghost use Rattle.operations.specs.Performed.{Performed};
 ghost use Rattle.fs_rename.specs.Public.{RenamesIn, StandsWhole, RenameSends};
 
 use crate::names::RenameNames;
-use bucket_ops::perform_in;
+use fs_moves::perform_between;
 use fs_tree::RenameRefusal;
 use machine::DriveStop;
 use path_keys::S3Path;
-use s3_types::{Actor, Bucket, Journal, ObjectStore, let_go};
+use s3_types::{Actor, Bucket, Journal, ObjectStore};
 use std::alloc::{AllocError, Global};
 use std::marker::Model;
 
@@ -26,9 +26,9 @@ pub struct Rename {
 impl Model for Rename {
     ghost use Rattle.std.specs.Prelude.{◌≡◌, true};
     ghost use Rattle.path_keys.specs.Paths.{is_key};
-    ghost use Rattle.fs_rename.specs.Public.{RenamingIn};
+    ghost use Rattle.fs_moves.specs.Between.{Route};
 
-    ghost Value = { RenamingIn };
+    ghost Value = { Route };
 
     ghost view = { λ r. record { bucket = r.bucket; source = r.names.source; to_bucket = r.to_bucket; target = r.names.target } };
 
@@ -94,16 +94,9 @@ impl Rename {
             to_bucket,
             names,
         } = self;
-        if bucket != to_bucket {
-            let_go(bucket);
-            let_go(to_bucket);
-            let_go(names);
-            return Ok(Err(RenameRefusal::OtherBucket));
-        }
-        let_go(to_bucket);
-        match perform_in(alloc, bucket, names, retries, store, actor, event, journal) {
-            Ok(answer) => Ok(answer),
-            Err(stop) => Err(stop),
-        }
+        let refused = Err(RenameRefusal::OtherBucket);
+        perform_between(
+            alloc, bucket, to_bucket, names, refused, retries, store, actor, event, journal,
+        )
     }
 }

@@ -15,16 +15,14 @@ use Rattle.fs_tree.specs.Answers.{Stats, Reads, Lists, Makes, Deletes}
 use Rattle.fs_tree.specs.MarkerTool.{Audits, Cleans, Fills}
 use Rattle.fs_tree.specs.declared.answers.FsRefusal.{FsRefusal}
 use Rattle.fs_tree.specs.declared.answers.FsRefusal.TheVariants.{NoSuchBucket}
-use Rattle.fs_tree.specs.declared.rename.RenameRefusal.TheVariants.{NoSuchBucket as NoBucket}
-use Rattle.fs_tree.specs.Renames.{Renames}
 use Rattle.path_keys.specs.Paths.{Path}
 use Rattle.s3a_words.specs.declared.command.Command.{Command}
-use Rattle.s3a_words.specs.declared.command.Command.TheVariants.{Init, Mb, Ls, Stat, Cat, Put, PutForce, PutDrop, Mkdir, Mv, Rm, Rmr, Uploads, AbortUploads, Markers, CleanMarkers, FillMarkers, Job, Gen}
+use Rattle.s3a_words.specs.declared.command.Command.TheVariants.{Init, Mb, Ls, Stat, Cat, Put, PutForce, PutDrop, Mkdir, Mv, Cp, Rm, Rmr, Uploads, AbortUploads, Markers, CleanMarkers, FillMarkers, Job, Gen}
 use Rattle.s3a_shell.specs.declared.said.Said.{Said}
 use Rattle.s3a_shell.specs.Texts.{status_line, entry_lines, marker_lines, cleaned_line, filled_line, bytes_alone, nothing}
 use Rattle.s3a_shell.specs.Doings.{Did, most_input, CreatedUnless, Does}
 use Rattle.s3a_shell.specs.Stays.{bucket_in}
-use Rattle.s3a_shell.specs.Moving.{DidMove}
+use Rattle.s3a_shell.specs.Moving.{DidBetween}
 use Rattle.s3a_shell.specs.Uploading.{AbortedIn}
 use Rattle.s3a_shell.proofs.SameBucket.{same_or_not}
 
@@ -59,12 +57,12 @@ made_next c name None = by (is_bucket name)
     by true = refl
     by false = refl
 
-move_next : (from to : Path) (z : Scene) (what : Said) (s : Scene) → DidMove from to z what s → s.content.next ≡ z.content.next
-move_next from to z what s h = by (same_or_not from.bucket to.bucket)
+between_next : {A : Type 0} {gives : Objects → A → Objects → Type 0} {absent refused : A} {says : A → Said} (from to : Path) (z : Scene) (what : Said) (s : Scene) → DidBetween from to gives absent refused says z what s → s.content.next ≡ z.content.next
+between_next {gives = gives} {absent = absent} from to z what s h = by (same_or_not from.bucket to.bucket)
   where
     by : (from.bucket ≡ to.bucket) ⊎ (from.bucket ≡ to.bucket → ⊥) → s.content.next ≡ z.content.next
-    by (inl f) = given_next from.bucket (Renames from.key to.key) (Err NoBucket) z h.answer s (h.renamed.one f)
-    by (inr f) = ap (λ (s : Scene). s.content.next) (h.renamed.other f).1
+    by (inl f) = given_next from.bucket gives absent z h.answer s (h.given.one f)
+    by (inr f) = ap (λ (s : Scene). s.content.next) (h.given.other f).1
 
 abort_next : (path : Path) (z : Scene) (what : Said) (s : Scene) (o : Option BucketContent) → AbortedIn o path z what s → s.content.next ≡ z.content.next
 abort_next path z what s None h = ap (λ (s : Scene). s.content.next) h.1
@@ -90,7 +88,8 @@ module _ (z s : Scene) (first : (b : List ℕ) → NoneFrom z.content.next z.con
   does_ended (PutForce p) bytes what h = put_ended p bytes true Keep what (nat_lt most_input (length bytes)) h
   does_ended (PutDrop p) bytes what h = put_ended p bytes false Delete what (nat_lt most_input (length bytes)) h
   does_ended (Mkdir p) bytes what h = did_ended p (Makes p.key) nothing what h
-  does_ended (Mv from to) bytes what h = still from.bucket (move_next from to z what s h)
+  does_ended (Mv from to) bytes what h = still from.bucket (between_next from to z what s h)
+  does_ended (Cp from to) bytes what h = still from.bucket (between_next from to z what s h)
   does_ended (Rm p) bytes what h = did_ended p (Deletes false p.key) nothing what h
   does_ended (Rmr p) bytes what h = did_ended p (Deletes true p.key) nothing what h
   does_ended (Uploads p) bytes what h = still p.bucket (ap (λ (s : Scene). s.content.next) h.1)

@@ -1,13 +1,12 @@
--- What a renaming gave was said.
+-- What an operation from one path to another one gave was said.
 use Rattle.std.specs.Prelude.{◌≡◌, Result, Ok, Err, IfOk}
-use Rattle.s3_types.specs.Store.{Scene}
+use Rattle.s3_types.specs.Store.{Objects, Scene}
 use Rattle.path_keys.specs.Paths.{Path}
-use Rattle.fs_tree.specs.declared.rename.RenameRefusal.{RenameRefusal}
-use Rattle.fs_rename.specs.Public.{RenamesIn}
+use Rattle.fs_moves.specs.Between.{GivesBetween}
 use Rattle.s3a_shell.specs.declared.said.Said.{Said}
-use Rattle.s3a_shell.specs.Moving.{said_of_move, renaming, DidMove}
+use Rattle.s3a_shell.specs.Moving.{DidBetween}
 
-pub moved_if : {E : Type 0} (from to : Path) (z s : Scene) (a : Result (Unit {0}) RenameRefusal) (r : Result Said E)
-    → RenamesIn (renaming from to) z a s → IfOk r (λ w. w ≡ said_of_move a) → IfOk r (λ w. DidMove from to z w s)
-moved_if from to z s a (Ok w) g e = record { answer = a; renamed = g; told = e }
-moved_if from to z s a (Err x) g e = tt
+pub between_if : {A E : Type 0} {gives : Objects → A → Objects → Type 0} {absent refused : A} (says : A → Said) (from to : Path) (z s : Scene) (a : A) (r : Result Said E)
+    → GivesBetween from.bucket to.bucket gives absent refused z a s → IfOk r (λ w. w ≡ says a) → IfOk r (λ w. DidBetween from to gives absent refused says z w s)
+between_if says from to z s a (Ok w) g e = record { answer = a; given = g; told = e }
+between_if says from to z s a (Err x) g e = tt

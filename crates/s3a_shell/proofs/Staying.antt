@@ -17,16 +17,14 @@ use Rattle.fs_tree.specs.Answers.{Stats, Reads, Lists, Creates, Makes, Deletes}
 use Rattle.fs_tree.specs.MarkerTool.{Audits, Cleans, Fills}
 use Rattle.fs_tree.specs.declared.answers.FsRefusal.{FsRefusal}
 use Rattle.fs_tree.specs.declared.answers.FsRefusal.TheVariants.{NoSuchBucket}
-use Rattle.fs_tree.specs.declared.rename.RenameRefusal.TheVariants.{NoSuchBucket as NoBucket}
-use Rattle.fs_tree.specs.Renames.{Renames}
 use Rattle.fs_files.specs.Placed.{InFile}
 use Rattle.s3a_words.specs.declared.command.Command.{Command}
-use Rattle.s3a_words.specs.declared.command.Command.TheVariants.{Init, Mb, Ls, Stat, Cat, Put, PutForce, PutDrop, Mkdir, Mv, Rm, Rmr, Uploads, AbortUploads, Markers, CleanMarkers, FillMarkers, Job, Gen}
+use Rattle.s3a_words.specs.declared.command.Command.TheVariants.{Init, Mb, Ls, Stat, Cat, Put, PutForce, PutDrop, Mkdir, Mv, Cp, Rm, Rmr, Uploads, AbortUploads, Markers, CleanMarkers, FillMarkers, Job, Gen}
 use Rattle.s3a_shell.specs.declared.said.Said.{Said}
 use Rattle.s3a_shell.specs.Texts.{status_line, entry_lines, marker_lines, cleaned_line, filled_line, bytes_alone, nothing}
 use Rattle.s3a_shell.specs.Doings.{Did, most_input, CreatedUnless, Does}
 use Rattle.s3a_shell.specs.Stays.{OnlyIn, bucket_in, IsBelow, ended_by}
-use Rattle.s3a_shell.specs.Moving.{DidMove}
+use Rattle.s3a_shell.specs.Moving.{DidBetween}
 use Rattle.s3a_shell.specs.Uploading.{DidAbort, AbortedIn}
 use Rattle.s3a_shell.proofs.SameBucket.{same_or_not}
 
@@ -87,12 +85,12 @@ put_only p bytes overwrite policy z what s false h = file_only p.bucket (λ m n.
 did_only : {A : Type 0} (p : Path) (gives : Objects → Result A FsRefusal → Objects → Type 0) (text : A → List ℕ) (z : Scene) (what : Said) (s : Scene) → Did p gives text z what s → OnlyIn p.bucket none z.content s.content
 did_only p gives text z what s h = given_only p.bucket gives (Err NoSuchBucket) z h.answer s h.given
 
-move_only : (from to : Path) (z : Scene) (what : Said) (s : Scene) → DidMove from to z what s → OnlyIn from.bucket none z.content s.content
-move_only from to z what s h = by (same_or_not from.bucket to.bucket)
+between_only : {A : Type 0} {gives : Objects → A → Objects → Type 0} {absent refused : A} {says : A → Said} (from to : Path) (z : Scene) (what : Said) (s : Scene) → DidBetween from to gives absent refused says z what s → OnlyIn from.bucket none z.content s.content
+between_only {gives = gives} {absent = absent} from to z what s h = by (same_or_not from.bucket to.bucket)
   where
     by : (from.bucket ≡ to.bucket) ⊎ (from.bucket ≡ to.bucket → ⊥) → OnlyIn from.bucket none z.content s.content
-    by (inl f) = given_only from.bucket (Renames from.key to.key) (Err NoBucket) z h.answer s (h.renamed.one f)
-    by (inr f) = subst (λ (t : Scene). OnlyIn from.bucket none z.content t.content) (sym (h.renamed.other f).1) (only_same from.bucket none z.content)
+    by (inl f) = given_only from.bucket gives absent z h.answer s (h.given.one f)
+    by (inr f) = subst (λ (t : Scene). OnlyIn from.bucket none z.content t.content) (sym (h.given.other f).1) (only_same from.bucket none z.content)
 
 abort_only : (p : Path) (z : Scene) (what : Said) (s : Scene) → DidAbort p z what s → OnlyIn p.bucket (λ id. IsBelow (fin.get z.content.buckets p.bucket) p id) z.content s.content
 abort_only p z what s = by (fin.get z.content.buckets p.bucket) refl
@@ -115,7 +113,8 @@ does_only (Put p) bytes z what s h = put_only p bytes false Keep z what s (nat_l
 does_only (PutForce p) bytes z what s h = put_only p bytes true Keep z what s (nat_lt most_input (length bytes)) h
 does_only (PutDrop p) bytes z what s h = put_only p bytes false Delete z what s (nat_lt most_input (length bytes)) h
 does_only (Mkdir p) bytes z what s h = did_only p (Makes p.key) nothing z what s h
-does_only (Mv from to) bytes z what s h = move_only from to z what s h
+does_only (Mv from to) bytes z what s h = between_only from to z what s h
+does_only (Cp from to) bytes z what s h = between_only from to z what s h
 does_only (Rm p) bytes z what s h = did_only p (Deletes false p.key) nothing z what s h
 does_only (Rmr p) bytes z what s h = did_only p (Deletes true p.key) nothing z what s h
 does_only (Init m) bytes z what s h = absurd h

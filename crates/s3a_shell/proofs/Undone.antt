@@ -19,15 +19,16 @@ use Rattle.fs_tree.specs.Answers.{Stats, Reads, Lists, Makes, Deletes}
 use Rattle.fs_tree.specs.MarkerTool.{Audits, Cleans, Fills}
 use Rattle.fs_tree.specs.declared.answers.FsRefusal.{FsRefusal}
 use Rattle.fs_tree.specs.declared.answers.FsRefusal.TheVariants.{NotFound, AlreadyExists, IsDirectory, NotDirectory, NotEmpty, NoSuchBucket}
-use Rattle.fs_tree.specs.declared.rename.RenameRefusal.{RenameRefusal}
-use Rattle.fs_tree.specs.declared.rename.RenameRefusal.TheVariants.{SourceMissing, UnderSource, TargetFile, TargetExists, ParentMissing, ParentIsFile, TooLong, NoSuchBucket as NoBucket}
+use Rattle.fs_tree.specs.declared.rename.RenameRefusal.TheVariants.{SourceMissing, UnderSource, TargetFile, TargetExists, ParentMissing, ParentIsFile, TooLong}
 use Rattle.fs_tree.specs.Renames.{Renames}
+use Rattle.fs_tree.specs.declared.copy.CopyRefusal.TheVariants as copy
+use Rattle.fs_tree.specs.Copies.{Copies}
 use Rattle.fs_files.specs.Create.{IsUndone}
 use Rattle.s3a_words.specs.declared.command.Command.{Command}
-use Rattle.s3a_words.specs.declared.command.Command.TheVariants.{Init, Mb, Ls, Stat, Cat, Put, PutForce, PutDrop, Mkdir, Mv, Rm, Rmr, Uploads, AbortUploads, Markers, CleanMarkers, FillMarkers, Job, Gen}
+use Rattle.s3a_words.specs.declared.command.Command.TheVariants.{Init, Mb, Ls, Stat, Cat, Put, PutForce, PutDrop, Mkdir, Mv, Cp, Rm, Rmr, Uploads, AbortUploads, Markers, CleanMarkers, FillMarkers, Job, Gen}
 use Rattle.s3a_shell.specs.declared.said.Said.{Said}
 use Rattle.s3a_shell.specs.Texts.{status_line, entry_lines, marker_lines, cleaned_line, filled_line, bytes_alone, nothing, said}
-use Rattle.s3a_shell.specs.Moving.{said_of_move, DidMove}
+use Rattle.s3a_shell.specs.Moving.{DidBetween}
 use Rattle.s3a_shell.specs.Uploading.{AbortedIn}
 use Rattle.s3a_shell.specs.Doings.{Did, most_input, CreatedUnless, refusal_word, refused_or_fine, DidMake, Does}
 use Rattle.s3a_shell.proofs.SameBucket.{same_or_not}
@@ -89,7 +90,7 @@ did_keeps {A = A} path gives text z what s keeps h e = by h.answer h.given h.tol
     by (Ok x) g t = let no : false ≡ true = sym (ap (λ (w : Said). w.refused) t) ∙ e in absurd (cc)
     by (Err r) g t = refusal_keeps path.bucket gives (Err NoSuchBucket) z s r keeps g
 
--- ---- a renaming
+-- ---- renamings and copies
 
 renames_keep : (p t : List ℕ) → Keeps (Renames p t)
 renames_keep [] t m n r h = h.1
@@ -102,16 +103,26 @@ renames_keep (x ∷ p) t m n ParentMissing h = h.3
 renames_keep (x ∷ p) t m n (TooLong k) h = h.1
 renames_keep (x ∷ p) t m n _ h = absurd h
 
-move_keeps : (from to : Path) (z : Scene) (what : Said) (s : Scene) → DidMove from to z what s → what.refused ≡ true → s ≡ z
-move_keeps from to z what s h e = by (same_or_not from.bucket to.bucket)
+copies_keep : (p t : List ℕ) → Keeps (Copies p t)
+copies_keep p t m n copy.Overlap h = h.1
+copies_keep p t m n copy.SourceIsFile h = h.2
+copies_keep p t m n copy.SourceMissing h = h.2
+copies_keep p t m n (copy.TargetFile a) h = h.2
+copies_keep p t m n (copy.TooLong k) h = h.2
+copies_keep p t m n (copy.Differs l) h = h.3
+copies_keep p t m n _ h = absurd h
+
+between_keeps : {A R : Type 0} {gives : Objects → Result A R → Objects → Type 0} {absent refused : Result A R} {says : Result A R → Said} (from to : Path) (z : Scene) (what : Said) (s : Scene)
+    → Keeps gives → ((x : A) → (says (Ok x)).refused ≡ false) → DidBetween from to gives absent refused says z what s → what.refused ≡ true → s ≡ z
+between_keeps {A = A} {R = R} {gives = gives} {absent = absent} {says = says} from to z what s keeps fine h e = by (same_or_not from.bucket to.bucket)
   where
-    one : (a : Result (Unit {0}) RenameRefusal) → GivesIn from.bucket (Renames from.key to.key) (Err NoBucket) z a s → what ≡ said_of_move a → s ≡ z
-    one (Ok x) g t = let no : false ≡ true = sym (ap (λ (w : Said). w.refused) t) ∙ e in absurd (cc)
-    one (Err r) g t = refusal_keeps from.bucket (Renames from.key to.key) (Err NoBucket) z s r (renames_keep from.key to.key) g
+    one : (a : Result A R) → GivesIn from.bucket gives absent z a s → what ≡ says a → s ≡ z
+    one (Ok x) g t = let no : false ≡ true = sym (fine x) ∙ sym (ap (λ (w : Said). w.refused) t) ∙ e in absurd (cc)
+    one (Err r) g t = refusal_keeps from.bucket gives absent z s r keeps g
 
     by : (from.bucket ≡ to.bucket) ⊎ (from.bucket ≡ to.bucket → ⊥) → s ≡ z
-    by (inl f) = one h.answer (h.renamed.one f) h.told
-    by (inr f) = (h.renamed.other f).1
+    by (inl f) = one h.answer (h.given.one f) h.told
+    by (inr f) = (h.given.other f).1
 
 -- ---- the other commands
 
@@ -150,7 +161,8 @@ does_keeps (Put p) bytes z what s h e = put_keeps p bytes false Keep z what s (n
 does_keeps (PutForce p) bytes z what s h e = put_keeps p bytes true Keep z what s (nat_lt most_input (length bytes)) h e
 does_keeps (PutDrop p) bytes z what s h e = put_keeps p bytes false Delete z what s (nat_lt most_input (length bytes)) h e
 does_keeps (Mkdir p) bytes z what s h e = did_keeps p (Makes p.key) nothing z what s (makes_keep p.key) h e
-does_keeps (Mv from to) bytes z what s h e = move_keeps from to z what s h e
+does_keeps (Mv from to) bytes z what s h e = between_keeps from to z what s (renames_keep from.key to.key) (λ x. refl) h e
+does_keeps (Cp from to) bytes z what s h e = between_keeps from to z what s (copies_keep from.key to.key) (λ x. refl) h e
 does_keeps (Rm p) bytes z what s h e = did_keeps p (Deletes false p.key) nothing z what s (deletes_keep false p.key) h e
 does_keeps (Rmr p) bytes z what s h e = did_keeps p (Deletes true p.key) nothing z what s (deletes_keep true p.key) h e
 does_keeps (Uploads p) bytes z what s h e = h.1

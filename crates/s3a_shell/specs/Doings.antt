@@ -21,13 +21,14 @@ use Rattle.fs_ops.specs.Make as make
 use Rattle.fs_files.specs.Placed.{InFile, NoneLeft, object_of}
 use Rattle.fs_files.specs.Create.{IsUndone}
 use Rattle.fs_rename.specs.Public.{StandsWhole}
+use Rattle.copy_tree.specs.Public.{StandsCopied}
 use Rattle.s3a_words.specs.declared.command.Command.{Command}
-use Rattle.s3a_words.specs.declared.command.Command.TheVariants.{Init, Mb, Ls, Stat, Cat, Put, PutForce, PutDrop, Mkdir, Mv, Rm, Rmr, Uploads, AbortUploads, Markers, CleanMarkers, FillMarkers, Job, Gen}
+use Rattle.s3a_words.specs.declared.command.Command.TheVariants.{Init, Mb, Ls, Stat, Cat, Put, PutForce, PutDrop, Mkdir, Mv, Cp, Rm, Rmr, Uploads, AbortUploads, Markers, CleanMarkers, FillMarkers, Job, Gen}
 use Rattle.s3a_words.specs.Kinds.{kind_of, is_on_buckets, is_look}
 use Rattle.s3a_shell.specs.declared.said.Said.{Said}
 use Rattle.s3a_shell.specs.Texts.{status_line, entry_lines, marker_lines, cleaned_line, filled_line, bytes_alone, nothing, fine, refusing, said}
 use Rattle.s3a_shell.specs.Sendings.{AppliedOrNot}
-use Rattle.s3a_shell.specs.Moving.{renaming, DidMove}
+use Rattle.s3a_shell.specs.Moving.{route, DidMove, DidCopy}
 use Rattle.s3a_shell.specs.Uploading.{DidList, DidAbort, AbortedSome}
 
 -- ---- on a path
@@ -112,6 +113,7 @@ Does (PutForce path) bytes z what s = DidPut path bytes true Keep z what s
 Does (PutDrop path) bytes z what s = DidPut path bytes false Delete z what s
 Does (Mkdir path) bytes z what s = Did path (Makes path.key) nothing z what s
 Does (Mv from to) bytes z what s = DidMove from to z what s
+Does (Cp from to) bytes z what s = DidCopy from to z what s
 Does (Rm path) bytes z what s = Did path (Deletes false path.key) nothing z what s
 Does (Rmr path) bytes z what s = Did path (Deletes true path.key) nothing z what s
 Does (Uploads path) bytes z what s = DidList path z what s
@@ -137,7 +139,8 @@ MayStandAt (Put path) bytes z s = FileOrNot Keep path bytes z s
 MayStandAt (PutForce path) bytes z s = FileOrNot Keep path bytes z s
 MayStandAt (PutDrop path) bytes z s = FileOrNot Delete path bytes z s
 MayStandAt (Mkdir path) bytes z s = AlwaysIn path.bucket (make.always path.key) z s
-MayStandAt (Mv from to) bytes z s = StandsWhole (renaming from to) z s
+MayStandAt (Mv from to) bytes z s = StandsWhole (route from to) z s
+MayStandAt (Cp from to) bytes z s = StandsCopied (route from to) z s
 MayStandAt (Rm path) bytes z s = DeletedSome false path z s
 MayStandAt (Rmr path) bytes z s = DeletedSome true path z s
 MayStandAt (Uploads path) bytes z s = s ≡ z

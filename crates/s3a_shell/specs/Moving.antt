@@ -1,37 +1,75 @@
--- The renaming of a path to another one: what is done and said.
-use Rattle.std.specs.Prelude.{◌≡◌, [], codes, Some, None, Result, Ok, Err}
-use Rattle.s3_types.specs.Store.{Scene}
+-- Operations from one path to another one, renamings and copies: what is done and said.
+use Rattle.std.specs.Prelude.{◌≡◌, List, ℕ, ◌∷◌, [], ◌++◌, codes, Some, None, Result, Ok, Err}
+use Rattle.std.specs.Fmt.{decimal}
+use Rattle.s3_types.specs.Store.{Objects, Scene}
 use Rattle.path_keys.specs.Paths.{Path}
 use Rattle.fs_tree.specs.declared.rename.RenameRefusal.{RenameRefusal}
-use Rattle.fs_tree.specs.declared.rename.RenameRefusal.TheVariants.{SourceMissing, SourceRoot, UnderSource, TargetFile, TargetExists, ParentMissing, ParentIsFile, OtherBucket, NoSuchBucket, TooLong}
-use Rattle.fs_rename.specs.Public.{RenamingIn, RenamesIn}
+use Rattle.fs_tree.specs.declared.rename.RenameRefusal.TheVariants as rename
+use Rattle.fs_tree.specs.Renames.{Renames}
+use Rattle.fs_tree.specs.declared.copy.CopyRefusal.{CopyRefusal}
+use Rattle.fs_tree.specs.declared.copy.CopyRefusal.TheVariants as copy
+use Rattle.fs_tree.specs.declared.copy.CopyCount.{CopyCount}
+use Rattle.fs_tree.specs.Copies.{Copies}
+use Rattle.fs_moves.specs.Between.{Route, GivesBetween}
 use Rattle.s3a_shell.specs.declared.said.Said.{Said}
 use Rattle.s3a_shell.specs.Texts.{fine, refusing}
 
+-- from one path to another one
+abbrev pub route : Path → Path → Route
+route from to = record { bucket = from.bucket; source = from.key; to_bucket = to.bucket; target = to.key }
+
+-- an operation was done in the scene z, which left s, or refused, and that was said
+pub record DidBetween {A : Type 0} (from to : Path) (gives : Objects → A → Objects → Type 0) (absent refused : A) (says : A → Said) (z : Scene) (what : Said) (s : Scene) : Type 0 where
+  pub answer : A
+  pub given : GivesBetween from.bucket to.bucket gives absent refused z answer s
+  pub told : what ≡ says answer
+
+-- ---- renamings
+
 -- a renaming's refusal
 abbrev pub refused_move : RenameRefusal → Said
-refused_move SourceMissing = refusing (codes "source-missing") None
-refused_move SourceRoot = refusing (codes "source-root") None
-refused_move UnderSource = refusing (codes "under-source") None
-refused_move TargetFile = refusing (codes "target-file") None
-refused_move TargetExists = refusing (codes "target-exists") None
-refused_move ParentMissing = refusing (codes "parent-missing") None
-refused_move ParentIsFile = refusing (codes "parent-is-file") None
-refused_move OtherBucket = refusing (codes "other-bucket") None
-refused_move NoSuchBucket = refusing (codes "no-such-bucket") None
-refused_move (TooLong key) = refusing (codes "too-long") (Some key)
+refused_move rename.SourceMissing = refusing (codes "source-missing") None
+refused_move rename.SourceRoot = refusing (codes "source-root") None
+refused_move rename.UnderSource = refusing (codes "under-source") None
+refused_move rename.TargetFile = refusing (codes "target-file") None
+refused_move rename.TargetExists = refusing (codes "target-exists") None
+refused_move rename.ParentMissing = refusing (codes "parent-missing") None
+refused_move rename.ParentIsFile = refusing (codes "parent-is-file") None
+refused_move rename.OtherBucket = refusing (codes "other-bucket") None
+refused_move rename.NoSuchBucket = refusing (codes "no-such-bucket") None
+refused_move (rename.TooLong key) = refusing (codes "too-long") (Some key)
 
 -- nothing, or the refusal
 abbrev pub said_of_move : Result (Unit {0}) RenameRefusal → Said
 said_of_move (Ok done) = fine []
 said_of_move (Err refusal) = refused_move refusal
 
--- the renaming of a path to another one
-abbrev pub renaming : Path → Path → RenamingIn
-renaming from to = record { bucket = from.bucket; source = from.key; to_bucket = to.bucket; target = to.key }
+-- a path was renamed
+abbrev pub DidMove : Path → Path → Scene → Said → Scene → Type 0
+DidMove from to z what s = DidBetween from to (Renames from.key to.key) (Err rename.NoSuchBucket) (Err rename.OtherBucket) said_of_move z what s
 
--- it was done in the scene z, which left s, or refused, and that was said
-pub record DidMove (from to : Path) (z : Scene) (what : Said) (s : Scene) : Type 0 where
-  pub answer : Result (Unit {0}) RenameRefusal
-  pub renamed : RenamesIn (renaming from to) z answer s
-  pub told : what ≡ said_of_move answer
+-- ---- copies
+
+-- a copy's refusal
+abbrev pub refused_copy : CopyRefusal → Said
+refused_copy copy.OtherBucket = refusing (codes "other-bucket") None
+refused_copy copy.NoSuchBucket = refusing (codes "no-such-bucket") None
+refused_copy copy.Overlap = refusing (codes "overlap") None
+refused_copy copy.SourceIsFile = refusing (codes "source-is-file") None
+refused_copy copy.SourceMissing = refusing (codes "source-missing") None
+refused_copy (copy.TargetFile path) = refusing (codes "target-file") (Some path)
+refused_copy (copy.TooLong key) = refusing (codes "too-long") (Some key)
+refused_copy (copy.Differs key) = refusing (codes "differs") (Some key)
+
+-- `copied N skipped M`
+abbrev pub copied_line : CopyCount → List ℕ
+copied_line count = codes "copied " ++ (decimal count.copied ++ (codes " skipped " ++ (decimal count.skipped ++ 10 ∷ [])))
+
+-- its line, or the refusal
+abbrev pub said_of_copy : Result CopyCount CopyRefusal → Said
+said_of_copy (Ok count) = fine (copied_line count)
+said_of_copy (Err refusal) = refused_copy refusal
+
+-- all that is below a path was copied
+abbrev pub DidCopy : Path → Path → Scene → Said → Scene → Type 0
+DidCopy from to z what s = DidBetween from to (Copies from.key to.key) (Err copy.NoSuchBucket) (Err copy.OtherBucket) said_of_copy z what s

@@ -14,6 +14,7 @@
 #![tactic(auto)]
 
 mod buckets;
+mod copies;
 mod files;
 mod markers;
 mod moves;

@@ -1,6 +1,6 @@
 ghost use Rattle.std.specs.Prelude.{◌≡◌, IfOk, OnOk};
 ghost use Rattle.fs_rename.specs.Public.{StandsWhole};
-ghost use Rattle.s3a_shell.specs.Moving.{refused_move, said_of_move, renaming, DidMove};
+ghost use Rattle.s3a_shell.specs.Moving.{route, refused_move, said_of_move, DidMove};
 ghost use Rattle.s3a_shell.specs.Sendings.{IsCounted, Sent};
 
 use crate::said::{Said, fine, refusing};
@@ -44,7 +44,7 @@ impl Session {
     pub(crate) fn rename(&mut self, from: &S3Path, to: &S3Path) -> Result<Said, AllocError>
         requires { IsCounted self.old }
         ensures did { IfOk result (λ what. DidMove from.now to.now self.old.store.scene what self.new.store.scene) }
-        ensures sent { OnOk result (Sent (StandsWhole (renaming from.now to.now) self.old.store.scene)
+        ensures sent { OnOk result (Sent (StandsWhole (route from.now to.now) self.old.store.scene)
             self.old self.new) }
     {
         let alloc = self.alloc;

@@ -89,6 +89,7 @@ impl Session {
             Command::PutDrop { path } => self.put(path, bytes, false, MarkerPolicy::Delete),
             Command::Mkdir { path } => self.mkdir(path),
             Command::Mv { from, to } => self.rename(from, to),
+            Command::Cp { from, to } => self.copy(from, to),
             Command::Rm { path } => self.remove(path, false),
             Command::Rmr { path } => self.remove(path, true),
             Command::Uploads { path } => self.uploads(path),

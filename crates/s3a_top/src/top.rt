@@ -171,7 +171,8 @@ fn say<K: Sink>(out: &mut K, work: &Work) -> u8
 /// or `init MIN` makes an empty store whose parts but the last have at least MIN bytes, 1 to 5,242,880;
 /// `mb NAME` makes a bucket; `ls`, `stat`, `cat`, `put`, `put-force`, `put-drop`, `mkdir`, `rm`, `rmr`,
 /// `uploads` and `abort-uploads` with a path, and `mv` with two, do as the FileSystem specification says of
-/// the operation that they name; `job` reads a script from the input, plays it over the store that the shelf
+/// the operation that they name; `cp` with two paths does as the FileSystem shell does, and leaves what stands already;
+/// `markers`, `clean-markers` and `fill-markers` with a path do as S3A's marker tool; `job` reads a script from the input, plays it over the store that the shelf
 /// holds, and writes the report; `gen SEED TASKS FILES` plays in the same way a script that it makes of these numbers, with nothing
 /// taken from the input, and writes a line that sums the job up. The shelf takes the image of the store that a job or a
 /// changing command opens with in place of what it holds, and after each event, or after the command, each change that was

@@ -5,9 +5,9 @@ use Rattle.std.proofs.lemmas.Bool.{and_parts, leb-true}
 use Rattle.path_keys.specs.Paths.{Path}
 use Rattle.s3_types.specs.declared.limits.TheConstants.{MOST_MINIMUM}
 use Rattle.s3a_words.specs.Numbers.{number_in, is_minimum, minimum_in, number_within}
-use Rattle.s3a_words.specs.Words.{path_named, alone, with_path, with_operand, moved, with_two, made, with_three, said, command_of, IsBounded}
+use Rattle.s3a_words.specs.Words.{path_named, alone, with_path, with_operand, with_paths, with_two, made, with_three, said, command_of, IsBounded}
 use Rattle.s3a_words.specs.declared.command.Command.{Command}
-use Rattle.s3a_words.specs.declared.command.Command.TheVariants.{Init, Mb, Ls, Stat, Cat, Put, PutForce, PutDrop, Mkdir, Rm, Rmr, Mv, Uploads, AbortUploads, Markers, CleanMarkers, FillMarkers, Job, Gen}
+use Rattle.s3a_words.specs.declared.command.Command.TheVariants.{Init, Mb, Ls, Stat, Cat, Put, PutForce, PutDrop, Mkdir, Rm, Rmr, Mv, Cp, Uploads, AbortUploads, Markers, CleanMarkers, FillMarkers, Job, Gen}
 
 abbrev Of : Option Command → Type 0
 Of None = Unit {0}
@@ -37,9 +37,13 @@ unfolding with_path
 path_bounded name p =
     either _ _ _ (is (Ls p) tt) (either _ _ _ (is (Stat p) tt) (either _ _ _ (is (Cat p) tt) (either _ _ _ (is (Put p) tt) (either _ _ _ (is (PutForce p) tt) (either _ _ _ (is (PutDrop p) tt) (either _ _ _ (is (Mkdir p) tt) (either _ _ _ (is (Rm p) tt) (either _ _ _ (is (Rmr p) tt) (either _ _ _ (is (Uploads p) tt) (either _ _ _ (is (AbortUploads p) tt) (either _ _ _ (is (Markers p) tt) (either _ _ _ (is (CleanMarkers p) tt) (either _ _ _ (is (FillMarkers p) tt) none)))))))))))))
 
-named_bounded : (name : List ℕ) (o : Option Path) → AreBounded (option_and_then (with_path name) o)
-named_bounded name None = none
-named_bounded name (Some p) = path_bounded name p
+paths_bounded : (name : List ℕ) (p q : Path) → AreBounded (with_paths name p q)
+unfolding with_paths
+paths_bounded name p q = either _ _ _ (is (Mv p q) tt) (either _ _ _ (is (Cp p q) tt) none)
+
+and_then : {A : Type 0} (f : A → Option Command) (o : Option A) → ((a : A) → AreBounded (f a)) → AreBounded (option_and_then f o)
+and_then f None h = none
+and_then f (Some a) h = h a
 
 least : (n : ℕ) (b : Bool) → is_minimum n ≡ b → AreBounded (option_map (λ m. Init (Some m)) (cond b (Some n) None))
 least n true e = let both = and_parts (nat_le 1 n) (nat_le n MOST_MINIMUM) e in is (Init (Some n)) (leb-true 1 n both.0, leb-true n MOST_MINIMUM both.1)
@@ -55,23 +59,11 @@ minimum_bounded word = least_in (number_in word)
 
 operand_bounded : (name word : List ℕ) → AreBounded (with_operand name word)
 unfolding with_operand
-operand_bounded name word = either _ _ _ (minimum_bounded word) (either _ _ _ (is (Mb word) tt) (named_bounded name (path_named word)))
-
-target_bounded : (source : Path) (o : Option Path) → AreBounded (option_map (λ target. Mv source target) o)
-target_bounded source None = none
-target_bounded source (Some target) = is (Mv source target) tt
-
-source_bounded : (o p : Option Path) → AreBounded (option_and_then (λ source. option_map (λ target. Mv source target) p) o)
-source_bounded None p = none
-source_bounded (Some source) p = target_bounded source p
-
-moved_bounded : (from to : List ℕ) → AreBounded (moved from to)
-unfolding moved
-moved_bounded from to = source_bounded (path_named from) (path_named to)
+operand_bounded name word = either _ _ _ (minimum_bounded word) (either _ _ _ (is (Mb word) tt) (and_then (with_path name) (path_named word) (path_bounded name)))
 
 two_bounded : (name first second : List ℕ) → AreBounded (with_two name first second)
 unfolding with_two
-two_bounded name first second = either _ _ _ (moved_bounded first second) none
+two_bounded name first second = and_then (λ p. option_and_then (with_paths name p) (path_named second)) (path_named first) (λ p. and_then (with_paths name p) (path_named second) (paths_bounded name p))
 
 -- a number that a word writes, if it writes one, is within its bounds
 abbrev Within : ℕ → ℕ → Option ℕ → Type 0

@@ -2,7 +2,7 @@
 use Rattle.std.specs.Prelude.{ℕ, Bool, true, false, List, []}
 use Rattle.path_keys.specs.Paths.{Path}
 use Rattle.s3a_words.specs.declared.command.Command.{Command}
-use Rattle.s3a_words.specs.declared.command.Command.TheVariants.{Init, Mb, Ls, Stat, Cat, Put, PutForce, PutDrop, Mkdir, Rm, Rmr, Mv, Uploads, AbortUploads, Markers, CleanMarkers, FillMarkers, Job, Gen}
+use Rattle.s3a_words.specs.declared.command.Command.TheVariants.{Init, Mb, Ls, Stat, Cat, Put, PutForce, PutDrop, Mkdir, Rm, Rmr, Mv, Cp, Uploads, AbortUploads, Markers, CleanMarkers, FillMarkers, Job, Gen}
 use Rattle.s3a_words.specs.declared.kind.CommandKind.{CommandKind}
 use Rattle.s3a_words.specs.declared.kind.CommandKind.TheVariants.{Begins, Looks, Changes, Puts, Aborts, Plays}
 
@@ -24,6 +24,7 @@ row_of (Mkdir path) = (Changes, path)
 row_of (Rm path) = (Changes, path)
 row_of (Rmr path) = (Changes, path)
 row_of (Mv from to) = (Changes, from)
+row_of (Cp from to) = (Changes, from)
 row_of (Uploads path) = (Looks, path)
 row_of (AbortUploads path) = (Aborts, path)
 row_of (Markers path) = (Looks, path)

@@ -6,7 +6,7 @@ use Rattle.path_keys.specs.Paths.{Path, path_in}
 use Rattle.path_keys.specs.declared.fault.PathFault.{PathFault}
 use Rattle.s3a_words.specs.Numbers.{minimum_in, number_within}
 use Rattle.s3a_words.specs.declared.command.Command.{Command}
-use Rattle.s3a_words.specs.declared.command.Command.TheVariants.{Init, Mb, Ls, Stat, Cat, Put, PutForce, PutDrop, Mkdir, Rm, Rmr, Mv, Uploads, AbortUploads, Markers, CleanMarkers, FillMarkers, Job, Gen}
+use Rattle.s3a_words.specs.declared.command.Command.TheVariants.{Init, Mb, Ls, Stat, Cat, Put, PutForce, PutDrop, Mkdir, Rm, Rmr, Mv, Cp, Uploads, AbortUploads, Markers, CleanMarkers, FillMarkers, Job, Gen}
 use Rattle.s3a_words.specs.declared.command.WordFault.{WordFault}
 use Rattle.s3a_words.specs.declared.command.WordFault.TheVariants.{Usage, NoMemory}
 
@@ -56,13 +56,16 @@ with_operand name operand =
     else if bytes_eq name (codes "mb") then Some (Mb operand)
     else option_and_then (with_path name) (path_named operand)
 
--- the move from the path that a word names to the one that another names
-unfoldable pub moved : List ℕ → List ℕ → Option Command
-moved from to = option_and_then (λ source. option_map (λ target. Mv source target) (path_named to)) (path_named from)
+-- what a name says with two paths
+unfoldable pub with_paths : List ℕ → Path → Path → Option Command
+with_paths name from to =
+    if bytes_eq name (codes "mv") then Some (Mv from to)
+    else if bytes_eq name (codes "cp") then Some (Cp from to)
+    else None
 
--- what a name says with two operands
+-- what a name says with two operands, which are paths
 unfoldable pub with_two : List ℕ → List ℕ → List ℕ → Option Command
-with_two name first second = if bytes_eq name (codes "mv") then moved first second else None
+with_two name first second = option_and_then (λ from. option_and_then (with_paths name from) (path_named second)) (path_named first)
 
 -- the script that a seed, a number of tasks and a number of files make
 unfoldable pub made : List ℕ → List ℕ → List ℕ → Option Command

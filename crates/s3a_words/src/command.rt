@@ -28,6 +28,8 @@ pub enum Command {
     Rmr { path: S3Path },
     /// Renames a file, or a directory with all that is below it, to another path.
     Mv { from: S3Path, to: S3Path },
+    /// Copies all that is below a directory to another path.
+    Cp { from: S3Path, to: S3Path },
     /// Lists the live uploads below a path.
     Uploads { path: S3Path },
     /// Aborts the live uploads below a path.

@@ -38,6 +38,7 @@ impl Command {
             Command::Rm { .. } => CommandKind::Changes,
             Command::Rmr { .. } => CommandKind::Changes,
             Command::Mv { .. } => CommandKind::Changes,
+            Command::Cp { .. } => CommandKind::Changes,
             Command::Uploads { .. } => CommandKind::Looks,
             Command::AbortUploads { .. } => CommandKind::Aborts,
             Command::Markers { .. } => CommandKind::Looks,

@@ -1,6 +1,6 @@
 ghost use Rattle.std.specs.Prelude.{◌≡◌, Some, None, IfOk};
 ghost use Rattle.std.specs.List.{list_all};
-ghost use Rattle.s3a_words.specs.Words.{is_plain, path_named, alone, with_path, with_operand, moved, with_two, made, with_three, said, command_of, IsBounded, Reads};
+ghost use Rattle.s3a_words.specs.Words.{is_plain, path_named, alone, with_path, with_operand, with_paths, with_two, made, with_three, said, command_of, IsBounded, Reads};
 ghost use Rattle.s3a_words.specs.Grammar.{given};
 
 use crate::command::{Command, WordFault};
@@ -88,21 +88,19 @@ fn with_operand(alloc: Global, name: &str, operand: &str) -> Result<Option<Comma
     }
 }
 
-/// The move from the path that a word names to the one that another names.
-#[tactic(auto, unfolding(crate::specs::Words::moved))]
-fn moved(alloc: Global, from: &str, to: &str) -> Result<Option<Command>, AllocError>
-    ensures { IfOk result (λ o. o ≡ moved from.now to.now) }
+/// What a name says with two paths.
+#[tactic(auto, unfolding(crate::specs::Words::with_paths))]
+fn with_paths(name: &str, from: S3Path, to: S3Path) -> Option<Command>
+    ensures { result ≡ with_paths name.now from to }
 {
-    let Some(from) = path_named(alloc, from)? else {
-        return Ok(None);
-    };
-    match path_named(alloc, to)? {
-        Some(to) => Ok(Some(Command::Mv { from, to })),
-        None => Ok(None),
+    match name {
+        "mv" => Some(Command::Mv { from, to }),
+        "cp" => Some(Command::Cp { from, to }),
+        _ => None,
     }
 }
 
-/// What a name says with two operands.
+/// What a name says with two operands, which are paths.
 #[tactic(auto, unfolding(crate::specs::Words::with_two))]
 fn with_two(
     alloc: Global,
@@ -112,9 +110,12 @@ fn with_two(
 ) -> Result<Option<Command>, AllocError>
     ensures { IfOk result (λ o. o ≡ with_two name.now first.now second.now) }
 {
-    match name {
-        "mv" => moved(alloc, first, second),
-        _ => Ok(None),
+    let Some(from) = path_named(alloc, first)? else {
+        return Ok(None);
+    };
+    match path_named(alloc, second)? {
+        Some(to) => Ok(with_paths(name, from, to)),
+        None => Ok(None),
     }
 }
 
@@ -199,7 +200,7 @@ fn command_in(alloc: Global, words: &[Text]) -> Result<Option<Command>, AllocErr
 /// The command that the words are: word 0 is the folder, word 1 the command's name, and the others are its
 /// operands. The commands are `init`, `init MIN`, `mb NAME`, `job`, `gen SEED TASKS FILES`, with a path `ls`, `stat`,
 /// `cat`, `put`, `put-force`, `put-drop`, `mkdir`, `rm`, `rmr`, `uploads`, `abort-uploads`, `markers`, `clean-markers` and
-/// `fill-markers`, and with two paths `mv`. No word behind the folder begins with `-`. A number has 1 to 18 decimal
+/// `fill-markers`, and with two paths `mv` and `cp`. No word behind the folder begins with `-`. A number has 1 to 18 decimal
 /// digits, no sign and no leading zero; MIN is from 1 to 5,242,880, SEED from 0 to 4,294,967,295, TASKS from 1 to 200 and
 /// FILES from 1 to 50. A path is one that
 /// `S3Path::read` takes. Usage comes exactly where the words are no command, so for `--help` too.

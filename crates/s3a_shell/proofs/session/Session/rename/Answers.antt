@@ -1,21 +1,22 @@
 use Rattle.std.proofs.Common.{subst}
-use Rattle.fs_rename.specs.Public.{RenamingIn, RenamesIn, StandsWhole}
-use Rattle.s3a_shell.specs.Moving.{renaming}
+use Rattle.fs_rename.specs.Public.{RenamesIn, StandsWhole}
+use Rattle.fs_moves.specs.Between.{Route}
+use Rattle.s3a_shell.specs.Moving.{route, said_of_move}
 use Rattle.s3a_shell.proofs.Joining.{sent_as}
 use Rattle.s3a_shell.proofs.Performing.{sent, on_ok}
-use Rattle.s3a_shell.proofs.Moving.{moved_if}
+use Rattle.s3a_shell.proofs.Moving.{between_if}
 use Rattle.s3a_shell.proofs.session.Session.rename.Goals as goal
 
 pub returns-in-Ok-clause-did : goal.returns-in-Ok-clause-did
 returns-in-Ok-clause-did c =
     let z = c.args.self.now.store.scene in
     let s = c.perform.new.store.scene in
-    moved_if c.args.from.now c.args.to.now z s c.in-Ok.answer c.move_said.result
-    (subst (λ (r : RenamingIn). RenamesIn r z c.in-Ok.answer s) c.in_ok-rename.ensures c.in-Ok.ensures.renames) c.move_said.ensures
+    between_if said_of_move c.args.from.now c.args.to.now z s c.in-Ok.answer c.move_said.result
+    (subst (λ (r : Route). RenamesIn r z c.in-Ok.answer s) c.in_ok-rename.ensures c.in-Ok.ensures.renames) c.move_said.ensures
 
 pub returns-in-Ok-clause-sent : goal.returns-in-Ok-clause-sent
 returns-in-Ok-clause-sent c =
     let z = c.args.self.now.store.scene in
     on_ok c.move_said.result
-    (sent_as (StandsWhole c.in_ok-rename.rename z) (StandsWhole (renaming c.args.from.now c.args.to.now) z) _ _ (λ s h. subst (λ (r : RenamingIn). StandsWhole r z s) c.in_ok-rename.ensures h)
+    (sent_as (StandsWhole c.in_ok-rename.rename z) (StandsWhole (route c.args.from.now c.args.to.now) z) _ _ (λ s h. subst (λ (r : Route). StandsWhole r z s) c.in_ok-rename.ensures h)
     (sent _ _ _ _ _ c.requires c.in-Ok.ensures.performed))

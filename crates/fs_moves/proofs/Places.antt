@@ -8,12 +8,12 @@ use Rattle.request_frame.proofs.Members.{none_some}
 use Rattle.fs_tree.specs.Tree.{is_marker}
 use Rattle.fs_tree.proofs.Begins.{marker_is}
 use Rattle.fs_ops.specs.Places.{prefix_of}
-use Rattle.copy_tree.specs.Copy.{place_of}
+use Rattle.fs_moves.specs.Keys.{place_of}
 
-not_zero : (n : ℕ) → (suc n == 0) ≡ true → ⊥
+pub not_zero : (n : ℕ) → (suc n == 0) ≡ true → ⊥
 not_zero n e = let z = eqb-true (suc n) 0 e in absurd (omega (arith, z))
 
-some_long : (s : List ℕ) → (length s == 0) ≡ false → 0 < length s
+pub some_long : (s : List ℕ) → (length s == 0) ≡ false → 0 < length s
 some_long [] h = absurd (true≢false h)
 some_long (x ∷ s) h = omega arith
 

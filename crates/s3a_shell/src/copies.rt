@@ -1,0 +1,66 @@
+ghost use Rattle.std.specs.Prelude.{◌≡◌, IfOk, OnOk};
+ghost use Rattle.copy_tree.specs.Public.{StandsCopied};
+ghost use Rattle.s3a_shell.specs.Moving.{route, refused_copy, copied_line, said_of_copy, DidCopy};
+ghost use Rattle.s3a_shell.specs.Sendings.{IsCounted, Sent};
+
+use crate::said::{Said, fine, refusing};
+use crate::session::{EVENT, RETRIES, Session, wanting};
+use copy_tree::CopyTree;
+use fs_tree::{CopyCount, CopyRefusal};
+use path_keys::S3Path;
+use s3_types::{Actor, Bytes};
+use std::alloc::{AllocError, Global};
+
+/// The refusal of a copy.
+fn refused_copy(alloc: Global, refusal: &CopyRefusal) -> Result<Said, AllocError>
+    ensures { IfOk result (λ what. what ≡ refused_copy refusal.now) }
+{
+    match refusal {
+        CopyRefusal::OtherBucket => refusing(alloc, "other-bucket", None),
+        CopyRefusal::NoSuchBucket => refusing(alloc, "no-such-bucket", None),
+        CopyRefusal::Overlap => refusing(alloc, "overlap", None),
+        CopyRefusal::SourceIsFile => refusing(alloc, "source-is-file", None),
+        CopyRefusal::SourceMissing => refusing(alloc, "source-missing", None),
+        CopyRefusal::TargetFile(path) => refusing(alloc, "target-file", Some(path.as_str())),
+        CopyRefusal::TooLong(key) => refusing(alloc, "too-long", Some(key.as_str())),
+        CopyRefusal::Differs(key) => refusing(alloc, "differs", Some(key.as_str())),
+    }
+}
+
+/// `copied N skipped M`.
+fn copied_line(alloc: Global, count: CopyCount) -> Result<Bytes, AllocError>
+    ensures { IfOk result (λ line. line ≡ copied_line count) }
+{
+    let CopyCount { copied, skipped } = count;
+    let line = format!(in alloc; "copied {copied} skipped {skipped}\n")?;
+    Bytes::new(alloc, line.into_bytes())
+}
+
+/// What a copy says: its line, or its refusal.
+fn copy_said(alloc: Global, answer: Result<CopyCount, CopyRefusal>) -> Result<Said, AllocError>
+    ensures { IfOk result (λ what. what ≡ said_of_copy answer) }
+{
+    match answer {
+        Ok(count) => Ok(fine(copied_line(alloc, count)?)),
+        Err(refusal) => refused_copy(alloc, &refusal),
+    }
+}
+
+impl Session {
+    /// Copies all that is below a path to another one.
+    pub(crate) fn copy(&mut self, from: &S3Path, to: &S3Path) -> Result<Said, AllocError>
+        requires { IsCounted self.old }
+        ensures did { IfOk result (λ what. DidCopy from.now to.now self.old.store.scene what self.new.store.scene) }
+        ensures sent { OnOk result (Sent (StandsCopied (route from.now to.now) self.old.store.scene)
+            self.old self.new) }
+    {
+        let alloc = self.alloc;
+        let copy = CopyTree::new(alloc, from, to)?;
+        let store = &mut self.store;
+        let journal = &mut self.journal;
+        match copy.perform(alloc, RETRIES, store, Actor::Shell, EVENT, journal) {
+            Ok(answer) => copy_said(alloc, answer),
+            Err(stop) => Err(wanting(stop)),
+        }
+    }
+}
