@@ -123,7 +123,8 @@ impl BlockStream {
     /// written. None comes exactly for direct output, or where the stream has not ended Done. Takes no
     /// memory.
     pub fn delayed(&self) -> Option<Delayed<'_>>
-        ensures { MatchOption result (delayed_of self.now ≡ None) (λ d. delayed_of self.now ≡ Some (d.upload, d.tags.now, d.length)) }
+        ensures { MatchOption result (delayed_of self.now ≡ None) (λ d. delayed_of self.now
+            ≡ Some (d.upload, d.tags.now, d.length)) }
     {
         match (self.output.mode, self.end(), self.upload) {
             (StreamMode::Delayed, Some(StreamEnd::Done), Some(upload)) => Some(Delayed {

@@ -147,7 +147,8 @@ pub fn perform_in<O: Phases, S: ObjectStore>(
     journal: &mut Journal,
 ) -> Result<O::Answer, DriveStop>
     requires counted { S.requests store.old ≤ length journal.old.entries }
-    ensures given { IfOk result (λ answer. GivesIn bucket (O.gives names) O.absent (S.scene store.old) answer (S.scene store.new)) }
+    ensures given { IfOk result (λ answer. GivesIn bucket (O.gives names) O.absent (S.scene store.old) answer
+        (S.scene store.new)) }
     ensures performed { Performed actor event retries (AlwaysIn bucket (O.always names) (S.scene store.old))
         (SendsIn bucket (O.asks names (O.first names)) (O.sends names) (S.scene store.old)) (S.scene store.old)
         (S.scene store.new) journal.old.entries journal.new.entries (S.requests store.old) (S.requests store.new)

@@ -188,7 +188,8 @@ impl Held {
     pub fn hear(&mut self, alloc: Global, plan: &JobPlan, reply: &Reply) -> Result<(), AllocError>
         requires there { within_of self.old ≡ true }
         requires fits { FitsClean (clean_of self.old) reply.now }
-        ensures goes { OnOk result (clean_of self.new ≡ clean_hears (job_script plan.now) (clean_of self.old) reply.now) }
+        ensures goes { OnOk result (clean_of self.new ≡ clean_hears (job_script plan.now) (clean_of self.old)
+            reply.now) }
         ensures within { within_of self.new ≡ true }
     {
         match self.stage {

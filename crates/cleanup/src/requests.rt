@@ -16,7 +16,8 @@ pub fn walk_request(
     dest: &S3Path,
     uploads: &UploadWalk,
 ) -> Result<Option<Request>, AllocError>
-    ensures { IfOk result (λ request. request ≡ Some (uploads_after dest.now.bucket (dest.now.key ++ codes "/") uploads.now)) }
+    ensures { IfOk result (λ request. request ≡ Some (uploads_after dest.now.bucket (dest.now.key ++ codes "/")
+        uploads.now)) }
 {
     let prefix = dest_prefix(alloc, dest)?;
     match uploads.request(dest.bucket(), &prefix) {
@@ -73,7 +74,8 @@ pub fn sweep_request(
     job: &Text,
     sweep: &Sweep,
 ) -> Result<Option<Request>, AllocError>
-    ensures { IfOk result (λ request. request ≡ Some (sweep_asks dest.now.bucket (layout.magic_prefix dest.now.key job.now) sweep.now)) }
+    ensures { IfOk result (λ request. request ≡ Some (sweep_asks dest.now.bucket
+        (layout.magic_prefix dest.now.key job.now) sweep.now)) }
 {
     let prefix = magic_prefix(alloc, dest, job)?;
     sweep.ask(alloc, dest.bucket(), &prefix)

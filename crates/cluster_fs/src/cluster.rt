@@ -127,7 +127,8 @@ impl Cluster {
     pub fn apply(&mut self, request: &Request) -> Result<Reply, AllocError>
         requires { is_cluster request.now ≡ true }
         ensures reply { (content : Content) → IfOk result (λ r. r ≡ answer (beside content self.old) request.now) }
-        ensures files { (content : Content) → OnOk result (beside content self.new ≡ apply (beside content self.old) request.now) }
+        ensures files { (content : Content) → OnOk result (beside content self.new
+            ≡ apply (beside content self.old) request.now) }
         ensures err { OnErr result (self.new ≡ self.old) }
     {
         match request {

@@ -133,7 +133,10 @@ impl Lanes {
 
     /// The lane in turn goes behind the others with this turn, or out.
     pub fn go_on(&mut self, next: Option<LaneTurn>) -> Result<(), AllocError>
-        ensures { OnOk result (self.new ≡ record { turns = drop 1 self.old.turns ++ listed next; finished = self.old.finished }) }
+        ensures { OnOk result (self.new ≡ record {
+          turns = drop 1 self.old.turns ++ listed next;
+          finished = self.old.finished;
+        }) }
     {
         self.turns.pop_front();
         if let Some(turn) = next {

@@ -13,7 +13,8 @@ use std::alloc::{AllocError, Global};
 
 /// The read of a task's set from the store.
 fn stored_set(alloc: Global, plan: &JobPlan, task: u32) -> Result<Request, AllocError>
-    ensures { IfOk result (λ request. request ≡ GetObject plan.now.dest.bucket (layout.set_key plan.now.dest.key plan.now.job task)) }
+    ensures { IfOk result (λ request. request ≡ GetObject plan.now.dest.bucket
+        (layout.set_key plan.now.dest.key plan.now.job task)) }
 {
     let key = set_key(alloc, &plan.dest, &plan.job, task)?;
     Request::get_object(plan.dest.bucket(), &key)

@@ -87,7 +87,8 @@ fn add_unsent(
 /// Each completed key is deleted, in the order of completion.
 fn add_completed(list: &mut UndoList, finished: &[usize], total: usize) -> Result<(), AllocError>
     requires { (n : ℕ) → In n finished.now → n < total }
-    ensures adds { OnOk result (Adds total (λ all. map deletion (in_turn all (reverse finished.now))) list.old list.new) }
+    ensures adds { OnOk result (Adds total (λ all. map deletion (in_turn all (reverse finished.now)))
+        list.old list.new) }
     ensures within { OnOk result (NumbersWithin total list.old → NumbersWithin total list.new) }
 {
     let mut n = finished.len();

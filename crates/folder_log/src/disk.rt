@@ -50,7 +50,8 @@ pub trait LogDisk {
         ensures large { IsErrOf result DiskFault.TooLarge → IsTooLong (seen self.old) }
         ensures seen { seen self.new ≡ seen self.old }
         ensures crash { (c : File) → may_leave self.new c → may_leave self.old c }
-        ensures time { Elapses (moment self.old) (moment self.new) (left_since self.old) (left_since self.new) (may_leave self.new) }
+        ensures time { Elapses (moment self.old) (moment self.new) (left_since self.old) (left_since self.new)
+            (may_leave self.new) }
         ensures counted { calls self.new ≡ one_more (calls self.old) }
         ensures failed { IsErrOf result DiskFault.Failed → Rose (faults self.old) (faults self.new) }
         ensures answered { (IsErrOf result DiskFault.Failed → ⊥) → answers self.old self.new }
@@ -78,7 +79,8 @@ pub trait LogDisk {
         ensures written { OnOk result (Writes place bytes.now (seen self.old) (seen self.new)) }
         ensures told { is_some (seen self.new) ≡ is_some (seen self.old) }
         ensures crash { Follows (IsTorn place (length bytes.now)) (may_leave self.old) (may_leave self.new) }
-        ensures time { Elapses (moment self.old) (moment self.new) (left_since self.old) (left_since self.new) (may_leave self.new) }
+        ensures time { Elapses (moment self.old) (moment self.new) (left_since self.old) (left_since self.new)
+            (may_leave self.new) }
         ensures counted { calls self.new ≡ one_more (calls self.old) }
         ensures failed { OnErr result (Rose (faults self.old) (faults self.new)) }
         ensures answered { OnOk result (answers self.old self.new) }
@@ -90,7 +92,8 @@ pub trait LogDisk {
         ensures seen { seen self.new ≡ seen self.old }
         ensures durable { OnOk result (Settles (seen self.old) (may_leave self.new)) }
         ensures crash { (c : File) → may_leave self.new c → may_leave self.old c }
-        ensures time { Elapses (moment self.old) (moment self.new) (left_since self.old) (left_since self.new) (may_leave self.new) }
+        ensures time { Elapses (moment self.old) (moment self.new) (left_since self.old) (left_since self.new)
+            (may_leave self.new) }
         ensures counted { calls self.new ≡ one_more (calls self.old) }
         ensures failed { OnErr result (Rose (faults self.old) (faults self.new)) }
         ensures answered { OnOk result (answers self.old self.new) }

@@ -54,7 +54,8 @@ impl Model for NewFile {
 
     ghost view = { λ o. created_of o.bucket o.place o.bytes o.block o.overwrite o.policy };
 
-    ghost invariant = { λ o. IsAsked (created_of o.bucket o.place o.bytes o.block o.overwrite o.policy) o.above o.markers };
+    ghost invariant = { λ o. IsAsked (created_of o.bucket o.place o.bytes o.block o.overwrite o.policy) o.above
+        o.markers };
 }
 
 type Answer = Result<(), FsRefusal>;

@@ -40,7 +40,8 @@ impl Model for RenameNames {
     ghost view = { λ o. record { source = o.source; target = o.target } };
 
     ghost invariant = { λ o.
-        (o.above ≡ parent o.target) × (o.to_target ≡ place_of o.source o.target) × (o.to_inside ≡ inside_of o.source o.target)
+        (o.above ≡ parent o.target) × (o.to_target ≡ place_of o.source o.target)
+        × (o.to_inside ≡ inside_of o.source o.target)
         × (o.under ≡ begins (prefix_of o.source) (prefix_of o.target)) × (o.marker ≡ marker_if (parent o.source)) };
 }
 

@@ -30,7 +30,12 @@ impl Model for Rename {
 
     ghost Value = { Route };
 
-    ghost view = { λ r. record { bucket = r.bucket; source = r.names.source; to_bucket = r.to_bucket; target = r.names.target } };
+    ghost view = { λ r. record {
+      bucket = r.bucket;
+      source = r.names.source;
+      to_bucket = r.to_bucket;
+      target = r.names.target;
+    } };
 
     ghost invariant = { λ r. (is_key r.names.source ≡ true) × (is_key r.names.target ≡ true) };
 }

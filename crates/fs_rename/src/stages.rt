@@ -287,7 +287,8 @@ impl RenameNames {
         directory: bool,
         seen: Look,
     ) -> Result<Step<RenameStage, Answer>, AllocError>
-        ensures { IfOk result (λ step. step ≡ looked self.now spot directory (kind_of (is_root_at self.now spot) below seen)) }
+        ensures { IfOk result (λ step. step ≡ looked self.now spot directory (kind_of (is_root_at self.now spot) below
+            seen)) }
     {
         match kind_of(self.is_root(spot), below, seen) {
             Some(kind) => self.found(spot, directory, kind),

@@ -36,7 +36,11 @@ impl Model for CommitJob {
     ghost use Rattle.job_commit.specs.Stages.{operation_of};
     ghost use Rattle.job_commit.specs.Holds.{attempts_of, Holds};
 
-    ghost view = { λ c. record { plan = c.basis.plan; picked = attempts_of c.picks; operation = operation_of c.basis.sets c.next.step } };
+    ghost view = { λ c. record {
+      plan = c.basis.plan;
+      picked = attempts_of c.picks;
+      operation = operation_of c.basis.sets c.next.step;
+    } };
 
     ghost invariant = { λ c. Holds c.basis.plan c.basis.sets c.basis.places c.picks c.next.step c.next.asked };
 }

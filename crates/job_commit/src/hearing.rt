@@ -75,7 +75,8 @@ impl Basis {
         requires picks { PicksHold self.old.plan self.old.sets picks.old }
         requires wanting { next.old ≡ wanting }
         requires fits { SpellsSet self.old.plan (length self.old.sets) (set_read reply.now) }
-        ensures ok { OnOk result (Hears self.old picks.old (Fetching self.old.sets missed) reply.now self.new picks.new next.new) }
+        ensures ok { OnOk result (Hears self.old picks.old (Fetching self.old.sets missed) reply.now self.new picks.new
+            next.new) }
         ensures picks { PicksHold self.new.plan self.new.sets picks.new }
         ensures err { OnErr result ((picks.new ≡ picks.old) × (next.new ≡ wanting)) }
         ensures plan { self.new.plan ≡ self.old.plan }
@@ -122,7 +123,8 @@ impl Basis {
     fn hear_completion(&self, lanes: Lanes, next: &mut Next) -> Result<(), AllocError>
         requires all { HasRead self.now }
         requires within { LanesWithin self.now.sets lanes }
-        ensures ok { OnOk result (GoesTo self.now (answered self.now.plan self.now.sets lanes.turns lanes.finished) next.new) }
+        ensures ok { OnOk result (GoesTo self.now (answered self.now.plan self.now.sets lanes.turns lanes.finished)
+            next.new) }
         ensures err { OnErr result (next.new ≡ next.old) }
     {
         let mut lanes = lanes;
@@ -199,7 +201,8 @@ impl Basis {
         requires picks { PicksHold self.old.plan self.old.sets picks.old }
         requires wanting { next.old ≡ wanting }
         requires fits { FitsReply self.old.plan (operation_of self.old.sets step) reply.now }
-        ensures ok { OnOk result (Hears self.old picks.old (operation_of self.old.sets step) reply.now self.new picks.new next.new) }
+        ensures ok { OnOk result (Hears self.old picks.old (operation_of self.old.sets step) reply.now self.new
+            picks.new next.new) }
         ensures picks { PicksHold self.new.plan self.new.sets picks.new }
         ensures err { OnErr result ((picks.new ≡ picks.old) × (next.new ≡ wanting)) }
         ensures plan { self.new.plan ≡ self.old.plan }

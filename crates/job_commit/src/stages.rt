@@ -110,7 +110,8 @@ impl Basis {
         requires all { HasRead self.now }
         requires spared { deletion.spared ≡ spared self.now.plan.dest }
         requires asked { asked ≡ deletion_asks self.now.plan.dest.bucket deletion }
-        ensures ok { OnOk result (GoesTo self.now (commit_deleting (script_of self.now) self.now.sets deletion) next.new) }
+        ensures ok { OnOk result (GoesTo self.now (commit_deleting (script_of self.now) self.now.sets deletion)
+            next.new) }
         ensures err { OnErr result (next.new ≡ next.old) }
     {
         match asked {
@@ -129,7 +130,8 @@ impl Basis {
     pub fn deleting(&self, deletion: DeleteKept, next: &mut Next) -> Result<(), AllocError>
         requires all { HasRead self.now }
         requires spared { deletion.spared ≡ spared self.now.plan.dest }
-        ensures ok { OnOk result (GoesTo self.now (commit_deleting (script_of self.now) self.now.sets deletion) next.new) }
+        ensures ok { OnOk result (GoesTo self.now (commit_deleting (script_of self.now) self.now.sets deletion)
+            next.new) }
         ensures err { OnErr result (next.new ≡ next.old) }
     {
         match deletion.request(self.alloc, self.plan.dest.bucket()) {
@@ -235,7 +237,8 @@ impl Basis {
     pub fn reverting(&self, undo: UndoList, next: &mut Next) -> Result<(), AllocError>
         requires places { IsPlaced self.now }
         requires within { UndoWithin self.now.sets undo }
-        ensures ok { OnOk result (GoesTo self.now (reverting_from 0 (map (undo_request (all_commits self.now.sets)) undo)) next.new) }
+        ensures ok { OnOk result (GoesTo self.now (reverting_from 0 (map (undo_request (all_commits self.now.sets))
+            undo)) next.new) }
         ensures err { OnErr result (next.new ≡ next.old) }
     {
         match undo.first() {

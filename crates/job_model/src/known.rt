@@ -27,7 +27,12 @@ impl Model for DrawnUpload {
 
     ghost Value = { Drawn };
 
-    ghost view = { λ d. record { key = d.key; upload = d.upload; tags = map (λ p. p.tag) d.parts; sizes = map (λ p. p.size) d.parts } };
+    ghost view = { λ d. record {
+      key = d.key;
+      upload = d.upload;
+      tags = map (λ p. p.tag) d.parts;
+      sizes = map (λ p. p.size) d.parts;
+    } };
 }
 
 /// What an attempt knows by its own sendings: the uploads whose ids came back, and whether it has sent the
@@ -45,7 +50,11 @@ impl Model for Knowledge {
 
     ghost Value = { Known };
 
-    ghost view = { λ k. record { drawn = reverse k.drawn.items; put_sent = k.put_sent; publish_sent = k.publish_sent } };
+    ghost view = { λ k. record {
+      drawn = reverse k.drawn.items;
+      put_sent = k.put_sent;
+      publish_sent = k.publish_sent;
+    } };
 }
 
 impl Knowledge {

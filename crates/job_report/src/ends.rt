@@ -15,7 +15,8 @@ fn write_actor_end(text: &mut String, actor_end: &ActorEnd) -> Result<(), AllocE
 
 /// Writes ends of a mix, of which there are some, with a comma and a blank between each two.
 fn write_mixed(text: &mut String, first: &ActorEnd, rest: &[ActorEnd]) -> Result<(), AllocError>
-    ensures { OnOk result (string_bytes text.new ≡ string_bytes text.old ++ join_by actor_end_text (codes ", ") (first.now ∷ rest.now)) }
+    ensures { OnOk result (string_bytes text.new ≡ string_bytes text.old
+        ++ join_by actor_end_text (codes ", ") (first.now ∷ rest.now)) }
 {
     write_actor_end(text, first)?;
     for actor_end in rest {

@@ -56,7 +56,8 @@ pub fn write_picks(text: &mut String, picks: &[Pick]) -> Result<(), AllocError>
 
 /// Writes the driver's line: its life and stage, and the job attempt's number from the second on.
 pub fn write_driver(text: &mut String, script: &Script, states: &States) -> Result<(), AllocError>
-    ensures { (p : Past) → Stands script.now states.now p → OnOk result (string_bytes text.new ≡ string_bytes text.old ++ driver_line p) }
+    ensures { (p : Past) → Stands script.now states.now p → OnOk result (string_bytes text.new ≡ string_bytes text.old
+        ++ driver_line p) }
 {
     let state = states.state(script, Actor::Driver);
     let life = state.life;

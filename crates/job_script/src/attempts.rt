@@ -52,7 +52,8 @@ pub fn attempt_line(
     line: u64,
     rest: Option<&str>,
 ) -> Result<(), ScriptFault>
-    ensures { Makes result draft.new (lines.attempt_at line draft.old (words_after (option_map (λ r. r.now) rest.entry))) }
+    ensures { Makes result draft.new (lines.attempt_at line draft.old
+        (words_after (option_map (λ r. r.now) rest.entry))) }
 {
     let Some(word) = one(rest) else {
         return Err(ScriptFault::BadLine(line));

@@ -206,7 +206,8 @@ pub fn event_line(
     word: EventWord,
     rest: Option<&str>,
 ) -> Result<(), ScriptFault>
-    ensures { Makes result draft.new (lines.event_line_at line word draft.old (words_after (option_map (λ r. r.now) rest.entry))) }
+    ensures { Makes result draft.new (lines.event_line_at line word draft.old
+        (words_after (option_map (λ r. r.now) rest.entry))) }
 {
     let event = event_of(draft, line, word, rest)?;
     if draft.events.len() >= 100_000 {

@@ -96,7 +96,8 @@ fn dest_line(
 
 #[tactic(auto, unfolding(crate::specs::HeadLines::committer_at))]
 fn committer_line(head: &mut Head, line: u64, rest: Option<&str>) -> Result<(), ScriptFault>
-    ensures { Makes result head.new (lines.committer_at line head.old (words_after (option_map (λ r. r.now) rest.entry))) }
+    ensures { Makes result head.new (lines.committer_at line head.old
+        (words_after (option_map (λ r. r.now) rest.entry))) }
 {
     let Some(word) = one(rest) else {
         return Err(ScriptFault::BadLine(line));
@@ -164,7 +165,8 @@ fn tasks_line(head: &mut Head, line: u64, rest: Option<&str>) -> Result<(), Scri
 
 #[tactic(auto, unfolding(crate::specs::HeadLines::retries_at))]
 fn retries_line(head: &mut Head, line: u64, rest: Option<&str>) -> Result<(), ScriptFault>
-    ensures { Makes result head.new (lines.retries_at line head.old (words_after (option_map (λ r. r.now) rest.entry))) }
+    ensures { Makes result head.new (lines.retries_at line head.old
+        (words_after (option_map (λ r. r.now) rest.entry))) }
 {
     let Some(word) = one(rest) else {
         return Err(ScriptFault::BadLine(line));
@@ -238,7 +240,8 @@ pub fn head_line(
     word: HeadWord,
     rest: Option<&str>,
 ) -> Result<(), ScriptFault>
-    ensures { Makes result head.new (lines.head_at line word head.old (words_after (option_map (λ r. r.now) rest.entry))) }
+    ensures { Makes result head.new (lines.head_at line word head.old
+        (words_after (option_map (λ r. r.now) rest.entry))) }
 {
     match word {
         HeadWord::Job => job_line(alloc, head, line, rest),

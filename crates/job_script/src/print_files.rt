@@ -61,7 +61,8 @@ fn put_attempt(
 }
 
 pub fn put_attempts(alloc: Global, out: &mut String, attempts: &Attempts) -> Result<(), AllocError>
-    ensures { OnOk result (string_bytes out.new ≡ string_bytes out.old ++ text_of (flat_map attempt_lines attempts.now)) }
+    ensures { OnOk result (string_bytes out.new ≡ string_bytes out.old
+        ++ text_of (flat_map attempt_lines attempts.now)) }
 {
     for (name, files) in attempts.held() {
         put_attempt(alloc, out, *name, files)?;

@@ -24,7 +24,8 @@ fn put_number(out: &mut String, name: &str, number: u64) -> Result<(), AllocErro
 }
 
 fn put_dest(out: &mut String, dest: &S3Path) -> Result<(), AllocError>
-    ensures { OnOk result (string_bytes out.new ≡ string_bytes out.old ++ ended (codes "dest" ∷ path_text dest.now ∷ [])) }
+    ensures { OnOk result (string_bytes out.new ≡ string_bytes out.old
+        ++ ended (codes "dest" ∷ path_text dest.now ∷ [])) }
 {
     let bucket = dest.bucket().as_text().as_str();
     let key = dest.key().as_str();

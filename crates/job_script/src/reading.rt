@@ -54,7 +54,8 @@ fn kind_line(
     kind: Kind,
     rest: Option<&str>,
 ) -> Result<(), ScriptFault>
-    ensures { Makes result draft.new (script.said_at line kind draft.old (words_after (option_map (λ r. r.now) rest.entry))) }
+    ensures { Makes result draft.new (script.said_at line kind draft.old
+        (words_after (option_map (λ r. r.now) rest.entry))) }
 {
     match kind {
         Kind::Head(word) => head_line(alloc, &mut draft.head, line, word, rest),

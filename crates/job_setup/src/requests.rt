@@ -29,7 +29,8 @@ pub fn page_request(
     dest: &S3Path,
     walk: &KeyWalk,
 ) -> Result<Option<Request>, AllocError>
-    ensures { IfOk result (λ request. request ≡ Some (page_after dest.now.bucket (dest.now.key ++ codes "/") (keys_on walk.now))) }
+    ensures { IfOk result (λ request. request ≡ Some (page_after dest.now.bucket (dest.now.key ++ codes "/")
+        (keys_on walk.now))) }
 {
     let prefix = dest_prefix(alloc, dest)?;
     match walk.request(dest.bucket(), &prefix) {
@@ -59,7 +60,8 @@ pub fn sweep_request(
     job: &Text,
     sweep: &Sweep,
 ) -> Result<Option<Request>, AllocError>
-    ensures { IfOk result (λ request. request ≡ Some (sweep_asks dest.now.bucket (layout.magic_prefix dest.now.key job.now) sweep.now)) }
+    ensures { IfOk result (λ request. request ≡ Some (sweep_asks dest.now.bucket
+        (layout.magic_prefix dest.now.key job.now) sweep.now)) }
 {
     let prefix = magic_prefix(alloc, dest, job)?;
     sweep.ask(alloc, dest.bucket(), &prefix)

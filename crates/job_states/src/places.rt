@@ -66,7 +66,8 @@ pub fn put_standing(
     actor: Actor,
     standing: Standing,
 )
-    ensures { (f g : Actor → Standing) → standings.old.items ≡ map f (actors script.now) → ChangesAt script.now actor standing f g
+    ensures { (f g : Actor → Standing) → standings.old.items ≡ map f (actors script.now)
+        → ChangesAt script.now actor standing f g
         → standings.new.items ≡ map g (actors script.now) }
 {
     match place_of(script, actor) {

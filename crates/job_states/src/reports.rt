@@ -85,7 +85,8 @@ impl Reports {
 
     /// A task is reported. Takes no memory.
     pub fn tell(&mut self, task: u32)
-        ensures { (tasks : ℕ) (f : ℕ → Bool) → self.old ≡ tested tasks f → self.new ≡ tested tasks (λ t. f t || nat_eq t task) }
+        ensures { (tasks : ℕ) (f : ℕ → Bool) → self.old ≡ tested tasks f → self.new
+            ≡ tested tasks (λ t. f t || nat_eq t task) }
     {
         if (task as usize) < self.told.len() {
             self.told[task as usize] = true;

@@ -105,7 +105,8 @@ fn named(event: Event) -> Actor
 
 /// What the end of an actor's operation at this stage does to the reports.
 fn report(reports: &mut Reports, actor: Actor, stage: ActorStage, end: &OpEnd)
-    ensures { (tasks : ℕ) (f : ℕ → Bool) → reports.old ≡ tested tasks f → reports.new ≡ tested tasks (report actor stage end.now f) }
+    ensures { (tasks : ℕ) (f : ℕ → Bool) → reports.old ≡ tested tasks f → reports.new
+        ≡ tested tasks (report actor stage end.now f) }
 {
     let Actor::Attempt { task, attempt: _ } = actor else {
         return;
@@ -242,7 +243,8 @@ impl States {
     fn refuse_begin(&self, script: &Script, actor: Actor, op: Op) -> Option<EventFault>
         requires { is_known script.now.attempts actor ≡ true }
         ensures { (p : Past) → Stands script.now self.now p
-            → result ≡ refuse_begin (p.state actor).life (refuse_op (p.state Driver).stage actor op (p.state actor).stage) }
+            → result ≡ refuse_begin (p.state actor).life (refuse_op (p.state Driver).stage actor op
+            (p.state actor).stage) }
     {
         let state = self.state(script, actor);
         let driver = self.state(script, Actor::Driver);
@@ -254,7 +256,8 @@ impl States {
     pub fn open(&mut self, script: &Script, event: Event)
         requires event { IsEvent script.now.attempts event }
         requires room { self.old.attempt < 2 ^ 32 - 1 }
-        ensures stands { (p : Past) → Stands script.now self.old p → Stands script.now self.new (open_event script.now p event) }
+        ensures stands { (p : Past) → Stands script.now self.old p
+            → Stands script.now self.new (open_event script.now p event) }
         ensures attempt { self.new.attempt ≤ self.old.attempt + 1 }
         ensures events { self.new.events ≡ self.old.events }
     {
@@ -268,7 +271,8 @@ impl States {
 
     /// What the end of an actor's operation does. Takes no memory.
     pub fn end(&mut self, script: &Script, actor_end: &ActorEnd)
-        ensures stands { (p : Past) → Stands script.now self.old p → Stands script.now self.new (end_op p actor_end.now) }
+        ensures stands { (p : Past) → Stands script.now self.old p
+            → Stands script.now self.new (end_op p actor_end.now) }
         ensures attempt { self.new.attempt ≡ self.old.attempt }
         ensures events { self.new.events ≡ self.old.events }
     {
@@ -291,7 +295,8 @@ impl States {
         requires event { IsEvent script.now.attempts event }
         requires attempt { self.old.attempt < 2 ^ 32 - 1 }
         requires events { self.old.events < 2 ^ 32 - 1 }
-        ensures stands { (p : Past) → Stands script.now self.old p → Stands script.now self.new (after_event script.now p event end.now) }
+        ensures stands { (p : Past) → Stands script.now self.old p
+            → Stands script.now self.new (after_event script.now p event end.now) }
         ensures attempt { self.new.attempt ≤ self.old.attempt + 1 }
         ensures events { self.new.events ≡ self.old.events + 1 }
     {
@@ -319,7 +324,8 @@ impl States {
 
     /// What the ends do that an event had.
     fn finish(&mut self, script: &Script, event: Event, end: &EventEnd)
-        ensures stands { (p : Past) → Stands script.now self.old p → Stands script.now self.new (end_ops p (told event end.now)) }
+        ensures stands { (p : Past) → Stands script.now self.old p
+            → Stands script.now self.new (end_ops p (told event end.now)) }
         ensures attempt { self.new.attempt ≡ self.old.attempt }
         ensures events { self.new.events ≡ self.old.events }
     {
@@ -355,7 +361,8 @@ impl States {
 
     fn begin(&mut self, script: &Script, actor: Actor, op: Op)
         requires { is_known script.now.attempts actor ≡ true }
-        ensures stands { (p : Past) → Stands script.now self.old p → Stands script.now self.new (begin script.now p actor op) }
+        ensures stands { (p : Past) → Stands script.now self.old p
+            → Stands script.now self.new (begin script.now p actor op) }
         ensures attempt { self.new.attempt ≡ self.old.attempt }
         ensures events { self.new.events ≡ self.old.events }
     {

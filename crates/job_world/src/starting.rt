@@ -39,7 +39,12 @@ fn first_hands<W: Drop>(
 /// A store with the same content, of which no request was made, and whose sendings have the script's fates.
 fn first_store(alloc: Global, script: &Script, service: &Service) -> Result<Lossy, AllocError>
     requires few { service.now.next ≤ 2 ^ 62 }
-    ensures { IfOk result (λ store. store ≡ record { scene = opening service.now; fates = script.now.fates; requests = 0; losses = 0 }) }
+    ensures { IfOk result (λ store. store ≡ record {
+      scene = opening service.now;
+      fates = script.now.fates;
+      requests = 0;
+      losses = 0;
+    }) }
 {
     let fates = script.fates.copied()?;
     let copy = service.copy()?;

@@ -31,7 +31,8 @@ impl<W: Works> Body<W> {
         requires busy { is_busy_at self.old.states.actors place ≡ true }
         requires going { Going W.wants W.is_of W.running W.picks_of self.old }
         ensures around { Around place self.old self.new }
-        ensures posted { PostedAt W.left W.is_of W.running W.Works.rise W.picks_of place actor self.old self.new result }
+        ensures posted { PostedAt W.left W.is_of W.running W.Works.rise W.picks_of place actor self.old self.new
+            result }
     {
         W::laws();
         // Fewer than 2^62 entries stand in a journal.

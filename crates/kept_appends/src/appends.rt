@@ -15,9 +15,11 @@ fn append_entry<F: Shelf>(shelf: &mut F, entry: &Entry) -> Result<(), AppendFaul
     requires appends { F.takes_appends shelf.old }
     requires durable { IsDurable (F.held shelf.old) (F.may_leave shelf.old) }
     ensures ok { OnOk result (Appended F.held F.may_leave F.answers (changes (entry.now ∷ [])) shelf.old shelf.new) }
-    ensures err { IfErr result (λ e. Stopped F.held F.answers F.fails e (changes (entry.now ∷ [])) shelf.old shelf.new) }
+    ensures err { IfErr result (λ e. Stopped F.held F.answers F.fails e (changes (entry.now ∷ []))
+        shelf.old shelf.new) }
     ensures appends { (IsErrOf result AppendFault.Failed → ⊥) → F.takes_appends shelf.new }
-    ensures any_moment { LeavesOnly F.moment F.left_since shelf.old shelf.new (IsBetween (F.held shelf.old) (changes (entry.now ∷ []))) }
+    ensures any_moment { LeavesOnly F.moment F.left_since shelf.old shelf.new
+        (IsBetween (F.held shelf.old) (changes (entry.now ∷ []))) }
     ensures failed { IsErrOf result AppendFault.Failed → Rose (F.faults shelf.old) (F.faults shelf.new) }
     ensures calm { (IsErrOf result AppendFault.Failed → ⊥) → F.faults shelf.new ≡ F.faults shelf.old }
 {
@@ -40,11 +42,15 @@ pub fn append_all<F: Shelf>(
     requires within { from ≤ length journal.now.entries }
     requires appends { F.takes_appends shelf.old }
     requires durable { IsDurable (F.held shelf.old) (F.may_leave shelf.old) }
-    ensures grown { OnOk result (HoldsGrownBy (F.held shelf.old) (F.held shelf.new) (changes (drop from journal.now.entries))) }
+    ensures grown { OnOk result (HoldsGrownBy (F.held shelf.old) (F.held shelf.new)
+        (changes (drop from journal.now.entries))) }
     ensures durable { OnOk result (IsDurable (F.held shelf.new) (F.may_leave shelf.new)) }
-    ensures answered { OnOk result (AreAnswered F.answers (changes (drop from journal.now.entries)) shelf.old shelf.new) }
-    ensures partly { OnErr result (HoldsSome (F.held shelf.old) (F.held shelf.new) (changes (drop from journal.now.entries))) }
-    ensures stopped { IfErr result (λ e. Stopped F.held F.answers F.fails e (changes (drop from journal.now.entries)) shelf.old shelf.new) }
+    ensures answered { OnOk result (AreAnswered F.answers (changes (drop from journal.now.entries))
+        shelf.old shelf.new) }
+    ensures partly { OnErr result (HoldsSome (F.held shelf.old) (F.held shelf.new)
+        (changes (drop from journal.now.entries))) }
+    ensures stopped { IfErr result (λ e. Stopped F.held F.answers F.fails e (changes (drop from journal.now.entries))
+        shelf.old shelf.new) }
     ensures appends { (IsErrOf result AppendFault.Failed → ⊥) → F.takes_appends shelf.new }
     ensures any_moment { LeavesOnly F.moment F.left_since shelf.old shelf.new
         (IsBetween (F.held shelf.old) (changes (drop from journal.now.entries))) }

@@ -20,8 +20,10 @@ fn play_event<W: Works, F: Shelf>(
     requires next { slice_get world.old.script.events (length world.old.ends) ≡ Some event.now }
     requires appends { F.takes_appends shelf.old }
     requires durable { IsDurable (F.held shelf.old) (F.may_leave shelf.old) }
-    ensures ok { OnOk result (Follows F.held F.may_leave F.answers F.moment F.left_since world.old world.new shelf.old shelf.new) }
-    ensures err { OnErr result (Falls F.held F.answers F.fails F.moment F.left_since world.old world.new shelf.old shelf.new) }
+    ensures ok { OnOk result (Follows F.held F.may_leave F.answers F.moment F.left_since world.old world.new
+        shelf.old shelf.new) }
+    ensures err { OnErr result (Falls F.held F.answers F.fails F.moment F.left_since world.old world.new
+        shelf.old shelf.new) }
     ensures appends { OnOk result (F.takes_appends shelf.new) }
     ensures failed { IsErrOf result AppendFault.Failed → Rose (F.faults shelf.old) (F.faults shelf.new) }
     ensures calm { (IsErrOf result AppendFault.Failed → ⊥) → F.faults shelf.new ≡ F.faults shelf.old }

@@ -73,7 +73,8 @@ fn begin<W: Works, F: Shelf>(
     ensures appends { OnOk result (F.takes_appends shelf.new) }
     ensures durable { OnOk result (IsDurable (F.held shelf.new) (F.may_leave shelf.new)) }
     ensures answered { OnOk result (F.answers shelf.old shelf.new) }
-    ensures any_moment { LeavesOnly F.moment F.left_since shelf.old shelf.new (λ h. F.may_leave shelf.old h ⊎ (h ≡ fresh (image service))) }
+    ensures any_moment { LeavesOnly F.moment F.left_since shelf.old shelf.new (λ h. F.may_leave shelf.old h
+        ⊎ (h ≡ fresh (image service))) }
     ensures same { OnErr result (F.held shelf.new ≡ F.held shelf.old) }
     ensures stopped { OnErr result ((shelf.old ≡ shelf.new) ⊎ F.fails shelf.old shelf.new) }
     ensures calm { OnOk result (F.faults shelf.new ≡ F.faults shelf.old) }
@@ -109,7 +110,8 @@ pub fn play<W: Works, F: Shelf>(
     ensures held { IfOk result (λ kept. IsHeld F.held F.may_leave F.answers F.fails script service kept.played kept.stop
         shelf.old shelf.new) }
     ensures images { IfOk result (λ kept. KeepsImages service kept.played.journal.entries) }
-    ensures survives { IfOk result (λ kept. Survives F.held F.may_leave F.moment F.left_since service kept.played shelf.old shelf.new) }
+    ensures survives { IfOk result (λ kept. Survives F.held F.may_leave F.moment F.left_since service kept.played
+        shelf.old shelf.new) }
     ensures counted { IfOk result (λ kept. Counts kept.stop (F.faults shelf.old) (F.faults shelf.new)) }
     ensures same { OnErr result (F.held shelf.new ≡ F.held shelf.old) }
     ensures stopped { OnErr result ((shelf.old ≡ shelf.new) ⊎ F.fails shelf.old shelf.new) }

@@ -64,10 +64,12 @@ fn keep<F: Shelf>(
     ensures answer { IsAnswer (works.Saves opening.now text sent.entries) result.due result.text result.sent.entries }
     ensures held { IsHeld (works.Saves opening.now text sent.entries) result.due (F.held shelf.old) (F.held shelf.new) }
     ensures images { KeepsImages opening.now sent.entries }
-    ensures calls { CallsBy F.answers F.fails (works.Saves opening.now text sent.entries) result.due shelf.old shelf.new }
+    ensures calls { CallsBy F.answers F.fails (works.Saves opening.now text sent.entries) result.due
+        shelf.old shelf.new }
     ensures any_moment { LeavesOnly F.moment F.left_since shelf.old shelf.new
         (MightLeave (works.Saves opening.now text sent.entries) (F.held shelf.new) (F.may_leave shelf.old)) }
-    ensures durable { IsDurableNow (works.Saves opening.now text sent.entries) result.due (F.held shelf.new) (F.may_leave shelf.new) }
+    ensures durable { IsDurableNow (works.Saves opening.now text sent.entries) result.due (F.held shelf.new)
+        (F.may_leave shelf.new) }
     ensures counted { Tells 5 result.due (F.faults shelf.old) (F.faults shelf.new) }
 {
     keeps_images(&sent);

@@ -28,7 +28,8 @@ fn image_of(alloc: Global, service: &Service) -> Result<Vec<u8>, AllocError>
 /// Puts a store's image in place of what the shelf holds. After an error the shelf holds what it held.
 fn put_image<F: Shelf>(alloc: Global, shelf: &mut F, store: &Service) -> Result<(), ShelfStop>
     requires { F.faults shelf.old < 2 ^ 64 - 1 }
-    ensures ok { OnOk result (Replaced F.held F.may_leave F.answers F.moment F.left_since store.now shelf.old shelf.new) }
+    ensures ok { OnOk result (Replaced F.held F.may_leave F.answers F.moment F.left_since store.now
+        shelf.old shelf.new) }
     ensures appends { OnOk result (F.takes_appends shelf.new) }
     ensures same { OnErr result (F.held shelf.new ≡ F.held shelf.old) }
     ensures cut { OnErr result ((shelf.old ≡ shelf.new) ⊎ F.fails shelf.old shelf.new) }
@@ -60,7 +61,8 @@ pub fn save<F: Shelf>(
     ensures ok { OnOk result (Holds (F.held shelf.new) opening.now (changes journal.now.entries)) }
     ensures durable { OnOk result (IsDurable (F.held shelf.new) (F.may_leave shelf.new)) }
     ensures called { OnOk result (AreCalled F.answers (changes journal.now.entries) shelf.old shelf.new) }
-    ensures err { OnErr result ((F.held shelf.new ≡ F.held shelf.old) ⊎ HoldsPart (F.held shelf.new) opening.now journal.now.entries) }
+    ensures err { OnErr result ((F.held shelf.new ≡ F.held shelf.old) ⊎ HoldsPart (F.held shelf.new) opening.now
+        journal.now.entries) }
     ensures cut { OnErr result (AreCut F.answers F.fails (changes journal.now.entries) shelf.old shelf.new) }
     ensures any_moment { LeavesOnly F.moment F.left_since shelf.old shelf.new
         (λ h. WhereTold (F.held shelf.new) (F.may_leave shelf.old h ⊎ IsMoment opening.now journal.now.entries h)) }

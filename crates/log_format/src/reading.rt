@@ -32,7 +32,8 @@ fn add_record<'b>(
     bytes: &'b [u8],
     changes: &mut RequestList,
 ) -> Result<&'b [u8], LogFault>
-    ensures { GivesBy (λ rest. (changes.new, rest.now)) result (made (λ change. changes.old ++ change ∷ []) (record_at at bytes.now)) }
+    ensures { GivesBy (λ rest. (changes.new, rest.now)) result (made (λ change. changes.old ++ change ∷ [])
+        (record_at at bytes.now)) }
 {
     match record(alloc, at, bytes) {
         Ok((change, rest)) => {
@@ -53,7 +54,8 @@ fn add_changes(
     bytes: &[u8],
     changes: &mut RequestList,
 ) -> Result<(), LogFault>
-    ensures { GivesBy (λ u. changes.new) result (with_front changes.old (changes_at (length bytes.now) whole bytes.now)) }
+    ensures { GivesBy (λ u. changes.new) result (with_front changes.old (changes_at (length bytes.now) whole
+        bytes.now)) }
 {
     let mut rest = bytes;
     for _ in 0..bytes.len() {

@@ -58,7 +58,8 @@ pub fn send<M: Machine, S: ObjectStore>(
         (S.foretold store.old) (S.requests store.old) (S.requests store.new) turn) }
     ensures counts { Counted journal.old.entries journal.new.entries (S.requests store.old) (S.requests store.new)
         (S.losses store.old) (S.losses store.new) (S.foretold store.old) (S.foretold store.new) }
-    ensures err { OnErr result (SentNone M.wants M.after actor event machine.old machine.new (S.scene store.old) (S.scene store.new)
+    ensures err { OnErr result (SentNone M.wants M.after actor event machine.old machine.new (S.scene store.old)
+        (S.scene store.new)
         journal.old.entries journal.new.entries (S.foretold store.old) (S.requests store.old)) }
 {
     let request = match machine.request() {

@@ -36,7 +36,8 @@ pub fn task_files(
     requires task { task < 1000 }
     requires files { files ≤ 100 }
     ensures goes_on { (seed i : ℕ) → numbers.old ≡ draw seed i → OnOk result (numbers.new ≡ draw seed (i + 2 * files)) }
-    ensures made { (seed : ℕ) → numbers.old ≡ draw seed (2 * (task * files)) → IfOk result (λ made. made ≡ part_files seed files task) }
+    ensures made { (seed : ℕ) → numbers.old ≡ draw seed (2 * (task * files))
+        → IfOk result (λ made. made ≡ part_files seed files task) }
 {
     let mut made = FileList::new(alloc);
     for file in 0..files {

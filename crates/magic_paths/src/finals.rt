@@ -32,7 +32,8 @@ fn kept(behind: &str) -> Option<&str>
 /// The two texts that make the final key: what stands before `__magic`, and what is kept behind it.
 fn final_parts(key: &str) -> Result<(&str, &str), MagicRefusal>
     requires { is_key key.now ≡ true }
-    ensures elements { IfOk result (λ r. parts_of 47 (r.0.now ++ r.1.now) ≡ finals.final_elements (parts_of 47 key.now)) }
+    ensures elements { IfOk result (λ r. parts_of 47 (r.0.now ++ r.1.now)
+        ≡ finals.final_elements (parts_of 47 key.now)) }
     ensures key { IfOk result (λ r. is_key (r.0.now ++ r.1.now) ≡ true) }
     ensures not_magic { IsErrOf result NotMagic ↔ (finals.has_magic (parts_of 47 key.now) ≡ false) }
     ensures nothing_after { IsErrOf result NothingAfter ↔ ((finals.has_magic (parts_of 47 key.now) ≡ true)

@@ -25,7 +25,10 @@ pub fn attempt_dir(
     requires some { 1 ≤ length dest.now.key }
     requires most { length dest.now.key ≤ 400 }
     requires id { is_job_id job.now ≡ true }
-    ensures { IfOk result (λ p. p ≡ record { bucket = dest.now.bucket; key = keys.attempt_key dest.now.key job.now task attempt }) }
+    ensures { IfOk result (λ p. p ≡ record {
+      bucket = dest.now.bucket;
+      key = keys.attempt_key dest.now.key job.now task attempt;
+    }) }
 {
     let text = attempt_text(alloc, dest.key().as_str(), job.as_str(), task, attempt)?;
     let key = Text::new(alloc, text)?;

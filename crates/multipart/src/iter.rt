@@ -41,7 +41,8 @@ impl<'a> Model for UploadEntries<'a> {
 impl<'a> Iterator for UploadEntries<'a> {
     type Item = UploadView<'a>;
 
-    ghost next_gives = { YieldsFirstBy (λ u. (u.upload, record { key = u.key.now; parts = u.parts.now })) (λ rest. rest) };
+    ghost next_gives = { YieldsFirstBy (λ u. (u.upload, record { key = u.key.now; parts = u.parts.now }))
+        (λ rest. rest) };
 
     ghost remaining = { item_count (λ rest. rest) };
 

@@ -85,7 +85,8 @@ fn all_large(held: &Parts, minimum: u64, parts: &[NamedPart]) -> bool
 
 /// The checks of a completion in their order.
 fn check(live: &Live, parts: &[NamedPart], minimum: u64) -> Result<(), Refusal>
-    ensures ok { OnOk result (joined (Some live.now) parts.now minimum ≡ Ok (flat_map (bytes_of live.now.parts) parts.now)) }
+    ensures ok { OnOk result (joined (Some live.now) parts.now minimum
+        ≡ Ok (flat_map (bytes_of live.now.parts) parts.now)) }
     ensures refused { IfErr result (λ refusal. joined (Some live.now) parts.now minimum ≡ Err refusal) }
     ensures few { OnOk result (length parts.now ≤ MOST_PARTS) }
 {

@@ -81,7 +81,8 @@ impl Uploads {
         limit: u16,
     ) -> Result<UploadPage, AllocError>
         ensures entries { IfOk result (λ page. page.entries ≡ take limit (listed prefix.now (Some last.now) self.now)) }
-        ensures more { IfOk result (λ page. page.more ≡ nat_lt limit (length (listed prefix.now (Some last.now) self.now))) }
+        ensures more { IfOk result (λ page. page.more
+            ≡ nat_lt limit (length (listed prefix.now (Some last.now) self.now))) }
     {
         if last.key.as_text().cmp(prefix).is_lt() {
             return self.list_first(prefix, limit);
@@ -107,8 +108,10 @@ impl Uploads {
         after: Option<&UploadRef>,
         limit: PageLimit,
     ) -> Result<UploadPage, AllocError>
-        ensures entries { IfOk result (λ page. page.entries ≡ take limit (listed prefix.now (option_copied after.entry) self.now)) }
-        ensures more { IfOk result (λ page. page.more ≡ nat_lt limit (length (listed prefix.now (option_copied after.entry) self.now))) }
+        ensures entries { IfOk result (λ page. page.entries
+            ≡ take limit (listed prefix.now (option_copied after.entry) self.now)) }
+        ensures more { IfOk result (λ page. page.more
+            ≡ nat_lt limit (length (listed prefix.now (option_copied after.entry) self.now))) }
     {
         match after {
             Some(last) => self.list_after(prefix, last, limit.get()),

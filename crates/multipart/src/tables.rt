@@ -267,7 +267,8 @@ impl Index {
 
     /// The entries from a place on.
     pub fn from(&self, start: Bound<&Place>) -> Range<'_, Place, Key>
-        ensures { result ≡ entries_between ref_cmp (bound_map (λ p. p.now) start.entry) Unbounded (fin.entries self.now) }
+        ensures { result ≡ entries_between ref_cmp (bound_map (λ p. p.now) start.entry) Unbounded
+            (fin.entries self.now) }
     {
         self.held.range((start, Bound::Unbounded))
     }

@@ -130,7 +130,8 @@ impl Uploads {
 
     /// The index from a place on.
     pub(crate) fn from(&self, start: Bound<&Place>) -> Range<'_, Place, Key>
-        ensures { result ≡ entries_between ref_cmp (bound_map (λ p. p.now) start.entry) Unbounded (fin.entries (keyed self.now)) }
+        ensures { result ≡ entries_between ref_cmp (bound_map (λ p. p.now) start.entry) Unbounded
+            (fin.entries (keyed self.now)) }
     {
         self.index.from(start)
     }
@@ -198,7 +199,8 @@ impl Uploads {
     /// k parts. NoSuchUpload comes where the upload is not live with this key. (Amazon S3 API, ListParts.)
     pub fn parts(&self, key: &Key, upload: u64) -> Result<PartSizes, UploadFault>
         ensures sizes { IfOk result (λ sizes. parts_answer (live self.now key.now upload) ≡ Reply.Parts sizes) }
-        ensures refused { IsErrOf result (UploadFault.Refused Refusal.NoSuchUpload) ↔ (live self.now key.now upload ≡ None) }
+        ensures refused { IsErrOf result (UploadFault.Refused Refusal.NoSuchUpload)
+            ↔ (live self.now key.now upload ≡ None) }
         ensures only { IfErr result (λ fault. IfRefused fault (λ refusal. refusal ≡ Refusal.NoSuchUpload)) }
     {
         let Some(live) = self.live(key, upload) else {
@@ -212,7 +214,8 @@ impl Uploads {
 
     /// The live upload of the least id that is greater than `after`, in O(log u).
     pub fn next(&self, after: u64) -> Option<LiveUpload<'_>>
-        ensures { option_map {U = ℕ × List ℕ × ℕ} (λ l. (l.upload, l.key.now, l.parts)) result ≡ option_map shown (next_of after self.now) }
+        ensures { option_map {U = ℕ × List ℕ × ℕ} (λ l. (l.upload, l.key.now, l.parts)) result
+            ≡ option_map shown (next_of after self.now) }
     {
         match self.lives.next(after) {
             Some((upload, live)) => Some(LiveUpload {
@@ -227,7 +230,8 @@ impl Uploads {
     /// The part of the least number that is greater than `after` in a live upload, with its bytes, in
     /// O(log u).
     pub fn next_part(&self, upload: u64, after: u32) -> Option<(u32, &Bytes)>
-        ensures { option_map (λ p. (p.0, p.1.now)) result ≡ option_and_then (λ u. next_of after u.parts) (fin.get self.now upload) }
+        ensures { option_map (λ p. (p.0, p.1.now)) result ≡ option_and_then (λ u. next_of after u.parts)
+            (fin.get self.now upload) }
     {
         let Some(live) = self.lives.get(upload) else {
             return None;

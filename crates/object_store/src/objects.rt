@@ -161,8 +161,10 @@ impl Objects {
         after: &Text,
         limit: PageLimit,
     ) -> Result<Page, AllocError>
-        ensures entries { IfOk result (λ page. page.entries ≡ take limit (listed prefix.now delimited after.now self.now)) }
-        ensures more { IfOk result (λ page. page.more ≡ nat_lt limit (length (listed prefix.now delimited after.now self.now))) }
+        ensures entries { IfOk result (λ page. page.entries
+            ≡ take limit (listed prefix.now delimited after.now self.now)) }
+        ensures more { IfOk result (λ page. page.more
+            ≡ nat_lt limit (length (listed prefix.now delimited after.now self.now))) }
     {
         let limit = limit.get();
         if delimited {

@@ -138,8 +138,10 @@ impl Objects {
         after: &Text,
         limit: u16,
     ) -> Result<Page, AllocError>
-        ensures entries { IfOk result (λ page. page.entries ≡ take limit (walked prefix.now false after.now (map.entries self.now))) }
-        ensures more { IfOk result (λ page. page.more ≡ nat_lt limit (length (walked prefix.now false after.now (map.entries self.now)))) }
+        ensures entries { IfOk result (λ page. page.entries
+            ≡ take limit (walked prefix.now false after.now (map.entries self.now))) }
+        ensures more { IfOk result (λ page. page.more
+            ≡ nat_lt limit (length (walked prefix.now false after.now (map.entries self.now)))) }
     {
         let range = (flat_start(prefix, after), Bound::Unbounded);
         flat_page(self.alloc, self.held.range(range), prefix, limit)
@@ -166,7 +168,8 @@ impl Objects {
 
     /// The folded entry that is listed next after a text.
     fn next_listed(&self, prefix: &Text, last: &Text) -> Result<Option<(&Key, &Object)>, AllocError>
-        ensures { IfOk result (λ r. ComesNext prefix.now true last.now (map.entries self.now) (option_map (λ p. (p.0.now, p.1.now)) r)) }
+        ensures { IfOk result (λ r. ComesNext prefix.now true last.now (map.entries self.now)
+            (option_map (λ p. (p.0.now, p.1.now)) r)) }
     {
         match self.first_after(prefix, last)? {
             Some((key, object)) => {
@@ -182,8 +185,10 @@ impl Objects {
     /// At most so many folded entries after a text, each of them sought.
     pub(crate) fn walk(&self, prefix: &Text, after: &Text, limit: u16) -> Result<Page, AllocError>
         requires { 0 < limit }
-        ensures entries { IfOk result (λ page. page.entries ≡ take limit (walked prefix.now true after.now (map.entries self.now))) }
-        ensures more { IfOk result (λ page. page.more ≡ nat_lt limit (length (walked prefix.now true after.now (map.entries self.now)))) }
+        ensures entries { IfOk result (λ page. page.entries
+            ≡ take limit (walked prefix.now true after.now (map.entries self.now))) }
+        ensures more { IfOk result (λ page. page.more
+            ≡ nat_lt limit (length (walked prefix.now true after.now (map.entries self.now)))) }
     {
         let mut entries = Vec::new(self.alloc);
         let mut last = after.clone()?;

@@ -29,7 +29,8 @@ fn send_text<S: Serializer>(out: &mut S, name: &str, text: &str) -> Result<(), S
 }
 
 fn send_tags<S: Serializer>(out: &mut S, name: &str, tags: &[Tag]) -> Result<(), S::Error>
-    ensures { OnOk result (SendsMember name.now (array (texts (map tag_digits tags.now))) (S.written out.old) (S.written out.new)) }
+    ensures { OnOk result (SendsMember name.now (array (texts (map tag_digits tags.now))) (S.written out.old)
+        (S.written out.new)) }
 {
     out.key(name)?;
     out.begin_seq(Some(tags.len()))?;
@@ -62,7 +63,8 @@ fn send_uploads<S: Serializer>(
     name: &str,
     all: &[PendingUpload],
 ) -> Result<(), S::Error>
-    ensures { OnOk result (SendsMember name.now (array (items_of (map pending_tree all.now))) (S.written out.old) (S.written out.new)) }
+    ensures { OnOk result (SendsMember name.now (array (items_of (map pending_tree all.now))) (S.written out.old)
+        (S.written out.new)) }
 {
     out.key(name)?;
     all.serialize(out)

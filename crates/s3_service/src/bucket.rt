@@ -78,7 +78,8 @@ impl BucketStore {
         parts: &PartList,
         minimum: u64,
     ) -> Result<Reply, AllocError>
-        ensures reply { IfOk result (λ r. r ≡ complete_answer parts.now (joined (live self.old.uploads key.now upload) parts.now minimum)) }
+        ensures reply { IfOk result (λ r. r ≡ complete_answer parts.now (joined (live self.old.uploads key.now upload)
+            parts.now minimum)) }
         ensures ok { OnOk result (self.new ≡ completed self.old key.now upload
             (joined (live self.old.uploads key.now upload) parts.now minimum)) }
         ensures err { OnErr result (self.new ≡ self.old) }

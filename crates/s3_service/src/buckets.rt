@@ -79,7 +79,8 @@ impl Buckets {
     ) -> Result<Reply, AllocError>
         requires there { IsSome (map.get self.old name.now) }
         requires fresh { (b : BucketContent) → map.get self.old name.now ≡ Some b → IsFresh b.uploads next }
-        ensures reply { IfOk result (λ r. IsSomeAnd (map.get self.old name.now) (λ b. r ≡ answer_in b next minimum request.now)) }
+        ensures reply { IfOk result (λ r. IsSomeAnd (map.get self.old name.now) (λ b. r ≡ answer_in b next minimum
+            request.now)) }
         ensures ok { OnOk result (IsSomeAnd (map.get self.old name.now)
             (λ b. self.new ≡ map.insert self.old name.now (apply_in b next minimum request.now))) }
         ensures err { OnErr result (self.new ≡ self.old) }

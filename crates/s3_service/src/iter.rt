@@ -49,7 +49,8 @@ impl<'a> Model for BucketEntries<'a> {
 impl<'a> Iterator for BucketEntries<'a> {
     type Item = BucketView<'a>;
 
-    ghost next_gives = { YieldsFirstBy (λ b. (b.name.now, record { objects = b.objects.now; uploads = b.uploads.now })) (λ rest. rest) };
+    ghost next_gives = { YieldsFirstBy (λ b. (b.name.now, record { objects = b.objects.now; uploads = b.uploads.now }))
+        (λ rest. rest) };
 
     ghost remaining = { item_count (λ rest. rest) };
 

@@ -17,7 +17,10 @@ pub fn put(
     header: Option<LengthHeader>,
 ) -> Result<Reply, AllocError>
     ensures reply { IfOk result (λ r. r ≡ Reply.Stored (plain_tag bytes.now)) }
-    ensures ok { OnOk result (objects.new ≡ map.insert objects.old key.now (record { bytes = bytes.now; header = header })) }
+    ensures ok { OnOk result (objects.new ≡ map.insert objects.old key.now (record {
+      bytes = bytes.now;
+      header = header;
+    })) }
     ensures err { OnErr result (objects.new ≡ objects.old) }
 {
     let tag = part_tag(bytes.as_slice());
@@ -53,8 +56,10 @@ pub fn head(objects: &Objects, key: &Key) -> Reply
 }
 
 pub fn delete_many(objects: &mut Objects, keys: &KeyList) -> Reply
-    ensures reply { result ≡ cond (nat_lt MOST_ENTRIES (length keys.now)) (Reply.Refused Refusal.TooManyKeys) Reply.Deleted }
-    ensures left { objects.new ≡ cond (nat_lt MOST_ENTRIES (length keys.now)) objects.old (without objects.old keys.now) }
+    ensures reply { result ≡ cond (nat_lt MOST_ENTRIES (length keys.now)) (Reply.Refused Refusal.TooManyKeys)
+        Reply.Deleted }
+    ensures left { objects.new ≡ cond (nat_lt MOST_ENTRIES (length keys.now)) objects.old
+        (without objects.old keys.now) }
 {
     match objects.delete_many(keys.as_slice()) {
         Ok(()) => Reply::Deleted,

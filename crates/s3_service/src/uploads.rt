@@ -29,7 +29,8 @@ pub fn part(
     bytes: &Bytes,
 ) -> Result<Reply, AllocError>
     ensures reply { IfOk result (λ r. r ≡ part_answer (live uploads.old key.now upload) number bytes.now) }
-    ensures ok { OnOk result (uploads.new ≡ part_put uploads.old upload (live uploads.old key.now upload) number bytes.now) }
+    ensures ok { OnOk result (uploads.new ≡ part_put uploads.old upload (live uploads.old key.now upload) number
+        bytes.now) }
     ensures err { OnErr result (uploads.new ≡ uploads.old) }
 {
     let bytes = bytes.clone()?;

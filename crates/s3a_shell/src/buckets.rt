@@ -36,7 +36,8 @@ impl Session {
         ensures word { IfOk result (λ word. option_map (λ w. w.now) word ≡ refusal_word
             (answer self.old.store.scene (Request.MakeBucket name.now))) }
         ensures scene { OnOk result (self.new.store.scene ≡ apply self.old.store.scene (Request.MakeBucket name.now)) }
-        ensures sent { OnOk result (Sent (AppliedOrNot (Request.MakeBucket name.now) self.old.store.scene) self.old self.new) }
+        ensures sent { OnOk result (Sent (AppliedOrNot (Request.MakeBucket name.now) self.old.store.scene)
+            self.old self.new) }
     {
         let request = Request::make_bucket(name)?;
         match self.answered(&request) {
@@ -56,7 +57,8 @@ impl Session {
     pub(crate) fn make_bucket(&mut self, name: &Text) -> Result<Said, AllocError>
         requires { IsCounted self.old }
         ensures did { IfOk result (λ what. DidMake name.now self.old.store.scene what self.new.store.scene) }
-        ensures sent { OnOk result (Sent (AppliedOrNot (Request.MakeBucket name.now) self.old.store.scene) self.old self.new) }
+        ensures sent { OnOk result (Sent (AppliedOrNot (Request.MakeBucket name.now) self.old.store.scene)
+            self.old self.new) }
     {
         let why = self.ask_bucket(name)?;
         making_said(self.alloc, why)

@@ -18,7 +18,8 @@ impl Session {
     /// What stands at a path.
     pub(crate) fn stat(&mut self, path: &S3Path) -> Result<Said, AllocError>
         requires { IsCounted self.old }
-        ensures did { IfOk result (λ what. Did path.now (Stats path.now.key) status_line self.old.store.scene what self.new.store.scene) }
+        ensures did { IfOk result (λ what. Did path.now (Stats path.now.key) status_line self.old.store.scene
+            what self.new.store.scene) }
         ensures looks { OnOk result (has_changed self.new.journal.entries ≡ has_changed self.old.journal.entries) }
         ensures sent { OnOk result (Sent (IsStill self.old.store.scene) self.old self.new) }
     {
@@ -30,7 +31,8 @@ impl Session {
     /// What a directory holds.
     pub(crate) fn ls(&mut self, path: &S3Path) -> Result<Said, AllocError>
         requires { IsCounted self.old }
-        ensures did { IfOk result (λ what. Did path.now (Lists path.now.key) entry_lines self.old.store.scene what self.new.store.scene) }
+        ensures did { IfOk result (λ what. Did path.now (Lists path.now.key) entry_lines self.old.store.scene
+            what self.new.store.scene) }
         ensures looks { OnOk result (has_changed self.new.journal.entries ≡ has_changed self.old.journal.entries) }
         ensures sent { OnOk result (Sent (IsStill self.old.store.scene) self.old self.new) }
     {
@@ -42,7 +44,8 @@ impl Session {
     /// The bytes of a file.
     pub(crate) fn cat(&mut self, path: &S3Path) -> Result<Said, AllocError>
         requires { IsCounted self.old }
-        ensures did { IfOk result (λ what. Did path.now (Reads path.now.key) bytes_alone self.old.store.scene what self.new.store.scene) }
+        ensures did { IfOk result (λ what. Did path.now (Reads path.now.key) bytes_alone self.old.store.scene
+            what self.new.store.scene) }
         ensures looks { OnOk result (has_changed self.new.journal.entries ≡ has_changed self.old.journal.entries) }
         ensures sent { OnOk result (Sent (IsStill self.old.store.scene) self.old self.new) }
     {
@@ -54,8 +57,10 @@ impl Session {
     /// Makes a directory.
     pub(crate) fn mkdir(&mut self, path: &S3Path) -> Result<Said, AllocError>
         requires { IsCounted self.old }
-        ensures did { IfOk result (λ what. Did path.now (Makes path.now.key) nothing self.old.store.scene what self.new.store.scene) }
-        ensures sent { OnOk result (Sent (AlwaysIn path.now.bucket (make.always path.now.key) self.old.store.scene) self.old self.new) }
+        ensures did { IfOk result (λ what. Did path.now (Makes path.now.key) nothing self.old.store.scene
+            what self.new.store.scene) }
+        ensures sent { OnOk result (Sent (AlwaysIn path.now.bucket (make.always path.now.key) self.old.store.scene)
+            self.old self.new) }
     {
         let dirs = MakeDirs::new(self.alloc, path)?;
         let answer = self.perform_at(path, dirs)?;

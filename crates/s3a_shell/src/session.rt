@@ -64,7 +64,8 @@ impl Session {
         ensures asked { OnOk result (Asked
             (SendsIn path.now.bucket (O.asks operation (O.first operation)) (O.sends operation) self.old.store.scene)
             self.old self.new) }
-        ensures sent { OnOk result (Sent (AlwaysIn path.now.bucket (O.always operation) self.old.store.scene) self.old self.new) }
+        ensures sent { OnOk result (Sent (AlwaysIn path.now.bucket (O.always operation) self.old.store.scene)
+            self.old self.new) }
     {
         let bucket = path.bucket().clone()?;
         match perform_in(

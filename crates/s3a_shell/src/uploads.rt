@@ -47,7 +47,8 @@ fn put_line(lines: &mut String, upload: &UploadRef, parts: &[PartSize]) -> Resul
 
 /// Adds the line of an upload whose parts a reply tells.
 fn put_reply(lines: &mut String, upload: &UploadRef, reply: &Reply) -> Result<(), AllocError>
-    ensures { OnOk result (string_bytes lines.new ≡ string_bytes lines.old ++ upload_line upload.now (sizes_in reply.now)) }
+    ensures { OnOk result (string_bytes lines.new ≡ string_bytes lines.old
+        ++ upload_line upload.now (sizes_in reply.now)) }
 {
     match reply {
         Reply::Parts(sizes) => put_line(lines, upload, sizes.as_slice()),
@@ -67,7 +68,8 @@ impl Session {
     /// The live uploads below a path, or None where there is no bucket.
     fn live_uploads(&mut self, path: &S3Path) -> Result<Option<UploadList>, AllocError>
         requires { IsCounted self.old }
-        ensures found { IfOk result (λ found. found ≡ uploads_from self.old.store.scene path.now.bucket (below path.now.key []) None) }
+        ensures found { IfOk result (λ found. found ≡ uploads_from self.old.store.scene path.now.bucket
+            (below path.now.key []) None) }
         ensures same { OnOk result (self.new.store.scene ≡ self.old.store.scene) }
         ensures looks { OnOk result (has_changed self.new.journal.entries ≡ has_changed self.old.journal.entries) }
         ensures sent { OnOk result (Sent (IsStill self.old.store.scene) self.old self.new) }
@@ -150,7 +152,8 @@ impl Session {
         requires { IsCounted self.old }
         ensures scene { OnOk result (self.new.store.scene ≡ apply self.old.store.scene
             (Request.AbortUpload bucket.now upload.now.key upload.now.upload)) }
-        ensures sent { OnOk result (Sent (AppliedOrNot (aborts bucket.now upload.now) self.old.store.scene) self.old self.new) }
+        ensures sent { OnOk result (Sent (AppliedOrNot (aborts bucket.now upload.now) self.old.store.scene)
+            self.old self.new) }
     {
         let request = Request::abort_upload(bucket, &upload.key, upload.upload)?;
         match self.answered(&request) {

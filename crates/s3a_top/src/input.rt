@@ -16,7 +16,8 @@ pub enum InputFault {
 /// Reads the input to its end, or to one byte over the limit.
 pub fn read_input<Q: Source>(alloc: Global, input: &mut Q) -> Result<Vec<u8>, InputFault>
     ensures calm { OnOk result (Q.faults input.new ≡ Q.faults input.old) }
-    ensures failed { IsErrOf result InputFault.Failed → Q.faults input.old < 2 ^ 64 - 1 → Q.faults input.old < Q.faults input.new }
+    ensures failed { IsErrOf result InputFault.Failed → Q.faults input.old < 2 ^ 64 - 1 → Q.faults input.old
+        < Q.faults input.new }
     ensures wanting { IsErrOf result InputFault.NoMemory → Q.faults input.new ≡ Q.faults input.old }
     ensures few { IfOk result (λ bytes. vec_len bytes ≤ MOST_SCRIPT_BYTES + 1) }
     ensures part { TakesPart (Q.left input.old) (Q.left input.new) }

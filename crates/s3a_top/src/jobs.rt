@@ -216,7 +216,8 @@ fn play_new<Q: Source, F: Shelf>(
         asked.entry.command.now Held.Nothing (Q.left input.old) (Q.left input.new) shelf.old shelf.new (code work.due)
         work.journal.entries work.picks work.ends (IsWritten work)) }
     ensures due { IfOk result (λ work. IsWorked work.due) }
-    ensures stop { IfErr result (λ stop. HasCauseIn stop asked.entry.command.now Held.Nothing (Q.left input.old) (Q.left input.new)) }
+    ensures stop { IfErr result (λ stop. HasCauseIn stop asked.entry.command.now Held.Nothing (Q.left input.old)
+        (Q.left input.new)) }
     ensures same { OnErr result (F.held shelf.new ≡ F.held shelf.old) }
     ensures calls { OnErr result (HasFailed F.fails shelf.old shelf.new) }
     ensures leaves { OnErr result (LeavesOnly F.moment F.left_since shelf.old shelf.new
@@ -285,7 +286,8 @@ pub fn job<Q: Source, F: Shelf>(
         asked.entry.command.now held (Q.left input.old) (Q.left input.new) shelf.old shelf.new (code work.due)
         work.journal.entries work.picks work.ends (IsWritten work)) }
     ensures due { IfOk result (λ work. IsWorked work.due) }
-    ensures stop { IfErr result (λ stop. HasCauseIn stop asked.entry.command.now held (Q.left input.old) (Q.left input.new)) }
+    ensures stop { IfErr result (λ stop. HasCauseIn stop asked.entry.command.now held (Q.left input.old)
+        (Q.left input.new)) }
     ensures same { OnErr result (F.held shelf.new ≡ F.held shelf.old) }
     ensures calls { OnErr result (HasFailed F.fails shelf.old shelf.new) }
     ensures leaves { OnErr result (LeavesOnly F.moment F.left_since shelf.old shelf.new

@@ -109,7 +109,8 @@ fn read_bytes<Q: Source>(
     held: &Held,
 ) -> Result<Bytes, Stop>
     requires { Q.faults input.old < 2 ^ 64 - 1 }
-    ensures read { IfOk result (λ bytes. IsInput (reads_input command.now held.now) (Q.left input.old) (Q.left input.new) bytes) }
+    ensures read { IfOk result (λ bytes. IsInput (reads_input command.now held.now) (Q.left input.old)
+        (Q.left input.new) bytes) }
     ensures stop { IfErr result (λ stop. HasReasonIn stop command.now held.now (Q.left input.old) (Q.left input.new)) }
     ensures unread { takes_input command.now ≡ false → input.new ≡ input.old }
     ensures counted { CountsReads result (Q.faults input.old) (Q.faults input.new) }
@@ -140,7 +141,8 @@ pub fn commanded<Q: Source, F: Shelf>(
     ensures over { IfOk result (λ work. StoreOver F.held F.may_leave F.answers F.fails F.moment F.left_since
         asked.entry.command.now held (Q.left input.old) (Q.left input.new) shelf.old shelf.new (code work.due)
         work.journal.entries (IsWritten work)) }
-    ensures stop { IfErr result (λ stop. HasReasonIn stop asked.entry.command.now held (Q.left input.old) (Q.left input.new)) }
+    ensures stop { IfErr result (λ stop. HasReasonIn stop asked.entry.command.now held (Q.left input.old)
+        (Q.left input.new)) }
     ensures same { OnErr result (shelf.new ≡ shelf.old) }
     ensures quiet { IsQuiet result }
     ensures due { IfOk result (λ work. IsWorked work.due) }

@@ -136,7 +136,8 @@ fn worked<Q: Source, F: Shelf>(alloc: Global, words: &[Text], input: &mut Q, she
         shelf.old shelf.new (code result.due) result.journal.entries (IsWritten result)
         ⊎ StoreStopped F.held F.may_leave F.answers F.fails F.moment F.left_since c (Q.left input.old)
         (Q.left input.new) shelf.old shelf.new (code result.due) result.journal.entries (IsWritten result) }
-    ensures picks { (c : words_said.Command) → command_of words.now ≡ Some c → plays c ≡ false → (result.picks ≡ []) × (result.ends ≡ []) }
+    ensures picks { (c : words_said.Command) → command_of words.now ≡ Some c → plays c ≡ false → (result.picks ≡ [])
+        × (result.ends ≡ []) }
     ensures usage { command_of words.now ≡ None
         → NoCommand (code result.due) shelf.old shelf.new result.journal.entries result.picks result.ends
         (IsWritten result) }
@@ -215,7 +216,8 @@ pub fn run<Q: Source, F: Shelf, K: Sink>(
         ⊎ StoreStopped F.held F.may_leave F.answers F.fails F.moment F.left_since c (Q.left input.old)
         (Q.left input.new) shelf.old shelf.new result.due result.journal.entries
         (Writes result.status (K.written out.old) (K.written out.new)) }
-    ensures picks { (c : words_said.Command) → command_of words.now ≡ Some c → plays c ≡ false → (result.picks ≡ []) × (result.ends ≡ []) }
+    ensures picks { (c : words_said.Command) → command_of words.now ≡ Some c → plays c ≡ false → (result.picks ≡ [])
+        × (result.ends ≡ []) }
 
     // Words that are no command.
     ensures usage { command_of words.now ≡ None

@@ -85,7 +85,8 @@ pub trait Shelf {
         ensures replaced { OnOk result (HoldsFresh (held self.old) (held self.new) bytes.now) }
         ensures appends { OnOk result (takes_appends self.new) }
         ensures same { OnErr result (held self.new ≡ held self.old) }
-        ensures any_moment { LeavesOnly moment left_since self.old self.new (λ h. may_leave self.old h ⊎ (h ≡ fresh bytes.now)) }
+        ensures any_moment { LeavesOnly moment left_since self.old self.new (λ h. may_leave self.old h
+            ⊎ (h ≡ fresh bytes.now)) }
         ensures durable { OnOk result (IsDurable (held self.new) (may_leave self.new)) }
         ensures kept { OnErr result ((h : Holding) → may_leave self.new h → may_leave self.old h) }
         ensures failed { OnErr result (Rose (faults self.old) (faults self.new)) }
@@ -103,7 +104,8 @@ pub trait Shelf {
         ensures appends { (IsErrOf result AppendFault.Failed → ⊥) → takes_appends self.new }
         ensures same { IsErrOf result AppendFault.NoMemory → held self.new ≡ held self.old }
         ensures one_of { IsErrOf result AppendFault.Failed → HoldsOneOf (held self.old) (held self.new) change.now }
-        ensures any_moment { LeavesOnly moment left_since self.old self.new (IsBeforeOrAfter (held self.old) change.now) }
+        ensures any_moment { LeavesOnly moment left_since self.old self.new
+            (IsBeforeOrAfter (held self.old) change.now) }
         ensures durable { OnOk result (IsDurable (held self.new) (may_leave self.new)) }
         ensures failed { IsErrOf result AppendFault.Failed → Rose (faults self.old) (faults self.new) }
         ensures answered { (IsErrOf result AppendFault.Failed → ⊥) → answers self.old self.new }

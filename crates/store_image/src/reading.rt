@@ -123,7 +123,8 @@ fn upload_of<'b>(
     bytes: &'b [u8],
 ) -> Result<&'b [u8], ImageFault>
     requires { (i : ℕ) → id ≤ i → fin.get uploads.old i ≡ None }
-    ensures { GivesBy (λ rest. (uploads.new, rest.now)) result (made (fin.insert uploads.old id) (upload_at whole bytes.now)) }
+    ensures { GivesBy (λ rest. (uploads.new, rest.now)) result
+        (made (fin.insert uploads.old id) (upload_at whole bytes.now)) }
 {
     let (key, rest) = key_of(alloc, whole, &None, bytes)?;
     uploads.create(id, key.clone()?)?;
@@ -162,7 +163,8 @@ fn contents_of<'b>(
     whole: u64,
     bytes: &'b [u8],
 ) -> Result<((Objects, Uploads), &'b [u8]), ImageFault>
-    ensures exact { GivesBy (λ x. (record { objects = x.0.0; uploads = x.0.1 }, x.1.now)) result (bucket_at next whole bytes.now) }
+    ensures exact { GivesBy (λ x. (record { objects = x.0.0; uploads = x.0.1 }, x.1.now)) result
+        (bucket_at next whole bytes.now) }
     ensures below { IfOk result (λ x. IsFresh x.0.1 next) }
 {
     let (count, rest) = u64_of(whole, bytes)?;

@@ -68,7 +68,10 @@ impl MemStore {
     pub fn apply(&mut self, request: &Request) -> Result<Reply, AllocError>
         requires { self.old.requests < 2 ^ 62 }
         ensures reply { IfOk result (λ r. r ≡ answer self.old.scene request.now) }
-        ensures ok { OnOk result (self.new ≡ record { scene = apply self.old.scene request.now; requests = self.old.requests + 1 }) }
+        ensures ok { OnOk result (self.new ≡ record {
+          scene = apply self.old.scene request.now;
+          requests = self.old.requests + 1;
+        }) }
         ensures err { OnErr result (self.new ≡ self.old) }
     {
         let reply = answered(&mut self.service, &mut self.cluster, request)?;

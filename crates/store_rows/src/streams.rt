@@ -35,7 +35,8 @@ fn new_stream(alloc: Global, mode: StreamMode, bucket: &Bucket) -> Result<Retryi
 /// Writes all pieces to a stream, and closes it.
 fn fill(stream: &mut BlockStream, pieces: &str) -> Result<(), StreamFault>
     requires { stream.old.closed ≡ false }
-    ensures { OnOk result ((scene : Scene) (repeated : Bool) → IsReady stream.old scene repeated → IsReady stream.new scene repeated) }
+    ensures { OnOk result ((scene : Scene) (repeated : Bool) → IsReady stream.old scene repeated
+        → IsReady stream.new scene repeated) }
 {
     for piece in pieces.split_whitespace() {
         stream.write(piece.as_bytes())?;

@@ -49,7 +49,8 @@ pub trait Holds<O: TaskOperation>: Drop {
         requires keeps { keeps plan.old self.old }
         requires asked { IsSome (O.wants (at plan.old (operation plan.old self.old))) }
         ensures keeps { keeps plan.new self.new }
-        ensures told { at plan.new (operation plan.new self.new) ≡ O.after (at plan.old (operation plan.old self.old)) WornOut };
+        ensures told { at plan.new (operation plan.new self.new) ≡ O.after (at plan.old (operation plan.old self.old))
+            WornOut };
 
     /// Ends it. Takes no memory.
     fn finish(&mut self, end: TaskEnd)

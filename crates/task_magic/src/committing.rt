@@ -135,7 +135,8 @@ impl Committing {
         requires end { self.old.end ≡ None }
         requires listing { self.old.listing ≡ true }
         requires keeps { Keeps plan.now self.old }
-        requires fits { FitsCommit (task_script plan.now) (who_of plan.now) plan.now.known (Looking (keys_on self.old.walk)) reply.now }
+        requires fits { FitsCommit (task_script plan.now) (who_of plan.now) plan.now.known
+            (Looking (keys_on self.old.walk)) reply.now }
         ensures keeps { Keeps plan.now self.new }
         ensures goes { OnOk result (commit_of plan.now self.new ≡ task_commit_hears (task_script plan.now)
             plan.now.minimum (who_of plan.now) (Looking (keys_on self.old.walk)) reply.now false) }
@@ -173,7 +174,8 @@ impl Committing {
         requires listing { self.old.listing ≡ false }
         requires at { Some place ≡ slice_get self.old.places self.old.at }
         requires keeps { Keeps plan.now self.old }
-        requires fits { FitsCommit (task_script plan.now) (who_of plan.now) plan.now.known (commit_of plan.now self.old) reply.now }
+        requires fits { FitsCommit (task_script plan.now) (who_of plan.now) plan.now.known (commit_of plan.now self.old)
+            reply.now }
         ensures keeps { Keeps plan.now self.new }
         ensures goes { OnOk result (commit_of plan.now self.new ≡ task_commit_hears (task_script plan.now)
             plan.now.minimum (who_of plan.now) (commit_of plan.now self.old) reply.now false) }
@@ -191,7 +193,8 @@ impl Committing {
     /// Goes where the reply to its present request leads.
     fn go_on(&mut self, alloc: Global, plan: &TaskPlan, reply: &Reply) -> Result<(), AllocError>
         requires keeps { Keeps plan.now self.old }
-        requires fits { FitsCommit (task_script plan.now) (who_of plan.now) plan.now.known (commit_of plan.now self.old) reply.now }
+        requires fits { FitsCommit (task_script plan.now) (who_of plan.now) plan.now.known (commit_of plan.now self.old)
+            reply.now }
         ensures keeps { Keeps plan.now self.new }
         ensures goes { OnOk result (commit_of plan.now self.new ≡ task_commit_hears (task_script plan.now)
             plan.now.minimum (who_of plan.now) (commit_of plan.now self.old) reply.now false) }

@@ -76,7 +76,8 @@ fn add_place(listed: &mut Listed, place: Option<usize>, key: &Key) -> Result<(),
 pub fn files_of_keys(alloc: Global, plan: &TaskPlan, keys: &[Key]) -> Result<Listed, AllocError>
     ensures places { IfOk result (λ x. are_places (length plan.now.files) x.places ≡ true) }
     ensures records { IfOk result (λ x. AreRecords plan.now x.records x.places) }
-    ensures files { IfOk result (λ x. picked plan.now.files x.places ≡ in_order (task_script plan.now) (who_of plan.now) keys.now) }
+    ensures files { IfOk result (λ x. picked plan.now.files x.places ≡ in_order (task_script plan.now) (who_of plan.now)
+        keys.now) }
     ensures seen { IfOk result (λ x. x.seen.items ≡ seen_in plan.now keys.now) }
 {
     let prefix = prefix(alloc, plan)?;

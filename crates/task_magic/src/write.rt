@@ -40,7 +40,12 @@ impl Writing {
     /// Goes where a step led, and gives what is asked next. Takes no memory.
     fn turn_to(&mut self, turned: Turned) -> Option<Request>
         ensures asked { result ≡ turned.asked }
-        ensures goes { self.new ≡ record { dir = self.old.dir; place = turned.place; stage = turned.stage; end = turned.end } }
+        ensures goes { self.new ≡ record {
+          dir = self.old.dir;
+          place = turned.place;
+          stage = turned.stage;
+          end = turned.end;
+        } }
     {
         let Turned {
             place,
@@ -93,7 +98,12 @@ impl Holds<TheWrite> for Writing {
     }
 
     fn finish(&mut self, end: TaskEnd)
-        ensures { self.new ≡ record { dir = self.old.dir; place = self.old.place; stage = self.old.stage; end = Some end } }
+        ensures { self.new ≡ record {
+          dir = self.old.dir;
+          place = self.old.place;
+          stage = self.old.stage;
+          end = Some end;
+        } }
     {
         put(&mut self.end, Some(end));
     }

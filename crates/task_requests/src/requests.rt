@@ -89,7 +89,8 @@ pub fn pending(
     requires file { IsFile plan.now (path.now, bytes.now) }
     requires tags { are_tags drawn.now.tags ≡ true }
     requires sizes { are_sizes (Some drawn.now.sizes) drawn.now.tags (length bytes.now) ≡ true }
-    ensures { IfOk result (λ p. p ≡ file_record (task_script plan.now) (who_of plan.now) (path.now, bytes.now) drawn.now) }
+    ensures { IfOk result (λ p. p ≡ file_record (task_script plan.now) (who_of plan.now) (path.now, bytes.now)
+        drawn.now) }
 {
     let tags = tags_of(alloc, drawn)?;
     let sizes = sizes_of(alloc, drawn)?;
@@ -130,7 +131,8 @@ pub fn abort_request(bucket: &Bucket, drawn: &DrawnUpload) -> Result<Option<Requ
 /// The beginning of the upload of a file.
 pub fn ask_upload(alloc: Global, plan: &TaskPlan, path: &Text) -> Result<Request, AllocError>
     requires { IsNamed plan.now path.now }
-    ensures { IfOk result (λ r. r ≡ Request.CreateUpload plan.now.job.dest.bucket (below plan.now.job.dest.key path.now)) }
+    ensures { IfOk result (λ r. r ≡ Request.CreateUpload plan.now.job.dest.bucket
+        (below plan.now.job.dest.key path.now)) }
 {
     let key = target(alloc, plan, path)?;
     Request::create_upload(bucket_of(plan), &key)
@@ -239,7 +241,8 @@ pub fn ask_next(
     sent: u64,
 ) -> Result<Request, AllocError>
     requires file { IsFile plan.now (path.now, bytes.now) }
-    requires within { IsBehind (parts_in plan.now (path.now, bytes.now)) plan.now.known.drawn (WriteStage.Sending sent) }
+    requires within { IsBehind (parts_in plan.now (path.now, bytes.now)) plan.now.known.drawn
+        (WriteStage.Sending sent) }
     ensures { IfOk result (λ r. r ≡ asks_behind plan.now (path.now, bytes.now) (WriteStage.Sending sent)) }
 {
     let Some(drawn) = last_drawn(&plan.known) else {

@@ -45,7 +45,8 @@ pub fn temporary(alloc: Global, plan: &TaskPlan) -> Result<Text, AllocError>
 
 /// The put of a set into the attempt's temporary file.
 fn store_request(alloc: Global, plan: &TaskPlan, set: &PendingSet) -> Result<Request, AllocError>
-    ensures { IfOk result (λ request. request ≡ ClusterPut (temporary_path (task_script plan.now) (who_of plan.now)) (text_of set.now)) }
+    ensures { IfOk result (λ request. request ≡ ClusterPut (temporary_path (task_script plan.now) (who_of plan.now))
+        (text_of set.now)) }
 {
     let path = temporary(alloc, plan)?;
     let bytes = set.print(alloc)?;
@@ -92,8 +93,10 @@ pub fn part_request(
     sent: u64,
 ) -> Result<Request, AllocError>
     requires within { place < length plan.now.files }
-    requires behind { IsBehind (parts_in plan.now (get_or plan.now.files place ([], []))) plan.now.known.drawn (write_stages.Sending sent) }
-    ensures { IfOk result (λ request. request ≡ asks_behind plan.now (get_or plan.now.files place ([], [])) (write_stages.Sending sent)) }
+    requires behind { IsBehind (parts_in plan.now (get_or plan.now.files place ([], []))) plan.now.known.drawn
+        (write_stages.Sending sent) }
+    ensures { IfOk result (λ request. request ≡ asks_behind plan.now (get_or plan.now.files place ([], []))
+        (write_stages.Sending sent)) }
 {
     let Some((path, bytes)) = file_at(plan, place) else {
         unreachable!();

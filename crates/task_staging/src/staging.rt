@@ -73,7 +73,8 @@ fn renamed_end(
     reply: &Reply,
     repeated: bool,
 ) -> Result<TaskEnd, AllocError>
-    ensures { IfOk result (λ end. TaskCommitOver end ≡ renamed (task_script plan.now) (who_of plan.now) reply.now repeated) }
+    ensures { IfOk result (λ end. TaskCommitOver end ≡ renamed (task_script plan.now) (who_of plan.now) reply.now
+        repeated) }
 {
     if !is_no_file(reply) || repeated {
         return Ok(TaskEnd::Done);
@@ -85,7 +86,8 @@ fn renamed_end(
 /// The name of the upload of the file at a place, which is gone.
 fn gone_end(alloc: Global, plan: &TaskPlan, place: usize) -> Result<TaskEnd, AllocError>
     requires { place < length plan.now.files }
-    ensures { IfOk result (λ end. end ≡ TaskEnd.Gone (file_key (task_script plan.now) (get_or plan.now.files place ([], [])))) }
+    ensures { IfOk result (λ end. end ≡ TaskEnd.Gone (file_key (task_script plan.now)
+        (get_or plan.now.files place ([], [])))) }
 {
     let Some((path, _)) = file_at(plan, place) else {
         unreachable!();
@@ -328,7 +330,8 @@ impl Staging {
     ) -> Asked
         requires { IsAt plan.old self.old Stage.Renaming }
         ensures keeps { OnOk result (Keeps plan.new self.new) }
-        ensures told { OnOk result (seen plan.new self.new ≡ task_commit_told (seen plan.old self.old) (Got reply.now repeated)) }
+        ensures told { OnOk result (seen plan.new self.new ≡ task_commit_told (seen plan.old self.old)
+            (Got reply.now repeated)) }
         ensures next { IfOk result (λ request. request ≡ task_commit_wants (seen plan.new self.new)) }
         ensures err { OnErr result (plan.new ≡ plan.old) }
     {
@@ -359,7 +362,8 @@ impl Staging {
         requires keeps { Keeps plan.old self.old }
         requires fits { commit_fits (seen plan.old self.old) reply.now repeated }
         ensures keeps { OnOk result (Keeps plan.new self.new) }
-        ensures told { OnOk result (seen plan.new self.new ≡ task_commit_told (seen plan.old self.old) (Got reply.now repeated)) }
+        ensures told { OnOk result (seen plan.new self.new ≡ task_commit_told (seen plan.old self.old)
+            (Got reply.now repeated)) }
         ensures next { IfOk result (λ request. request ≡ task_commit_wants (seen plan.new self.new)) }
         ensures err { OnErr result (plan.new ≡ plan.old) }
     {

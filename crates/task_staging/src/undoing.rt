@@ -28,7 +28,8 @@ pub type AbortTask = TaskMachine<TheAbort, Undoing>;
 
 /// The deletion of the attempt's temporary file.
 fn remove_request(alloc: Global, plan: &TaskPlan) -> Result<Option<Request>, AllocError>
-    ensures { IfOk result (λ request. request ≡ Some (ClusterDelete (temporary_path (task_script plan.now) (who_of plan.now)))) }
+    ensures { IfOk result (λ request. request ≡ Some (ClusterDelete (temporary_path (task_script plan.now)
+        (who_of plan.now)))) }
 {
     let path = temporary(alloc, plan)?;
     match Request::cluster_delete(&path) {
@@ -63,7 +64,8 @@ impl Undoing {
     /// Its present request was answered. Takes no memory.
     fn go_on(&mut self, plan: &TaskPlan, reply: &Reply)
         requires { plan.now.job.committer ≡ Magic → ⊥ }
-        ensures { abort_of plan.now self.new ≡ task_abort_hears (task_script plan.now) (abort_of plan.now self.old) reply.now }
+        ensures { abort_of plan.now self.new ≡ task_abort_hears (task_script plan.now) (abort_of plan.now self.old)
+            reply.now }
     {
         let _ = reply;
         let None = &self.end else {

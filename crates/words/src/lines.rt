@@ -29,7 +29,8 @@ pub fn next_line(text: &str) -> (&str, &str)
 /// behind it, where one stands there.
 pub fn next_field(separator: char, text: &str) -> (&str, Option<&str>)
     requires { separator < 128 }
-    ensures parts { parts_of separator text.now ≡ result.0.now ∷ parts_after separator (option_map (λ r. r.now) result.1) }
+    ensures parts { parts_of separator text.now ≡ result.0.now ∷ parts_after separator
+        (option_map (λ r. r.now) result.1) }
     ensures shorter { IfSome result.1 (λ r. length r.now < length text.now) }
 {
     match text.split_once(separator) {

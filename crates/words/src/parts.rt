@@ -19,7 +19,8 @@ fn part_end(separator: u8, text: &[u8]) -> usize
 /// The first part of a text, which may be empty, and what follows the separator behind it, where one
 /// stands there.
 pub fn next_part(separator: u8, text: &[u8]) -> (&[u8], Option<&[u8]>)
-    ensures parts { parts_of separator text.now ≡ result.0.now ∷ parts_after separator (option_map (λ r. r.now) result.1) }
+    ensures parts { parts_of separator text.now ≡ result.0.now ∷ parts_after separator
+        (option_map (λ r. r.now) result.1) }
     ensures shorter { IfSome result.1 (λ r. length r.now < length text.now) }
 {
     let end = part_end(separator, text);

@@ -22,7 +22,8 @@ pub fn one(rest: Option<&str>) -> Option<&str>
 
 /// The only two words.
 pub fn two(rest: Option<&str>) -> Option<(&str, &str)>
-    ensures { option_map (λ p. (p.0.now, p.1.now)) result ≡ shapes.two (words_after (option_map (λ r. r.now) rest.entry)) }
+    ensures { option_map (λ p. (p.0.now, p.1.now)) result
+        ≡ shapes.two (words_after (option_map (λ r. r.now) rest.entry)) }
 {
     let Some(rest) = rest else {
         return None;
@@ -67,7 +68,8 @@ pub fn two_parts(separator: char, text: &str) -> Option<(&str, &str)>
 
 /// The only word, or that there is none.
 pub fn at_most_one(rest: Option<&str>) -> Option<Option<&str>>
-    ensures { option_map (option_map (λ w. w.now)) result ≡ shapes.at_most_one (words_after (option_map (λ r. r.now) rest.entry)) }
+    ensures { option_map (option_map (λ w. w.now)) result
+        ≡ shapes.at_most_one (words_after (option_map (λ r. r.now) rest.entry)) }
 {
     let Some(rest) = rest else {
         return Some(None);

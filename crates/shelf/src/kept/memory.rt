@@ -64,7 +64,10 @@ fn fresh(alloc: Global, bytes: &[u8]) -> Result<Held, AllocError>
 
 /// Adds a copy of a change.
 fn grow(alloc: Global, held: &mut Held, change: &Request) -> Result<(), AllocError>
-    ensures ok { OnOk result (held.new ≡ record { base = held.old.base; changes = held.old.changes ++ change.now ∷ [] }) }
+    ensures ok { OnOk result (held.new ≡ record {
+      base = held.old.base;
+      changes = held.old.changes ++ change.now ∷ [];
+    }) }
     ensures err { OnErr result (held.new ≡ held.old) }
 {
     let copy = change.copied(alloc)?;
