@@ -1,10 +1,12 @@
-/* Refuses one request for memory, or one call of the system, by its number.
+/* Refuses one request for memory, or one call of the system, or ends the program there, by its number.
 
-   REFUSE is `memory N` or `calls N`: the N-th is refused, and none where N is 0. How many there were is written to the file SEEN. */
+   REFUSE is `memory N`, `calls N` or `kills N`: the N-th is refused, or the program is killed in its place; none where N is 0. How many
+   there were is written to the file SEEN, unless the program was killed. */
 #define _GNU_SOURCE
 #include <dlfcn.h>
 #include <errno.h>
 #include <fcntl.h>
+#include <signal.h>
 #include <stdarg.h>
 #include <stdio.h>
 #include <stdlib.h>
@@ -14,20 +16,20 @@
 extern void *__libc_malloc(size_t);
 extern void *__libc_realloc(void *, size_t);
 
-static int of_memory;
+static int of_memory, kills;
 static long due = -1, seen;
-static const char *which = "";
 
 /* Whether this one is refused; before `begin` and after `end` none is counted. */
-static int refused(int is_memory, const char *name) {
+static int refused(int is_memory) {
     if (due < 0 || is_memory != of_memory || ++seen != due) return 0;
-    which = name;
+    if (kills) raise(SIGKILL);
     return 1;
 }
 
 __attribute__((constructor)) static void begin(void) {
     const char *told = getenv("REFUSE");
     of_memory = told && !strncmp(told, "memory ", 7);
+    kills = told && !strncmp(told, "kills ", 6);
     due = told ? atol(strchr(told, ' ') + 1) : 0;
 }
 
@@ -36,24 +38,24 @@ __attribute__((destructor)) static void end(void) {
     due = -1;
     FILE *file = fopen(getenv("SEEN"), "w");
     if (file) {
-        fprintf(file, "%ld %s", many, which);
+        fprintf(file, "%ld", many);
         fclose(file);
     }
 }
 
 void *malloc(size_t size) {
-    if (refused(1, "malloc")) return errno = ENOMEM, NULL;
+    if (refused(1)) return errno = ENOMEM, NULL;
     return __libc_malloc(size);
 }
 
 void *realloc(void *old, size_t size) {
-    if (refused(1, "realloc")) return errno = ENOMEM, NULL;
+    if (refused(1)) return errno = ENOMEM, NULL;
     return __libc_realloc(old, size);
 }
 
 #define CALL(type, name, takes, gives)                            \
     type name takes {                                             \
-        if (refused(0, #name)) return errno = EIO, -1;            \
+        if (refused(0)) return errno = EIO, -1;                   \
         type(*real) takes = dlsym(RTLD_NEXT, #name);              \
         return real gives;                                        \
     }
@@ -74,7 +76,7 @@ int open(const char *path, int flags, ...) {
     va_start(more, flags);
     mode_t mode = va_arg(more, mode_t);
     va_end(more);
-    if (refused(0, "open")) return errno = EIO, -1;
+    if (refused(0)) return errno = EIO, -1;
     int (*real)(const char *, int, ...) = dlsym(RTLD_NEXT, "open");
     return real(path, flags, mode);
 }
