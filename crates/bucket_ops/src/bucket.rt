@@ -5,7 +5,7 @@ ghost use Rattle.operations.specs.declared.plan.Step.{Step};
 ghost use Rattle.operations.specs.Courses.{once, reached, unlost};
 ghost use Rattle.operations.specs.CourseLaws.{calm_of};
 ghost use Rattle.operations.specs.PlanLaws.{course_of};
-ghost use Rattle.operations.specs.Performed.{Performed};
+ghost use Rattle.operations.specs.Performed.{Performed, seen};
 ghost use Rattle.bucket_ops.specs.Asks.{Ask, request_of};
 ghost use Rattle.bucket_ops.specs.Phases.{IsPhases, MayAsk, request, led, Holds, Gives, Always, GivesIn, AlwaysIn, SendsIn, Sends, left_in, Starts};
 ghost use Rattle.bucket_ops.specs.PhaseLaws.{in_bucket, asked_in};
@@ -150,9 +150,9 @@ pub fn perform_in<O: Phases, S: ObjectStore>(
     ensures given { IfOk result (λ answer. GivesIn bucket (O.gives names) O.absent (S.scene store.old) answer
         (S.scene store.new)) }
     ensures performed { Performed actor event retries (AlwaysIn bucket (O.always names) (S.scene store.old))
-        (SendsIn bucket (O.asks names (O.first names)) (O.sends names) (S.scene store.old)) (S.scene store.old)
-        (S.scene store.new) journal.old.entries journal.new.entries (S.requests store.old) (S.requests store.new)
-        (S.losses store.old) (S.losses store.new) (S.foretold store.old) (S.foretold store.new) result }
+        (SendsIn bucket (O.asks names (O.first names)) (O.sends names) (S.scene store.old))
+        (seen S.scene S.requests S.losses S.foretold store.old journal.old.entries)
+        (seen S.scene S.requests S.losses S.foretold store.new journal.new.entries) result }
     ensures fault { IsErrOf result DriveStop.StoreFault → S.losses store.old < S.losses store.new }
 {
     let stage = names.start();

@@ -2,7 +2,7 @@ ghost use Rattle.std.specs.Prelude.{◌≡◌, ◌<◌, ◌≤◌, length, None,
 ghost use Rattle.operations.specs.Courses.{once, reached, unlost};
 ghost use Rattle.operations.specs.CourseLaws.{calm_of};
 ghost use Rattle.operations.specs.PlanLaws.{course_of};
-ghost use Rattle.operations.specs.Performed.{Performed};
+ghost use Rattle.operations.specs.Performed.{Performed, seen};
 ghost use Rattle.bucket_walks.specs.Uploads.{uploads_from, IsStill, asks, refused, goes, Begins, IsListing, Gives, IsSame, IsPageOf, Pages, left};
 ghost use Rattle.bucket_walks.specs.UploadLaws.{uploads_plan, uploads_asked};
 
@@ -100,9 +100,8 @@ pub fn list_uploads<S: ObjectStore>(
     ensures same { S.scene store.new ≡ S.scene store.old }
     ensures fault { IsErrOf result DriveStop.StoreFault → S.losses store.old < S.losses store.new }
     ensures performed { Performed actor event retries (IsStill (S.scene store.old)) (IsPageOf bucket prefix)
-        (S.scene store.old) (S.scene store.new) journal.old.entries journal.new.entries (S.requests store.old)
-        (S.requests store.new) (S.losses store.old) (S.losses store.new) (S.foretold store.old) (S.foretold store.new)
-        result }
+        (seen S.scene S.requests S.losses S.foretold store.old journal.old.entries)
+        (seen S.scene S.requests S.losses S.foretold store.new journal.new.entries) result }
 {
     let below = UploadsBelow {
         bucket,

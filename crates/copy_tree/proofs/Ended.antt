@@ -1,11 +1,9 @@
 -- What the copy of a tree has done.
-use Rattle.std.proofs.Common.{◌≡◌, ℕ, List, Option, Result, Err, IfOk, subst}
+use Rattle.std.proofs.Common.{◌≡◌, ℕ, List, Result, Err, IfOk, subst}
 use Rattle.s3_types.specs.Store.{Scene}
-use Rattle.s3_types.specs.declared.fates.Fate.{Fate}
 use Rattle.s3_types.specs.declared.request.Actor.{Actor}
-use Rattle.s3_types.specs.declared.journal.Entry.{Entry}
 use Rattle.machine.specs.declared.driving.DriveStop.{DriveStop}
-use Rattle.operations.specs.Performed.{Performed}
+use Rattle.operations.specs.Performed.{Seen, Performed}
 use Rattle.bucket_ops.specs.Phases.{AlwaysIn, SendsIn}
 use Rattle.fs_tree.specs.declared.copy.CopyRefusal.TheVariants.{OtherBucket, NoSuchBucket}
 use Rattle.fs_moves.specs.Between.{Route, GivesBetween}
@@ -21,8 +19,8 @@ pub given_in : {E : Type 0} (b : List ℕ) (o : CopyPaths) (c : List ℕ) (r : R
     → IfOk result (λ a. GivesBetween b c (gives o) (Err NoSuchBucket) (Err OtherBucket) z a s) → IfOk result (λ a. CopiesIn r z a s)
 given_in b o c r z s result e h = subst (λ (r : Route). IfOk result (λ a. CopiesIn r z a s)) e h
 
-module _ {A : Type 0} {actor : Actor} {event retries : ℕ} {z s : Scene} {old new : List Entry} {first requests before now : ℕ} {told tells : ℕ → Option Fate} {result : Result A DriveStop} where
+module _ {A : Type 0} {actor : Actor} {event retries : ℕ} {old new : Seen} {result : Result A DriveStop} where
   pub performed_in : (b : List ℕ) (o : CopyPaths) (c : List ℕ) (r : Route) → kept b o c ≡ r
-      → Performed actor event retries (AlwaysIn b (always o) z) (SendsIn b (asks o (first_stage o)) (sends o) z) z s old new first requests before now told tells result
-      → Performed actor event retries (StandsCopied r z) (CopySends r z) z s old new first requests before now told tells result
-  performed_in b o c r e h = subst (λ (r : Route). Performed actor event retries (StandsCopied r z) (CopySends r z) z s old new first requests before now told tells result) e h
+      → Performed actor event retries (AlwaysIn b (always o) old.scene) (SendsIn b (asks o (first_stage o)) (sends o) old.scene) old new result
+      → Performed actor event retries (StandsCopied r old.scene) (CopySends r old.scene) old new result
+  performed_in b o c r e h = subst (λ (r : Route). Performed actor event retries (StandsCopied r old.scene) (CopySends r old.scene) old new result) e h

@@ -1,5 +1,5 @@
 ghost use Rattle.std.specs.Prelude.{◌≡◌, ℕ, ◌<◌, ◌≤◌, length, IfOk, IsErrOf};
-ghost use Rattle.operations.specs.Performed.{Performed};
+ghost use Rattle.operations.specs.Performed.{Performed, seen};
 ghost use Rattle.copy_tree.specs.Public.{CopiesIn, StandsCopied, CopySends};
 
 use crate::names::CopyNames;
@@ -85,10 +85,11 @@ impl CopyTree {
         requires counted { S.requests store.old ≤ length journal.old.entries }
         ensures copies { IfOk result (λ answer. CopiesIn self (S.scene store.old) answer (S.scene store.new)) }
         ensures performed { Performed actor event retries (StandsCopied self (S.scene store.old))
-            (CopySends self (S.scene store.old)) (S.scene store.old) (S.scene store.new) journal.old.entries
-            journal.new.entries (S.requests store.old) (S.requests store.new) (S.losses store.old) (S.losses store.new)
-            (S.foretold store.old) (S.foretold store.new) result }
+            (CopySends self (S.scene store.old))
+            (seen S.scene S.requests S.losses S.foretold store.old journal.old.entries)
+            (seen S.scene S.requests S.losses S.foretold store.new journal.new.entries) result }
         ensures fault { IsErrOf result DriveStop.StoreFault → S.losses store.old < S.losses store.new }
+        ensures unsent { (self.bucket ≡ self.to_bucket → ⊥) → journal.new.entries ≡ journal.old.entries }
     {
         let CopyTree {
             bucket,

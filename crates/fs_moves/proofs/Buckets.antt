@@ -6,13 +6,12 @@ use Rattle.std.proofs.lemmas.List.{append-nil}
 use Rattle.proof_base.specs.Order.{text_eq}
 use Rattle.s3_types.specs.Store.{Objects, Scene}
 use Rattle.s3_types.specs.Moment.{after_all}
-use Rattle.s3_types.specs.declared.fates.Fate.{Fate}
 use Rattle.s3_types.specs.declared.request.Actor.{Actor}
 use Rattle.s3_types.specs.declared.request.Request.{Request}
 use Rattle.s3_types.specs.declared.journal.Entry.{Entry}
 use Rattle.machine.specs.Tries.{HasUnanswered}
 use Rattle.request_frame.proofs.Members.{none_some, text_is, text_true}
-use Rattle.operations.specs.Performed.{Performed}
+use Rattle.operations.specs.Performed.{Seen, Performed}
 use Rattle.bucket_ops.specs.Asks.{objects_at}
 use Rattle.bucket_ops.specs.AskLaws.{with_same}
 use Rattle.bucket_ops.specs.Phases.{InScene, GivesIn, AlwaysIn}
@@ -61,16 +60,16 @@ none_unanswered many some h =
     let c = length-append h.these h.behind in
     omega (arith, a, b, c, h.count, some)
 
-pub performed_none : {A : Type 0} {actor : Actor} {event retries : ℕ} {z : Scene} {old : List Entry} {first before : ℕ} {told : ℕ → Option Fate} {x : A}
+pub performed_none : {A : Type 0} {actor : Actor} {event retries : ℕ} {old : Seen} {x : A}
     → (b : List ℕ) (always : Objects → Objects → Type 0) (sends : Request → Type 0) → ((m : Objects) → always m m)
-    → Performed actor event retries (AlwaysIn b always z) sends z z old old first first before before told told (Ok x)
-performed_none {retries = retries} {z = z} {old = old} b always sends same = record {
+    → Performed actor event retries (AlwaysIn b always old.scene) sends old old (Ok x)
+performed_none {retries = retries} {old = old} b always sends same = record {
   part = [];
-  appended = sym (append-nil old);
+  appended = sym (append-nil old.entries);
   by = tt;
   honest = tt;
   scene = refl;
-  moments = λ m. subst (AlwaysIn b always z) (sym (none_taken z m)) (still_in b always z same);
+  moments = λ m. subst (AlwaysIn b always old.scene) (sym (none_taken old.scene m)) (still_in b always old.scene same);
   sent = tt;
   tried = record { tries = []; rest = []; entries = refl; each = tt; broken_off = tt; told = (refl, refl); fault = λ e h. none_unanswered (retries + 1) (omega arith) h };
   literal = λ r w. get_none (w.0 + 0) (w.1 0 (omega arith));

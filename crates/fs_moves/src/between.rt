@@ -1,5 +1,5 @@
 ghost use Rattle.std.specs.Prelude.{◌≡◌, ℕ, ◌<◌, ◌≤◌, length, IfOk, IsErrOf};
-ghost use Rattle.operations.specs.Performed.{Performed};
+ghost use Rattle.operations.specs.Performed.{Performed, seen};
 ghost use Rattle.bucket_ops.specs.Phases.{AlwaysIn, SendsIn};
 ghost use Rattle.fs_moves.specs.Between.{GivesBetween};
 
@@ -26,10 +26,11 @@ pub fn perform_between<O: Phases, S: ObjectStore>(
     ensures given { IfOk result (λ answer. GivesBetween bucket to_bucket (O.gives names) O.absent refused
         (S.scene store.old) answer (S.scene store.new)) }
     ensures performed { Performed actor event retries (AlwaysIn bucket (O.always names) (S.scene store.old))
-        (SendsIn bucket (O.asks names (O.first names)) (O.sends names) (S.scene store.old)) (S.scene store.old)
-        (S.scene store.new) journal.old.entries journal.new.entries (S.requests store.old) (S.requests store.new)
-        (S.losses store.old) (S.losses store.new) (S.foretold store.old) (S.foretold store.new) result }
+        (SendsIn bucket (O.asks names (O.first names)) (O.sends names) (S.scene store.old))
+        (seen S.scene S.requests S.losses S.foretold store.old journal.old.entries)
+        (seen S.scene S.requests S.losses S.foretold store.new journal.new.entries) result }
     ensures fault { IsErrOf result DriveStop.StoreFault → S.losses store.old < S.losses store.new }
+    ensures unsent { (bucket ≡ to_bucket → ⊥) → journal.new.entries ≡ journal.old.entries }
 {
     if bucket != to_bucket {
         let_go(bucket);

@@ -1,12 +1,10 @@
 -- What the renaming of a path has done.
-use Rattle.std.proofs.Common.{◌≡◌, ℕ, true, List, take, Option, Result, Ok, Err, IfOk, subst}
+use Rattle.std.proofs.Common.{◌≡◌, ℕ, true, List, take, Result, Ok, Err, IfOk, subst}
 use Rattle.s3_types.specs.Store.{Scene}
 use Rattle.s3_types.specs.Moment.{after_all}
-use Rattle.s3_types.specs.declared.fates.Fate.{Fate}
 use Rattle.s3_types.specs.declared.request.Actor.{Actor}
-use Rattle.s3_types.specs.declared.journal.Entry.{Entry}
 use Rattle.machine.specs.declared.driving.DriveStop.{DriveStop}
-use Rattle.operations.specs.Performed.{Performed}
+use Rattle.operations.specs.Performed.{Seen, Performed}
 use Rattle.path_keys.specs.Paths.{is_key}
 use Rattle.bucket_ops.specs.Phases.{AlwaysIn, SendsIn}
 use Rattle.fs_tree.specs.declared.rename.RenameRefusal.TheVariants.{OtherBucket, NoSuchBucket}
@@ -27,19 +25,19 @@ given_in b o c r z s (Ok a) e k h =
     (record { one = λ f. renames_in b o z a s k.0 k.1 (h.one f); other = h.other })
 given_in b o c r z s (Err x) e k h = tt
 
-module _ {A : Type 0} {actor : Actor} {event retries : ℕ} {z s : Scene} {old new : List Entry} {first requests before now : ℕ} {told tells : ℕ → Option Fate} {result : Result A DriveStop} where
+module _ {A : Type 0} {actor : Actor} {event retries : ℕ} {old new : Seen} {result : Result A DriveStop} where
   pub performed_in : (b : List ℕ) (o : Renaming) (c : List ℕ) (r : Route) → kept b o c ≡ r → is_key o.source ≡ true
-      → Performed actor event retries (AlwaysIn b (always o) z) (SendsIn b (asks o (first_stage o)) (sends o) z) z s old new first requests before now told tells result
-      → Performed actor event retries (StandsWhole r z) (RenameSends r z) z s old new first requests before now told tells result
+      → Performed actor event retries (AlwaysIn b (always o) old.scene) (SendsIn b (asks o (first_stage o)) (sends o) old.scene) old new result
+      → Performed actor event retries (StandsWhole r old.scene) (RenameSends r old.scene) old new result
   performed_in b o c r e k h =
-      subst (λ (r : Route). Performed actor event retries (StandsWhole r z) (RenameSends r z) z s old new first requests before now told tells result) e
+      subst (λ (r : Route). Performed actor event retries (StandsWhole r old.scene) (RenameSends r old.scene) old new result) e
       (record {
         part = h.part;
         appended = h.appended;
         by = h.by;
         honest = h.honest;
         scene = h.scene;
-        moments = λ m. whole_in b o z (after_all z (take m h.part)) k (h.moments m);
+        moments = λ m. whole_in b o old.scene (after_all old.scene (take m h.part)) k (h.moments m);
         sent = h.sent;
         tried = h.tried;
         literal = h.literal;

@@ -1,5 +1,5 @@
 ghost use Rattle.std.specs.Prelude.{◌≡◌, ℕ, ◌<◌, ◌≤◌, length, IfOk, IsErrOf};
-ghost use Rattle.operations.specs.Performed.{Performed};
+ghost use Rattle.operations.specs.Performed.{Performed, seen};
 ghost use Rattle.fs_rename.specs.Public.{RenamesIn, StandsWhole, RenameSends};
 
 use crate::names::RenameNames;
@@ -89,10 +89,11 @@ impl Rename {
         requires counted { S.requests store.old ≤ length journal.old.entries }
         ensures renames { IfOk result (λ answer. RenamesIn self (S.scene store.old) answer (S.scene store.new)) }
         ensures performed { Performed actor event retries (StandsWhole self (S.scene store.old))
-            (RenameSends self (S.scene store.old)) (S.scene store.old) (S.scene store.new) journal.old.entries
-            journal.new.entries (S.requests store.old) (S.requests store.new) (S.losses store.old) (S.losses store.new)
-            (S.foretold store.old) (S.foretold store.new) result }
+            (RenameSends self (S.scene store.old))
+            (seen S.scene S.requests S.losses S.foretold store.old journal.old.entries)
+            (seen S.scene S.requests S.losses S.foretold store.new journal.new.entries) result }
         ensures fault { IsErrOf result DriveStop.StoreFault → S.losses store.old < S.losses store.new }
+        ensures unsent { (self.bucket ≡ self.to_bucket → ⊥) → journal.new.entries ≡ journal.old.entries }
     {
         let Rename {
             bucket,

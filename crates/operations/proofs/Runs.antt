@@ -34,7 +34,11 @@ use Rattle.operations.specs.declared.operation.Stage.TheVariants.{On, Over, Stor
 use Rattle.operations.specs.Operations.{wanted, led, got, after, Kept, IsReady}
 use Rattle.operations.specs.Courses.{IsCourse, MaySend, IsCalm}
 use Rattle.operations.specs.CourseLaws.{keeps, at_any}
-use Rattle.operations.specs.Performed.{Performed}
+use Rattle.operations.specs.Performed.{Seen, Performed}
+
+-- a store of this scene, requests, losses and fates beside these entries
+abbrev at : Scene → ℕ → ℕ → (ℕ → Option Fate) → List Entry → Seen
+at scene requests losses foretold entries = record { scene = scene; requests = requests; losses = losses; foretold = foretold; entries = entries }
 
 take_none : (m : ℕ) → ◌≡◌ {A = List Entry} (take m []) []
 take_none zero = refl
@@ -134,7 +138,7 @@ module _ {P A : Type 0} {starts : P → Type 0} {asks : P → Request} {goes : P
 
   pub performed : {U : Type 0} (sends : P → Scene → Request → Type 0) (may : MaySend asks holds sends) (result : Result U DriveStop) (actor : Actor) (event retries : ℕ) (t : Retrying (Stage P A)) (s : Scene) (old new part : List Entry) (first requests before now : ℕ) (told tells : ℕ → Option Fate) → t.machine ≡ On o → t.repeated ≡ false → starts o
       → IsRun (wanted asks) (after goes) actor event t z part s → new ≡ old ++ part → AreForetold told (first + 1) part → Tried retries retries part result → IsFaultBy retries part result → Counted old new first requests before now told tells
-      → Performed actor event retries (always o z) (sends o z) z s old new first requests before now told tells result
+      → Performed actor event retries (always o z) (sends o z) (at z first before told old) (at s requests now tells new) result
   performed sends may result actor event retries t s old new part first requests before now told tells e q h r a f d l n = record {
     part = part;
     appended = a;
@@ -156,7 +160,7 @@ module _ {P A : Type 0} {starts : P → Type 0} {asks : P → Request} {goes : P
       (subst (λ m. Kept (holds o z) (gives o z) (always o z) m (after_all z part) (Led t part).repeated) (sym (ap (λ (t : Retried (Stage P A)). t.operation) there) ∙ over)
       (kept_all t e q h part f honest))
 
-  pub nothing_done : {U : Type 0} (sends : Request → Type 0) (actor : Actor) (event retries : ℕ) (es : List Entry) (first before : ℕ) (told : ℕ → Option Fate) → starts o → Performed {A = U} actor event retries (always o z) sends z z es es first first before before told told (Err NoRoom)
+  pub nothing_done : {U : Type 0} (sends : Request → Type 0) (actor : Actor) (event retries : ℕ) (es : List Entry) (first before : ℕ) (told : ℕ → Option Fate) → starts o → Performed {A = U} actor event retries (always o z) sends (at z first before told es) (at z first before told es) (Err NoRoom)
   nothing_done sends actor event retries es first before told h = record {
     part = [];
     appended = sym (append-nil es);
@@ -217,8 +221,8 @@ module _ {P A : Type 0} {starts : P → Type 0} {asks : P → Request} {goes : P
       (calm_all t.retries (retried t) z all q f honest each first))
 
 -- what is so always is so at the end
-pub always_after : {A : Type 0} {actor : Actor} {event retries : ℕ} {always : Scene → Type 0} {sends : Request → Type 0} {z s : Scene} {old new : List Entry} {first requests before now : ℕ} {told tells : ℕ → Option Fate} {result : Result A DriveStop}
-    → Performed actor event retries always sends z s old new first requests before now told tells result → always s
-always_after {always = always} {z = z} p =
+pub always_after : {A : Type 0} {actor : Actor} {event retries : ℕ} {always : Scene → Type 0} {sends : Request → Type 0} {old new : Seen} {result : Result A DriveStop}
+    → Performed actor event retries always sends old new result → always new.scene
+always_after {always = always} {old = old} p =
     let all : take (length p.part) p.part ≡ p.part = take_all (length p.part) p.part (omega arith) in
-    subst always (ap (after_all z) all ∙ sym p.scene) (p.moments (length p.part))
+    subst always (ap (after_all old.scene) all ∙ sym p.scene) (p.moments (length p.part))

@@ -13,21 +13,33 @@ use Rattle.machine.specs.Turns.{AreBy}
 use Rattle.machine.specs.Tries.{Tried, IsFaultBy}
 use Rattle.machine.specs.declared.driving.DriveStop.{DriveStop}
 
--- a journal gained entries of this actor and event, which lead from the scene z to s
-pub record Performed {A : Type 0} (actor : Actor) (event retries : ℕ) (always : Scene → Type 0) (sends : Request → Type 0) (z s : Scene) (old new : List Entry) (first requests before now : ℕ) (told tells : ℕ → Option Fate) (result : Result A DriveStop) : Type 0 where
+-- a store and the journal beside it
+pub record Seen : Type 0 where
+  pub scene : Scene
+  pub requests : ℕ
+  pub losses : ℕ
+  pub foretold : ℕ → Option Fate
+  pub entries : List Entry
+
+-- as what a kind of store shows of one has it
+abbrev pub seen : {S : Type 0} → (S → Scene) → (S → ℕ) → (S → ℕ) → (S → ℕ → Option Fate) → S → List Entry → Seen
+seen scene requests losses foretold store entries = record { scene = scene store; requests = requests store; losses = losses store; foretold = foretold store; entries = entries }
+
+-- a journal gained entries of this actor and event, which lead from one scene to the other
+pub record Performed {A : Type 0} (actor : Actor) (event retries : ℕ) (always : Scene → Type 0) (sends : Request → Type 0) (old new : Seen) (result : Result A DriveStop) : Type 0 where
   pub part : List Entry
-  pub appended : new ≡ old ++ part
+  pub appended : new.entries ≡ old.entries ++ part
   pub by : AreBy actor event part
   -- each answer is the one that was due
-  pub honest : AreHonest z part
-  pub scene : s ≡ after_all z part
+  pub honest : AreHonest old.scene part
+  pub scene : new.scene ≡ after_all old.scene part
   -- this was so before the first of them and after each
-  pub moments : (m : ℕ) → always (after_all z (take m part))
+  pub moments : (m : ℕ) → always (after_all old.scene (take m part))
   -- each request is one that may be sent
   pub sent : AllByRecursion (λ e. sends e.request) part
   -- each request is sent at most `retries + 1` times, and StoreFault comes exactly where one wore out
   pub tried : Tried retries retries part result
   -- and where one wore out by the entries alone
   pub literal : IsFaultBy retries part result
-  pub foretold : AreForetold told (first + 1) part
-  pub counts : Counted old new first requests before now told tells
+  pub foretold : AreForetold old.foretold (old.requests + 1) part
+  pub counts : Counted old.entries new.entries old.requests new.requests old.losses new.losses old.foretold new.foretold

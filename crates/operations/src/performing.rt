@@ -1,7 +1,7 @@
 ghost use Rattle.std.specs.Prelude.{◌≡◌, ◌<◌, ◌≤◌, List, ◌++◌, length, IfOk, OnOk, IsErrOf, Ok, Err};
 ghost use Rattle.s3_types.specs.declared.journal.Entry.{Entry};
 ghost use Rattle.machine.specs.Counted.{AreAnswered};
-ghost use Rattle.operations.specs.Performed.{Performed};
+ghost use Rattle.operations.specs.Performed.{Performed, seen};
 
 use crate::operation::{Operation, Stage};
 use crate::plan::Plan;
@@ -45,9 +45,8 @@ pub fn perform<P: Plan, S: ObjectStore>(
     ensures answered { IfOk result (λ answer. (part : List Entry) → journal.new.entries ≡ journal.old.entries ++ part
         → AreAnswered part → P.leaves plan (S.scene store.old) answer (S.scene store.new)) }
     ensures performed { Performed actor event retries (P.always plan (S.scene store.old))
-        (P.sends plan (S.scene store.old)) (S.scene store.old) (S.scene store.new) journal.old.entries
-        journal.new.entries (S.requests store.old) (S.requests store.new) (S.losses store.old) (S.losses store.new)
-        (S.foretold store.old) (S.foretold store.new) result }
+        (P.sends plan (S.scene store.old)) (seen S.scene S.requests S.losses S.foretold store.old journal.old.entries)
+        (seen S.scene S.requests S.losses S.foretold store.new journal.new.entries) result }
     ensures fault { IsErrOf result DriveStop.StoreFault → S.losses store.old < S.losses store.new }
 {
     let operation = match Operation::new(plan) {

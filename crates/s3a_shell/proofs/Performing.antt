@@ -18,7 +18,7 @@ use Rattle.path_keys.specs.Paths.{Path, is_key}
 use Rattle.bucket_walks.specs.Uploads.{IsStill}
 use Rattle.machine.specs.Counted.{AreAnswered}
 use Rattle.machine.specs.declared.driving.DriveStop.{DriveStop}
-use Rattle.operations.specs.Performed.{Performed}
+use Rattle.operations.specs.Performed.{Seen, Performed}
 use Rattle.bucket_ops.specs.Phases.{InScene, GivesIn, AlwaysIn}
 use Rattle.bucket_ops.specs.Asks.{objects_at, with_objects}
 use Rattle.bucket_ops.specs.AskLaws.{with_same}
@@ -50,8 +50,12 @@ pub answered : (n : ℕ) (es : List Entry) → AreForetold (λ m. Some Answer) n
 answered n [] h = tt
 answered n (e ∷ es) h = (one e.outcome h.0, answered (n + 1) es h.1)
 
+-- a session's store answers every request
+abbrev pub of_session : Session → Seen
+of_session a = record { scene = a.store.scene; requests = a.store.requests; losses = 0; foretold = λ n. Some Answer; entries = a.journal.entries }
+
 pub sent : {A : Type 0} (always : Scene → Type 0) (sends : Request → Type 0) (a b : Session) (result : Result A DriveStop) → IsCounted a
-    → Performed Shell 0 0 always sends a.store.scene b.store.scene a.journal.entries b.journal.entries a.store.requests b.store.requests 0 0 (λ n. Some Answer) (λ n. Some Answer) result → Sent always a b
+    → Performed Shell 0 0 always sends (of_session a) (of_session b) result → Sent always a b
 sent always sends a b result counted h = record {
   sends = record {
     part = h.part;
@@ -66,7 +70,7 @@ sent always sends a b result counted h = record {
 }
 
 pub asked : {A : Type 0} (always : Scene → Type 0) (sends : Request → Type 0) (a b : Session) (result : Result A DriveStop)
-    → Performed Shell 0 0 always sends a.store.scene b.store.scene a.journal.entries b.journal.entries a.store.requests b.store.requests 0 0 (λ n. Some Answer) (λ n. Some Answer) result → Asked sends a b
+    → Performed Shell 0 0 always sends (of_session a) (of_session b) result → Asked sends a b
 asked always sends a b result h = record { part = h.part; appended = h.appended; each = h.sent }
 
 -- nothing changed at any moment of an operation that only reads
