@@ -2,6 +2,7 @@
 //! in memory that keeps no log. `plain SEED TASKS FILES` prints the same line. It takes no failure into account.
 
 mod attempt;
+mod disk;
 mod json;
 mod md5;
 mod store;
@@ -89,10 +90,13 @@ impl World {
 pub const DEST: &str = "gen";
 
 fn main() {
-    let words: Vec<u64> = std::env::args()
-        .skip(1)
-        .map(|it| it.parse().unwrap())
-        .collect();
+    let words: Vec<String> = std::env::args().skip(1).collect();
+    if let [command, from, to] = &words[..] {
+        if command == "disk" {
+            return disk::copy_log(from, to).unwrap();
+        }
+    }
+    let words: Vec<u64> = words.iter().map(|it| it.parse().unwrap()).collect();
     let (seed, tasks, files) = (words[0], words[1], words[2]);
     let mut numbers = Numbers::new(seed);
     let mut attempts = Vec::new();

@@ -75,7 +75,7 @@ fn read_whole<F: Read>(alloc: Global, file: &mut F, length: u64) -> Result<Vec<u
     Err(DiskFault::Failed)
 }
 
-/// Writes a file whole, in three pieces, and syncs it.
+/// Writes a file whole, in three pieces, and syncs its bytes and its length.
 fn write_whole<R: Files>(
     rt: &R,
     path: &str,
@@ -88,7 +88,7 @@ fn write_whole<R: Files>(
     file.write_all(body)?;
     file.write_all(tail)?;
     file.flush()?;
-    file.sync_all()?;
+    file.sync_data()?;
     Ok(file)
 }
 
@@ -105,10 +105,16 @@ fn write_from<F: Write + Seek>(file: &mut F, place: u64, bytes: &[u8]) -> io::Re
     file.flush()
 }
 
-/// Syncs a file or a folder, by its path.
-fn sync_path<R: Files>(rt: &R, path: &str) -> io::Result<()> {
+/// Syncs a folder, by its path: the names in it last.
+fn sync_names<R: Files>(rt: &R, path: &str) -> io::Result<()> {
+    let folder = fs::open(rt, path)?;
+    folder.sync_all()
+}
+
+/// Syncs a file, by its path: its bytes and its length last, and none of its times.
+fn sync_bytes<R: Files>(rt: &R, path: &str) -> io::Result<()> {
     let file = fs::open(rt, path)?;
-    file.sync_all()
+    file.sync_data()
 }
 
 impl<R: Files + Drop> FileDisk<R>
@@ -221,7 +227,7 @@ where
         if self.is_named {
             return Ok(());
         }
-        let synced = sync_path(&self.rt, self.folder.as_str());
+        let synced = sync_names(&self.rt, self.folder.as_str());
         if is_missing(&synced) {
             return Ok(());
         }
@@ -245,9 +251,9 @@ where
     /// Syncs the file, where there is one.
     fn sync_file(&self) -> io::Result<()> {
         if let Some(file) = &self.file {
-            return file.sync_all();
+            return file.sync_data();
         }
-        let synced = sync_path(&self.rt, self.image.as_str());
+        let synced = sync_bytes(&self.rt, self.image.as_str());
         if is_missing(&synced) {
             return Ok(());
         }

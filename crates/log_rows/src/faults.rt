@@ -107,20 +107,20 @@ impl<'r, F: OpenFile + Drop> OpenFile for FaultyFile<'r, F> {
         Err(failed())
     }
 
+    /// Of a folder alone: its names last.
     fn sync_all(&self) -> io::Result<()> {
-        let stops = if self.is_folder {
-            Fault::FolderSync
-        } else {
-            Fault::Sync
-        };
-        if self.fault.get() == stops {
+        if !self.is_folder || self.fault.get() == Fault::FolderSync {
             return Err(failed());
         }
         self.file.sync_all()
     }
 
+    /// Of a file alone: its bytes and its length last.
     fn sync_data(&self) -> io::Result<()> {
-        Err(failed())
+        if self.is_folder || self.fault.get() == Fault::Sync {
+            return Err(failed());
+        }
+        self.file.sync_data()
     }
 }
 
