@@ -1,5 +1,6 @@
 -- What an operation owes beside the contracts of its calls.
 use Rattle.std.specs.Prelude.{◌≡◌, Bool, Option, Some, None}
+use Rattle.s3_types.specs.Store.{Scene}
 use Rattle.s3_types.specs.declared.request.Request.{Request}
 use Rattle.s3_types.specs.declared.reply.Reply.{Reply}
 use Rattle.sendings.specs.Retries.{Item, Got, WornOut, OutOfMemory}
@@ -12,3 +13,7 @@ pub record AskLaws {O : Type 0} (wants : O → Option Request) (after : O → It
   -- it is faulted exactly where a request of it wore out
   pub faults : (o : O) (r : Request) → wants o ≡ Some r → standing (after o WornOut) ≡ Faulted
   pub goes_on : (o : O) (r : Request) (a : Reply) (b : Bool) → wants o ≡ Some r → fits o a b → standing (after o (Got a b)) ≡ standing o
+
+-- it goes on among others, and promises nothing of a scene
+abbrev pub never : {O : Type 0} → O → Scene → Bool → Type 0
+never o s repeated = ⊥

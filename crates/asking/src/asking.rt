@@ -1,7 +1,7 @@
 ghost use Rattle.std.specs.Prelude.{◌≡◌, IfOk, OnOk, OnErr, IsOk, IsErr};
 ghost use Rattle.std.specs.Option.{option_copied};
 ghost use Rattle.sendings.specs.Retries.{OutOfMemory};
-ghost use Rattle.asking.specs.MachineLaws.{never, machine_laws};
+ghost use Rattle.asking.specs.Asks.{never};
 
 use crate::asks::{Asked, Asks};
 use machine::Machine;
@@ -119,8 +119,6 @@ impl<O: Asks> Machine for Asking<O> {
 
     ghost standing = { O.standing };
 
-    ghost laws = { machine_laws O.left O.laws };
-
     fn request(&self) -> Option<&Request> {
         self.asked.as_ref()
     }
@@ -134,4 +132,6 @@ impl<O: Asks> Machine for Asking<O> {
         let given = self.operation.wear(self.alloc);
         settle(&mut self.operation, &mut self.asked, given)
     }
+
+    fn laws() {}
 }

@@ -4,7 +4,7 @@ use Rattle.std.specs.List.{concat}
 use Rattle.std.proofs.lemmas.List.{append-nil, take-append-drop}
 use Rattle.std.proofs.lemmas.List.Folds.{concat-append}
 use Rattle.block_stream.specs.Holds.{AreLong}
-use Rattle.block_stream.specs.KeepingLaws.{long_more}
+use Rattle.block_stream.proofs.KeepingLaws.{long_more}
 
 -- one block more
 pub joined_more : (q : List (List ℕ)) (b rest head tail : List ℕ) → b ≡ rest ++ head → concat (q ++ b ∷ []) ++ tail ≡ concat q ++ (rest ++ (head ++ tail))

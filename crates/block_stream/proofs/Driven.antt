@@ -13,7 +13,7 @@ use Rattle.s3_types.specs.declared.reply.Refusal.TheVariants.{NoSuchUpload}
 use Rattle.sendings.specs.Operation.{run}
 use Rattle.sendings.specs.Retries.{Got, Retried, step}
 use Rattle.machine.specs.Standing.{Fine}
-use Rattle.machine.specs.Keeping.{Keeps}
+use Rattle.machine.proofs.Keeping.{Keeps}
 use Rattle.machine.specs.Drove.{Drove}
 use Rattle.machine.specs.Turns.{retried}
 use Rattle.machine.specs.declared.retrying.Retrying.{Retrying}
@@ -25,7 +25,7 @@ use Rattle.block_stream.specs.declared.stage.Stage.TheVariants.{Putting, Beginni
 use Rattle.block_stream.specs.Stream.{Stream, stage, wanted, moved, told, refused, ended, settled, is_settled, parted, standing}
 use Rattle.block_stream.specs.Holds.{Holds, IsReady}
 use Rattle.block_stream.specs.Stored.{IsStored, IsSameOutput}
-use Rattle.block_stream.specs.KeepingLaws.{hidden, took, lost, gave_up}
+use Rattle.block_stream.proofs.KeepingLaws.{hidden, took, lost, gave_up}
 use Rattle.block_stream.proofs.Ended.{stored}
 
 -- each sending keeps what a stream holds

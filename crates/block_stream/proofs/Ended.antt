@@ -5,11 +5,11 @@ use Rattle.std.proofs.lemmas.Option.{none-some}
 use Rattle.s3_types.specs.Store.{Scene, BucketContent}
 use Rattle.machine.specs.Standing.{Fine}
 use Rattle.block_stream.specs.declared.mode.StreamEnd.{StreamEnd}
-use Rattle.block_stream.specs.declared.mode.StreamEnd.TheVariants.{Done, Gone, StoreFault, NoMemory}
+use Rattle.block_stream.specs.declared.mode.StreamEnd.TheVariants.{Done, Gone}
 use Rattle.block_stream.specs.declared.stage.Stage.TheVariants.{Putting, Sending}
 use Rattle.block_stream.specs.Stream.{Stream, has_some, has_part, is_small, begin_or_wait, complete_or_wait, stage_of, asks, wanted, standing, standing_of}
 use Rattle.block_stream.specs.Holds.{IsWritten, HoldsIn, Holds}
-use Rattle.block_stream.specs.FillingLaws.{all_sent}
+use Rattle.block_stream.proofs.FillingLaws.{all_sent}
 
 -- a closed stream that has not ended asks something
 asks_on : (m : Stream) (s : Scene) (repeated : Bool) (bytes : List ℕ) (c : BucketContent) (u : Option ℕ) → m.closed ≡ true → HoldsIn None u m c repeated bytes → asks (stage_of None u m) m ≡ None → ⊥
@@ -35,6 +35,5 @@ stored m s repeated bytes h o w f = by m.end refl h.held f
     by : (e : Option StreamEnd) → m.end ≡ e → HoldsIn e m.upload m h.content repeated bytes → standing_of e ≡ Fine → (m.end ≡ Some Done) × IsWritten m.mode m h.content bytes
     by (Some Done) p i g = (p, i.1)
     by (Some Gone) p i g = absurd i
-    by (Some StoreFault) p i g = absurd (cc)
-    by (Some NoMemory) p i g = absurd (cc)
     by None p i g = absurd (asks_on m s repeated bytes h.content m.upload o i (subst (λ v. asks (stage_of v m.upload m) m ≡ None) p w))
+    by _ p i g = absurd (cc)

@@ -2,7 +2,7 @@
 use Rattle.std.specs.Prelude.{◌≡◌, ℕ, ◌+◌, ◌*◌, ◌≤◌, ◌&&◌, ◌||◌, Bool, true, false, not, cond, List, [], ◌∷◌, ◌++◌, length, Option, Some, None}
 use Rattle.std.proofs.Common.{refl, sym, ap, subst, ◌∙◌, arith, inl, inr, append_assoc, length-append, true≢false}
 use Rattle.proof_base.proofs.Numbers.{at_most_so}
-use Rattle.block_stream.specs.KeepingLaws.{unsettled}
+use Rattle.block_stream.proofs.KeepingLaws.{unsettled}
 use Rattle.block_stream.proofs.Cuts.{first_part}
 use Rattle.std.specs.List.{concat}
 use Rattle.std.proofs.lemmas.List.{take-append-le}
@@ -11,7 +11,7 @@ use Rattle.block_stream.specs.declared.mode.StreamEnd.{StreamEnd}
 use Rattle.block_stream.specs.declared.mode.StreamEnd.TheVariants.{Done, Gone, StoreFault, NoMemory}
 use Rattle.block_stream.specs.Stream.{Stream, is_direct, has_some, has_part, ended, is_settled, added, wrote, shut, closed_by, close}
 use Rattle.block_stream.specs.Holds.{HasParts, Fills, HoldsIn, HasRoom, Holds}
-use Rattle.block_stream.specs.FillingLaws.{holds_of, held_from, Due, Whole, Last, due, settle}
+use Rattle.block_stream.proofs.FillingLaws.{holds_of, held_from, Due, Whole, Last, due, settle}
 
 pub room_wrote : (m : Stream) (piece : List ℕ) → m.closed ≡ false → (m.count + length piece) ≤ m.block * 10000 → HasRoom m → HasRoom (wrote m piece)
 room_wrote m piece o l r = record { some = r.some; few = few m.end refl; counted = counted }

@@ -13,9 +13,9 @@ use Rattle.block_stream.specs.declared.stage.Stage.TheVariants.{Beginning, Sendi
 use Rattle.block_stream.specs.Stream.{Stream, has_some, has_part, stage, stage_of, complete_or_wait, asks, asks_with, wanted, ended, parted, settled, is_settled, added, wrote, shut, closed_by, close}
 use Rattle.block_stream.specs.Holds.{AreLong, HasRoom}
 use Rattle.block_stream.specs.Kept.{AreCut, IsCutUp, CutUp, seen, IsKept, first_of, front_of, last_of, is_whole, next_by}
-use Rattle.block_stream.specs.FillingLaws.{AtStage, at_stage, due, room_after, room_ended, room_begun}
+use Rattle.block_stream.proofs.FillingLaws.{AtStage, at_stage, due, room_after, room_ended, room_begun}
 use Rattle.std.proofs.lemmas.Option.{none-some}
-use Rattle.block_stream.specs.KeepingLaws.{unsettled}
+use Rattle.block_stream.proofs.KeepingLaws.{unsettled}
 use Rattle.block_stream.proofs.Grown.{room_wrote, room_shut}
 use Rattle.block_stream.proofs.Cuts.{whole_is, first_is, drop_is, cut_rest, asks_is, next_is, first_part}
 

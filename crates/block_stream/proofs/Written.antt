@@ -16,8 +16,8 @@ use Rattle.block_stream.specs.declared.stage.Stage.TheVariants.{Waiting, Putting
 use Rattle.block_stream.specs.Stream.{Stream, fresh, is_direct, has_part, is_small, ended, begin_or_wait, complete_or_wait, stage_of, stage, asks_with, id_of, asks, wanted, added, wrote, shut, closed_by, close}
 use Rattle.block_stream.specs.Holds.{Holds}
 use Rattle.block_stream.specs.Kept.{seen}
-use Rattle.block_stream.specs.FillingLaws.{AtStage, at_stage, small_parts}
-use Rattle.block_stream.specs.KeepingLaws.{asks_alive, unsettled}
+use Rattle.block_stream.proofs.FillingLaws.{AtStage, at_stage, small_parts}
+use Rattle.block_stream.proofs.KeepingLaws.{asks_alive, unsettled}
 use Rattle.block_stream.proofs.Grown.{open_due, is_due, longer, holds_wrote, holds_close}
 
 -- ---- what is held

@@ -3,7 +3,3 @@ pub mod Holds
 pub mod Stored
 pub mod Kept
 pub mod Coded
-pub mod PartLaws
-pub mod FillingLaws
-pub mod KeepingLaws
-pub mod StreamLaws

@@ -6,7 +6,6 @@ ghost use Rattle.s3_types.specs.declared.limits.TheConstants.{MOST_PARTS};
 ghost use Rattle.sendings.specs.Retries.{OutOfMemory};
 ghost use Rattle.block_stream.specs.Stream.{fresh, is_direct, delayed_of, stage, wanted, moved, Fits, told, begun, parted, settled, ended, broken, wrote, close, end_of, left, standing};
 ghost use Rattle.block_stream.specs.Holds.{Holds, IsReady};
-ghost use Rattle.block_stream.specs.StreamLaws.{stream_laws};
 ghost use Rattle.block_stream.specs.Kept.{next_by, front_of, last_of};
 ghost use Rattle.block_stream.specs.declared.mode.StreamEnd.TheVariants.{Done};
 ghost use Rattle.block_stream.specs.declared.mode.StreamFault.TheVariants.{TooLong};
@@ -399,8 +398,6 @@ impl Machine for BlockStream {
 
     ghost standing = { standing };
 
-    ghost laws = { stream_laws };
-
     fn request(&self) -> Option<&Request> {
         self.asked.as_ref()
     }
@@ -417,4 +414,7 @@ impl Machine for BlockStream {
         self.finish(StreamEnd::StoreFault);
         Ok(())
     }
+
+    #[tactic(auto, using(crate::proofs::StreamLaws::stream_laws))]
+    fn laws() {}
 }

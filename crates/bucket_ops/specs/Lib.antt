@@ -1,5 +1,3 @@
 pub mod Asks
-pub mod AskLaws
 pub mod Phases
-pub mod PhaseLaws
 pub mod Looks

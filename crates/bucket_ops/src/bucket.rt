@@ -3,12 +3,9 @@ ghost use Rattle.s3_types.specs.Store.{Objects};
 ghost use Rattle.s3_types.specs.declared.reply.Reply.{Reply};
 ghost use Rattle.operations.specs.declared.plan.Step.{Step};
 ghost use Rattle.operations.specs.Courses.{once, reached, unlost};
-ghost use Rattle.operations.specs.CourseLaws.{calm_of};
-ghost use Rattle.operations.specs.PlanLaws.{course_of};
 ghost use Rattle.operations.specs.Performed.{Performed, seen};
 ghost use Rattle.bucket_ops.specs.Asks.{Ask, request_of};
 ghost use Rattle.bucket_ops.specs.Phases.{IsPhases, MayAsk, request, led, Holds, Gives, Always, GivesIn, AlwaysIn, SendsIn, Sends, left_in, Starts};
-ghost use Rattle.bucket_ops.specs.PhaseLaws.{in_bucket, asked_in};
 
 use machine::DriveStop;
 use operations::{Plan, Step, perform};
@@ -64,11 +61,10 @@ pub trait Phases: Drop {
     ) -> Result<Step<Self::Stage, Self::Answer>, AllocError>
         ensures { IfOk result (λ step. step ≡ goes self.now stage reply.now) };
 
-    /// What holds of these.
-    ghost laws: { IsPhases first asks goes holds gives always left absent };
-
-    /// Its stages ask no other.
-    ghost asked: { MayAsk asks holds sends };
+    /// What holds of these; its stages ask nothing but what it may send. Does nothing.
+    fn laws()
+        ensures phases { IsPhases first asks goes holds gives always left absent }
+        ensures asked { MayAsk asks holds sends };
 }
 
 /// An operation in a bucket at a stage.
@@ -102,12 +98,6 @@ impl<O: Phases> Plan for InBucket<O, O::Stage> {
 
     ghost left = { left_in O.left };
 
-    ghost laws = { course_of (in_bucket O.laws) };
-
-    ghost asked = { asked_in O.laws O.sends O.asked };
-
-    ghost calms = { calm_of (course_of (in_bucket O.laws)) };
-
     fn ask(&self) -> Result<Request, AllocError> {
         self.names.ask(&self.bucket, &self.stage)
     }
@@ -130,6 +120,10 @@ impl<O: Phases> Plan for InBucket<O, O::Stage> {
             })),
             Step::End(answer) => Ok(Step::End(answer)),
         }
+    }
+
+    fn laws() {
+        O::laws();
     }
 }
 

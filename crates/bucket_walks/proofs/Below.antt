@@ -1,5 +1,5 @@
 -- The keys below a prefix, and objects without some keys.
-use Rattle.std.proofs.Common.{◌≡◌, ◌⊎◌, ℕ, ◌≤◌, true, false, List, [], ◌∷◌, take, length, Some, None, refl, sym, subst, ◌∙◌, inl, inr, arith}
+use Rattle.std.proofs.Common.{◌≡◌, ◌⊎◌, ℕ, true, false, List, [], ◌∷◌, length, Some, None, refl, sym, subst, ◌∙◌, inl, inr, arith}
 use Rattle.std.proofs.lemmas.Bool.{false≢true}
 use Rattle.std.proofs.lemmas.List.{take_all}
 use Rattle.std.specs.FinMap as fin
@@ -11,7 +11,7 @@ use Rattle.request_frame.specs.Members.{IsIn}
 use Rattle.request_frame.proofs.Members.{same_or_other, text_gone, text_left}
 use Rattle.request_frame.proofs.Flat.{listed_all, page_begins}
 use Rattle.list_walk.specs.Walks.{keys_on}
-use Rattle.bucket_ops.specs.AskLaws.{gone_still}
+use Rattle.bucket_ops.proofs.AskLaws.{gone_still}
 use Rattle.bucket_walks.specs.Walking.{keys_below}
 
 -- a key is one of these or not

@@ -1,4 +1,3 @@
 pub mod Walking
 pub mod Sweeping
 pub mod Uploads
-pub mod UploadLaws

@@ -1,10 +1,7 @@
 ghost use Rattle.std.specs.Prelude.{◌≡◌, ◌<◌, ◌≤◌, length, None, IfOk, IsErrOf};
 ghost use Rattle.operations.specs.Courses.{once, reached, unlost};
-ghost use Rattle.operations.specs.CourseLaws.{calm_of};
-ghost use Rattle.operations.specs.PlanLaws.{course_of};
 ghost use Rattle.operations.specs.Performed.{Performed, seen};
 ghost use Rattle.bucket_walks.specs.Uploads.{uploads_from, IsStill, asks, refused, goes, Begins, IsListing, Gives, IsSame, IsPageOf, Pages, left};
-ghost use Rattle.bucket_walks.specs.UploadLaws.{uploads_plan, uploads_asked};
 
 use list_walk::UploadWalk;
 use machine::DriveStop;
@@ -55,12 +52,6 @@ impl Plan for UploadsBelow {
 
     ghost left = { left };
 
-    ghost laws = { course_of uploads_plan };
-
-    ghost asked = { uploads_asked };
-
-    ghost calms = { calm_of (course_of uploads_plan) };
-
     fn ask(&self) -> Result<Request, AllocError> {
         self.walk.request(&self.bucket, &self.prefix)
     }
@@ -80,6 +71,8 @@ impl Plan for UploadsBelow {
             Ok(Step::End(Some(below.walk.into_found())))
         }
     }
+
+    fn laws() {}
 }
 
 /// Lists the live uploads of a bucket whose keys begin with a prefix, by key and then by id, or None where there is no

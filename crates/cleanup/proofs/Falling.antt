@@ -50,8 +50,7 @@ after_rises Partitioned j s r = let o = growth.files (layout.cluster_prefix j.jo
 
 aborted_left : (c : Committer) (j : Job) (s : Scene) → left_at j (aborted c) s ≡ after_left c j s
 aborted_left Magic j s = refl
-aborted_left Directory j s = refl
-aborted_left Partitioned j s = refl
+aborted_left _ j s = refl
 
 aborting_left : (j : Job) (us : List UploadRef) (s : Scene) → left_at j (aborting j.committer us) s ≡ length us + after_left j.committer j s
 aborting_left j [] s = let e = aborted_left j.committer j s in omega (arith, e)
@@ -115,12 +114,9 @@ falls_at j (Removing p ps) s r e h =
 falls_at j (CleanOver end) s r e h = absurd (none_some e)
 
 some_left : (j : Job) (c : Clean) (s : Scene) (r : Request) → clean_asks (job_script j) c ≡ Some r → 0 < left_at j c s
-some_left j (Walking found) s r e = omega arith
-some_left j (Aborting u us) s r e = omega arith
 some_left j (Sweeping w) s r e = sweep_laws.some j.dest.bucket (layout.magic_prefix j.dest.key j.job) w s
-some_left j Naming s r e = omega arith
-some_left j (Removing p ps) s r e = omega arith
 some_left j (CleanOver end) s r e = absurd (none_some e)
+some_left j _ s r e = omega arith
 
 same_left : (j : Job) (c : Clean) (s z : Scene) → z ≡ s → left_at j c z ≤ left_at j c s
 same_left j c s z e = let i = ap (left_at j c) e in omega (arith, i)
@@ -134,8 +130,7 @@ no_rise_at j (Walking found) s r e =
 no_rise_at j (Aborting u us) s r e = subst (λ r. left_at j (Aborting u us) (apply s r) ≤ left_at j (Aborting u us) s) (some_is _ _ e) (keeps_aborting j u us s)
 no_rise_at j (Sweeping w) s r e = subst (λ r. left_at j (Sweeping w) (apply s r) ≤ left_at j (Sweeping w) s) (some_is _ _ e) (sweep_laws.no_rise j.dest.bucket (layout.magic_prefix j.dest.key j.job) w s)
 no_rise_at j Naming s r e = same_left j Naming s (apply s r) (ap (apply s) (sym (some_is _ _ e)))
-no_rise_at j (Removing p ps) s r e = omega arith
-no_rise_at j (CleanOver end) s r e = omega arith
+no_rise_at j _ s r e = omega arith
 
 others_at : (j : Job) (c : Clean) (s : Scene) (r : Request) → left_at j c (apply s r) ≤ left_at j c s + 3
 others_at j (Walking found) s r =
@@ -149,8 +144,7 @@ others_at j (Sweeping w) s r =
     let z = one_most (adds_key r) in
     omega (arith, o, z)
 others_at j Naming s r = let o = growth.files (layout.cluster_prefix j.job) s r in omega (arith, o)
-others_at j (Removing p ps) s r = omega arith
-others_at j (CleanOver end) s r = omega arith
+others_at j _ s r = omega arith
 
 pub cleans_end : CleansEnd
 cleans_end = record {

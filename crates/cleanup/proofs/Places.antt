@@ -62,8 +62,7 @@ aborts_within c at uploads paths = by (nat_lt at uploads) refl
   where
     after : (c : Committer) → within (stage_after c) at uploads paths ≡ true
     after Magic = refl
-    after Directory = refl
-    after Partitioned = refl
+    after _ = refl
 
     by : (b : Bool) → nat_lt at uploads ≡ b → within (cond b stages.Aborting (stage_after c)) at uploads paths ≡ true
     by true t = t
@@ -131,12 +130,9 @@ end_at (stages.Over end) = Some end
 end_at _ = None
 
 pub over_is : (stage : Stage) (found : List UploadRef) (sweep : Sweep) (paths : List (List ℕ)) (at : ℕ) → within stage at (length found) (length paths) ≡ true → clean_over (clean_at stage found sweep paths at) ≡ end_at stage
-over_is stages.Walking found sweep paths at t = refl
 over_is stages.Aborting found sweep paths at t = let i = below_is at (length found) t in goes_aborting (drop at found) (omega (arith, i, length-drop at found))
-over_is stages.Sweeping found sweep paths at t = refl
-over_is stages.Naming found sweep paths at t = refl
 over_is stages.Removing found sweep paths at t = let i = below_is at (length paths) t in goes_removing (drop at paths) (omega (arith, i, length-drop at paths))
-over_is (stages.Over end) found sweep paths at t = refl
+over_is _ found sweep paths at t = refl
 
 -- ---- requests
 
@@ -188,9 +184,5 @@ pub asks_at_removing : (w : Script) (stage : Stage) (found : List UploadRef) (sw
 asks_at_removing w stage found sweep paths at h = sym (ap (λ s. clean_asks w (clean_at s found sweep paths at)) h ∙ asks_removing w (drop at paths))
 
 pub not_over : (stage : Stage) → ((end : CleanEnd) → stage ≡ stages.Over end → ⊥) → end_at stage ≡ None
-not_over stages.Walking h = refl
-not_over stages.Aborting h = refl
-not_over stages.Sweeping h = refl
-not_over stages.Naming h = refl
-not_over stages.Removing h = refl
 not_over (stages.Over end) h = absurd (h end refl)
+not_over _ h = refl

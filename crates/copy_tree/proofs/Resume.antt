@@ -9,7 +9,7 @@ use Rattle.fs_tree.specs.declared.copy.CopyCount.{CopyCount}
 use Rattle.fs_tree.specs.Tree.{IsDirectory, NoFiles}
 use Rattle.fs_tree.specs.Moves.{IsMove}
 use Rattle.fs_tree.specs.Copies.{to_target, MayCopy, CopiesTree, IsCopiedInPart, CopiesResume}
-use Rattle.copy_tree.specs.Moved.{begins_rest, moved_rest, is_move, move_below, is_new, not_above, source_not_new, path_not_new}
+use Rattle.copy_tree.proofs.Moved.{begins_rest, moved_rest, is_move, move_below, is_new, not_above, source_not_new, path_not_new}
 
 module _ (x : ℕ) (p : List ℕ) (y : ℕ) (t : List ℕ) (z m : Objects) (may : MayCopy z (x ∷ p) (y ∷ t)) (part : IsCopiedInPart (x ∷ p) (y ∷ t) z m) where
   source_kept : (k : List ℕ) → begins (marker_of (x ∷ p)) k ≡ true → fin.get m k ≡ fin.get z k

@@ -1,10 +1,3 @@
-pub mod Moved
 pub mod Parts
-pub mod PartLaws
-pub mod Copy
-pub mod Meaning
-pub mod MoveLaws
-pub mod StepLaws
-pub mod FallLaws
-pub mod CopyLaws
 pub mod Public
+pub mod code

@@ -6,8 +6,8 @@ use Rattle.bucket_ops.specs.Phases.{AlwaysIn, SendsIn}
 use Rattle.fs_tree.specs.declared.copy.CopyRefusal.TheVariants.{OtherBucket, NoSuchBucket}
 use Rattle.fs_tree.specs.Copies.{Copies, MayStandCopied}
 use Rattle.fs_moves.specs.Between.{Route, GivesBetween}
-use Rattle.copy_tree.specs.Copy.{CopyPaths, Answer, first, asks}
-use Rattle.copy_tree.specs.Meaning.{sends}
+use Rattle.copy_tree.specs.code.Copy.{CopyPaths, Answer, first, asks}
+use Rattle.copy_tree.specs.code.Meaning.{sends}
 
 -- in one bucket it is what it is among the bucket's objects, and nothing else changes; between two buckets it is refused, before anything else, and nothing changes
 abbrev pub CopiesIn : Route → Scene → Answer → Scene → Type 0

@@ -1,7 +1,7 @@
 ghost use Rattle.std.specs.Prelude.{◌≡◌, ◌++◌, IfOk, OnOk};
 ghost use Rattle.std.specs.Option.{option_copied};
 ghost use Rattle.fs_moves.specs.Keys.{place_of};
-ghost use Rattle.copy_tree.specs.Copy.{one_of};
+ghost use Rattle.copy_tree.specs.code.Copy.{one_of};
 
 use fs_moves::Base;
 use fs_ops::{Place, keys_above};
@@ -25,7 +25,7 @@ pub(crate) struct CopyNames {
 impl Model for CopyNames {
     ghost use Rattle.std.specs.Prelude.{◌≡◌};
     ghost use Rattle.fs_moves.specs.Keys.{place_of};
-    ghost use Rattle.copy_tree.specs.Copy.{CopyPaths, overlaps, climb};
+    ghost use Rattle.copy_tree.specs.code.Copy.{CopyPaths, overlaps, climb};
 
     ghost Value = { CopyPaths };
 

@@ -2,23 +2,23 @@ ghost use Rattle.std.specs.Prelude.{◌≡◌, IfOk, Err, drop};
 ghost use Rattle.bucket_ops.specs.Asks.{request_of};
 ghost use Rattle.fs_tree.specs.declared.copy.CopyRefusal.TheVariants.{NoSuchBucket};
 ghost use Rattle.bucket_walks.specs.Walking.{fits};
-ghost use Rattle.copy_tree.specs.Copy as copy;
+ghost use Rattle.copy_tree.specs.code.Copy as copy;
 ghost use Rattle.fs_moves.specs.Keys.{place_of};
-ghost use Rattle.copy_tree.specs.Copy.{read_of, same_header};
-ghost use Rattle.copy_tree.specs.Meaning as meaning;
-ghost use Rattle.copy_tree.specs.CopyLaws.{copy_laws, copy_asked};
+ghost use Rattle.copy_tree.specs.code.Copy.{read_of, same_header};
+ghost use Rattle.copy_tree.specs.code.Meaning as meaning;
 
 use crate::names::CopyNames;
 use crate::parts::chosen;
 use bucket_ops::{Look, Phases, seen_in};
 use bucket_walks::fits;
 use fs_moves::{CopyStep, Copying};
+use fs_ops::{Climb, Climbed};
 use fs_tree::{CopyCount, CopyRefusal};
 use list_walk::{KeyWalk, keys_behind};
 use operations::Step;
 use s3_types::{
-    Bucket, Bytes, Key, KeyList, LengthHeader, PageEntry, PageLimit, Reply, Request, Sequence,
-    Text, copied_keys,
+    Bucket, Bytes, Key, KeyList, LengthHeader, PageEntry, PageLimit, Reply, Request, Text,
+    copied_keys,
 };
 use std::alloc::{AllocError, Global};
 
@@ -38,11 +38,10 @@ pub enum CopyStage {
     Here,
     /// The keys below the source are listed.
     Walk(KeyWalk),
-    /// Whether a file stands at this one of the paths above the target and its own, before these others.
+    /// Whether a file stands at one of the paths above the target, or at its own.
     Up {
         keys: KeyList,
-        first: Key,
-        rest: KeyList,
+        climb: Climb,
     },
     /// The keys below the target are listed.
     WalkTarget {
@@ -259,33 +258,17 @@ impl CopyNames {
         }
     }
 
-    fn climbed(&self, keys: KeyList, rest: KeyList) -> Result<Step<CopyStage, Answer>, AllocError>
-        ensures { IfOk result (λ step. step ≡ copy.climbed self.now keys rest) }
-    {
-        let mut items = rest.into_vec();
-        if items.is_empty() {
-            return self.placed(keys);
-        }
-        let first = items.remove(0);
-        Ok(Step::Next(CopyStage::Up {
-            keys,
-            first,
-            rest: Sequence::from_vec(items),
-        }))
-    }
-
-    fn on_up(
+    fn on_climb(
         &self,
         keys: KeyList,
-        first: Key,
-        rest: KeyList,
-        seen: Look,
+        climbed: Climbed,
     ) -> Result<Step<CopyStage, Answer>, AllocError>
-        ensures { IfOk result (λ step. step ≡ copy.on_up self.now keys first rest seen) }
+        ensures { IfOk result (λ step. step ≡ copy.on_climb self.now keys climbed) }
     {
-        match seen {
-            Look::There => Ok(Step::End(Err(CopyRefusal::TargetFile(first.as_text().clone()?)))),
-            _ => self.climbed(keys, rest),
+        match climbed {
+            Climbed::File(key) => Ok(Step::End(Err(CopyRefusal::TargetFile(key)))),
+            Climbed::On(climb) => Ok(Step::Next(CopyStage::Up { keys, climb })),
+            Climbed::Free => self.placed(keys),
         }
     }
 
@@ -296,7 +279,7 @@ impl CopyNames {
         if keys.len() == 0 {
             return Ok(Step::End(Err(CopyRefusal::SourceMissing)));
         }
-        self.climbed(keys, copied_keys(self.alloc, &self.above)?)
+        self.on_climb(keys, Climb::over(copied_keys(self.alloc, &self.above)?))
     }
 
     fn on_walk(&self, walk: KeyWalk, reply: &Reply) -> Result<Step<CopyStage, Answer>, AllocError>
@@ -358,10 +341,6 @@ impl Phases for CopyNames {
 
     ghost absent = { Err NoSuchBucket };
 
-    ghost laws = { copy_laws };
-
-    ghost asked = { copy_asked };
-
     fn start(&self) -> CopyStage {
         CopyStage::Here
     }
@@ -370,7 +349,7 @@ impl Phases for CopyNames {
         match stage {
             CopyStage::Here => self.source.look(bucket),
             CopyStage::Walk(walk) => walk.request(bucket, self.source.prefix()),
-            CopyStage::Up { first, .. } => Request::head_object(bucket, first),
+            CopyStage::Up { climb, .. } => climb.request(bucket),
             CopyStage::WalkTarget { walk, .. } => walk.request(bucket, self.target.prefix()),
             CopyStage::Source { parts, done } => {
                 read_of(bucket, keys_behind(parts.stood.as_slice(), *done))
@@ -390,7 +369,7 @@ impl Phases for CopyNames {
         match stage {
             CopyStage::Here => Ok(here(self.alloc, self.overlap, seen)),
             CopyStage::Walk(walk) => self.on_walk(walk, reply),
-            CopyStage::Up { keys, first, rest } => self.on_up(keys, first, rest, seen),
+            CopyStage::Up { keys, climb } => self.on_climb(keys, climb.hear(seen)?),
             CopyStage::WalkTarget { keys, places, walk } => {
                 self.on_show(keys, places, walk, reply)
             }
@@ -404,4 +383,7 @@ impl Phases for CopyNames {
             CopyStage::Copy { copying, count } => Ok(on_copied(count, copying.next())),
         }
     }
+
+    #[tactic(auto, using(crate::proofs::CopyLaws::copy_laws, crate::proofs::CopyLaws::copy_asked))]
+    fn laws() {}
 }

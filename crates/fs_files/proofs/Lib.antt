@@ -1,1 +1,4 @@
 pub mod Parted
+pub mod CreateLaws
+pub mod Creating
+pub mod WritingLaws

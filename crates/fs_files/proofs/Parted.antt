@@ -4,8 +4,8 @@ use Rattle.std.proofs.lemmas.Bool.{false≢true}
 use Rattle.std.proofs.lemmas.List.{drop-drop, drop_min}
 use Rattle.s3_types.specs.Tags.{Spelled}
 use Rattle.block_stream.specs.Holds.{HasRoom}
-use Rattle.fs_files.specs.Writing.{Writing, stream_of, is_due, seen, IsKept}
-use Rattle.fs_files.specs.WritingLaws.{parted_room}
+use Rattle.fs_files.specs.code.Writing.{Writing, stream_of, is_due, seen, IsKept}
+use Rattle.fs_files.proofs.WritingLaws.{parted_room}
 
 -- what is pending is what is behind it
 dropped : (block from : ℕ) (bytes : List ℕ) → drop block (drop from bytes) ≡ drop (from + min block (length bytes - from)) bytes

@@ -1,17 +1,16 @@
 ghost use Rattle.std.specs.Prelude.{◌≡◌, ◌*◌, ◌≤◌, length, IfOk};
 ghost use Rattle.s3_types.specs.declared.limits.TheConstants.{MOST_PARTS};
-ghost use Rattle.fs_files.specs.Create as create;
-ghost use Rattle.fs_files.specs.Create.{write_at, up_from, on_here, on_below, on_up, written, climb};
-ghost use Rattle.fs_files.specs.CreateLaws.{create_laws, create_asked, create_calm};
+ghost use Rattle.fs_files.specs.code.Create as create;
+ghost use Rattle.fs_files.specs.code.Create.{write_at, on_climb, on_here, on_below, written, climb};
 
 use crate::writing::{FileStream, Heard};
 use bucket_ops::{Look, seen_in};
 use dir_markers::{MarkerPolicy, after_create};
-use fs_ops::{Place, keys_above};
+use fs_ops::{Climb, Climbed, Place, keys_above};
 use fs_tree::FsRefusal;
 use operations::{Plan, Step};
 use path_keys::S3Path;
-use s3_types::{Bucket, Bytes, Key, KeyList, PageLimit, Reply, Request, Sequence, copied_keys};
+use s3_types::{Bucket, Bytes, KeyList, PageLimit, Reply, Request, copied_keys};
 use std::alloc::{AllocError, Global};
 use std::marker::Model;
 
@@ -22,8 +21,8 @@ pub enum CreateStage {
     Here,
     /// Whether something stands below it.
     Below,
-    /// Whether a file stands at this one of the directories above, before these others.
-    Up { first: Key, rest: KeyList },
+    /// Whether a file stands at one of the directories above.
+    Up(Climb),
     /// The bytes are written.
     Write(FileStream),
     /// The markers above are deleted.
@@ -80,24 +79,20 @@ impl NewFile {
         }
     }
 
-    fn up_from(&self, keys: KeyList) -> Result<CreateStep, AllocError>
-        ensures { IfOk result (λ step. step ≡ up_from self.now keys) }
+    fn on_climb(&self, climbed: Climbed) -> Result<CreateStep, AllocError>
+        ensures { IfOk result (λ step. step ≡ on_climb self.now climbed) }
     {
-        let mut items = keys.into_vec();
-        if items.is_empty() {
-            return self.write();
+        match climbed {
+            Climbed::File(key) => Ok(Step::End(Err(FsRefusal::NotDirectory(key)))),
+            Climbed::On(climb) => Ok(Step::Next(CreateStage::Up(climb))),
+            Climbed::Free => self.write(),
         }
-        let first = items.remove(0);
-        Ok(Step::Next(CreateStage::Up {
-            first,
-            rest: Sequence::from_vec(items),
-        }))
     }
 
     fn climb(&self) -> Result<CreateStep, AllocError>
         ensures { IfOk result (λ step. step ≡ climb self.now) }
     {
-        self.up_from(copied_keys(self.alloc, &self.above)?)
+        self.on_climb(Climb::over(copied_keys(self.alloc, &self.above)?))
     }
 
     fn on_here(&self, seen: Look) -> Result<CreateStep, AllocError>
@@ -127,15 +122,6 @@ impl NewFile {
         }
     }
 
-    fn on_up(&self, first: Key, rest: KeyList, seen: Look) -> Result<CreateStep, AllocError>
-        ensures { IfOk result (λ step. step ≡ on_up self.now first rest seen) }
-    {
-        match seen {
-            Look::There => { Ok(Step::End(Err(FsRefusal::NotDirectory(first.as_text().clone()?)))) }
-            _ => self.up_from(rest),
-        }
-    }
-
     fn written(&self, heard: Heard) -> CreateStep
         ensures { result ≡ written self.now heard }
     {
@@ -158,7 +144,7 @@ impl NewFile {
         match stage {
             CreateStage::Here => self.place.look(&self.bucket),
             CreateStage::Below => self.place.below(&self.bucket, PageLimit::new(1)),
-            CreateStage::Up { first, .. } => Request::head_object(&self.bucket, first),
+            CreateStage::Up(climb) => climb.request(&self.bucket),
             CreateStage::Write(stream) => stream.ask(&self.bucket),
             CreateStage::DropMarkers => {
                 Request::delete_objects(self.alloc, &self.bucket, &self.markers)
@@ -181,7 +167,7 @@ impl NewFile {
         match stage {
             CreateStage::Here => self.on_here(seen),
             CreateStage::Below => self.on_below(seen),
-            CreateStage::Up { first, rest } => self.on_up(first, rest, seen),
+            CreateStage::Up(climb) => self.on_climb(climb.hear(seen)?),
             CreateStage::Write(stream) => Ok(self.written(stream.hear(reply, repeated)?)),
             CreateStage::DropMarkers => Ok(Step::End(Ok(()))),
         }
@@ -268,12 +254,6 @@ impl Plan for CreateFile {
 
     ghost left = { create.left };
 
-    ghost laws = { create_laws };
-
-    ghost asked = { create_asked };
-
-    ghost calms = { create_calm };
-
     fn ask(&self) -> Result<Request, AllocError> {
         self.file.ask(&self.stage)
     }
@@ -285,4 +265,7 @@ impl Plan for CreateFile {
             Step::End(answer) => Ok(Step::End(answer)),
         }
     }
+
+    #[tactic(auto, using(crate::proofs::CreateLaws::create_laws, crate::proofs::CreateLaws::create_asked, crate::proofs::CreateLaws::create_calm))]
+    fn laws() {}
 }

@@ -1,7 +1,7 @@
 ghost use Rattle.std.specs.Prelude.{◌≡◌, ◌*◌, ◌≤◌, true, false, take, length, Some, None, IfOk, IsSome};
 ghost use Rattle.s3_types.specs.declared.limits.TheConstants.{MOST_PARTS};
-ghost use Rattle.fs_files.specs.Writing.{unsent, is_short, is_due, first_stage, later_stage, asks_at, asks};
-ghost use Rattle.fs_files.specs.Hearing.{begun, parted, put_heard, begin_heard, send_heard, refused, end_heard, heard_at, heard};
+ghost use Rattle.fs_files.specs.code.Writing.{unsent, is_short, is_due, first_stage, later_stage, asks_at, asks};
+ghost use Rattle.fs_files.specs.code.Hearing.{begun, parted, put_heard, begin_heard, send_heard, refused, end_heard, heard_at, heard};
 
 use s3_types::{Bucket, Bytes, Key, Refusal, Reply, Request, Tag, TagList, named_parts};
 use std::alloc::{AllocError, Global};
@@ -22,7 +22,7 @@ pub struct FileStream {
 }
 
 impl Model for FileStream {
-    ghost use Rattle.fs_files.specs.Writing.{Writing, coded_writing, seen, IsKept};
+    ghost use Rattle.fs_files.specs.code.Writing.{Writing, coded_writing, seen, IsKept};
 
     ghost Value = { Writing };
 

@@ -1,5 +1,5 @@
 -- An operation in one bucket, or between two of them.
-use Rattle.std.proofs.Common.{◌≡◌, ℕ, zero, suc, ◌+◌, ◌<◌, Bool, true, false, not, List, [], ◌++◌, take, length, Some, None, Option, Result, Ok, refl, sym, ap, subst, ◌∙◌, arith, length-append}
+use Rattle.std.proofs.Common.{◌≡◌, ℕ, zero, suc, ◌+◌, ◌<◌, Bool, true, false, not, List, [], ◌++◌, take, length, Some, None, Option, Ok, refl, sym, ap, subst, ◌∙◌, arith, length-append}
 use Rattle.std.specs.List.{slice_get}
 use Rattle.std.proofs.lemmas.Bool.{false≢true}
 use Rattle.std.proofs.lemmas.List.{append-nil}
@@ -8,12 +8,11 @@ use Rattle.s3_types.specs.Store.{Objects, Scene}
 use Rattle.s3_types.specs.Moment.{after_all}
 use Rattle.s3_types.specs.declared.request.Actor.{Actor}
 use Rattle.s3_types.specs.declared.request.Request.{Request}
-use Rattle.s3_types.specs.declared.journal.Entry.{Entry}
 use Rattle.machine.specs.Tries.{HasUnanswered}
 use Rattle.request_frame.proofs.Members.{none_some, text_is, text_true}
 use Rattle.operations.specs.Performed.{Seen, Performed}
 use Rattle.bucket_ops.specs.Asks.{objects_at}
-use Rattle.bucket_ops.specs.AskLaws.{with_same}
+use Rattle.bucket_ops.proofs.AskLaws.{with_same}
 use Rattle.bucket_ops.specs.Phases.{InScene, GivesIn, AlwaysIn}
 use Rattle.fs_moves.specs.Between.{GivesBetween}
 

@@ -11,8 +11,8 @@ use Rattle.request_frame.proofs.Members.{some_is, none_some}
 use Rattle.fs_tree.specs.Tree.{is_marker}
 use Rattle.fs_tree.specs.Moves.{is_too_long}
 use Rattle.fs_tree.proofs.Above.{marker_ends, marker_behind, other_end, cut_elements, key_elements, marker_elements}
-use Rattle.fs_ops.specs.List.{rest_of}
-use Rattle.fs_ops.specs.Showing.{rest_is as rest_follows}
+use Rattle.fs_ops.specs.code.List.{rest_of}
+use Rattle.fs_ops.proofs.Showing.{rest_is as rest_follows}
 use Rattle.fs_moves.specs.Keys.{new_by, new_key}
 
 -- ---- markers and limits

@@ -33,6 +33,7 @@ pub fn perform_between<O: Phases, S: ObjectStore>(
     ensures unsent { (bucket ≡ to_bucket → ⊥) → journal.new.entries ≡ journal.old.entries }
 {
     if bucket != to_bucket {
+        O::laws();
         let_go(bucket);
         let_go(to_bucket);
         let_go(names);

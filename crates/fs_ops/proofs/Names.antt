@@ -18,7 +18,7 @@ use Rattle.dir_markers.proofs.Above.{front_some}
 use Rattle.fs_tree.specs.Changes.{marker_if, last_of, own_name}
 use Rattle.fs_tree.proofs.Above.{none_above, more_above}
 use Rattle.fs_ops.specs.Places.{key_if, prefix_of}
-use Rattle.fs_ops.specs.List.{rest_of}
+use Rattle.fs_ops.specs.code.List.{rest_of}
 
 -- a path that is not the root
 pub record IsPlace (key : List ℕ) : Type 0 where
@@ -61,9 +61,8 @@ kept_as path text key marker prefix h k e f g i =
 -- ---- the last element
 
 last_end : (ps : List (List ℕ)) (p : List ℕ) → last_of (ps ++ p ∷ []) ≡ p
-last_end [] p = refl
-last_end (q ∷ []) p = refl
 last_end (q ∷ r ∷ ps) p = last_end (r ∷ ps) p
+last_end _ p = refl
 
 at_end : {E : Type 0} (r : Result (List ℕ) E) (a b : List ℕ) → IfOk r (λ n. n ≡ a) → a ≡ b → IfOk r (λ n. n ≡ b)
 at_end r a b h e = subst (λ a. IfOk r (λ n. n ≡ a)) e h

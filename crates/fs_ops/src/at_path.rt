@@ -1,8 +1,8 @@
 ghost use Rattle.std.specs.Prelude.{◌≡◌, ◌==◌, true, false, [], ◌∷◌, length, Err};
 ghost use Rattle.operations.specs.declared.plan.Step.TheVariants.{End};
 ghost use Rattle.fs_tree.specs.declared.answers.FsRefusal.TheVariants.{NoSuchBucket};
-ghost use Rattle.fs_ops.specs.AtPath.{on_here, on_below, heard};
-ghost use Rattle.fs_ops.specs.Steps.{unless};
+ghost use Rattle.fs_ops.specs.code.AtPath.{on_here, on_below, heard};
+ghost use Rattle.fs_ops.specs.code.Steps.{unless};
 
 use crate::place::Place;
 use bucket_ops::Look;

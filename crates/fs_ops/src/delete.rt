@@ -4,12 +4,11 @@ ghost use Rattle.list_walk.specs.Walks as walks;
 ghost use Rattle.bucket_ops.specs.Asks.{request_of};
 ghost use Rattle.fs_tree.specs.Changes.{parent, marker_if};
 ghost use Rattle.fs_tree.specs.declared.answers.FsRefusal.TheVariants.{NoSuchBucket};
-ghost use Rattle.fs_ops.specs.Delete as delete;
-ghost use Rattle.fs_ops.specs.Delete.{on_here, inside, on_inside, on_below, on_sweep, on_parent, up, up_to};
+ghost use Rattle.fs_ops.specs.code.Delete as delete;
+ghost use Rattle.fs_ops.specs.code.Delete.{on_here, inside, on_inside, on_below, on_sweep, on_parent, up, up_to};
 ghost use Rattle.bucket_walks.specs.Walking.{fits};
 ghost use Rattle.bucket_walks.specs.Sweeping.{sweep_asks};
-ghost use Rattle.fs_ops.specs.Steps.{goes_by};
-ghost use Rattle.fs_ops.specs.DeleteLaws.{delete_laws, delete_asked};
+ghost use Rattle.fs_ops.specs.code.Steps.{goes_by};
 
 use crate::place::Place;
 use bucket_ops::{Look, Phases, seen_in};
@@ -67,7 +66,7 @@ pub struct DeletePath {
 impl Model for DeletePath {
     ghost use Rattle.std.specs.Prelude.{◌≡◌};
     ghost use Rattle.fs_tree.specs.Changes.{parent, marker_if};
-    ghost use Rattle.fs_ops.specs.Delete.{Deletion};
+    ghost use Rattle.fs_ops.specs.code.Delete.{Deletion};
 
     ghost Value = { Deletion };
 
@@ -215,10 +214,6 @@ impl Phases for DeletePath {
 
     ghost absent = { Err NoSuchBucket };
 
-    ghost laws = { delete_laws };
-
-    ghost asked = { delete_asked };
-
     fn start(&self) -> DeleteStage {
         DeleteStage::Here
     }
@@ -262,6 +257,9 @@ impl Phases for DeletePath {
             DeleteStage::PutMarker(_) => Ok(Step::End(Ok(()))),
         }
     }
+
+    #[tactic(auto, using(crate::proofs::DeleteLaws::delete_laws, crate::proofs::DeleteLaws::delete_asked))]
+    fn laws() {}
 }
 
 /// The marker of the directory above a path, unless that is the root.

@@ -24,6 +24,7 @@
 
 mod above;
 mod at_path;
+mod climb;
 mod delete;
 mod list;
 mod make_dirs;
@@ -33,6 +34,7 @@ mod stat;
 
 pub use above::keys_above;
 pub use at_path::PathStage;
+pub use climb::{Climb, Climbed};
 pub use delete::{DeletePath, marker_above};
 pub use list::{ListDir, last_element, rest_of};
 pub use make_dirs::MakeDirs;

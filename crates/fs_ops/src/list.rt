@@ -2,11 +2,10 @@ ghost use Rattle.std.specs.Prelude.{◌≡◌, ◌∷◌, [], Some, IfOk, OnOk, 
 ghost use Rattle.fs_tree.specs.Answers.{Lists};
 ghost use Rattle.fs_tree.specs.Changes.{own_name};
 ghost use Rattle.fs_tree.specs.declared.answers.FsRefusal.TheVariants.{NoSuchBucket};
-ghost use Rattle.fs_ops.specs.List as list;
-ghost use Rattle.fs_ops.specs.List.{told, paged, rest_of, is_file, is_file_named, has_file, file_by, dir_named, shown, added, all_added, last_text};
-ghost use Rattle.fs_ops.specs.Stat.{length_in};
-ghost use Rattle.fs_ops.specs.Steps.{goes_by, IsStill, OnlyLooks};
-ghost use Rattle.fs_ops.specs.ListLaws.{list_laws, list_asked};
+ghost use Rattle.fs_ops.specs.code.List as list;
+ghost use Rattle.fs_ops.specs.code.List.{told, paged, rest_of, is_file, is_file_named, has_file, file_by, dir_named, shown, added, all_added, last_text};
+ghost use Rattle.fs_ops.specs.code.Stat.{length_in};
+ghost use Rattle.fs_ops.specs.code.Steps.{goes_by, IsStill, OnlyLooks};
 
 use crate::place::Place;
 use bucket_ops::{Look, Phases, seen_in};
@@ -268,10 +267,6 @@ impl Phases for ListDir {
 
     ghost absent = { Err NoSuchBucket };
 
-    ghost laws = { list_laws };
-
-    ghost asked = { list_asked };
-
     fn start(&self) -> ListStage {
         if self.place.is_root() {
             self.all_pages()
@@ -302,4 +297,7 @@ impl Phases for ListDir {
             ListStage::Pages { found, mark } => self.on_page(found, mark, reply),
         }
     }
+
+    #[tactic(auto, using(crate::proofs::ListLaws::list_laws, crate::proofs::ListLaws::list_asked))]
+    fn laws() {}
 }

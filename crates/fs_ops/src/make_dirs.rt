@@ -1,18 +1,18 @@
 ghost use Rattle.std.specs.Prelude.{◌≡◌, IfOk, Err};
 ghost use Rattle.fs_tree.specs.Answers.{Makes};
 ghost use Rattle.fs_tree.specs.declared.answers.FsRefusal.TheVariants.{NoSuchBucket};
-ghost use Rattle.fs_ops.specs.Make as make;
-ghost use Rattle.fs_ops.specs.Make.{up_from, on_here, on_below, on_up};
-ghost use Rattle.fs_ops.specs.Steps.{goes_by};
-ghost use Rattle.fs_ops.specs.MakeLaws.{make_laws, make_asked};
+ghost use Rattle.fs_ops.specs.code.Make as make;
+ghost use Rattle.fs_ops.specs.code.Make.{on_climb, on_here, on_below};
+ghost use Rattle.fs_ops.specs.code.Steps.{goes_by};
 
 use crate::above::keys_above;
+use crate::climb::{Climb, Climbed};
 use crate::place::Place;
 use bucket_ops::{Look, Phases, seen_in};
 use fs_tree::FsRefusal;
 use operations::Step;
 use path_keys::S3Path;
-use s3_types::{Bucket, Key, KeyList, PageLimit, Reply, Request, Sequence, copied_keys};
+use s3_types::{Bucket, KeyList, PageLimit, Reply, Request, copied_keys};
 use std::alloc::{AllocError, Global};
 use std::marker::Model;
 
@@ -23,8 +23,8 @@ pub enum MakeStage {
     Here,
     /// Whether something stands below it.
     Below,
-    /// Whether a file stands at this one of the directories above, before these others.
-    Up { first: Key, rest: KeyList },
+    /// Whether a file stands at one of the directories above.
+    Up(Climb),
     /// The marker is put.
     PutMarker,
 }
@@ -53,26 +53,13 @@ impl Model for MakeDirs {
 
 type Answer = Result<(), FsRefusal>;
 
-fn up_from(keys: KeyList) -> Step<MakeStage, Answer>
-    ensures { result ≡ up_from keys }
+fn on_climb(climbed: Climbed) -> Step<MakeStage, Answer>
+    ensures { result ≡ on_climb climbed }
 {
-    let mut items = keys.into_vec();
-    if items.is_empty() {
-        return Step::Next(MakeStage::PutMarker);
-    }
-    let first = items.remove(0);
-    Step::Next(MakeStage::Up {
-        first,
-        rest: Sequence::from_vec(items),
-    })
-}
-
-fn on_up(first: Key, rest: KeyList, seen: Look) -> Result<Step<MakeStage, Answer>, AllocError>
-    ensures { IfOk result (λ step. step ≡ on_up first rest seen) }
-{
-    match seen {
-        Look::There => Ok(Step::End(Err(FsRefusal::NotDirectory(first.as_text().clone()?)))),
-        _ => Ok(up_from(rest)),
+    match climbed {
+        Climbed::File(key) => Step::End(Err(FsRefusal::NotDirectory(key))),
+        Climbed::On(climb) => Step::Next(MakeStage::Up(climb)),
+        Climbed::Free => Step::Next(MakeStage::PutMarker),
     }
 }
 
@@ -107,7 +94,7 @@ impl MakeDirs {
     {
         match seen {
             Look::There => Ok(Step::End(Ok(()))),
-            _ => Ok(up_from(copied_keys(self.alloc, &self.above)?)),
+            _ => Ok(on_climb(Climb::over(copied_keys(self.alloc, &self.above)?))),
         }
     }
 }
@@ -135,10 +122,6 @@ impl Phases for MakeDirs {
 
     ghost absent = { Err NoSuchBucket };
 
-    ghost laws = { make_laws };
-
-    ghost asked = { make_asked };
-
     fn start(&self) -> MakeStage {
         MakeStage::Here
     }
@@ -147,7 +130,7 @@ impl Phases for MakeDirs {
         match stage {
             MakeStage::Here => self.place.look(bucket),
             MakeStage::Below => self.place.below(bucket, PageLimit::new(1)),
-            MakeStage::Up { first, .. } => Request::head_object(bucket, first),
+            MakeStage::Up(climb) => climb.request(bucket),
             MakeStage::PutMarker => self.place.put_marker(bucket),
         }
     }
@@ -160,8 +143,11 @@ impl Phases for MakeDirs {
         match stage {
             MakeStage::Here => Ok(self.on_here(seen)),
             MakeStage::Below => self.on_below(seen),
-            MakeStage::Up { first, rest } => on_up(first, rest, seen),
+            MakeStage::Up(climb) => Ok(on_climb(climb.hear(seen)?)),
             MakeStage::PutMarker => Ok(Step::End(Ok(()))),
         }
     }
+
+    #[tactic(auto, using(crate::proofs::MakeLaws::make_laws, crate::proofs::MakeLaws::make_asked))]
+    fn laws() {}
 }

@@ -1,10 +1,9 @@
 ghost use Rattle.std.specs.Prelude.{◌≡◌, IfOk, Err};
 ghost use Rattle.fs_tree.specs.Answers.{Reads};
 ghost use Rattle.fs_tree.specs.declared.answers.FsRefusal.TheVariants.{NoSuchBucket};
-ghost use Rattle.fs_ops.specs.AtPath as path;
-ghost use Rattle.fs_ops.specs.Read as read;
-ghost use Rattle.fs_ops.specs.Steps.{goes_by, IsStill, OnlyLooks};
-ghost use Rattle.fs_ops.specs.ReadLaws.{read_laws, read_asked};
+ghost use Rattle.fs_ops.specs.code.AtPath as path;
+ghost use Rattle.fs_ops.specs.code.Read as read;
+ghost use Rattle.fs_ops.specs.code.Steps.{goes_by, IsStill, OnlyLooks};
 
 use crate::at_path::{PathStage, heard};
 use crate::place::Place;
@@ -77,10 +76,6 @@ impl Phases for ReadFile {
 
     ghost absent = { Err NoSuchBucket };
 
-    ghost laws = { read_laws };
-
-    ghost asked = { read_asked };
-
     fn start(&self) -> PathStage {
         PathStage::Here
     }
@@ -102,4 +97,7 @@ impl Phases for ReadFile {
             Err(FsRefusal::IsDirectory),
         ))
     }
+
+    #[tactic(auto, using(crate::proofs::ReadLaws::read_laws, crate::proofs::ReadLaws::read_asked))]
+    fn laws() {}
 }

@@ -1,10 +1,9 @@
 ghost use Rattle.std.specs.Prelude.{◌≡◌, IfOk, Err};
 ghost use Rattle.fs_tree.specs.Answers.{Stats};
 ghost use Rattle.fs_tree.specs.declared.answers.FsRefusal.TheVariants.{NoSuchBucket};
-ghost use Rattle.fs_ops.specs.AtPath as path;
-ghost use Rattle.fs_ops.specs.Stat as stat;
-ghost use Rattle.fs_ops.specs.Steps.{goes_by, IsStill, OnlyLooks};
-ghost use Rattle.fs_ops.specs.StatLaws.{stat_laws, stat_asked};
+ghost use Rattle.fs_ops.specs.code.AtPath as path;
+ghost use Rattle.fs_ops.specs.code.Stat as stat;
+ghost use Rattle.fs_ops.specs.code.Steps.{goes_by, IsStill, OnlyLooks};
 
 use crate::at_path::{PathStage, heard};
 use crate::place::Place;
@@ -77,10 +76,6 @@ impl Phases for Stat {
 
     ghost absent = { Err NoSuchBucket };
 
-    ghost laws = { stat_laws };
-
-    ghost asked = { stat_asked };
-
     fn start(&self) -> PathStage {
         PathStage::Here
     }
@@ -102,4 +97,7 @@ impl Phases for Stat {
             Ok(Status::Directory),
         ))
     }
+
+    #[tactic(auto, using(crate::proofs::StatLaws::stat_laws, crate::proofs::StatLaws::stat_asked))]
+    fn laws() {}
 }

@@ -18,7 +18,7 @@ use Rattle.fs_tree.proofs.Begins.{both, marker_is}
 use Rattle.fs_tree.proofs.Above.{Cut, cut, marker_ends}
 use Rattle.fs_ops.specs.Places.{key_if, prefix_of}
 use Rattle.fs_moves.proofs.Places.{not_zero, some_long}
-use Rattle.fs_rename.specs.Rename.{inside_of, place_by}
+use Rattle.fs_rename.specs.code.Rename.{inside_of, place_by}
 
 -- ---- elements
 
@@ -42,9 +42,8 @@ key_is (x ∷ q) h = refl
 -- ---- the last element of a path
 
 last_end : (ps : List (List ℕ)) (p : List ℕ) → last_of (ps ++ p ∷ []) ≡ p
-last_end [] p = refl
-last_end (q ∷ []) p = refl
 last_end (q ∷ r ∷ ps) p = last_end (r ∷ ps) p
+last_end _ p = refl
 
 own_elements : (p : List ℕ) → are_elements p ≡ true → are_elements (own_name p) ≡ true
 own_elements p k = by (cut p)

@@ -1,5 +1,5 @@
 -- A renaming, in the tree.
-use Rattle.std.proofs.Common.{◌≡◌, ◌⊎◌, inl, inr, ℕ, Bool, true, false, List, [], ◌∷◌, take, Option, Some, None, Ok, Err, refl, sym, ap, subst, ◌∙◌, arith}
+use Rattle.std.proofs.Common.{◌≡◌, ◌⊎◌, inl, inr, ℕ, Bool, true, false, List, [], ◌∷◌, take, Option, Some, Ok, Err, refl, sym, ap, subst, ◌∙◌, arith}
 use Rattle.s3_types.specs.Store.{Objects, Scene}
 use Rattle.s3_types.specs.Pages.{begins}
 use Rattle.s3_types.specs.Answer.{without}
@@ -17,13 +17,13 @@ use Rattle.fs_tree.specs.Renames.{RenamesFile, RenamesDir, Renames}
 use Rattle.fs_tree.proofs.Begins.{begins_trans}
 use Rattle.fs_tree.proofs.Above.{key_no_marker}
 use Rattle.fs_tree.proofs.Moving.{place_above, place_apart, moves_file, moves_dir}
-use Rattle.fs_ops.specs.StepLaws.{same_scene}
+use Rattle.fs_ops.proofs.StepLaws.{same_scene}
 use Rattle.bucket_walks.specs.Sweeping.{IsDeleting}
 use Rattle.fs_moves.specs.Copies.{Move, sources, copied_all, AreFree, moves_of}
 use Rattle.fs_moves.proofs.Whole.{AreWhole, whole_copying, whole_emptying, whole_marked, is_whole}
 use Rattle.fs_moves.proofs.Placed.{file_free, file_to, file_from, file_apart, file_moved, dir_free, dir_to, dir_from, dir_apart, dir_moved}
-use Rattle.fs_rename.specs.Rename.{Renaming, Answer}
-use Rattle.fs_rename.specs.Meaning.{IsSource, MayGo, moved, gives, IsOnWay, always}
+use Rattle.fs_rename.specs.code.Rename.{Renaming, Answer}
+use Rattle.fs_rename.specs.code.Meaning.{IsSource, MayGo, moved, gives, IsOnWay, always}
 use Rattle.fs_rename.proofs.Inside.{no_marker, inside_elements}
 
 -- ---- the source is not the root

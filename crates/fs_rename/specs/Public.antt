@@ -7,8 +7,8 @@ use Rattle.fs_tree.specs.declared.rename.RenameRefusal.TheVariants.{OtherBucket,
 use Rattle.fs_tree.specs.Moves.{MayStand}
 use Rattle.fs_tree.specs.Renames.{Renames}
 use Rattle.fs_moves.specs.Between.{Route, GivesBetween}
-use Rattle.fs_rename.specs.Rename.{Renaming, Answer, first, asks}
-use Rattle.fs_rename.specs.Meaning.{sends}
+use Rattle.fs_rename.specs.code.Rename.{Renaming, Answer, first, asks}
+use Rattle.fs_rename.specs.code.Meaning.{sends}
 
 -- in one bucket it is what it is among the bucket's objects, and nothing else changes; between two buckets it is refused, before anything else, and nothing changes
 abbrev pub RenamesIn : Route → Scene → Answer → Scene → Type 0

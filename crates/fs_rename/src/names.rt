@@ -2,7 +2,7 @@ ghost use Rattle.std.specs.Prelude.{◌≡◌, true, false, IfOk, Some};
 ghost use Rattle.std.specs.Option.{option_copied};
 ghost use Rattle.bucket_ops.specs.Asks.{request_of};
 ghost use Rattle.fs_tree.specs.Changes.{parent};
-ghost use Rattle.fs_rename.specs.Rename.{inside_of, place_at, asks_at, inside_asks, look_at_asks, is_root_at};
+ghost use Rattle.fs_rename.specs.code.Rename.{inside_of, place_at, asks_at, inside_asks, look_at_asks, is_root_at};
 
 use crate::stages::Spot;
 use fs_moves::Base;
@@ -33,7 +33,7 @@ impl Model for RenameNames {
     ghost use Rattle.fs_tree.specs.Changes.{parent, marker_if};
     ghost use Rattle.fs_ops.specs.Places.{prefix_of};
     ghost use Rattle.fs_moves.specs.Keys.{place_of};
-    ghost use Rattle.fs_rename.specs.Rename.{Renaming, inside_of};
+    ghost use Rattle.fs_rename.specs.code.Rename.{Renaming, inside_of};
 
     ghost Value = { Renaming };
 

@@ -4,14 +4,12 @@ ghost use Rattle.bucket_ops.specs.Asks.{request_of};
 ghost use Rattle.bucket_ops.specs.Looks.{look_of};
 ghost use Rattle.list_walk.specs.Walks.{deleting};
 ghost use Rattle.fs_tree.specs.declared.rename.RenameRefusal.TheVariants.{NoSuchBucket};
-ghost use Rattle.fs_ops.specs.Delete.{entries_in};
+ghost use Rattle.fs_ops.specs.code.Delete.{entries_in};
 ghost use Rattle.fs_ops.specs.Places.{key_if};
 ghost use Rattle.bucket_walks.specs.Walking.{fits};
 ghost use Rattle.fs_moves.specs.Keys.{fitting};
-ghost use Rattle.fs_rename.specs.Rename.{first_is, seen_inside, seen_at, kind_of, one_copy, file_to, place_at, go, begun, on_kind, on_source, on_target, on_inside, on_above, found, looked, with_places, listed_to, on_walked, on_walk, up_to, up, swept, on_copied, on_batch, on_parent, first, asks, on, goes, is_root, is_root_at};
-ghost use Rattle.fs_rename.specs.Meaning.{holds, gives, always, sends};
-ghost use Rattle.fs_rename.specs.Steps.{left};
-ghost use Rattle.fs_rename.specs.RenameLaws.{rename_laws, rename_asked};
+ghost use Rattle.fs_rename.specs.code.Rename.{first_is, seen_inside, seen_at, kind_of, one_copy, file_to, place_at, go, begun, on_kind, on_source, on_target, on_inside, on_above, found, looked, with_places, listed_to, on_walked, on_walk, up_to, up, swept, on_copied, on_batch, on_parent, first, asks, on, goes, is_root, is_root_at};
+ghost use Rattle.fs_rename.specs.code.Meaning.{holds, gives, always, sends, left};
 
 use crate::names::RenameNames;
 use bucket_ops::{Look, Phases, seen_in};
@@ -392,10 +390,6 @@ impl Phases for RenameNames {
 
     ghost absent = { Err NoSuchBucket };
 
-    ghost laws = { rename_laws };
-
-    ghost asked = { rename_asked };
-
     fn start(&self) -> RenameStage {
         RenameStage::Look {
             spot: Spot::Source,
@@ -448,4 +442,7 @@ impl Phases for RenameNames {
             RenameStage::PutMarker(_) => Ok(Step::End(Ok(()))),
         }
     }
+
+    #[tactic(auto, using(crate::proofs::RenameLaws::rename_laws, crate::proofs::RenameLaws::rename_asked))]
+    fn laws() {}
 }

@@ -5,7 +5,7 @@ use Rattle.proof_base.proofs.Options.{some_is}
 use Rattle.s3_types.specs.Store.{Scene}
 use Rattle.s3_types.specs.Answer.{answer, apply}
 use Rattle.s3_types.specs.declared.request.Committer.{Committer}
-use Rattle.s3_types.specs.declared.request.Committer.TheVariants.{Magic, Directory, Partitioned}
+use Rattle.s3_types.specs.declared.request.Committer.TheVariants.{Magic}
 use Rattle.s3_types.specs.declared.request.Request.{Request}
 use Rattle.s3_types.specs.declared.request.Request.TheVariants.{HeadObject, DeleteObject}
 use Rattle.s3_types.specs.declared.reply.Reply.{Reply}
@@ -32,13 +32,11 @@ one_most false = omega arith
 
 cleared_grows : (c : Committer) (j : Job) (s : Scene) (r : Request) → cleared_left c j (apply s r) ≤ cleared_left c j s + one_if (adds_key r)
 cleared_grows Magic j s r = sweep_laws.others j.dest.bucket (layout.magic_prefix j.dest.key j.job) sweep_start s r
-cleared_grows Directory j s r = omega arith
-cleared_grows Partitioned j s r = omega arith
+cleared_grows _ j s r = omega arith
 
 cleared_is : (c : Committer) (j : Job) (s : Scene) → left_at j (cleared c) s ≡ cleared_left c j s
 cleared_is Magic j s = refl
-cleared_is Directory j s = refl
-cleared_is Partitioned j s = refl
+cleared_is _ j s = refl
 
 sweeping_left : (j : Job) (o : Option Sweep) (s : Scene) → left_at j (sweeping o) s ≡ left_of j.dest.bucket (layout.magic_prefix j.dest.key j.job) o s
 sweeping_left j (Some w) s = refl
@@ -100,11 +98,9 @@ none_some : {r : Request} → None ≡ Some r → ⊥
 none_some e = cc
 
 some_left : (j : Job) (c : Setup) (s : Scene) (r : Request) → setup_asks (job_script j) c ≡ Some r → 0 < left_at j c s
-some_left j Heading s r e = omega arith
-some_left j (Checking keys) s r e = omega arith
-some_left j Clearing s r e = omega arith
 some_left j (Sweeping w) s r e = sweep_laws.some j.dest.bucket (layout.magic_prefix j.dest.key j.job) w s
 some_left j (SetupOver end) s r e = absurd (none_some e)
+some_left j _ s r e = omega arith
 
 -- as it goes on, and where it ends since the bucket is not there
 falls_if : (j : Job) (c : Setup) (s : Scene) (r : Request) (next : Setup) → setup_asks (job_script j) c ≡ Some r → left_at j next (apply s r) < left_at j c s → left_at j (if_bucket (answer s r) next) (apply s r) < left_at j c s

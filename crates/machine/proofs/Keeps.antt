@@ -9,7 +9,7 @@ use Rattle.s3_types.specs.declared.journal.Outcome.TheVariants.{Answered, Slow, 
 use Rattle.s3_types.specs.declared.journal.Entry.{Entry}
 use Rattle.sendings.specs.Operation.{Follows, run}
 use Rattle.sendings.specs.Retries.{Item, Retried, wants_of, step, unanswered_by}
-use Rattle.machine.specs.Keeping.{Keeps}
+use Rattle.machine.proofs.Keeping.{Keeps}
 use Rattle.machine.proofs.Runs.{run_keeps}
 
 module _ {M : Type 0} {wants : M → Option Request} {after : M → Item → M} {K : M → Scene → Bool → Type 0} (keeps : Keeps wants after K) (retries : ℕ) where

@@ -69,15 +69,11 @@ told_if false = refl
 -- `StoreFault` is told where a request was worn out
 pub told : {M : Type 0} (t : Retried M) (o : Outcome) → tells_worn (turn_of t o) ≡ wears t o
 told t (Answered r) = refl
-told t Slow = told_if (is_zero t.spare)
-told t RequestLost = told_if (is_zero t.spare)
-told t ReplyLost = told_if (is_zero t.spare)
+told t _ = told_if (is_zero t.spare)
 
 pub lost_if_worn : {M : Type 0} (t : Retried M) (o : Outcome) → wears t o ≡ true → IsTrue (is_unanswered o)
 lost_if_worn t (Answered r) h = cc
-lost_if_worn t Slow h = refl
-lost_if_worn t RequestLost h = refl
-lost_if_worn t ReplyLost h = refl
+lost_if_worn t _ h = refl
 
 lost_now : (worn wears_now : Bool) (a b c : ℕ) → a ≤ b → b ≤ c → (worn ≡ true → a < b) → (wears_now ≡ true → b < c) → (worn || wears_now) ≡ true → a < c
 lost_now true w a b c h k f g e = omega (arith, f refl)
@@ -119,8 +115,7 @@ module _ {M : Type 0} {wants : M → Option Request} {after : M → Item → M} 
   pub standing_step : (t : Retried M) (s : Scene) (r : Request) (o : Outcome) → wants t.operation ≡ Some r → ready t.operation s t.repeated → IsHonestOutcome o (answer s r) → standing (step retries after t o).operation ≡ standing_after (wears t o) (standing t.operation)
   standing_step t s r (Answered a) w h k = laws.goes_on t.operation r a t.repeated w (subst (λ v. fits t.operation v t.repeated) (sym k) (laws.fit t.operation s r t.repeated w h))
   standing_step t s r Slow w h k = standing_unanswered t.operation t.spare r t.repeated w
-  standing_step t s r RequestLost w h k = standing_unanswered t.operation t.spare r true w
-  standing_step t s r ReplyLost w h k = standing_unanswered t.operation t.spare r true w
+  standing_step t s r _ w h k = standing_unanswered t.operation t.spare r true w
 
 pub told_more : (told : ℕ → Option Fate) (n : ℕ) (part : List Entry) (e : Entry) → AreForetold told n part → IsForetold (told (n + length part)) e.outcome → AreForetold told n (part ++ e ∷ [])
 told_more p n [] e h k =

@@ -4,7 +4,7 @@ use Rattle.std.proofs.lemmas.Bool.{false≢true}
 use Rattle.s3_types.specs.Moment.{is_unanswered}
 use Rattle.s3_types.specs.declared.request.Request.{Request}
 use Rattle.s3_types.specs.declared.journal.Outcome.{Outcome}
-use Rattle.s3_types.specs.declared.journal.Outcome.TheVariants.{Answered, Slow, RequestLost, ReplyLost}
+use Rattle.s3_types.specs.declared.journal.Outcome.TheVariants.{Answered, Slow}
 use Rattle.s3_types.specs.declared.journal.Entry.{Entry}
 use Rattle.sendings.specs.Operation.{Follows, run}
 use Rattle.sendings.specs.Retries.{Item, Retried, wants_of, step, wears, is_zero, has_worn, unanswered_by}
@@ -167,8 +167,7 @@ module _ {M : Type 0} (retries : ℕ) (wants : M → Option Request) (after : M 
       let few : 0 ≤ t.spare = omega arith in
       another retries t.spare e es false _ _ _ _ x refl (record { lost = tt; closed = (refl, ap is_unanswered is, few) }) asked refl g
   by_outcome t e es Slow is asked g = by_spare t.operation t.spare e es t.repeated (ap is_unanswered is) asked g
-  by_outcome t e es RequestLost is asked g = by_spare t.operation t.spare e es true (ap is_unanswered is) asked g
-  by_outcome t e es ReplyLost is asked g = by_spare t.operation t.spare e es true (ap is_unanswered is) asked g
+  by_outcome t e es _ is asked g = by_spare t.operation t.spare e es true (ap is_unanswered is) asked g
 
   grouped : (t : Retried M) (part : List Entry) → Follows (wants_of wants) (step retries after) t part → GroupedFrom t part
   grouped t [] f = nothing retries t.spare (wants t.operation)
@@ -185,8 +184,7 @@ module _ {M : Type 0} (retries : ℕ) (wants : M → Option Request) (after : M 
       → ((t' : Retried M) → t'.spare < length es → has_worn retries after t' (es ++ behind) ≡ true) → (wears t o || has_worn retries after (step retries after t o) (es ++ behind)) ≡ true
   worn_outcome t es behind (Answered r) u l ih = absurd (false≢true u)
   worn_outcome t es behind Slow u l ih = worn_spare t.operation t.spare t.repeated es behind l ih
-  worn_outcome t es behind RequestLost u l ih = worn_spare t.operation t.spare true es behind l ih
-  worn_outcome t es behind ReplyLost u l ih = worn_spare t.operation t.spare true es behind l ih
+  worn_outcome t es behind _ u l ih = worn_spare t.operation t.spare true es behind l ih
 
   worn_here : (t : Retried M) (r : Request) (these behind : List Entry) → AreUnanswered r these → t.spare < length these → has_worn retries after t (these ++ behind) ≡ true
   worn_here t r [] behind u l = let no : ⊥ = omega arith in absurd no
@@ -204,8 +202,7 @@ module _ {M : Type 0} (retries : ℕ) (wants : M → Option Request) (after : M 
   kept : (t : Retried M) (o : Outcome) → t.spare ≤ retries → (step retries after t o).spare ≤ retries
   kept t (Answered r) h = omega arith
   kept t Slow h = kept_by t.operation t.spare t.repeated h
-  kept t RequestLost h = kept_by t.operation t.spare true h
-  kept t ReplyLost h = kept_by t.operation t.spare true h
+  kept t _ h = kept_by t.operation t.spare true h
 
   worn_behind : (t : Retried M) (r : Request) (before these behind : List Entry) → t.spare ≤ retries → AreUnanswered r these → length these ≡ retries + 1 → has_worn retries after t (before ++ (these ++ behind)) ≡ true
   worn_behind t r [] these behind l u n = let m : t.spare < length these = omega arith in worn_here t r these behind u m

@@ -104,6 +104,7 @@ pub fn drive<M: Machine, S: ObjectStore>(
 {
     let mut worn = false;
     'sending: loop {
+        M::laws();
         match send(alloc, store, journal, machine, actor, event) {
             Err(_) => return Err(DriveStop::NoMemory),
             Ok(None) => break,

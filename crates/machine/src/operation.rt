@@ -50,6 +50,7 @@ pub trait Machine {
         ensures ok { OnOk result (self.new ≡ after self.old WornOut) }
         ensures err { OnErr result (self.new ≡ after self.old OutOfMemory) };
 
-    /// What holds of these.
-    ghost laws: { Laws wants after fits ready left standing };
+    /// What holds of these. Does nothing.
+    fn laws()
+        ensures { Laws wants after fits ready left standing };
 }

@@ -1,10 +1,3 @@
 pub mod Markers
-pub mod Listing
-pub mod MarkerLaws
-pub mod MissingLaws
-pub mod SameTree
-pub mod Work
-pub mod Tool
-pub mod ToolLaws
 pub mod Works
-pub mod WorkLaws
+pub mod code

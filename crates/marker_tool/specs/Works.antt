@@ -1,9 +1,10 @@
 -- What the marker tool asks in a directory, beside looks.
 use Rattle.std.specs.Prelude.{◌≡◌, ◌⊎◌, ℕ, true, false, List, [], ◌∷◌, take}
+use Rattle.std.specs.FinMap as fin
 use Rattle.s3_types.specs.Store.{Objects}
 use Rattle.request_frame.specs.Members.{IsIn}
 use Rattle.bucket_ops.specs.Asks.{Ask, Page, Put, DropAll, is_look}
-use Rattle.fs_tree.specs.Tree.{IsDirectory}
+use Rattle.fs_tree.specs.Tree.{marker, IsDirectory}
 use Rattle.fs_tree.specs.MarkerTool.{IsSurplus, IsMissing}
 
 -- a look at the bucket
@@ -18,6 +19,11 @@ drops ks = DropAll (take 1000 ks)
 abbrev pub puts : List (List ℕ) → Ask
 puts [] = bucket_asks
 puts (k ∷ ks) = Put k []
+
+-- the objects with markers at these keys
+abbrev pub with_markers : Objects → List (List ℕ) → Objects
+with_markers z [] = z
+with_markers z (k ∷ ks) = with_markers (fin.insert z k marker) ks
 
 -- surplus keys of a directory are deleted, and else it looks
 abbrev pub CleanSends : List ℕ → Objects → Ask → Type 0

@@ -3,10 +3,9 @@ ghost use Rattle.std.specs.Option.{option_copied};
 ghost use Rattle.fs_tree.specs.declared.answers.FsRefusal.TheVariants.{NoSuchBucket};
 ghost use Rattle.bucket_walks.specs.Walking.{fits};
 ghost use Rattle.fs_ops.specs.Places.{key_if};
-ghost use Rattle.fs_ops.specs.Steps.{goes_by};
-ghost use Rattle.marker_tool.specs.Tool as tool;
-ghost use Rattle.marker_tool.specs.Tool.{begun, on_key, whole, on_walk, on_change};
-ghost use Rattle.marker_tool.specs.ToolLaws.{tool_laws, tool_asked};
+ghost use Rattle.fs_ops.specs.code.Steps.{goes_by};
+ghost use Rattle.marker_tool.specs.code.Tool as tool;
+ghost use Rattle.marker_tool.specs.code.Tool.{begun, on_key, whole, on_walk, on_change};
 
 use crate::work::{Found, MarkerWork};
 use bucket_ops::{Look, Phases, seen_in};
@@ -170,10 +169,6 @@ impl<W: MarkerWork> Phases for MarkerTool<W> {
 
     ghost absent = { Err NoSuchBucket };
 
-    ghost laws = { tool_laws W.laws };
-
-    ghost asked = { tool_asked W.laws };
-
     fn start(&self) -> ToolStage<W::Answer> {
         ToolStage::Here
     }
@@ -205,5 +200,9 @@ impl<W: MarkerWork> Phases for MarkerTool<W> {
                 Ok(on_change(self.work.batch(), keys, done, answer))
             }
         }
+    }
+
+    fn laws() {
+        W::laws();
     }
 }

@@ -3,7 +3,7 @@ ghost use Rattle.s3_types.specs.Store.{Objects};
 ghost use Rattle.s3_types.specs.declared.reply.PageEntry.{PageEntry};
 ghost use Rattle.bucket_ops.specs.Asks.{Ask, request_of};
 ghost use Rattle.fs_tree.specs.declared.answers.FsRefusal.{FsRefusal};
-ghost use Rattle.marker_tool.specs.Work.{IsWork};
+ghost use Rattle.marker_tool.specs.code.Work.{IsWork};
 
 use s3_types::{Bucket, Key, KeyList, PageEntry, Request, Text};
 use std::alloc::{AllocError, Global};
@@ -65,6 +65,7 @@ pub trait MarkerWork: Drop {
     fn change(&self, alloc: Global, bucket: &Bucket, left: &[Key]) -> Result<Request, AllocError>
         ensures { IfOk result (λ request. request ≡ request_of bucket.now (changes left.now)) };
 
-    /// What holds of these.
-    ghost laws: { IsWork keys answer batch changes changed gives always sends };
+    /// What holds of these. Does nothing.
+    fn laws()
+        ensures { IsWork keys answer batch changes changed gives always sends };
 }

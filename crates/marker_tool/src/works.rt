@@ -2,11 +2,9 @@ ghost use Rattle.std.specs.Prelude.{◌≡◌, [], length, IfOk};
 ghost use Rattle.s3_types.specs.Answer.{without};
 ghost use Rattle.bucket_ops.specs.Asks.{request_of};
 ghost use Rattle.fs_tree.specs.MarkerTool.{Audits, Cleans, Fills, IsCleaning, IsFilling};
-ghost use Rattle.fs_ops.specs.Steps.{IsStill, OnlyLooks};
+ghost use Rattle.fs_ops.specs.code.Steps.{IsStill, OnlyLooks};
 ghost use Rattle.marker_tool.specs.Markers.{markers_in, surplus_in, missing_in};
-ghost use Rattle.marker_tool.specs.SameTree.{with_markers};
-ghost use Rattle.marker_tool.specs.Works.{bucket_asks, drops, puts, CleanSends, FillSends};
-ghost use Rattle.marker_tool.specs.WorkLaws.{audit_laws, clean_laws, fill_laws};
+ghost use Rattle.marker_tool.specs.Works.{bucket_asks, drops, puts, CleanSends, FillSends, with_markers};
 
 use crate::listed::{markers_in, missing_in, surplus_in};
 use crate::tool::MarkerTool;
@@ -86,8 +84,6 @@ impl MarkerWork for Audit {
 
     ghost sends = { OnlyLooks };
 
-    ghost laws = { audit_laws };
-
     fn of() -> Audit {
         Audit
     }
@@ -117,6 +113,9 @@ impl MarkerWork for Audit {
     ) -> Result<Request, AllocError> {
         look(bucket)
     }
+
+    #[tactic(auto, using(crate::proofs::WorkLaws::audit_laws))]
+    fn laws() {}
 }
 
 impl MarkerWork for Clean {
@@ -138,8 +137,6 @@ impl MarkerWork for Clean {
 
     ghost sends = { CleanSends };
 
-    ghost laws = { clean_laws };
-
     fn of() -> Clean {
         Clean
     }
@@ -160,6 +157,9 @@ impl MarkerWork for Clean {
     fn change(&self, alloc: Global, bucket: &Bucket, left: &[Key]) -> Result<Request, AllocError> {
         batch_request(alloc, bucket, left)
     }
+
+    #[tactic(auto, using(crate::proofs::WorkLaws::clean_laws))]
+    fn laws() {}
 }
 
 impl MarkerWork for Fill {
@@ -180,8 +180,6 @@ impl MarkerWork for Fill {
     ghost always = { IsFilling };
 
     ghost sends = { FillSends };
-
-    ghost laws = { fill_laws };
 
     fn of() -> Fill {
         Fill
@@ -206,4 +204,7 @@ impl MarkerWork for Fill {
             None => look(bucket),
         }
     }
+
+    #[tactic(auto, using(crate::proofs::WorkLaws::fill_laws))]
+    fn laws() {}
 }

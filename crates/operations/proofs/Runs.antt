@@ -4,7 +4,7 @@ use Rattle.s3_types.specs.Store.{Scene}
 use Rattle.s3_types.specs.Moment.{effect, after_all, IsHonestOutcome, AreHonest, is_unanswered}
 use Rattle.s3_types.specs.Answer.{answer, apply}
 use Rattle.s3_types.specs.declared.journal.Outcome.{Outcome}
-use Rattle.s3_types.specs.declared.journal.Outcome.TheVariants.{Answered, Slow, RequestLost, ReplyLost}
+use Rattle.s3_types.specs.declared.journal.Outcome.TheVariants.{Answered, Slow}
 use Rattle.s3_types.specs.declared.request.Request.{Request}
 use Rattle.s3_types.specs.declared.reply.Reply.{Reply}
 use Rattle.s3_types.specs.declared.request.Actor.{Actor}
@@ -30,10 +30,10 @@ use Rattle.operations.specs.declared.plan.Step.{Step}
 use Rattle.operations.specs.declared.plan.Step.TheVariants.{Next, End}
 use Rattle.operations.specs.Plans.{Goes}
 use Rattle.operations.specs.declared.operation.Stage.{Stage}
-use Rattle.operations.specs.declared.operation.Stage.TheVariants.{On, Over, StoreFault, NoMemory}
+use Rattle.operations.specs.declared.operation.Stage.TheVariants.{On, Over}
 use Rattle.operations.specs.Operations.{wanted, led, got, after, Kept, IsReady}
 use Rattle.operations.specs.Courses.{IsCourse, MaySend, IsCalm}
-use Rattle.operations.specs.CourseLaws.{keeps, at_any}
+use Rattle.operations.proofs.CourseLaws.{keeps, at_any}
 use Rattle.operations.specs.Performed.{Seen, Performed}
 
 -- a store of this scene, requests, losses and fates beside these entries
@@ -123,9 +123,7 @@ module _ {P A : Type 0} {starts : P → Type 0} {asks : P → Request} {goes : P
   module _ (sends : Request → Type 0) (may : (p : P) (s : Scene) (b : Bool) → holds o z p s b → sends (asks p)) where
     sent_now : (m : Stage P A) (s : Scene) (b : Bool) (r : Request) → wanted asks m ≡ Some r → Kept (holds o z) (gives o z) (always o z) m s b → sends r
     sent_now (On p) s b r w k = let e : asks p ≡ r = cc in subst sends e (may p s b k)
-    sent_now (Over a) s b r w k = absurd (cc)
-    sent_now StoreFault s b r w k = absurd (cc)
-    sent_now NoMemory s b r w k = absurd (cc)
+    sent_now _ s b r w k = absurd (cc)
 
     -- each request that is sent is one that the phases may send
     all_sent : (retries : ℕ) (t : Retried (Stage P A)) (s : Scene) (part : List Entry) → Follows (wants_of (wanted asks)) (step retries (after goes)) t part → AreHonest s part
@@ -181,8 +179,7 @@ module _ {P A : Type 0} {starts : P → Type 0} {asks : P → Request} {goes : P
   abbrev InCalm : Stage P A → Scene → Type 0
   InCalm (On p) s = calm o z p s
   InCalm (Over a) s = leaves o z a s
-  InCalm StoreFault s = Unit {0}
-  InCalm NoMemory s = Unit {0}
+  InCalm _ s = Unit {0}
 
   calm_led : (x : Step P A) (s : Scene) → Goes (calm o z) (leaves o z) x s → InCalm (led x) s
   calm_led (Next p) s h = h
@@ -190,9 +187,7 @@ module _ {P A : Type 0} {starts : P → Type 0} {asks : P → Request} {goes : P
 
   calm_got : (m : Stage P A) (s : Scene) (r : Request) → wanted asks m ≡ Some r → InCalm m s → InCalm (got goes m (answer s r) false) (apply s r)
   calm_got (On p) s r w h = let e : asks p ≡ r = cc in subst (λ v. InCalm (led (goes p (answer s v) false)) (apply s v)) e (calm_led _ _ (k.goes_on o z p s h))
-  calm_got (Over a) s r w h = absurd (cc)
-  calm_got StoreFault s r w h = absurd (cc)
-  calm_got NoMemory s r w h = absurd (cc)
+  calm_got _ s r w h = absurd (cc)
 
   calm_step : (retries : ℕ) (t : Retried (Stage P A)) (s : Scene) (r : Request) (x : Outcome) → t.repeated ≡ false → wanted asks t.operation ≡ Some r → IsHonestOutcome x (answer s r) → is_unanswered x ≡ false → InCalm t.operation s
       → InCalm (step retries (after goes) t x).operation (effect s r x) × ((step retries (after goes) t x).repeated ≡ false)
@@ -201,8 +196,7 @@ module _ {P A : Type 0} {starts : P → Type 0} {asks : P → Request} {goes : P
     refl,
   )
   calm_step retries t s r Slow q w h n c = absurd (cc)
-  calm_step retries t s r RequestLost q w h n c = absurd (cc)
-  calm_step retries t s r ReplyLost q w h n c = absurd (cc)
+  calm_step retries t s r _ q w h n c = absurd (cc)
 
   calm_all : (retries : ℕ) (t : Retried (Stage P A)) (s : Scene) (part : List Entry) → t.repeated ≡ false → Follows (wants_of (wanted asks)) (step retries (after goes)) t part → AreHonest s part → AreAnswered part → InCalm t.operation s
       → InCalm (run (step retries (after goes)) t part).operation (after_all s part)

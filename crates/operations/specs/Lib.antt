@@ -2,5 +2,3 @@ pub mod Plans
 pub mod Courses
 pub mod Operations
 pub mod Performed
-pub mod PlanLaws
-pub mod CourseLaws

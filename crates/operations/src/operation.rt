@@ -1,6 +1,5 @@
 ghost use Rattle.std.specs.Prelude.{◌≡◌, IfOk, OnOk, OnErr, Option, Some, None};
 ghost use Rattle.operations.specs.Operations.{wanted, led, after, any_reply, left, standing, IsReady};
-ghost use Rattle.operations.specs.CourseLaws.{course_laws};
 
 use crate::plan::{Plan, Step};
 use machine::Machine;
@@ -120,8 +119,6 @@ impl<P: Plan> Machine for Operation<P> {
 
     ghost standing = { standing };
 
-    ghost laws = { course_laws P.laws };
-
     fn request(&self) -> Option<&Request> {
         self.asked.as_ref()
     }
@@ -142,5 +139,9 @@ impl<P: Plan> Machine for Operation<P> {
     fn worn(&mut self) -> Result<(), AllocError> {
         self.stop(Stage::StoreFault);
         Ok(())
+    }
+
+    fn laws() {
+        P::laws();
     }
 }

@@ -49,6 +49,7 @@ pub fn perform<P: Plan, S: ObjectStore>(
         (seen S.scene S.requests S.losses S.foretold store.new journal.new.entries) result }
     ensures fault { IsErrOf result DriveStop.StoreFault → S.losses store.old < S.losses store.new }
 {
+    P::laws();
     let operation = match Operation::new(plan) {
         Ok(operation) => operation,
         Err(_) => return Err(DriveStop::NoMemory),

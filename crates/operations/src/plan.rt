@@ -59,12 +59,9 @@ pub trait Plan: Drop {
     fn next(self, reply: &Reply, repeated: bool) -> Result<Step<Self, Self::Answer>, AllocError>
         ensures { IfOk result (λ step. step ≡ goes self reply.now repeated) };
 
-    /// What holds of these.
-    ghost laws: { IsCourse starts asks goes holds gives always left };
-
-    /// Its phases ask no other.
-    ghost asked: { MaySend asks holds sends };
-
-    /// What holds of `calm` and `leaves`.
-    ghost calms: { IsCalm starts asks goes calm leaves };
+    /// What holds of these; its phases ask no request but those that it may send. Does nothing.
+    fn laws()
+        ensures course { IsCourse starts asks goes holds gives always left }
+        ensures asked { MaySend asks holds sends }
+        ensures calms { IsCalm starts asks goes calm leaves };
 }

@@ -10,7 +10,7 @@ use Rattle.s3_types.specs.declared.request.UploadRef.{UploadRef}
 use Rattle.request_frame.specs.Members.{IsIn}
 use Rattle.request_frame.proofs.Members.{same_or_not, nat_gone, nat_left}
 use Rattle.fs_files.specs.Placed.{placed}
-use Rattle.fs_files.specs.WritingLaws.{placed_same, placed_by}
+use Rattle.fs_files.proofs.WritingLaws.{placed_same, placed_by}
 use Rattle.path_keys.specs.Paths.{Path, below}
 use Rattle.bucket_walks.specs.Uploads.{uploads_from, IsStill}
 use Rattle.request_frame.proofs.Members.{some_is}

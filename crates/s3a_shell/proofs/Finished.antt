@@ -17,7 +17,7 @@ use Rattle.fs_tree.specs.declared.answers.FsRefusal.{FsRefusal}
 use Rattle.fs_tree.specs.declared.answers.FsRefusal.TheVariants.{NoSuchBucket}
 use Rattle.path_keys.specs.Paths.{Path}
 use Rattle.s3a_words.specs.declared.command.Command.{Command}
-use Rattle.s3a_words.specs.declared.command.Command.TheVariants.{Init, Mb, Ls, Stat, Cat, Put, PutForce, PutDrop, Mkdir, Mv, Cp, Rm, Rmr, Uploads, AbortUploads, Markers, CleanMarkers, FillMarkers, Job, Gen}
+use Rattle.s3a_words.specs.declared.command.Command.TheVariants.{Mb, Ls, Stat, Cat, Put, PutForce, PutDrop, Mkdir, Mv, Cp, Rm, Rmr, Uploads, AbortUploads, Markers, CleanMarkers, FillMarkers}
 use Rattle.s3a_shell.specs.declared.said.Said.{Said}
 use Rattle.s3a_shell.specs.Texts.{status_line, entry_lines, marker_lines, cleaned_line, filled_line, bytes_alone, nothing}
 use Rattle.s3a_shell.specs.Doings.{Did, most_input, CreatedUnless, Does}
@@ -94,9 +94,7 @@ module _ (z s : Scene) (first : (b : List ℕ) → NoneFrom z.content.next z.con
   does_ended (Rmr p) bytes what h = did_ended p (Deletes true p.key) nothing what h
   does_ended (Uploads p) bytes what h = still p.bucket (ap (λ (s : Scene). s.content.next) h.1)
   does_ended (AbortUploads p) bytes what h = still p.bucket (abort_next p z what s (fin.get z.content.buckets p.bucket) h)
-  does_ended (Init m) bytes what h = absurd h
   does_ended (Markers p) bytes what h = did_ended p (Audits p.key) marker_lines what h
   does_ended (CleanMarkers p) bytes what h = did_ended p (Cleans p.key) cleaned_line what h
   does_ended (FillMarkers p) bytes what h = did_ended p (Fills p.key) filled_line what h
-  does_ended Job bytes what h = absurd h
-  does_ended (Gen seed tasks files) bytes what h = absurd h
+  does_ended _ bytes what h = absurd h

@@ -8,7 +8,7 @@ use Rattle.s3_types.specs.Store.{Objects, Scene}
 use Rattle.s3_types.specs.declared.request.Request.{Request}
 use Rattle.s3_types.specs.declared.journal.Entry.{Entry}
 use Rattle.log_format.specs.Change.{is_changing}
-use Rattle.bucket_ops.specs.Asks.{Ask, Head, Get, Page, Put, Drop, DropAll, Copy, is_look, request_of, objects_at}
+use Rattle.bucket_ops.specs.Asks.{Ask, Head, Get, Page, is_look, request_of, objects_at}
 use Rattle.bucket_ops.specs.Phases.{SendsAt, SendsIn}
 use Rattle.bucket_walks.specs.Uploads.{IsPageOf}
 use Rattle.s3a_shell.specs.declared.session.Session.{Session}
@@ -20,10 +20,7 @@ look_only : (b : List ℕ) (a : Ask) → is_look a ≡ true → is_changing (req
 look_only b (Head k) h = refl
 look_only b (Get k) h = refl
 look_only b (Page p d q n) h = refl
-look_only b (Put k bytes) h = absurd (cc)
-look_only b (Drop k) h = absurd (cc)
-look_only b (DropAll ks) h = absurd (cc)
-look_only b (Copy k q) h = absurd (cc)
+look_only b _ h = absurd (cc)
 
 not_changing : (e : Entry) → is_changing e.request ≡ false → is_change e ≡ false
 not_changing e h = rw h refl

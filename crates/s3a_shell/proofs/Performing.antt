@@ -12,7 +12,7 @@ use Rattle.s3_types.specs.Foretold.{fate_of, AreForetold}
 use Rattle.s3_types.specs.declared.fates.Fate.TheVariants.{Answer}
 use Rattle.s3_types.specs.declared.request.Actor.TheVariants.{Shell}
 use Rattle.s3_types.specs.declared.journal.Outcome.{Outcome}
-use Rattle.s3_types.specs.declared.journal.Outcome.TheVariants.{Answered, Slow, RequestLost, ReplyLost}
+use Rattle.s3_types.specs.declared.journal.Outcome.TheVariants.{Answered}
 use Rattle.s3_types.specs.declared.journal.Entry.{Entry}
 use Rattle.path_keys.specs.Paths.{Path, is_key}
 use Rattle.bucket_walks.specs.Uploads.{IsStill}
@@ -21,16 +21,16 @@ use Rattle.machine.specs.declared.driving.DriveStop.{DriveStop}
 use Rattle.operations.specs.Performed.{Seen, Performed}
 use Rattle.bucket_ops.specs.Phases.{InScene, GivesIn, AlwaysIn}
 use Rattle.bucket_ops.specs.Asks.{objects_at, with_objects}
-use Rattle.bucket_ops.specs.AskLaws.{with_same}
+use Rattle.bucket_ops.proofs.AskLaws.{with_same}
 use Rattle.dir_markers.specs.declared.marker.MarkerPolicy.{MarkerPolicy}
 use Rattle.fs_tree.specs.Answers.{Creates, Deletes}
 use Rattle.fs_tree.specs.declared.answers.FsRefusal.{FsRefusal}
 use Rattle.fs_tree.specs.declared.answers.FsRefusal.TheVariants.{NoSuchBucket}
-use Rattle.fs_ops.specs.Delete.{Deletion, gives}
-use Rattle.fs_ops.specs.Deleting.{deletes_in}
+use Rattle.fs_ops.specs.code.Delete.{Deletion, gives}
+use Rattle.fs_ops.proofs.Deleting.{deletes_in}
 use Rattle.fs_files.specs.Placed.{InFile, NoneLeft}
-use Rattle.fs_files.specs.Create.{IsUndone, GivesFile, least as least_of, always_in, AlwaysFile}
-use Rattle.fs_files.specs.WritingLaws.{placed_same}
+use Rattle.fs_files.specs.code.Create.{IsUndone, GivesFile, least as least_of, always_in, AlwaysFile}
+use Rattle.fs_files.proofs.WritingLaws.{placed_same}
 use Rattle.fs_files.specs.Creation.{Creation}
 use Rattle.s3a_shell.specs.declared.said.Said.{Said}
 use Rattle.s3a_shell.specs.Texts.{said, nothing, refusing}
@@ -41,9 +41,7 @@ use Rattle.s3a_shell.specs.Doings.{Did, most_input, Created, CreatedUnless, IsMa
 
 one : (o : Outcome) → fate_of o ≡ Answer → is_unanswered o ≡ false
 one (Answered r) h = refl
-one Slow h = absurd (cc)
-one RequestLost h = absurd (cc)
-one ReplyLost h = absurd (cc)
+one _ h = absurd (cc)
 
 -- what is told to be answered is
 pub answered : (n : ℕ) (es : List Entry) → AreForetold (λ m. Some Answer) n es → AreAnswered es

@@ -19,7 +19,7 @@ use Rattle.fs_tree.specs.declared.answers.FsRefusal.{FsRefusal}
 use Rattle.fs_tree.specs.declared.answers.FsRefusal.TheVariants.{NoSuchBucket}
 use Rattle.fs_files.specs.Placed.{InFile}
 use Rattle.s3a_words.specs.declared.command.Command.{Command}
-use Rattle.s3a_words.specs.declared.command.Command.TheVariants.{Init, Mb, Ls, Stat, Cat, Put, PutForce, PutDrop, Mkdir, Mv, Cp, Rm, Rmr, Uploads, AbortUploads, Markers, CleanMarkers, FillMarkers, Job, Gen}
+use Rattle.s3a_words.specs.declared.command.Command.TheVariants.{Mb, Ls, Stat, Cat, Put, PutForce, PutDrop, Mkdir, Mv, Cp, Rm, Rmr, Uploads, AbortUploads, Markers, CleanMarkers, FillMarkers}
 use Rattle.s3a_shell.specs.declared.said.Said.{Said}
 use Rattle.s3a_shell.specs.Texts.{status_line, entry_lines, marker_lines, cleaned_line, filled_line, bytes_alone, nothing}
 use Rattle.s3a_shell.specs.Doings.{Did, most_input, CreatedUnless, Does}
@@ -117,11 +117,9 @@ does_only (Mv from to) bytes z what s h = between_only from to z what s h
 does_only (Cp from to) bytes z what s h = between_only from to z what s h
 does_only (Rm p) bytes z what s h = did_only p (Deletes false p.key) nothing z what s h
 does_only (Rmr p) bytes z what s h = did_only p (Deletes true p.key) nothing z what s h
-does_only (Init m) bytes z what s h = absurd h
 does_only (Uploads p) bytes z what s h = subst (λ (t : Scene). OnlyIn p.bucket none z.content t.content) (sym h.1) (only_same p.bucket none z.content)
 does_only (AbortUploads p) bytes z what s h = abort_only p z what s h
 does_only (Markers p) bytes z what s h = did_only p (Audits p.key) marker_lines z what s h
 does_only (CleanMarkers p) bytes z what s h = did_only p (Cleans p.key) cleaned_line z what s h
 does_only (FillMarkers p) bytes z what s h = did_only p (Fills p.key) filled_line z what s h
-does_only Job bytes z what s h = absurd h
-does_only (Gen seed tasks files) bytes z what s h = absurd h
+does_only _ bytes z what s h = absurd h

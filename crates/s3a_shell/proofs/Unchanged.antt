@@ -21,7 +21,7 @@ use Rattle.s3_types.specs.declared.reply.Reply.TheVariants.{Made, Part, Refused,
 use Rattle.s3_types.specs.declared.reply.Refusal.{Refusal}
 use Rattle.s3_types.specs.declared.reply.Refusal.TheVariants.{TooManyKeys, BadPartNumber, BadName}
 use Rattle.s3_types.specs.declared.journal.Outcome.{Outcome}
-use Rattle.s3_types.specs.declared.journal.Outcome.TheVariants.{Answered, Slow, RequestLost, ReplyLost}
+use Rattle.s3_types.specs.declared.journal.Outcome.TheVariants.{Answered}
 use Rattle.s3_types.specs.declared.journal.Entry.{Entry}
 use Rattle.log_format.specs.Change.{is_changing}
 use Rattle.kept_runs.proofs.Journals.{others_leave}
@@ -117,9 +117,7 @@ neither false y h = (refl, h)
 
 outcome_leaves : (s : Scene) (r : Request) (o : Outcome) → IsHonestOutcome o (answer s r) → is_unanswered o ≡ false → (is_changing r && is_taken o) ≡ false → (effect s r o).content ≡ s.content
 outcome_leaves s r (Answered a) honest answered h = one_leaves s r a honest h
-outcome_leaves s r Slow honest answered h = absurd (cc)
-outcome_leaves s r RequestLost honest answered h = absurd (cc)
-outcome_leaves s r ReplyLost honest answered h = absurd (cc)
+outcome_leaves s r _ honest answered h = absurd (cc)
 
 -- where none is a change, the store is as it was
 pub no_change : (es : List Entry) (s : Scene) → AreHonest s es → AreAnswered es → has_changed es ≡ false → (after_all s es).content ≡ s.content

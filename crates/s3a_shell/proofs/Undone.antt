@@ -23,9 +23,9 @@ use Rattle.fs_tree.specs.declared.rename.RenameRefusal.TheVariants.{SourceMissin
 use Rattle.fs_tree.specs.Renames.{Renames}
 use Rattle.fs_tree.specs.declared.copy.CopyRefusal.TheVariants as copy
 use Rattle.fs_tree.specs.Copies.{Copies}
-use Rattle.fs_files.specs.Create.{IsUndone}
+use Rattle.fs_files.specs.code.Create.{IsUndone}
 use Rattle.s3a_words.specs.declared.command.Command.{Command}
-use Rattle.s3a_words.specs.declared.command.Command.TheVariants.{Init, Mb, Ls, Stat, Cat, Put, PutForce, PutDrop, Mkdir, Mv, Cp, Rm, Rmr, Uploads, AbortUploads, Markers, CleanMarkers, FillMarkers, Job, Gen}
+use Rattle.s3a_words.specs.declared.command.Command.TheVariants.{Mb, Ls, Stat, Cat, Put, PutForce, PutDrop, Mkdir, Mv, Cp, Rm, Rmr, Uploads, AbortUploads, Markers, CleanMarkers, FillMarkers}
 use Rattle.s3a_shell.specs.declared.said.Said.{Said}
 use Rattle.s3a_shell.specs.Texts.{status_line, entry_lines, marker_lines, cleaned_line, filled_line, bytes_alone, nothing, said}
 use Rattle.s3a_shell.specs.Moving.{DidBetween}
@@ -167,9 +167,7 @@ does_keeps (Rm p) bytes z what s h e = did_keeps p (Deletes false p.key) nothing
 does_keeps (Rmr p) bytes z what s h e = did_keeps p (Deletes true p.key) nothing z what s (deletes_keep true p.key) h e
 does_keeps (Uploads p) bytes z what s h e = h.1
 does_keeps (AbortUploads p) bytes z what s h e = abort_keeps p z what s (fin.get z.content.buckets p.bucket) h e
-does_keeps (Init m) bytes z what s h e = absurd h
 does_keeps (Markers p) bytes z what s h e = did_keeps p (Audits p.key) marker_lines z what s (audits_keep p.key) h e
 does_keeps (CleanMarkers p) bytes z what s h e = did_keeps p (Cleans p.key) cleaned_line z what s (cleans_keep p.key) h e
 does_keeps (FillMarkers p) bytes z what s h e = did_keeps p (Fills p.key) filled_line z what s (fills_keep p.key) h e
-does_keeps Job bytes z what s h e = absurd h
-does_keeps (Gen seed tasks files) bytes z what s h e = absurd h
+does_keeps _ bytes z what s h e = absurd h

@@ -16,10 +16,10 @@ use Rattle.fs_tree.specs.Answers.{Stats, Reads, Lists, Creates, Makes, Deletes}
 use Rattle.fs_tree.specs.MarkerTool.{Audits, Cleans, Fills, IsCleaning, IsFilling}
 use Rattle.fs_tree.specs.declared.answers.FsRefusal.{FsRefusal}
 use Rattle.fs_tree.specs.declared.answers.FsRefusal.TheVariants.{NoSuchBucket}
-use Rattle.fs_ops.specs.Delete as delete
-use Rattle.fs_ops.specs.Make as make
+use Rattle.fs_ops.specs.code.Delete as delete
+use Rattle.fs_ops.specs.code.Make as make
 use Rattle.fs_files.specs.Placed.{InFile, NoneLeft, object_of}
-use Rattle.fs_files.specs.Create.{IsUndone}
+use Rattle.fs_files.specs.code.Create.{IsUndone}
 use Rattle.fs_rename.specs.Public.{StandsWhole}
 use Rattle.copy_tree.specs.Public.{StandsCopied}
 use Rattle.s3a_words.specs.declared.command.Command.{Command}

@@ -4,7 +4,7 @@ use Rattle.proof_base.proofs.Options.{some_is}
 use Rattle.s3_types.specs.Store.{Scene}
 use Rattle.s3_types.specs.Answer.{answer, apply}
 use Rattle.s3_types.specs.declared.request.Committer.{Committer}
-use Rattle.s3_types.specs.declared.request.Committer.TheVariants.{Magic, Directory, Partitioned}
+use Rattle.s3_types.specs.declared.request.Committer.TheVariants.{Magic}
 use Rattle.s3_types.specs.declared.request.Request.{Request}
 use Rattle.s3_types.specs.declared.request.Request.TheVariants.{AbortUpload}
 use Rattle.job_model.specs.Attempts.{Who}
@@ -40,13 +40,11 @@ own_rises w a v s r =
 
 after_keeps : (c : Committer) (w : Script) (a : Who) (s : Scene) (r : Request) → adds_key r ≡ false → after_left c w a (apply s r) ≤ after_left c w a s
 after_keeps Magic w a s r k = own_keeps w a sweep_start s r k
-after_keeps Directory w a s r k = omega arith
-after_keeps Partitioned w a s r k = omega arith
+after_keeps _ w a s r k = omega arith
 
 after_rises : (c : Committer) (w : Script) (a : Who) (s : Scene) (r : Request) → after_left c w a (apply s r) ≤ after_left c w a s + 1
 after_rises Magic w a s r = own_rises w a sweep_start s r
-after_rises Directory w a s r = omega arith
-after_rises Partitioned w a s r = omega arith
+after_rises _ w a s r = omega arith
 
 -- ---- it falls
 
@@ -56,8 +54,7 @@ removing_left w a false s = omega arith
 
 dropped_left : (c : Committer) (w : Script) (a : Who) (sent : Bool) (s : Scene) → abort_left_at w a (dropped c sent) s ≤ after_left c w a s
 dropped_left Magic w a sent s = omega arith
-dropped_left Directory w a sent s = removing_left w a sent s
-dropped_left Partitioned w a sent s = removing_left w a sent s
+dropped_left _ w a sent s = removing_left w a sent s
 
 dropping_left : (w : Script) (a : Who) (sent : Bool) (ds : List Drawn) (s : Scene) → abort_left_at w a (dropping w.committer sent ds) s ≤ length ds + after_left w.committer w a s
 dropping_left w a sent [] s = let k = dropped_left w.committer w a sent s in omega (arith, k)
@@ -92,10 +89,9 @@ falls_at w a Removing s r e h = omega arith
 falls_at w a (TaskAbortOver end) s r e h = absurd (none_some e)
 
 some_left : (w : Script) (a : Who) (o : TaskAbort) (s : Scene) (r : Request) → task_abort_asks w a o ≡ Some r → 0 < abort_left_at w a o s
-some_left w a (Dropping d ds sent) s r e = omega arith
 some_left w a (Sweeping v) s r e = sweep_laws.some w.dest.bucket (attempt_prefix w a) v s
-some_left w a Removing s r e = omega arith
 some_left w a (TaskAbortOver end) s r e = absurd (none_some e)
+some_left w a _ s r e = omega arith
 
 keeps_dropping : (w : Script) (a : Who) (d : Drawn) (ds : List Drawn) (sent : Bool) (s : Scene) → abort_left_at w a (Dropping d ds sent) (apply s (AbortUpload w.dest.bucket d.key d.upload)) ≤ abort_left_at w a (Dropping d ds sent) s
 keeps_dropping w a d ds sent s = let k = after_keeps w.committer w a s (AbortUpload w.dest.bucket d.key d.upload) refl in omega (arith, k)
@@ -103,14 +99,12 @@ keeps_dropping w a d ds sent s = let k = after_keeps w.committer w a s (AbortUpl
 no_rise_at : (w : Script) (a : Who) (o : TaskAbort) (s : Scene) (r : Request) → task_abort_asks w a o ≡ Some r → abort_left_at w a o (apply s r) ≤ abort_left_at w a o s
 no_rise_at w a (Dropping d ds sent) s r e = subst (λ r. abort_left_at w a (Dropping d ds sent) (apply s r) ≤ abort_left_at w a (Dropping d ds sent) s) (some_is _ _ e) (keeps_dropping w a d ds sent s)
 no_rise_at w a (Sweeping v) s r e = subst (λ r. abort_left_at w a (Sweeping v) (apply s r) ≤ abort_left_at w a (Sweeping v) s) (some_is _ _ e) (sweep_laws.no_rise w.dest.bucket (attempt_prefix w a) v s)
-no_rise_at w a Removing s r e = omega arith
-no_rise_at w a (TaskAbortOver end) s r e = omega arith
+no_rise_at w a _ s r e = omega arith
 
 others_at : (w : Script) (a : Who) (o : TaskAbort) (s : Scene) (r : Request) → abort_left_at w a o (apply s r) ≤ abort_left_at w a o s + 1
 others_at w a (Dropping d ds sent) s r = let k = after_rises w.committer w a s r in omega (arith, k)
 others_at w a (Sweeping v) s r = own_rises w a v s r
-others_at w a Removing s r = omega arith
-others_at w a (TaskAbortOver end) s r = omega arith
+others_at w a _ s r = omega arith
 
 pub abort_falls : FallsAmong task_abort_wants task_abort_told abort_fits abort_left 1
 abort_falls = record {

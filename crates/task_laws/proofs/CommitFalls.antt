@@ -206,27 +206,16 @@ falls_at w minimum a k Renaming s r b e h = let z = renamed_left w minimum a (an
 falls_at w minimum a k (TaskCommitOver end) s r b e h = absurd (none_some e)
 
 some_left : (w : Script) (minimum : ℕ) (a : Who) (k : Known) (o : TaskCommit) (s : Scene) (r : Request) → task_commit_asks w a k o ≡ Some r → 0 < commit_left_at w minimum a o s
-some_left w minimum a k (Looking keys) s r e = omega arith
-some_left w minimum a k (Reading cs f fs) s r e = omega arith
-some_left w minimum a k (Publishing cs) s r e = omega arith
-some_left w minimum a k (Checking d ds) s r e = omega arith
 some_left w minimum a k (commits.Uploads f fs u) s r e = let z = some_upload w minimum f u in omega (arith, z)
-some_left w minimum a k Storing s r e = omega arith
-some_left w minimum a k Renaming s r e = omega arith
 some_left w minimum a k (TaskCommitOver end) s r e = absurd (none_some e)
+some_left w minimum a k _ s r e = omega arith
 
 same_left : (w : Script) (minimum : ℕ) (a : Who) (o : TaskCommit) (s z : Scene) → z ≡ s → commit_left_at w minimum a o z ≤ commit_left_at w minimum a o s
 same_left w minimum a o s z e = let i = ap (commit_left_at w minimum a o) e in omega (arith, i)
 
 no_rise_at : (w : Script) (minimum : ℕ) (a : Who) (k : Known) (o : TaskCommit) (s : Scene) (r : Request) → task_commit_asks w a k o ≡ Some r → commit_left_at w minimum a o (apply s r) ≤ commit_left_at w minimum a o s
 no_rise_at w minimum a k (Looking keys) s r e = same_left w minimum a (Looking keys) s (apply s r) (ap (apply s) (sym (some_is _ _ e)) ∙ walk_laws.still w.dest.bucket (attempt_prefix w a) keys s)
-no_rise_at w minimum a k (Reading cs f fs) s r e = omega arith
-no_rise_at w minimum a k (Publishing cs) s r e = omega arith
-no_rise_at w minimum a k (Checking d ds) s r e = omega arith
-no_rise_at w minimum a k (commits.Uploads f fs u) s r e = omega arith
-no_rise_at w minimum a k Storing s r e = omega arith
-no_rise_at w minimum a k Renaming s r e = omega arith
-no_rise_at w minimum a k (TaskCommitOver end) s r e = omega arith
+no_rise_at w minimum a k _ s r e = omega arith
 
 others_at : (w : Script) (minimum : ℕ) (a : Who) (o : TaskCommit) (s : Scene) (r : Request) → commit_left_at w minimum a o (apply s r) ≤ commit_left_at w minimum a o s + 1
 others_at w minimum a (Looking keys) s r =
@@ -234,12 +223,7 @@ others_at w minimum a (Looking keys) s r =
     let z = one_most (adds_key r) in
     omega (arith, o, z)
 others_at w minimum a (Reading cs f fs) s r = omega arith
-others_at w minimum a (Publishing cs) s r = omega arith
-others_at w minimum a (Checking d ds) s r = omega arith
-others_at w minimum a (commits.Uploads f fs u) s r = omega arith
-others_at w minimum a Storing s r = omega arith
-others_at w minimum a Renaming s r = omega arith
-others_at w minimum a (TaskCommitOver end) s r = omega arith
+others_at w minimum a _ s r = omega arith
 
 pub commit_falls : FallsAmong task_commit_wants task_commit_told commit_fits commit_left 1
 commit_falls = record {

@@ -42,10 +42,8 @@ falls_at t (writes.WriteOver end) r a b w h = absurd (cc)
 
 some_left : (t : Task) (o : Write) (r : Request) → write_wants (record { plan = t; operation = o }) ≡ Some r → 0 < left_of (task_script t) t.minimum o
 some_left t (writes.Uploads f fs Creating) r w = omega arith
-some_left t (writes.Uploads f fs (Sending p ps)) r w = omega arith
-some_left t (writes.Marking f fs) r w = omega arith
-some_left t (writes.Recording f fs) r w = omega arith
 some_left t (writes.WriteOver end) r w = absurd (cc)
+some_left t _ r w = omega arith
 
 pub write_falls : FallsAmong write_wants write_told write_fits write_left 0
 write_falls = record {

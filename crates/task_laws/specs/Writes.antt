@@ -1,14 +1,12 @@
 -- How a write stands, and its laws as a machine.
-use Rattle.std.specs.Prelude.{◌≡◌, ℕ, Bool, List, [], ◌∷◌, Some}
+use Rattle.std.specs.Prelude.{◌≡◌, ℕ, List, [], ◌∷◌, Some}
 use Rattle.std.proofs.Common.{refl}
 use Rattle.s3_types.specs.declared.request.Request.{Request}
 use Rattle.s3_types.specs.declared.reply.Reply.{Reply}
 use Rattle.s3_types.specs.declared.reply.Reply.TheVariants.{Upload, Part, Refused}
 use Rattle.s3_types.specs.declared.reply.Refusal.TheVariants.{NoSuchUpload}
 use Rattle.machine.specs.Standing.{Standing, Fine}
-use Rattle.machine.specs.Laws.{Laws}
 use Rattle.asking.specs.Asks.{AskLaws}
-use Rattle.asking.specs.MachineLaws.{never, machine_laws}
 use Rattle.job_model.specs.Files.{File}
 use Rattle.job_model.specs.Known.{Drawn}
 use Rattle.job_model.specs.Jobs.{Task}
@@ -18,7 +16,7 @@ use Rattle.job_operations.specs.Uploading.{Creating, Sending, sending, file_part
 use Rattle.job_operations.specs.Writes as writes
 use Rattle.job_operations.specs.Writes.{Write, uploaded, writing, write_hears}
 use Rattle.task_laws.specs.Standing.{standing_of}
-use Rattle.task_requests.specs.Writing.{write_fits, FitsWrite, FitsCreate, FitsPart, write_left}
+use Rattle.task_requests.specs.Writing.{write_fits, FitsWrite, FitsCreate, FitsPart}
 
 -- ---- how it stands
 
@@ -61,7 +59,3 @@ write_asks = record {
   faults = λ m r w. refl;
   goes_on = λ m r a b w h. fine_at m.plan m.operation r a w h;
 }
-
--- of a machine, which is not driven alone
-pub write_laws : Laws write_wants write_told write_fits never write_left write_standing
-write_laws = machine_laws write_left write_asks

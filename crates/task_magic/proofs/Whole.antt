@@ -13,7 +13,7 @@ use Rattle.job_model.specs.declared.ends.TaskEnd.{TaskEnd}
 use Rattle.job_model.specs.declared.ends.TaskEnd.TheVariants as ends
 use Rattle.job_operations.specs.AtWork.{Attempting, task_script, who_of, with_known, write_wants, write_told}
 use Rattle.job_operations.specs.Outputs.{files}
-use Rattle.job_operations.specs.Uploading.{Creating, Sending}
+use Rattle.job_operations.specs.Uploading.{Creating}
 use Rattle.job_operations.specs.Writes as writes
 use Rattle.job_operations.specs.Writes.{Write, write_start, write_start_by, write_over, writing}
 use Rattle.task_requests.specs.declared.stage.WriteStage.{WriteStage}
@@ -42,10 +42,9 @@ start_kept t dir d h = record { dir = d; asked = refl; holds = h; within = open_
 
 pub worn_told : (t : Task) (o : Write) → (let m : Attempting Write = record { plan = t; operation = writes.WriteOver ends.StoreFault } in m ≡ write_told (record { plan = t; operation = o }) WornOut)
 worn_told t (writes.Uploads f fs Creating) = refl
-worn_told t (writes.Uploads f fs (Sending p ps)) = refl
 worn_told t (writes.Marking f fs) = sym (ap (λ k. record { plan = with_known t k; operation = writes.WriteOver ends.StoreFault }) (same_known t.known _ (no_set (task_script t) (who_of t) f.0)))
 worn_told t (writes.Recording f fs) = sym (ap (λ k. record { plan = with_known t k; operation = writes.WriteOver ends.StoreFault }) (same_known t.known _ (no_set (task_script t) (who_of t) (f.0 ++ codes ".pending"))))
-worn_told t (writes.WriteOver end) = refl
+worn_told t _ = refl
 
 -- ---- while it asks, it is about a file
 

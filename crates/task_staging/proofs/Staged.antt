@@ -5,7 +5,7 @@ use Rattle.std.proofs.lemmas.List.{drop_all, take_all}
 use Rattle.proof_base.proofs.Numbers.{at_most_is, at_most_so, below_is, below_not}
 use Rattle.s3_types.specs.Tags.{Spelled, is_plain_tag}
 use Rattle.s3_types.specs.declared.request.Committer.{Committer}
-use Rattle.s3_types.specs.declared.request.Committer.TheVariants.{Magic, Directory, Partitioned}
+use Rattle.s3_types.specs.declared.request.Committer.TheVariants.{Magic}
 use Rattle.s3_types.specs.declared.request.Request.{Request}
 use Rattle.s3_types.specs.declared.request.Request.TheVariants.{CreateUpload, UploadPart, ClusterPut}
 use Rattle.s3_types.specs.declared.reply.Reply.{Reply}
@@ -28,7 +28,7 @@ use Rattle.job_operations.specs.Outputs.{files}
 use Rattle.job_operations.specs.Records.{file_key, file_record, set_text}
 use Rattle.job_operations.specs.Uploading.{Creating, sending}
 use Rattle.job_operations.specs.TaskCommits as commits
-use Rattle.job_operations.specs.TaskCommits.{TaskCommit, Checking, Storing, Renaming, TaskCommitOver, storing, checking, to_check, uploaded, renamed, temporary_path, task_commit_start, task_commit_start_by, task_commit_asks}
+use Rattle.job_operations.specs.TaskCommits.{TaskCommit, Storing, Renaming, TaskCommitOver, storing, checking, to_check, uploaded, renamed, temporary_path, task_commit_start, task_commit_start_by}
 use Rattle.conflict.specs.Checks.{check_asks, found_below, left_after, is_none}
 use Rattle.conflict.specs.Laws.{commit_after_check}
 use Rattle.conflict.proofs.Tells.{checks_tell}
@@ -62,8 +62,7 @@ start_is t ds n e = by t.job.committer n
   where
     by : (c : Committer) → (c ≡ Magic → ⊥) → opening ds t.files ≡ task_commit_start_by c (task_script t) (who_of t)
     by Magic h = absurd (h refl)
-    by Directory h = opened t ds ∙ ap (checking (task_script t) (who_of t)) e
-    by Partitioned h = opened t ds ∙ ap (checking (task_script t) (who_of t)) e
+    by _ h = opened t ds ∙ ap (checking (task_script t) (who_of t)) e
 
 -- ---- where it stands, by equations
 

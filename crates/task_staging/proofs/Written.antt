@@ -3,7 +3,7 @@ use Rattle.std.proofs.Common.{◌≡◌, refl, sym, subst}
 use Rattle.std.specs.Prelude.{IsSome}
 use Rattle.std.proofs.lemmas.Bool.{false≢true}
 use Rattle.s3_types.specs.declared.request.Committer.{Committer}
-use Rattle.s3_types.specs.declared.request.Committer.TheVariants.{Magic, Directory, Partitioned}
+use Rattle.s3_types.specs.declared.request.Committer.TheVariants.{Magic}
 use Rattle.job_model.specs.Jobs.{Task}
 use Rattle.job_model.specs.declared.ends.TaskEnd.{TaskEnd}
 use Rattle.job_model.specs.declared.ends.TaskEnd.TheVariants as ends
@@ -18,8 +18,7 @@ start_is t n = by t.job.committer n
   where
     by : (c : Committer) → (c ≡ Magic → ⊥) → writes.WriteOver ends.Done ≡ write_start_by c (files (task_script t) (who_of t))
     by Magic h = absurd (h refl)
-    by Directory h = refl
-    by Partitioned h = refl
+    by _ h = refl
 
 -- nothing is asked
 pub asks_none : (t : Task) (end : TaskEnd) (o : writes.Write) → writes.WriteOver end ≡ o → IsSome (write_wants (at t o)) → ⊥

@@ -28,7 +28,7 @@ sending-init g c = record {
 pub sending-preserved : goal.sending-preserved
 sending-preserved g c =
     let h = rw c.in-Ok-Some.field-0-is at c.in-Ok-Some.ensures.sent in
-    driving_more g.met.M.Machine.laws _ _ _ _ _ _ _ _ _ _ _ _ _ _ _ _ _ _ _ _ _ _ h.0 c.sending.invariant h.1 h.2 h.3 h.4 c.in-Ok-Some.ensures.counts h.6
+    driving_more c.laws.ensures _ _ _ _ _ _ _ _ _ _ _ _ _ _ _ _ _ _ _ _ _ _ h.0 c.sending.invariant h.1 h.2 h.3 h.4 c.in-Ok-Some.ensures.counts h.6
     (ap (λ b. c.sending.worn || b) (c.is_worn-worn.ensures ∙ ap tells_worn h.5 ∙ told (retried c.sending.machine) h.0.outcome)) h.7
 
 pub sending-smaller : goal.sending-smaller
@@ -36,7 +36,7 @@ sending-smaller g c =
     let h = rw c.in-Ok-Some.field-0-is at c.in-Ok-Some.ensures.sent in
     let n = c.sending.machine.retries in
     let w = work g.M.Machine.left n (retried c.sending.machine) (g.S.ObjectStore.scene c.sending.store) in
-    let f = falls_step g.met.M.Machine.laws n (retried c.sending.machine) _ h.0.request h.0.outcome h.1.wanted c.sending.invariant.ready_still h.1.honest in
+    let f = falls_step c.laws.ensures n (retried c.sending.machine) _ h.0.request h.0.outcome h.1.wanted c.sending.invariant.ready_still h.1.honest in
     subst (λ k. work g.M.Machine.left k (retried c.send.new.machine) (g.S.ObjectStore.scene c.send.new.store) < w) (sym h.4)
     (subst (λ t. work g.M.Machine.left n t (g.S.ObjectStore.scene c.send.new.store) < w) (sym h.3)
     (subst (λ s. work g.M.Machine.left n (step n g.M.Machine.after (retried c.sending.machine) h.0.outcome) s < w) (sym h.1.scene) f))

@@ -10,24 +10,24 @@ use Rattle.operations.proofs.Runs.{ready_start, performed, given, left_calm, not
 use Rattle.operations.proofs.performing.perform.Goals as goal
 
 pub returns-in-Err-clause-performed : goal.returns-in-Err-clause-performed
-returns-in-Err-clause-performed g c = nothing_done g.met.P.Plan.laws c.args.plan _ _ c.args.actor c.args.event c.args.retries _ _ _ _ c.requires.starts
+returns-in-Err-clause-performed g c = nothing_done c.laws.ensures.course c.args.plan _ _ c.args.actor c.args.event c.args.retries _ _ _ _ c.requires.starts
 
 pub drive-driven-requires-clause-ready : goal.drive-driven-requires-clause-ready
 drive-driven-requires-clause-ready g c =
-    ready_start g.met.P.Plan.laws c.args.plan _ c.requires.starts _ (ap (λ (t : Retried _). t.operation) c.new-retrying.ensures.unsent ∙ c.in-Ok.ensures) _ refl _ (ap (λ (t : Retried _). t.repeated) c.new-retrying.ensures.unsent)
+    ready_start c.laws.ensures.course c.args.plan _ c.requires.starts _ (ap (λ (t : Retried _). t.operation) c.new-retrying.ensures.unsent ∙ c.in-Ok.ensures) _ refl _ (ap (λ (t : Retried _). t.repeated) c.new-retrying.ensures.unsent)
 
 pub returns-in-Ok-answer_of-clause-given : goal.returns-in-Ok-answer_of-clause-given
 returns-in-Ok-answer_of-clause-given g c =
     let d = c.drive-driven.ensures.drove in
     let h = rw c.in-Ok-answer_of.ensures.driven at d.ended in
-    given g.met.P.Plan.laws c.args.plan _ c.new-retrying.result c.drive-driven.new.machine _ d.part _ (ap (λ (t : Retried _). t.operation) c.new-retrying.ensures.unsent ∙ c.in-Ok.ensures) (ap (λ (t : Retried _). t.repeated) c.new-retrying.ensures.unsent) c.requires.starts d.is_run.follows d.is_run.honest h.there d.is_run.scene
+    given c.laws.ensures.course c.args.plan _ c.new-retrying.result c.drive-driven.new.machine _ d.part _ (ap (λ (t : Retried _). t.operation) c.new-retrying.ensures.unsent ∙ c.in-Ok.ensures) (ap (λ (t : Retried _). t.repeated) c.new-retrying.ensures.unsent) c.requires.starts d.is_run.follows d.is_run.honest h.there d.is_run.scene
     (sym c.into_inner.ensures ∙ sym c.into_stage-stage.ensures ∙ c.in-Ok-answer_of.ensures.answer)
 
 pub returns-in-Ok-answer_of-clause-answered : goal.returns-in-Ok-answer_of-clause-answered
 returns-in-Ok-answer_of-clause-answered g c = λ part e a.
     let d = c.drive-driven.ensures.drove in
     let h = rw c.in-Ok-answer_of.ensures.driven at d.ended in
-    left_calm g.met.P.Plan.calms c.args.plan _ c.new-retrying.result c.drive-driven.new.machine _ _ _ part d.part _ (ap (λ (t : Retried _). t.operation) c.new-retrying.ensures.unsent ∙ c.in-Ok.ensures) (ap (λ (t : Retried _). t.repeated) c.new-retrying.ensures.unsent) c.requires.starts d.is_run.follows d.is_run.honest h.there d.is_run.scene
+    left_calm c.laws.ensures.calms c.args.plan _ c.new-retrying.result c.drive-driven.new.machine _ _ _ part d.part _ (ap (λ (t : Retried _). t.operation) c.new-retrying.ensures.unsent ∙ c.in-Ok.ensures) (ap (λ (t : Retried _). t.repeated) c.new-retrying.ensures.unsent) c.requires.starts d.is_run.follows d.is_run.honest h.there d.is_run.scene
     (sym c.into_inner.ensures ∙ sym c.into_stage-stage.ensures ∙ c.in-Ok-answer_of.ensures.answer) d.appended e a
 
 -- the machine that was driven is the new one
@@ -41,13 +41,13 @@ literal_new {P = P} {A = A} t m retries part r e n h =
 pub returns-in-Ok-answer_of-clause-performed : goal.returns-in-Ok-answer_of-clause-performed
 returns-in-Ok-answer_of-clause-performed g c =
     let d = c.drive-driven.ensures.drove in
-    performed g.met.P.Plan.laws c.args.plan _ g.P.Plan.sends g.met.P.Plan.asked (Ok c.in-Ok-answer_of.answer) _ _ c.args.retries _ _ _ _ d.part _ _ _ _ _ _ (ap (λ (t : Retried _). t.operation) c.new-retrying.ensures.unsent ∙ c.in-Ok.ensures) (ap (λ (t : Retried _). t.repeated) c.new-retrying.ensures.unsent) c.requires.starts d.is_run d.appended d.foretold
+    performed c.laws.ensures.course c.args.plan _ g.P.Plan.sends c.laws.ensures.asked (Ok c.in-Ok-answer_of.answer) _ _ c.args.retries _ _ _ _ d.part _ _ _ _ _ _ (ap (λ (t : Retried _). t.operation) c.new-retrying.ensures.unsent ∙ c.in-Ok.ensures) (ap (λ (t : Retried _). t.repeated) c.new-retrying.ensures.unsent) c.requires.starts d.is_run d.appended d.foretold
     (tried_ok c.args.retries c.args.retries d.part _ _ _ c.in-Ok-answer_of.ensures.driven (tried_new _ _ c.args.retries d.part _ c.new-retrying.ensures.unsent c.new-retrying.ensures.retries d.tried))
     (literal_ok c.args.retries d.part _ _ c.in-Ok-answer_of.answer c.in-Ok-answer_of.ensures.driven (literal_new _ _ c.args.retries d.part _ c.new-retrying.ensures.unsent c.new-retrying.ensures.retries d.literal)) c.drive-driven.ensures.counts
 
 pub returns-in-Err-answer_of-clause-performed : goal.returns-in-Err-answer_of-clause-performed
 returns-in-Err-answer_of-clause-performed g c =
     let d = c.drive-driven.ensures.drove in
-    performed g.met.P.Plan.laws c.args.plan _ g.P.Plan.sends g.met.P.Plan.asked (Err c.in-Err-answer_of.stop) _ _ c.args.retries _ _ _ _ d.part _ _ _ _ _ _ (ap (λ (t : Retried _). t.operation) c.new-retrying.ensures.unsent ∙ c.in-Ok.ensures) (ap (λ (t : Retried _). t.repeated) c.new-retrying.ensures.unsent) c.requires.starts d.is_run d.appended d.foretold
+    performed c.laws.ensures.course c.args.plan _ g.P.Plan.sends c.laws.ensures.asked (Err c.in-Err-answer_of.stop) _ _ c.args.retries _ _ _ _ d.part _ _ _ _ _ _ (ap (λ (t : Retried _). t.operation) c.new-retrying.ensures.unsent ∙ c.in-Ok.ensures) (ap (λ (t : Retried _). t.repeated) c.new-retrying.ensures.unsent) c.requires.starts d.is_run d.appended d.foretold
     (tried_err c.args.retries c.args.retries d.part _ _ (λ e. c.in-Err-answer_of.ensures.fault (ap Err e)) (tried_new _ _ c.args.retries d.part _ c.new-retrying.ensures.unsent c.new-retrying.ensures.retries d.tried))
     (literal_err c.args.retries d.part _ _ (λ e. c.in-Err-answer_of.ensures.fault (ap Err e)) (literal_new _ _ c.args.retries d.part _ c.new-retrying.ensures.unsent c.new-retrying.ensures.retries d.literal)) c.drive-driven.ensures.counts

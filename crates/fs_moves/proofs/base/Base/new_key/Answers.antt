@@ -1,6 +1,6 @@
 use Rattle.std.proofs.Common.{rules, ◌≡◌, ◌++◌, Some}
 use Rattle.dir_markers.specs.Markers.{marker_of}
-use Rattle.fs_ops.specs.List.{rest_of}
+use Rattle.fs_ops.specs.code.List.{rest_of}
 use Rattle.fs_moves.proofs.NewKeys.{new_legal}
 use Rattle.fs_moves.proofs.base.Base.new_key.Goals as goal
 

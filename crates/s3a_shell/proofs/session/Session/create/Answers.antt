@@ -1,7 +1,7 @@
 use Rattle.std.proofs.Common.{◌≤◌, ◌*◌, ◌+◌, ◌∙◌, ℕ, List, length, sym, ap, subst}
 use Rattle.s3_types.specs.Store.{Content}
 use Rattle.s3a_shell.proofs.Blocks.{some_block, least_block, has_room}
-use Rattle.fs_files.specs.Create.{AlwaysFile}
+use Rattle.fs_files.specs.code.Create.{AlwaysFile}
 use Rattle.s3a_shell.specs.Doings.{FileOrNot}
 use Rattle.s3a_shell.proofs.Joining.{sent_as}
 use Rattle.s3a_shell.proofs.Performing.{answered, sent, on_ok, file_if, file_stands}

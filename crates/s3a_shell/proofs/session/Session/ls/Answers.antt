@@ -1,6 +1,6 @@
 use Rattle.fs_tree.specs.Answers.{Lists}
 use Rattle.s3a_shell.specs.Texts.{entry_lines}
-use Rattle.fs_ops.specs.ListLaws.{first_looks}
+use Rattle.fs_ops.proofs.ListLaws.{first_looks}
 use Rattle.s3a_shell.proofs.Looking.{looked_same}
 use Rattle.s3a_shell.proofs.Performing.{did_at, on_ok, sent_still}
 use Rattle.s3a_shell.proofs.session.Session.ls.Goals as goal

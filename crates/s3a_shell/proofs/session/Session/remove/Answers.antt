@@ -1,4 +1,4 @@
-use Rattle.fs_ops.specs.Delete as delete
+use Rattle.fs_ops.specs.code.Delete as delete
 use Rattle.s3a_shell.proofs.Performing.{deleted_at, on_ok, sent_of}
 use Rattle.s3a_shell.proofs.session.Session.remove.Goals as goal
 

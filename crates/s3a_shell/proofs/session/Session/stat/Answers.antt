@@ -1,6 +1,6 @@
 use Rattle.fs_tree.specs.Answers.{Stats}
 use Rattle.s3a_shell.specs.Texts.{status_line}
-use Rattle.fs_ops.specs.AtPathLaws.{looks_there}
+use Rattle.fs_ops.proofs.AtPathLaws.{looks_there}
 use Rattle.s3a_shell.proofs.Looking.{looked_same}
 use Rattle.s3a_shell.proofs.Performing.{did_at, on_ok, sent_still}
 use Rattle.s3a_shell.proofs.session.Session.stat.Goals as goal

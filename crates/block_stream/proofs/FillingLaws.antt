@@ -1,0 +1,360 @@
+-- Laws of an upload that is being filled: its parts, its room, and what is known once all was sent. Contracts cite none of them.
+use Rattle.std.specs.Prelude.{◌≡◌, ◌⊎◌, ℕ, ◌+◌, ◌-◌, ◌*◌, ◌<◌, ◌≤◌, ◌&&◌, ◌||◌, Bool, true, false, not, nat_le, nat_lt, cond, List, [], ◌∷◌, ◌++◌, length, map, drop, Option, Some, None}
+use Rattle.std.proofs.Common.{refl, sym, ap, subst, ◌∙◌, arith, inl, inr, length-drop, true≢false}
+use Rattle.std.specs.List.{concat}
+use Rattle.std.proofs.lemmas.List.{drop_all, append-nil, length-map}
+use Rattle.std.proofs.lemmas.Bool.{and_parts, and_right, or_parts, true_from_ne_false}
+use Rattle.std.proofs.lemmas.Bool.Decides.{nat_tests}
+use Rattle.std.proofs.lemmas.Option.{none-some}
+use Rattle.proof_base.proofs.Bools.{not_so}
+use Rattle.proof_base.proofs.Numbers.{below_is, at_most_is, at_most_not}
+use Rattle.proof_base.proofs.Lists.{one_longer}
+use Rattle.std.specs.FinMap as fin
+use Rattle.std.specs.Cmp.{nat_cmp_total}
+use Rattle.std.proofs.lemmas.Map.Lookups.{exact_unsigned}
+use Rattle.proof_base.specs.Order.{text_eq, text_equiv, text_total}
+use Rattle.proof_base.proofs.Tree.{insert_same}
+use Rattle.s3_types.specs.Store.{Scene, Content, BucketContent, Upload}
+use Rattle.s3_types.specs.Multipart.{live, with_key, is_part_number, with_part}
+use Rattle.s3_types.specs.Answer.{answer, apply, answer_in, apply_in, apply_at, answer_at, bucket_of, part_put}
+use Rattle.s3_types.specs.Tags.{Spelled, plain_tag}
+use Rattle.s3_types.specs.declared.request.Request.{Request}
+use Rattle.s3_types.specs.declared.request.Request.TheVariants.{PutObject, CreateUpload, UploadPart, CompleteUpload}
+use Rattle.s3_types.specs.Blocks.{named_from}
+use Rattle.block_stream.specs.declared.mode.StreamMode.{StreamMode}
+use Rattle.block_stream.specs.declared.mode.StreamMode.TheVariants.{Direct, Delayed}
+use Rattle.block_stream.specs.declared.mode.StreamEnd.{StreamEnd}
+use Rattle.block_stream.specs.declared.mode.StreamEnd.TheVariants.{Done}
+use Rattle.block_stream.specs.declared.stage.Stage.{Stage}
+use Rattle.block_stream.specs.declared.stage.Stage.TheVariants.{Waiting, Putting, Beginning, Sending, Completing, Over}
+use Rattle.block_stream.specs.Stream.{Stream, is_direct, has_some, has_part, is_small, begin_or_wait, complete_or_wait, stage_of, stage, chunk, id_of, asks, ended, is_settled, settled, begun, parted}
+use Rattle.block_stream.specs.Holds.{numbered, AreLong, AreBlocks, HasParts, IsUpload, IsUploadOf, IsWritten, Fills, HoldsIn, HasRoom, Holds}
+use Rattle.block_stream.proofs.PartLaws.{get_same, numbered_more, last_stands}
+
+either_not : (a b : Bool) → a ≡ false → (a || b) ≡ true → b ≡ true
+either_not true b e h = absurd (cc)
+either_not false b e h = h
+
+none_has : {X : Type 0} (xs : List X) → has_some xs ≡ false → xs ≡ []
+none_has [] h = refl
+none_has (x ∷ xs) h = absurd (cc)
+
+some_has : {X : Type 0} (xs : List X) → has_some xs ≡ true → 0 < length xs
+some_has [] h = absurd (cc)
+some_has (x ∷ xs) h = omega arith
+
+-- ---- what a stage tells
+
+abbrev pub AtStage : Stage → Stream → Type 0
+AtStage Putting m = (m.end ≡ None) × (m.upload ≡ None) × (is_small m ≡ true)
+AtStage Beginning m = (m.end ≡ None) × (m.upload ≡ None) × (has_part m ≡ true)
+AtStage Sending m = (m.end ≡ None) × ((id : ℕ) × (m.upload ≡ Some id)) × (has_part m ≡ true)
+AtStage Completing m = (m.end ≡ None) × ((id : ℕ) × (m.upload ≡ Some id)) × (has_part m ≡ false) × (m.closed ≡ true)
+AtStage _ m = Unit {0}
+
+at_by : (e : Option StreamEnd) (u : Option ℕ) (m : Stream) → m.end ≡ e → m.upload ≡ u → AtStage (stage_of e u m) m
+at_by (Some e) u m p q = tt
+at_by None None m p q =
+    elim (is_small m) as (λ z. is_small m ≡ z → AtStage (cond z Putting (begin_or_wait (has_part m))) m) [
+      | true ↦ λ z. (p, q, z)
+      | false ↦ λ z.
+          elim (has_part m) as (λ w. has_part m ≡ w → AtStage (begin_or_wait w) m) [
+            | true ↦ λ w. (p, q, w)
+            | false ↦ λ w. tt
+          ] refl
+    ] refl
+at_by None (Some id) m p q =
+    elim (has_part m) as (λ z. has_part m ≡ z → AtStage (cond z Sending (complete_or_wait m.closed)) m) [
+      | true ↦ λ z. (p, (id, q), z)
+      | false ↦ λ z.
+          elim m.closed as (λ w. m.closed ≡ w → AtStage (complete_or_wait w) m) [
+            | true ↦ λ w. (p, (id, q), z, w)
+            | false ↦ λ w. tt
+          ] refl
+    ] refl
+
+pub at_stage : (m : Stream) → AtStage (stage m) m
+at_stage m = at_by m.end m.upload m refl refl
+
+-- ---- the bucket that is written to
+
+-- what a request leaves of a bucket that is there
+bucket_after : (c : Content) (b : BucketContent) (r : Request) (o : Option BucketContent) → o ≡ Some b → fin.get (apply_at o c r).buckets (bucket_of r) ≡ Some (apply_in b c.next c.minimum r)
+bucket_after c b r o h = ap (λ o. fin.get (apply_at o c r).buckets (bucket_of r)) h ∙ get_same text_total c.buckets (bucket_of r) (apply_in b c.next c.minimum r)
+
+minimum_after : (c : Content) (r : Request) (o : Option BucketContent) → (apply_at o c r).minimum ≡ c.minimum
+minimum_after c r None = refl
+minimum_after c r (Some b) = refl
+
+-- a request to the store that names the stream's bucket
+pub record IsStoreRequest (r : Request) (bucket : List ℕ) (s : Scene) : Type 0 where
+  pub names : bucket_of r ≡ bucket
+  pub applied : (apply s r).content ≡ apply_at (fin.get s.content.buckets (bucket_of r)) s.content r
+  pub answered : answer s r ≡ answer_at (fin.get s.content.buckets (bucket_of r)) s.content.next s.content.minimum r
+
+asks_store : (g : Stage) (m : Stream) (s : Scene) (r : Request) → asks g m ≡ Some r → IsStoreRequest r m.bucket s
+asks_store Waiting m s r w = absurd (cc)
+asks_store Putting m s r w =
+    let e : PutObject m.bucket m.key (chunk m) None ≡ r = cc in
+    subst (λ v. IsStoreRequest v m.bucket s) e (record { names = refl; applied = refl; answered = refl })
+asks_store Beginning m s r w =
+    let e : CreateUpload m.bucket m.key ≡ r = cc in
+    subst (λ v. IsStoreRequest v m.bucket s) e (record { names = refl; applied = refl; answered = refl })
+asks_store Sending m s r w =
+    let e : UploadPart m.bucket m.key (id_of m) (length m.tags + 1) (chunk m) ≡ r = cc in
+    subst (λ v. IsStoreRequest v m.bucket s) e (record { names = refl; applied = refl; answered = refl })
+asks_store Completing m s r w =
+    let e : CompleteUpload m.bucket m.key (id_of m) (named_from 1 m.tags) ≡ r = cc in
+    subst (λ v. IsStoreRequest v m.bucket s) e (record { names = refl; applied = refl; answered = refl })
+asks_store Over m s r w = absurd (cc)
+
+-- the same stream's place in a scene
+pub record IsPlace (bucket : List ℕ) (block : ℕ) (s : Scene) (c : BucketContent) : Type 0 where
+  pub there : fin.get s.content.buckets bucket ≡ Some c
+  pub least : s.content.minimum ≤ block
+
+pub place_after : (g : Stage) (m : Stream) (s : Scene) (r : Request) (c : BucketContent) → asks g m ≡ Some r → IsPlace m.bucket m.block s c → IsPlace m.bucket m.block (apply s r) (apply_in c s.content.next s.content.minimum r)
+place_after g m s r c w p =
+    let k = asks_store g m s r w in
+    let o : fin.get s.content.buckets (bucket_of r) ≡ Some c = ap (fin.get s.content.buckets) k.names ∙ p.there in
+    record {
+      there = ap (fin.get (apply s r).content.buckets) (sym k.names) ∙ ap (λ (v : Content). fin.get v.buckets (bucket_of r)) k.applied ∙ bucket_after s.content c r (fin.get s.content.buckets (bucket_of r)) o;
+      least = subst (λ n. n ≤ m.block) (sym (ap (λ (v : Content). v.minimum) k.applied ∙ minimum_after s.content r (fin.get s.content.buckets (bucket_of r)))) p.least;
+    }
+
+pub answer_here : (g : Stage) (m : Stream) (s : Scene) (r : Request) (c : BucketContent) → asks g m ≡ Some r → IsPlace m.bucket m.block s c → answer s r ≡ answer_in c s.content.next s.content.minimum r
+answer_here g m s r c w p =
+    let k = asks_store g m s r w in
+    k.answered ∙ ap (λ o. answer_at o s.content.next s.content.minimum r) (ap (fin.get s.content.buckets) k.names ∙ p.there)
+
+-- ---- arithmetic of the room
+
+few_parts : (k n p : ℕ) → 1 ≤ k → k * n + p ≤ k * 10000 → 0 < p → n < 10000
+few_parts k n p h l q = grind arith
+
+room_block : (k n p : ℕ) → k * n + p ≤ k * 10000 → k ≤ p → k * (n + 1) + (p - k) ≤ k * 10000
+room_block k n p l q =
+    let e : k * (n + 1) ≡ k * n + k = grind arith in
+    omega (arith, e)
+
+same_count : (k n p : ℕ) → k ≤ p → k * n + p ≡ k * (n + 1) + (p - k)
+same_count k n p q =
+    let e : k * (n + 1) ≡ k * n + k = grind arith in
+    omega (arith, e)
+
+room_last : (k n : ℕ) → n < 10000 → k * (n + 1) + 0 ≤ k * 10000
+room_last k n h = grind arith
+
+pub is_number : (n : ℕ) → n < 10000 → is_part_number (n + 1) ≡ true
+is_number n h = grind (arith, nat_tests)
+
+no_tags : (n : ℕ) → n ≡ 0 → n < 10000
+no_tags n h = omega arith
+
+-- ---- a part that is due
+
+-- the next part is a whole block, or the last of a closed stream
+pub data Due (m : Stream) : Type 0 where
+  Whole : m.block ≤ length m.pending → Due m
+  Last : length m.pending < m.block → m.closed ≡ true → (0 < length m.pending) ⊎ (m.tags ≡ []) → Due m
+
+pub due : (m : Stream) → has_part m ≡ true → Due m
+due m h =
+    elim (nat_le m.block (length m.pending)) as (λ z. nat_le m.block (length m.pending) ≡ z → Due m) [
+      | true ↦ λ z. Whole (at_most_is m.block (length m.pending) z)
+      | false ↦ λ z.
+          let k = either_not (nat_le m.block (length m.pending)) (m.closed && (has_some m.pending || not (has_some m.tags))) z h in
+          let c = and_parts m.closed (has_some m.pending || not (has_some m.tags)) k in
+          elim (has_some m.pending) as (λ y. has_some m.pending ≡ y → Due m) [
+            | true ↦ λ y. Last (at_most_not m.block (length m.pending) z) c.0 (inl (some_has m.pending y))
+            | false ↦ λ y. Last (at_most_not m.block (length m.pending) z) c.0 (inr (none_has m.tags (not_so (has_some m.tags) (either_not (has_some m.pending) (not (has_some m.tags)) y c.1))))
+          ] refl
+    ] refl
+
+pub due_number : (m : Stream) → HasRoom m → Due m → length m.tags < 10000
+due_number m r (Whole l) = let k : 0 < length m.pending = omega (arith, r.some) in few_parts m.block (length m.tags) (length m.pending) r.some r.few k
+due_number m r (Last l c (inl k)) = few_parts m.block (length m.tags) (length m.pending) r.some r.few k
+due_number m r (Last l c (inr k)) = no_tags (length m.tags) (ap length k)
+
+-- what a part that is put at once tells
+pub small_parts : (m : Stream) → is_small m ≡ true → (is_direct m.mode ≡ true) × (m.closed ≡ true) × (length m.pending < m.block)
+small_parts m h =
+    let a = and_parts (is_direct m.mode) (m.closed && nat_lt (length m.pending) m.block) h in
+    let b = and_parts m.closed (nat_lt (length m.pending) m.block) a.1 in
+    (a.0, b.0, below_is (length m.pending) m.block b.1)
+
+longer_tags : (m : Stream) (t : Spelled) → length (parted m t).tags ≡ length m.tags + 1
+longer_tags m t = one_longer m.tags t
+
+pub room_after : (m : Stream) (t : Spelled) → HasRoom m → Due m → HasRoom (parted m t)
+room_after m t r (Whole l) = record {
+  some = r.some;
+  few = subst (λ n. m.block * n + length (drop m.block m.pending) ≤ m.block * 10000) (sym (longer_tags m t))
+      (subst (λ n. m.block * (length m.tags + 1) + n ≤ m.block * 10000) (sym (length-drop m.block m.pending)) (room_block m.block (length m.tags) (length m.pending) r.few l));
+  counted = λ o e. r.counted o e ∙ same_count m.block (length m.tags) (length m.pending) l
+      ∙ ap (λ n. m.block * (length m.tags + 1) + n) (sym (length-drop m.block m.pending))
+      ∙ ap (λ n. m.block * n + length (drop m.block m.pending)) (sym (longer_tags m t));
+}
+room_after m t r (Last l c k) =
+    let small : length m.pending ≤ m.block = omega arith in
+    record {
+      some = r.some;
+      few = subst (λ n. m.block * n + length (drop m.block m.pending) ≤ m.block * 10000) (sym (longer_tags m t))
+          (subst (λ (p : List ℕ). m.block * (length m.tags + 1) + length p ≤ m.block * 10000) (sym (drop_all m.block m.pending small)) (room_last m.block (length m.tags) (due_number m r (Last l c k))));
+      counted = λ o e. absurd (true≢false (sym c ∙ o));
+    }
+
+pub room_ended : (m : Stream) (e : StreamEnd) → HasRoom m → HasRoom (ended m e)
+room_ended m e r = record { some = r.some; few = r.few; counted = λ o n. absurd (none-some e (sym n)) }
+
+pub room_begun : (m : Stream) (id : ℕ) → HasRoom m → HasRoom (begun m id)
+room_begun m id r = record { some = r.some; few = r.few; counted = r.counted }
+
+-- ---- parts in the upload
+
+pub live_is : {c : BucketContent} {id : ℕ} {key : List ℕ} {bs : List (List ℕ)} (h : HasParts c id key bs) → live c.uploads key id ≡ Some h.upload
+live_is {key = key} h = ap (with_key key) h.there ∙ ap (λ k. cond (text_eq k key) (Some h.upload) None) h.its_key ∙ ap (λ b. cond b (Some h.upload) None) (text_equiv.refl key)
+
+-- the uploads after a part of the live one
+abbrev with_this : BucketContent → ℕ → Upload → ℕ → List ℕ → BucketContent
+with_this c id u n x = record { objects = c.objects; uploads = fin.insert c.uploads id (with_part u n x) }
+
+part_sent : (c : BucketContent) (id next minimum n : ℕ) (bucket key x : List ℕ) (u : Upload) → live c.uploads key id ≡ Some u → is_part_number n ≡ true
+    → apply_in c next minimum (UploadPart bucket key id n x) ≡ with_this c id u n x
+part_sent c id next minimum n bucket key x u l k =
+    ap (λ o. record { objects = c.objects; uploads = part_put c.uploads id o n x }) l
+    ∙ ap (λ b. record { objects = c.objects; uploads = cond b (fin.insert c.uploads id (with_part u n x)) c.uploads }) k
+
+parts_now : (c : BucketContent) (id n : ℕ) (key x : List ℕ) (bs cs : List (List ℕ)) (h : HasParts c id key bs) → fin.insert (numbered bs) n x ≡ numbered cs → HasParts (with_this c id h.upload n x) id key cs
+parts_now c id n key x bs cs h e = record {
+  upload = with_part h.upload n x;
+  there = get_same nat_cmp_total c.uploads id (with_part h.upload n x);
+  its_key = h.its_key;
+  parts = ap (λ m. fin.insert m n x) h.parts ∙ e;
+}
+
+one_more : (bs : List (List ℕ)) (n : ℕ) (x : List ℕ) → n ≡ length bs → fin.insert (numbered bs) (n + 1) x ≡ numbered (bs ++ x ∷ [])
+one_more bs n x e = ap (λ k. fin.insert (numbered bs) (k + 1) x) e ∙ sym (numbered_more 1 fin.empty bs x)
+
+the_same : (bs : List (List ℕ)) (n : ℕ) (x : List ℕ) → n ≡ length bs → fin.insert (numbered (bs ++ x ∷ [])) (n + 1) x ≡ numbered (bs ++ x ∷ [])
+the_same bs n x e = ap (λ k. fin.insert (numbered (bs ++ x ∷ [])) (k + 1) x) e ∙ insert_same nat_cmp_total exact_unsigned (numbered (bs ++ x ∷ [])) (length bs + 1) x (last_stands bs x)
+
+-- the part is there once it was sent, be it again
+pub sent_now : (m : Stream) (c : BucketContent) (id next minimum : ℕ) (repeated : Bool) (bytes : List ℕ) (f : Fills m c id repeated bytes) → length m.tags < 10000
+    → HasParts (apply_in c next minimum (UploadPart m.bucket m.key id (length m.tags + 1) (chunk m))) id m.key (f.sent ++ chunk m ∷ [])
+sent_now m c id next minimum repeated bytes f few =
+    let n : length m.tags ≡ length f.sent = ap length f.tags ∙ length-map f.sent plain_tag in
+    elim f.parts [
+      | inl h ↦ subst (λ v. HasParts v id m.key (f.sent ++ chunk m ∷ [])) (sym (part_sent c id next minimum (length m.tags + 1) m.bucket m.key (chunk m) h.upload (live_is h) (is_number (length m.tags) few)))
+          (parts_now c id (length m.tags + 1) m.key (chunk m) f.sent (f.sent ++ chunk m ∷ []) h (one_more f.sent (length m.tags) (chunk m) n))
+      | inr k ↦ let h = k.2 in subst (λ v. HasParts v id m.key (f.sent ++ chunk m ∷ [])) (sym (part_sent c id next minimum (length m.tags + 1) m.bucket m.key (chunk m) h.upload (live_is h) (is_number (length m.tags) few)))
+          (parts_now c id (length m.tags + 1) m.key (chunk m) (f.sent ++ chunk m ∷ []) (f.sent ++ chunk m ∷ []) h (the_same f.sent (length m.tags) (chunk m) n))
+    ]
+
+pub live_now : (m : Stream) (c : BucketContent) (id : ℕ) (repeated : Bool) (bytes : List ℕ) (f : Fills m c id repeated bytes) → (u : Upload) × (live c.uploads m.key id ≡ Some u)
+live_now m c id repeated bytes f =
+    elim f.parts [
+      | inl h ↦ (h.upload, live_is h)
+      | inr k ↦ let h = k.2 in (h.upload, live_is h)
+    ]
+
+-- ---- all was sent
+
+no_due : (k p : ℕ) → 1 ≤ k → p ≡ 0 → nat_le k p ≡ false
+no_due k p l e = grind (arith, nat_tests)
+
+pub nothing_due : (m : Stream) → 1 ≤ m.block → m.pending ≡ [] → has_some m.tags ≡ true → has_part m ≡ false
+nothing_due m l p t =
+    ap (λ b. b || (m.closed && (has_some m.pending || not (has_some m.tags)))) (no_due m.block (length m.pending) l (ap length p))
+    ∙ ap (λ (q : List ℕ). m.closed && (has_some q || not (has_some m.tags))) p
+    ∙ and_right m.closed (not (has_some m.tags)) (ap not t)
+
+pub all_sent : (m : Stream) → has_part m ≡ false → m.closed ≡ true → (m.pending ≡ []) × (has_some m.tags ≡ true)
+all_sent m h c =
+    let k : (has_some m.pending || not (has_some m.tags)) ≡ false = ap (λ b. b && (has_some m.pending || not (has_some m.tags))) (sym c) ∙ (or_parts (nat_le m.block (length m.pending)) (m.closed && (has_some m.pending || not (has_some m.tags))) h).1 in
+    let o = or_parts (has_some m.pending) (not (has_some m.tags)) k in
+    (none_has m.pending o.0, true_from_ne_false (has_some m.tags) (λ e. true≢false (sym (ap not e) ∙ o.1)))
+
+has_mapped : (bs : List (List ℕ)) → has_some (map plain_tag bs) ≡ true → 0 < length bs
+has_mapped [] h = absurd (cc)
+has_mapped (b ∷ bs) h = omega arith
+
+-- blocks of which none is short
+record LongBlocks (n : ℕ) (bs : List (List ℕ)) : Type 0 where
+  front : List (List ℕ)
+  last : List ℕ
+  are : bs ≡ front ++ last ∷ []
+  long : AreLong n front
+  its_length : length last ≡ n
+
+long_blocks : (n : ℕ) (bs : List (List ℕ)) → 0 < length bs → AreLong n bs → LongBlocks n bs
+long_blocks n [] p h = let no : ⊥ = omega arith in absurd no
+long_blocks n (b ∷ []) p h = record { front = []; last = b; are = refl; long = tt; its_length = h.0 }
+long_blocks n (b ∷ c ∷ bs) p h =
+    let q : 0 < length (c ∷ bs) = omega arith in
+    let k = long_blocks n (c ∷ bs) q h.1 in
+    record { front = b ∷ k.front; last = k.last; are = ap (λ l. b ∷ l) k.are; long = (h.0, k.long); its_length = k.its_length }
+
+are_blocks : (n : ℕ) (bs : List (List ℕ)) → 1 ≤ n → 0 < length bs → AreLong n bs → AreBlocks n bs
+are_blocks n bs l p h =
+    let k = long_blocks n bs p h in
+    let short : length k.last ≤ n = omega (arith, k.its_length) in
+    let some : 0 < length k.last = omega (arith, k.its_length) in
+    record { front = k.front; last = k.last; are = k.are; long = k.long; short = short; some = inl some }
+
+-- what a filled upload has once all was sent
+pub full : (m : Stream) (c : BucketContent) (id : ℕ) (repeated : Bool) (bytes : List ℕ) → HasRoom m → has_part m ≡ false → m.closed ≡ true → Fills m c id repeated bytes → IsUpload m c id bytes
+full m c id repeated bytes r n o f =
+    let a = all_sent m n o in
+    let some : 0 < length f.sent = has_mapped f.sent (ap has_some (sym f.tags) ∙ a.1) in
+    record {
+      sent = f.sent;
+      parts = elim f.parts [
+        | inl h ↦ h
+        | inr k ↦ absurd (true≢false (sym k.1 ∙ n))
+      ];
+      joined = f.joined ∙ ap (λ p. concat f.sent ++ p) a.0 ∙ append-nil (concat f.sent);
+      blocks = elim f.cut [
+        | inl h ↦ are_blocks m.block f.sent r.some some h
+        | inr k ↦ k.3
+      ];
+      tags = f.tags;
+    }
+
+-- ---- settling
+
+delayed_written : (mode : StreamMode) (m : Stream) (c : BucketContent) (bytes : List ℕ) → is_direct mode ≡ false → IsUploadOf m.upload m c bytes → IsWritten mode m c bytes
+delayed_written Direct m c bytes e h = absurd (true≢false e)
+delayed_written Delayed m c bytes e h = h
+
+pub direct_written : (mode : StreamMode) (m : Stream) (c : BucketContent) (bytes : List ℕ) → is_direct mode ≡ true → fin.get c.objects m.key ≡ Some (record { bytes = bytes; header = None }) → IsWritten mode m c bytes
+direct_written Direct m c bytes e h = h
+direct_written Delayed m c bytes e h = absurd (true≢false (sym e))
+
+-- what is held, by the fields that tell where the stream stands
+pub held_at : (m : Stream) (c : BucketContent) (repeated : Bool) (bytes : List ℕ) (e : Option StreamEnd) (u : Option ℕ) → m.end ≡ e → m.upload ≡ u → HoldsIn m.end m.upload m c repeated bytes → HoldsIn e u m c repeated bytes
+held_at m c repeated bytes e u p q h = subst (λ v. HoldsIn e v m c repeated bytes) q (subst (λ v. HoldsIn v m.upload m c repeated bytes) p h)
+
+pub held_from : (m : Stream) (c : BucketContent) (repeated : Bool) (bytes : List ℕ) (e : Option StreamEnd) (u : Option ℕ) → m.end ≡ e → m.upload ≡ u → HoldsIn e u m c repeated bytes → HoldsIn m.end m.upload m c repeated bytes
+held_from m c repeated bytes e u p q h = subst (λ v. HoldsIn v m.upload m c repeated bytes) (sym p) (subst (λ v. HoldsIn e v m c repeated bytes) (sym q) h)
+
+pub holds_of : (m : Stream) (s : Scene) (repeated : Bool) (bytes : List ℕ) (c : BucketContent) → IsPlace m.bucket m.block s c → HasRoom m → HoldsIn m.end m.upload m c repeated bytes → Holds m s repeated bytes
+holds_of m s repeated bytes c p r h = record { content = c; there = p.there; least = p.least; room = r; held = h }
+
+pub place_of : {m : Stream} {s : Scene} {repeated : Bool} {bytes : List ℕ} (h : Holds m s repeated bytes) → IsPlace m.bucket m.block s h.content
+place_of h = record { there = h.there; least = h.least }
+
+pub settle : (m : Stream) (s : Scene) (c : BucketContent) (id : ℕ) (repeated : Bool) (bytes : List ℕ) → m.end ≡ None → m.upload ≡ Some id → IsPlace m.bucket m.block s c → HasRoom m → Fills m c id repeated bytes → Holds (settled m) s repeated bytes
+settle m s c id repeated bytes e u p r f =
+    elim (is_settled m) as (λ z. is_settled m ≡ z → Holds (cond z (ended m Done) m) s repeated bytes) [
+      | true ↦ λ z.
+          let o = and_parts m.closed (not (is_direct m.mode) && not (has_part m)) z in
+          let d = and_parts (not (is_direct m.mode)) (not (has_part m)) o.1 in
+          let k = full m c id repeated bytes r (not_so (has_part m) d.1) o.0 f in
+          holds_of (ended m Done) s repeated bytes c (record { there = p.there; least = p.least }) (room_ended m Done r) (
+            o.0,
+            delayed_written m.mode (ended m Done) c bytes (not_so (is_direct m.mode) d.0)
+                (subst (λ v. IsUploadOf v (ended m Done) c bytes) (sym u) (record { sent = k.sent; parts = k.parts; joined = k.joined; blocks = k.blocks; tags = k.tags })),
+          )
+      | false ↦ λ z. holds_of m s repeated bytes c p r (held_from m c repeated bytes None (Some id) e u (inl (f, z)))
+    ] refl

@@ -1,0 +1,56 @@
+-- The laws of a stream as a machine. Contracts cite none of them; the machine names `stream_laws` as what holds of it.
+use Rattle.std.specs.Prelude.{◌≡◌, Bool, true, false, cond, Some}
+use Rattle.std.proofs.Common.{refl, sym, ap, ◌∙◌, arith}
+use Rattle.s3_types.specs.declared.reply.Reply.{Reply}
+use Rattle.s3_types.specs.declared.reply.Reply.TheVariants.{Stored, Upload, Part, Completed, Refused}
+use Rattle.s3_types.specs.declared.reply.Refusal.{Refusal}
+use Rattle.machine.specs.Standing.{Fine}
+use Rattle.machine.specs.Laws.{Laws}
+use Rattle.block_stream.specs.declared.mode.StreamEnd.TheVariants.{Done, Gone}
+use Rattle.block_stream.specs.declared.stage.Stage.{Stage}
+use Rattle.block_stream.specs.declared.stage.Stage.TheVariants.{Putting, Beginning, Sending, Completing}
+use Rattle.block_stream.specs.Stream.{Stream, stage, wanted, ended, is_settled, settled, parted, refused, told, moved, answers, Fits, left, standing, standing_of, is_no_upload}
+use Rattle.block_stream.specs.Holds.{IsReady}
+use Rattle.block_stream.proofs.KeepingLaws.{hidden, took, lost, gave_up, fit, falls, some_left, asks_alive}
+
+-- no reply is a fault of the store or of memory
+fine_settled : (m : Stream) → standing m ≡ Fine → standing (settled m) ≡ Fine
+fine_settled m h =
+    elim (is_settled m) as (λ z. standing (cond z (ended m Done) m) ≡ Fine) [
+      | true ↦ refl
+      | false ↦ h
+    ]
+
+fine_end : (b : Bool) → standing_of (Some (cond b Done Gone)) ≡ Fine
+fine_end true = refl
+fine_end false = refl
+
+fine_refused : (m : Stream) (b : Bool) (r : Refusal) → standing m ≡ Fine → is_no_upload r ≡ true → standing (refused m b r) ≡ Fine
+fine_refused m b Rattle.s3_types.specs.declared.reply.Refusal.TheVariants.NoSuchUpload h k = fine_end b
+fine_refused m b _ h k = absurd (cc)
+
+-- at a stage that asks
+fine_told : (g : Stage) (m : Stream) (b : Bool) (a : Reply) → standing m ≡ Fine → answers g a ≡ true → standing (told g m b a) ≡ Fine
+fine_told Putting m b (Stored t) h k = refl
+fine_told Beginning m b (Upload id) h k = h
+fine_told Sending m b (Part t) h k = fine_settled (parted m t) h
+fine_told Sending m b (Refused r) h k = fine_refused m false r h k
+fine_told Completing m b (Completed t) h k = refl
+fine_told Completing m b (Refused r) h k = fine_refused m b r h k
+fine_told _ m b _ h k = absurd (cc)
+
+pub stream_laws : Laws wanted moved Fits IsReady (λ m s. left m) standing
+stream_laws = record {
+  fit = λ m s r b w h. fit m s b h.bytes h.holds r w;
+  lost = λ m s b h. record { bytes = h.bytes; holds = lost m s b h.bytes h.holds };
+  hidden = λ m s r b w h. record { bytes = h.bytes; holds = hidden m s b h.bytes h.holds r w };
+  took = λ m s r b w h. record { bytes = h.bytes; holds = took m s b h.bytes h.holds r w };
+  gave_up = λ m s r b w h. record { bytes = h.bytes; holds = gave_up m s b h.bytes h.holds };
+  falls = λ m s r b w h. falls m s b h.bytes h.holds r w;
+  falls_worn = λ m s r b w h. some_left m (asks_alive m r w);
+  no_rise = λ m s r b w h. omega arith;
+  stops = λ m. refl;
+  breaks = λ m. refl;
+  faults = λ m r w. refl;
+  goes_on = λ m r a b w h. fine_told (stage m) m b a (ap standing_of (asks_alive m r w)) h ∙ sym (ap standing_of (asks_alive m r w));
+}

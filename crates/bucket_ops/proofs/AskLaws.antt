@@ -1,0 +1,206 @@
+-- What requests on the objects of one bucket do.
+use Rattle.std.specs.Prelude.{◌≡◌, ℕ, Bool, true, false, nat_lt, cond, List, [], ◌∷◌, Option, Some, None, length}
+use Rattle.std.proofs.Common.{refl, sym, ap, ◌∙◌, ◌⊎◌, inl, inr}
+use Rattle.std.proofs.lemmas.Map.Lookups.{exact_bytes}
+use Rattle.std.specs.FinMap as fin
+use Rattle.std.specs.FinMap.{same_map}
+use Rattle.proof_base.specs.Order.{text_cmp, text_total}
+use Rattle.proof_base.proofs.Tree.{insert_same}
+use Rattle.s3_types.specs.Store.{Objects, BucketContent, Buckets, Scene}
+use Rattle.s3_types.specs.Answer.{answer, apply, answer_at, apply_at, copy_answer, copied, without}
+use Rattle.s3_types.specs.declared.object.Object.{Object}
+use Rattle.s3_types.specs.declared.request.Request.{Request}
+use Rattle.request_frame.proofs.Members.{same_or_other, text_here, text_other, text_gone, text_left}
+use Rattle.bucket_ops.specs.Asks.{Ask, Head, Get, Page, Put, Drop, DropAll, Copy, request_of, reply_in, edited, reply_at, objects_of, objects_at, with_objects_if, with_objects}
+use Rattle.operations.specs.Plans.{Repeats}
+
+-- ---- finite maps
+
+module _ {X : Type 0} where
+  pub get_put : (m : fin.FinMap text_cmp X) (k : List ℕ) (v : X) → fin.get (fin.insert m k v) k ≡ Some v
+  get_put m k v = text_here m k k v refl
+
+  pub put_put : (m : fin.FinMap text_cmp X) (k : List ℕ) (v w : X) → fin.insert (fin.insert m k v) k w ≡ fin.insert m k w
+  put_put m k v w = same_map text_total exact_bytes _ _ (λ q. by q (same_or_other q k))
+    where
+      by : (q : List ℕ) → (q ≡ k) ⊎ (q ≡ k → ⊥) → fin.get (fin.insert (fin.insert m k v) k w) q ≡ fin.get (fin.insert m k w) q
+      by q (inl e) = text_here (fin.insert m k v) k q w e ∙ sym (text_here m k q w e)
+      by q (inr n) = text_other (fin.insert m k v) k q w n ∙ text_other m k q v n ∙ sym (text_other m k q w n)
+
+  -- what is not there is not removed
+  pub none_gone : (m : fin.FinMap text_cmp X) (k : List ℕ) → fin.get m k ≡ None → fin.remove m k ≡ m
+  none_gone m k h = same_map text_total exact_bytes _ _ (λ q. by q (same_or_other q k))
+    where
+      by : (q : List ℕ) → (q ≡ k) ⊎ (q ≡ k → ⊥) → fin.get (fin.remove m k) q ≡ fin.get m q
+      by q (inl e) = text_gone m k q e ∙ sym (ap (fin.get m) e ∙ h)
+      by q (inr n) = text_left m k q n
+
+-- a removal leaves what is not there
+pub gone_still : (m : Objects) (ks : List (List ℕ)) (q : List ℕ) → fin.get m q ≡ None → fin.get (without m ks) q ≡ None
+gone_still m [] q h = h
+gone_still m (k ∷ ks) q h = gone_still (fin.remove m k) ks q (by (same_or_other q k))
+  where
+    by : (q ≡ k) ⊎ (q ≡ k → ⊥) → fin.get (fin.remove m k) q ≡ None
+    by (inl e) = text_gone m k q e
+    by (inr n) = text_left m k q n ∙ h
+
+-- none of them is there
+abbrev pub AreGone : Objects → List (List ℕ) → Type 0
+AreGone m [] = Unit {0}
+AreGone m (k ∷ ks) = (fin.get m k ≡ None) × AreGone m ks
+
+pub all_gone : (m : Objects) (ks : List (List ℕ)) → AreGone m ks → without m ks ≡ m
+all_gone m [] h = refl
+all_gone m (k ∷ ks) h = ap (λ n. without n ks) (none_gone m k h.0) ∙ all_gone m ks h.1
+
+still_gone : (m : Objects) (ks : List (List ℕ)) (qs : List (List ℕ)) → AreGone m qs → AreGone (without m ks) qs
+still_gone m ks [] h = tt
+still_gone m ks (q ∷ qs) h = (gone_still m ks q h.0, still_gone m ks qs h.1)
+
+pub are_gone : (m : Objects) (ks : List (List ℕ)) → AreGone (without m ks) ks
+are_gone m [] = tt
+are_gone m (k ∷ ks) = (gone_still (fin.remove m k) ks k (text_gone m k k refl), are_gone (fin.remove m k) ks)
+
+-- ---- what is asked twice
+
+copied_twice : (m : Objects) (k q : List ℕ) (o : Option Object) → fin.get m k ≡ o → (fin.get (copied m q o) k ≡ o) × (copied (copied m q o) q o ≡ copied m q o)
+copied_twice m k q None h = (h, refl)
+copied_twice m k q (Some v) h = (by (same_or_other k q), put_put m q v v)
+  where
+    by : (k ≡ q) ⊎ (k ≡ q → ⊥) → fin.get (fin.insert m q v) k ≡ Some v
+    by (inl e) = text_here m q k v e
+    by (inr n) = text_other m q k v n ∙ h
+
+abbrev gone_if : Bool → Objects → List (List ℕ) → Objects
+gone_if b m ks = cond b m (without m ks)
+
+gone_twice : (b : Bool) (m : Objects) (ks : List (List ℕ)) → gone_if b (gone_if b m ks) ks ≡ gone_if b m ks
+gone_twice true m ks = refl
+gone_twice false m ks = all_gone (without m ks) ks (are_gone m ks)
+
+pub edited_twice : (a : Ask) (m : Objects) → edited a (edited a m) ≡ edited a m
+edited_twice (Put k bytes) m = put_put m k _ _
+edited_twice (Drop k) m = none_gone (fin.remove m k) k (text_gone m k k refl)
+edited_twice (DropAll ks) m = gone_twice (nat_lt 1000 (length ks)) m ks
+edited_twice (Copy k q) m =
+    let c = copied_twice m k q (fin.get m k) refl in
+    ap (λ o. copied (copied m q (fin.get m k)) q o) c.0 ∙ c.1
+edited_twice _ m = refl
+
+pub told_twice : (a : Ask) (m : Objects) → reply_in (edited a m) a ≡ reply_in m a
+told_twice (Copy k q) m = ap copy_answer (copied_twice m k q (fin.get m k) refl).0
+told_twice _ m = refl
+
+-- ---- scenes
+
+answered_if : (o : Option BucketContent) (b : List ℕ) (n l : ℕ) (a : Ask) → answer_at o n l (request_of b a) ≡ reply_at (objects_of o) a
+answered_if None b n l a = refl
+answered_if (Some c) b n l (Head k) = refl
+answered_if (Some c) b n l (Get k) = refl
+answered_if (Some c) b n l (Page p d q i) = refl
+answered_if (Some c) b n l (Put k bytes) = refl
+answered_if (Some c) b n l (Drop k) = refl
+answered_if (Some c) b n l (DropAll ks) = refl
+answered_if (Some c) b n l (Copy k q) = refl
+
+pub answered : (s : Scene) (b : List ℕ) (a : Ask) → answer s (request_of b a) ≡ reply_at (objects_at s b) a
+answered s b (Head k) = answered_if (fin.get s.content.buckets b) b s.content.next s.content.minimum (Head k)
+answered s b (Get k) = answered_if (fin.get s.content.buckets b) b s.content.next s.content.minimum (Get k)
+answered s b (Page p d q n) = answered_if (fin.get s.content.buckets b) b s.content.next s.content.minimum (Page p d q n)
+answered s b (Put k bytes) = answered_if (fin.get s.content.buckets b) b s.content.next s.content.minimum (Put k bytes)
+answered s b (Drop k) = answered_if (fin.get s.content.buckets b) b s.content.next s.content.minimum (Drop k)
+answered s b (DropAll ks) = answered_if (fin.get s.content.buckets b) b s.content.next s.content.minimum (DropAll ks)
+answered s b (Copy k q) = answered_if (fin.get s.content.buckets b) b s.content.next s.content.minimum (Copy k q)
+
+abbrev edited_if : Option BucketContent → Ask → Scene → List ℕ → Scene
+edited_if None a s b = s
+edited_if (Some c) a s b = with_objects_if (Some c) s b (edited a c.objects)
+
+abbrev made_at : Option BucketContent → Request → Scene → Scene
+made_at o r s = record { content = apply_at o s.content r; files = s.files }
+
+edited_by : (o : Option BucketContent) (s : Scene) (b : List ℕ) (a : Ask) → made_at o (request_of b a) s ≡ edited_if o a s b
+edited_by None s b a = refl
+edited_by (Some c) s b (Head k) = refl
+edited_by (Some c) s b (Get k) = refl
+edited_by (Some c) s b (Page p d q n) = refl
+edited_by (Some c) s b (Put k bytes) = refl
+edited_by (Some c) s b (Drop k) = refl
+edited_by (Some c) s b (DropAll ks) = refl
+edited_by (Some c) s b (Copy k q) = refl
+
+applied : (s : Scene) (b : List ℕ) (a : Ask) → apply s (request_of b a) ≡ edited_if (fin.get s.content.buckets b) a s b
+applied s b (Head k) = edited_by (fin.get s.content.buckets b) s b (Head k)
+applied s b (Get k) = edited_by (fin.get s.content.buckets b) s b (Get k)
+applied s b (Page p d q n) = edited_by (fin.get s.content.buckets b) s b (Page p d q n)
+applied s b (Put k bytes) = edited_by (fin.get s.content.buckets b) s b (Put k bytes)
+applied s b (Drop k) = edited_by (fin.get s.content.buckets b) s b (Drop k)
+applied s b (DropAll ks) = edited_by (fin.get s.content.buckets b) s b (DropAll ks)
+applied s b (Copy k q) = edited_by (fin.get s.content.buckets b) s b (Copy k q)
+
+-- ---- one bucket in a scene
+
+some_objects : (o : Option BucketContent) (m : Objects) → objects_of o ≡ Some m → (c : BucketContent) × (o ≡ Some c) × (c.objects ≡ m)
+some_objects None m h = absurd (cc)
+some_objects (Some c) m h = let e : c.objects ≡ m = cc in (c, refl, e)
+
+no_objects : (o : Option BucketContent) → objects_of o ≡ None → o ≡ None
+no_objects None h = refl
+no_objects (Some c) h = absurd (cc)
+
+-- no bucket, and nothing changes
+pub applied_none : (s : Scene) (b : List ℕ) (a : Ask) → objects_at s b ≡ None → apply s (request_of b a) ≡ s
+applied_none s b a h = applied s b a ∙ ap (λ o. edited_if o a s b) (no_objects (fin.get s.content.buckets b) h)
+
+pub applied_some : (s : Scene) (b : List ℕ) (a : Ask) (m : Objects) → objects_at s b ≡ Some m → apply s (request_of b a) ≡ with_objects s b (edited a m)
+applied_some s b a m h =
+    let c = some_objects (fin.get s.content.buckets b) m h in
+    applied s b a ∙ ap (λ o. edited_if o a s b) c.1 ∙ ap (λ n. with_objects_if (Some c.0) s b (edited a n)) c.2 ∙ ap (λ o. with_objects_if o s b (edited a m)) (sym c.1)
+
+-- the objects that are there
+pub with_same : (s : Scene) (b : List ℕ) (m : Objects) → objects_at s b ≡ Some m → with_objects s b m ≡ s
+with_same s b m h =
+    let c = some_objects (fin.get s.content.buckets b) m h in
+    ap (λ o. with_objects_if o s b m) c.1 ∙ ap (λ n. with_objects_if (Some c.0) s b n) (sym c.2)
+    ∙ ap (λ (x : Buckets). record { content = record { buckets = x; next = s.content.next; minimum = s.content.minimum }; files = s.files }) (insert_same text_total exact_bytes s.content.buckets b c.0 c.1)
+
+pub objects_with : (s : Scene) (b : List ℕ) (m n : Objects) → objects_at s b ≡ Some m → objects_at (with_objects s b n) b ≡ Some n
+objects_with s b m n h =
+    let c = some_objects (fin.get s.content.buckets b) m h in
+    ap (λ o. objects_at (with_objects_if o s b n) b) c.1
+    ∙ ap objects_of (get_put s.content.buckets b (record { objects = n; uploads = c.0.uploads }))
+
+pub with_with : (s : Scene) (b : List ℕ) (m n l : Objects) → objects_at s b ≡ Some m → with_objects (with_objects s b n) b l ≡ with_objects s b l
+with_with s b m n l h =
+    let c = some_objects (fin.get s.content.buckets b) m h in
+    ap (λ o. with_objects (with_objects_if o s b n) b l) c.1
+    ∙ ap (λ o. with_objects_if o (with_objects_if (Some c.0) s b n) b l) (get_put s.content.buckets b (record { objects = n; uploads = c.0.uploads }))
+    ∙ ap (λ (x : Buckets). record { content = record { buckets = x; next = s.content.next; minimum = s.content.minimum }; files = s.files }) (put_put s.content.buckets b _ _)
+    ∙ ap (λ o. with_objects_if o s b l) (sym c.1)
+
+-- ---- it may be asked twice
+
+effect_by : (s : Scene) (b : List ℕ) (a : Ask) (o : Option Objects) → objects_at s b ≡ o → apply (apply s (request_of b a)) (request_of b a) ≡ apply s (request_of b a)
+effect_by s b a None h = ap (λ v. apply v (request_of b a)) (applied_none s b a h)
+effect_by s b a (Some m) h =
+    ap (λ v. apply v (request_of b a)) (applied_some s b a m h)
+    ∙ applied_some (with_objects s b (edited a m)) b a (edited a m) (objects_with s b m (edited a m) h)
+    ∙ with_with s b m (edited a m) (edited a (edited a m)) h
+    ∙ ap (with_objects s b) (edited_twice a m)
+    ∙ sym (applied_some s b a m h)
+
+reply_by : (s : Scene) (b : List ℕ) (a : Ask) (o : Option Objects) → objects_at s b ≡ o → answer (apply s (request_of b a)) (request_of b a) ≡ answer s (request_of b a)
+reply_by s b a None h = ap (λ v. answer v (request_of b a)) (applied_none s b a h)
+reply_by s b a (Some m) h =
+    ap (λ v. answer v (request_of b a)) (applied_some s b a m h)
+    ∙ answered (with_objects s b (edited a m)) b a
+    ∙ ap (λ o. reply_at o a) (objects_with s b m (edited a m) h)
+    ∙ told_twice a m
+    ∙ ap (λ o. reply_at o a) (sym h)
+    ∙ sym (answered s b a)
+
+pub repeats : (b : List ℕ) (a : Ask) → Repeats (request_of b a)
+repeats b a = record {
+  effect = λ s. effect_by s b a (objects_at s b) refl;
+  reply = λ s. reply_by s b a (objects_at s b) refl;
+}

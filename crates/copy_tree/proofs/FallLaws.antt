@@ -1,0 +1,156 @@
+-- A copy comes to an end.
+use Rattle.std.specs.Prelude.{◌≡◌, ℕ, ◌+◌, ◌*◌, ◌<◌, nat_lt, Bool, true, false, cond, List, [], ◌∷◌, length, drop, Option, Some, None, Result, Ok, Err}
+use Rattle.std.proofs.Common.{refl, sym, ap, subst, arith}
+use Rattle.std.proofs.lemmas.Bool.{ltb-true}
+use Rattle.std.proofs.lemmas.List.{length-drop}
+use Rattle.s3_types.specs.Store.{Objects}
+use Rattle.s3_types.specs.declared.reply.PageEntry.{PageEntry}
+use Rattle.s3_types.specs.declared.reply.Reply.{Reply}
+use Rattle.s3_types.specs.declared.reply.Reply.TheVariants.{Object as Found}
+use Rattle.operations.specs.declared.plan.Step.TheVariants.{Next}
+use Rattle.operations.specs.Plans.{Falls}
+use Rattle.bucket_ops.specs.declared.look.Look.{Look}
+use Rattle.bucket_ops.specs.declared.look.Look.TheVariants.{There, Nothing, NoBucket, Other}
+use Rattle.bucket_ops.specs.Looks.{look_of}
+use Rattle.bucket_ops.specs.Asks.{reply_in, edited}
+use Rattle.dir_markers.specs.Markers.{marker_of}
+use Rattle.list_walk.specs.Walks.{keys_on, Walked, More, Whole, walked_entries}
+use Rattle.fs_tree.specs.declared.copy.CopyCount.{CopyCount}
+use Rattle.fs_ops.specs.Places.{prefix_of, look_asks}
+use Rattle.fs_ops.specs.declared.climb.Climbed.{Climbed}
+use Rattle.fs_ops.specs.declared.climb.Climbed.TheVariants.{File, On as Goes_on, Free}
+use Rattle.fs_ops.specs.code.Climbs.{climbing, climbed}
+use Rattle.fs_ops.proofs.AtPathLaws.{still_look}
+use Rattle.fs_ops.proofs.Climbing.{IsShorter, climbing_falls, climbed_falls}
+use Rattle.bucket_walks.specs.Walking.{walk_asks, walk_left, LessWalked}
+use Rattle.bucket_walks.proofs.Sweeps.{length_keys}
+use Rattle.bucket_walks.proofs.Walks.{walk_fits, walk_falls}
+use Rattle.fs_moves.specs.declared.copying.CopyStep.{CopyStep}
+use Rattle.fs_moves.specs.declared.copying.CopyStep.TheVariants.{Next as NextCopy, All}
+use Rattle.fs_moves.specs.Keys.{new_keys}
+use Rattle.fs_moves.specs.Copies.{has_more, copied_next, copies_left, LessCopies}
+use Rattle.fs_moves.proofs.CopyLaws.{copying_falls}
+use Rattle.copy_tree.specs.declared.stages.Parts.{Parts}
+use Rattle.copy_tree.specs.declared.stages.CopyStage.{CopyStage}
+use Rattle.copy_tree.specs.declared.stages.CopyStage.TheVariants.{Here, Walk, Up, WalkTarget, Source, Target, Copy}
+use Rattle.fs_moves.specs.Keys.{place_of}
+use Rattle.copy_tree.specs.code.Copy.{CopyPaths, asks, on, here, overlaps, on_walked, on_walk, listed, climb, on_climb, placed, with_places, on_shown, on_show, parts_of, pairs, on_read, differ, compared, on_compare, begun, copies, count_of, on_copied}
+use Rattle.copy_tree.specs.code.Meaning.{holds, left}
+use Rattle.copy_tree.proofs.PartLaws.{all_counted}
+
+module _ (o : CopyPaths) (m : Objects) where
+  -- ---- the copies
+
+  fall_copies : (c : CopyCount) (ks ls : List (List ℕ)) (n : ℕ) → length ks < n → Falls (left o) (copies c ks ls) m n
+  fall_copies c [] ls n h = tt
+  fall_copies c (k ∷ ks) ls n h = omega (arith, h)
+
+  fall_begun : (c : Parts) (n : ℕ) → length c.keys < n → Falls (left o) (begun c) m n
+  fall_begun c n h = fall_copies (count_of c) c.keys c.places n h
+
+  fall_copied : (c : CopyStep) (count : CopyCount) (n : ℕ) → LessCopies c n → Falls (left o) (on_copied count c) m n
+  fall_copied (NextCopy c) count n h = h
+  fall_copied (All ks) count n h = tt
+
+  -- ---- the pairs
+
+  fall_pairs : (c : Parts) (r : List (List ℕ)) (n : ℕ) → 2 * length c.stood + length c.keys + 2 < n → Falls (left o) (pairs c r) m n
+  fall_pairs c [] n h = fall_begun c n (omega (arith, h))
+  fall_pairs c (k ∷ ks) n h = h
+
+  fall_read : (c : Parts) (n : ℕ) (r : Reply) → Falls (left o) (on_read c n r) m (left o (Source c n) m)
+  fall_read c n (Found b h) = omega arith
+  fall_read c n r = tt
+
+  fall_differ : (r : List (List ℕ)) (n : ℕ) → Falls (left o) (differ r) m n
+  fall_differ [] n = tt
+  fall_differ (l ∷ ls) n = tt
+
+  fall_agreed : (c : Parts) (n : ℕ) (b : Bool) → nat_lt 1 (length (drop n c.stood)) ≡ b → Falls (left o) (cond b (Next (Source c (n + 1))) (begun c)) m (2 * length (drop n c.stood) + length c.keys + 1)
+  fall_agreed c n true e =
+      let l = ltb-true 1 (length (drop n c.stood)) e in
+      let s = length-drop n c.stood in
+      let r = length-drop (n + 1) c.stood in
+      omega (arith, l, s, r)
+  fall_agreed c n false e = fall_begun c (2 * length (drop n c.stood) + length c.keys + 1) (omega arith)
+
+  fall_compared : (c : Parts) (n : ℕ) (b : Bool) → Falls (left o) (compared c n b) m (2 * length (drop n c.stood) + length c.keys + 1)
+  fall_compared c n true = fall_agreed c n (nat_lt 1 (length (drop n c.stood))) refl
+  fall_compared c n false = fall_differ (drop n c.stood_at) (2 * length (drop n c.stood) + length c.keys + 1)
+
+  fall_compare : (c : Parts) (n : ℕ) (b : List ℕ) (h : Option ℕ) (r : Reply) → Falls (left o) (on_compare c n b h r) m (2 * length (drop n c.stood) + length c.keys + 1)
+  fall_compare c n b h (Found d g) = fall_compared c n _
+  fall_compare c n b h r = tt
+
+  -- ---- the walk below the target
+
+  fall_shown : (ks ls : List (List ℕ)) (w : Walked PageEntry) (n : ℕ) → LessWalked (prefix_of o.target) m w n → Falls (left o) (on_shown ks ls w) m (n + 2 * length ks + 2)
+  fall_shown ks ls (More w) n h = omega (arith, h)
+  fall_shown ks ls (Whole es) n h =
+      let c = all_counted ks ls es in
+      fall_pairs (parts_of ks ls es) (parts_of ks ls es).stood (n + 2 * length ks + 2) (omega (arith, h, c))
+
+  fall_show : (ks ls : List (List ℕ)) (w : List PageEntry) → Falls (left o) (on o (WalkTarget ks ls w) (reply_in m (asks o (WalkTarget ks ls w)))) m (left o (WalkTarget ks ls w) m)
+  fall_show ks ls w =
+      subst (λ b. Falls (left o) (on_show ks ls w (reply_in m (walk_asks (prefix_of o.target) w)) b) m (left o (WalkTarget ks ls w) m)) (sym (walk_fits (prefix_of o.target) w m))
+      (fall_shown ks ls (walked_entries w (reply_in m (walk_asks (prefix_of o.target) w))) (walk_left (prefix_of o.target) w m) (walk_falls (prefix_of o.target) w m))
+
+  -- ---- the paths above the target
+
+  -- so much is left when they were looked at
+  abbrev Behind : List (List ℕ) → ℕ
+  Behind ks = walk_left (prefix_of o.target) [] m + 2 * length ks + 3
+
+  fall_places : (ks : List (List ℕ)) (r : Result (List (List ℕ)) (List ℕ)) (n : ℕ) → Behind ks < n → Falls (left o) (with_places ks r) m n
+  fall_places ks (Ok ls) n h = omega (arith, h)
+  fall_places ks (Err k) n h = tt
+
+  fall_placed : (ks : List (List ℕ)) (q : Option (List ℕ)) (n : ℕ) → Behind ks < n → Falls (left o) (placed o q ks) m n
+  fall_placed ks None n h = tt
+  fall_placed ks (Some t) n h = fall_places ks (new_keys (prefix_of o.source) (marker_of t) ks) n h
+
+  fall_climb : (ks : List (List ℕ)) (c : Climbed) (k n : ℕ) → IsShorter c k → k + Behind ks < n → Falls (left o) (on_climb o ks c) m n
+  fall_climb ks (File a) k n s h = tt
+  fall_climb ks (Goes_on c) k n s h = omega (arith, s, h)
+  fall_climb ks Free k n s h = fall_placed ks (place_of o.source o.target) n (omega (arith, h))
+
+  -- ---- the source
+
+  fall_listed : (ks : List (List ℕ)) (n : ℕ) → length ks < n → Falls (left o) (listed o ks) m (2 * n + length (climb o.target) + walk_left (prefix_of o.target) [] m + 3)
+  fall_listed [] n h = tt
+  fall_listed (k ∷ ks) n h = fall_climb (k ∷ ks) (climbing (climb o.target)) (length (climb o.target)) (2 * n + length (climb o.target) + walk_left (prefix_of o.target) [] m + 3) (climbing_falls (climb o.target)) (omega (arith, h))
+
+  fall_walked : (w : Walked PageEntry) (n : ℕ) → LessWalked (prefix_of o.source) m w n → Falls (left o) (on_walked o w) m (2 * n + length (climb o.target) + walk_left (prefix_of o.target) [] m + 3)
+  fall_walked (More w) n h = omega (arith, h)
+  fall_walked (Whole es) n h = fall_listed (keys_on es) n (let l = length_keys es in omega (arith, h, l))
+
+  fall_walk : (w : List PageEntry) → Falls (left o) (on o (Walk w) (reply_in m (asks o (Walk w)))) m (left o (Walk w) m)
+  fall_walk w =
+      subst (λ b. Falls (left o) (on_walk o w (reply_in m (walk_asks (prefix_of o.source) w)) b) m (left o (Walk w) m)) (sym (walk_fits (prefix_of o.source) w m))
+      (fall_walked (walked_entries w (reply_in m (walk_asks (prefix_of o.source) w))) (walk_left (prefix_of o.source) w m) (walk_falls (prefix_of o.source) w m))
+
+  fall_here : (b : Bool) (l : Look) → Falls (left o) (here b l) m (left o Here m)
+  fall_here true l = tt
+  fall_here false There = tt
+  fall_here false Nothing = omega arith
+  fall_here false NoBucket = omega arith
+  fall_here false Other = omega arith
+
+-- ---- each stage
+
+pub falls : (o : CopyPaths) (z : Objects) (s : CopyStage) (m : Objects) → holds o z s m → Falls (left o) (on o s (reply_in m (asks o s))) (edited (asks o s) m) (left o s m)
+falls o z Here m h =
+    subst (λ n. Falls (left o) (on o Here (reply_in m (asks o Here))) n (left o Here m)) (sym (still_look o.source m))
+    (fall_here o m (overlaps o) (look_of (reply_in m (look_asks o.source))))
+falls o z (Walk w) m h = fall_walk o m w
+falls o z (Up ks c) m h =
+    let l = look_of (reply_in m (asks o (Up ks c))) in
+    fall_climb o m ks (climbed c l) (length c.rest) (left o (Up ks c) m) (climbed_falls c l) (omega arith)
+falls o z (WalkTarget ks ls w) m h = fall_show o m ks ls w
+falls o z (Source c n) m h = fall_read o (edited (asks o (Source c n)) m) c n (reply_in m (asks o (Source c n)))
+falls o z (Target c n b g) m h = fall_compare o (edited (asks o (Target c n b g)) m) c n b g (reply_in m (asks o (Target c n b g)))
+falls o z (Copy c count) m h = fall_copied o (edited (asks o (Copy c count)) m) (copied_next (has_more c) c) count (copies_left c) (copying_falls c h.2.some)
+
+pub stays : (o : CopyPaths) (s : CopyStage) (m : Objects) → left o s (edited (asks o s) m) ≡ left o s m
+stays o Here m = ap (left o Here) (still_look o.source m)
+stays o _ m = refl

@@ -1,0 +1,389 @@
+-- A copy goes on, stage by stage.
+use Rattle.std.specs.Prelude.{◌≡◌, ◌⊎◌, ℕ, zero, suc, ◌+◌, ◌<◌, ◌≤◌, ◌||◌, ◌&&◌, nat_lt, Bool, true, false, cond, List, [], ◌∷◌, ◌++◌, length, drop, Option, Some, None, Result, Ok, Err}
+use Rattle.std.proofs.Common.{refl, sym, ap, subst, ◌∙◌, inl, inr, arith}
+use Rattle.std.proofs.lemmas.Bool.{false≢true, ltb-true, ltb-false}
+use Rattle.std.proofs.lemmas.List.{drop-map, length-drop, length-map}
+use Rattle.std.specs.FinMap as fin
+use Rattle.std.specs.Ordering.{is_lt}
+use Rattle.proof_base.specs.Order.{text_cmp, text_total, text_eq}
+use Rattle.proof_base.proofs.Less.{lt, irrefl, lt_not}
+use Rattle.s3_types.specs.Store.{Objects}
+use Rattle.s3_types.specs.Answer.{head, found}
+use Rattle.s3_types.specs.Pages.{begins}
+use Rattle.s3_types.specs.declared.object.Object.{Object}
+use Rattle.s3_types.specs.declared.reply.PageEntry.{PageEntry}
+use Rattle.request_frame.specs.Members.{IsIn, RisesFrom}
+use Rattle.request_frame.proofs.Members.{none_some, some_is, none_or_some, false_true, text_is, text_true, eq_nat, nat_true}
+use Rattle.request_frame.proofs.Flat.{behind, listed_rises}
+use Rattle.operations.specs.declared.plan.Step.{Step}
+use Rattle.operations.specs.declared.plan.Step.TheVariants.{Next}
+use Rattle.operations.specs.Plans.{Goes}
+use Rattle.bucket_ops.specs.declared.look.Look.{Look}
+use Rattle.bucket_ops.specs.declared.look.Look.TheVariants.{There, Nothing}
+use Rattle.bucket_ops.specs.Looks.{look_of}
+use Rattle.bucket_ops.specs.Asks.{reply_in, edited, is_look}
+use Rattle.dir_markers.specs.Markers.{marker_of}
+use Rattle.list_walk.specs.Walks.{keys_on, Walked, More, Whole, walked_entries}
+use Rattle.fs_tree.specs.declared.copy.CopyCount.{CopyCount}
+use Rattle.fs_tree.specs.Tree.{Stands, IsDirectory}
+use Rattle.fs_tree.specs.Moves.{IsMove, is_too_long, AllFit, IsFirstTooLong}
+use Rattle.fs_tree.specs.Copies.{IsOverlap, HasSource, HasPlace, MayCopy, IsFirstOther, CopiesTree}
+use Rattle.fs_tree.proofs.Begins.{both}
+use Rattle.fs_ops.proofs.Looks.{IsSeen, head_tells, none_listed, first_listed}
+use Rattle.fs_ops.specs.declared.climb.Climbed.{Climbed}
+use Rattle.fs_ops.specs.declared.climb.Climbed.TheVariants.{File, On as Goes_on, Free}
+use Rattle.fs_ops.specs.code.Climbs.{climbing, climbed}
+use Rattle.fs_ops.proofs.Climbing.{IsClimbed, seen_on as climb_on, all_on}
+use Rattle.bucket_walks.specs.Walking.{all_below, keys_below, walk_asks, fits, IsWalking, IsWalked}
+use Rattle.bucket_walks.proofs.Walks.{walk_fits, walk_begins, walk_goes}
+use Rattle.fs_moves.specs.declared.copying.Copying.{Copying}
+use Rattle.fs_moves.specs.declared.copying.CopyStep.{CopyStep}
+use Rattle.fs_moves.specs.declared.copying.CopyStep.TheVariants.{Next as NextCopy, All}
+use Rattle.fs_moves.specs.Keys.{new_key, new_keys}
+use Rattle.fs_moves.specs.Copies.{Move, IsOneOf, sources, targets, copied_all, copy_of, copy_asks, has_more, copied_next, IsCopying, IsCopied}
+use Rattle.fs_moves.proofs.CopyLaws.{some_left, in_sources, in_targets, copying_goes}
+use Rattle.fs_moves.proofs.Placed.{move_of, sources_to, all_found, first_long, to_dir_move}
+use Rattle.copy_tree.specs.declared.stages.Parts.{Parts}
+use Rattle.copy_tree.specs.declared.stages.CopyStage.{CopyStage}
+use Rattle.copy_tree.specs.declared.stages.CopyStage.TheVariants.{Here, Walk, Up, WalkTarget, Source, Target, Copy}
+use Rattle.copy_tree.specs.code.Copy.{CopyPaths, Answer, asks, on, here as here_at, on_walked, on_walk, listed, climb, on_climb, with_places, on_shown, on_show, parts_of, pairs, read_of, on_read, same_header, differ, compared, on_compare, begun, copies, count_of, on_copied}
+use Rattle.copy_tree.specs.code.Meaning.{moves, standing, absent, all_parts, IsPlaced, IsComparing, StandsFirst, holds, gives, sends}
+use Rattle.copy_tree.proofs.Moved.{moved_rest}
+use Rattle.copy_tree.proofs.PartLaws.{chosen_sources, chosen_targets}
+use Rattle.copy_tree.proofs.MoveLaws.{to_move, from_move, standing_rise, standing_each, standing_has, absent_each, tree_copied}
+
+-- ---- lists of moves
+
+behind_one : (n : ℕ) (ps : List Move) (s : Move) (rest : List Move) → drop n ps ≡ s ∷ rest → drop (suc n) ps ≡ rest
+behind_one zero [] s rest e = absurd (cc)
+behind_one zero (r ∷ ps) s rest e = let f : ps ≡ rest = cc in f
+behind_one (suc n) [] s rest e = absurd (cc)
+behind_one (suc n) (r ∷ ps) s rest e = behind_one n ps s rest e
+
+one_in_drop : (n : ℕ) (ps : List Move) (k l : List ℕ) → IsOneOf k l (drop n ps) → IsOneOf k l ps
+one_in_drop zero ps k l i = i
+one_in_drop (suc n) [] k l i = absurd i
+one_in_drop (suc n) (s ∷ ps) k l i = inr (one_in_drop n ps k l i)
+
+none_in : (ps : List Move) (k l : List ℕ) → length ps ≤ 0 → IsOneOf k l ps → ⊥
+none_in [] k l h i = i
+none_in (s ∷ ps) k l h i = absurd (omega (arith, h))
+
+no_moves : (ps : List Move) → sources ps ≡ [] → ps ≡ []
+no_moves [] e = refl
+no_moves (s ∷ ps) e = absurd (cc)
+
+some_moves : (ps : List Move) (k : List ℕ) (ks : List (List ℕ)) → sources ps ≡ k ∷ ks → 0 < length ps
+some_moves [] k ks e = absurd (cc)
+some_moves (s ∷ ps) k ks e = omega arith
+
+rises_behind : (n : ℕ) (b : List ℕ) (ks : List (List ℕ)) → RisesFrom b ks → (c : List ℕ) × RisesFrom c (drop n ks)
+rises_behind zero b ks h = (b, h)
+rises_behind (suc n) b [] h = (b, tt)
+rises_behind (suc n) b (k ∷ ks) h = rises_behind n k ks h.1
+
+-- ---- objects that are the same
+
+header_is : (h g : Option ℕ) → same_header h g ≡ true → h ≡ g
+header_is None None e = refl
+header_is (Some a) (Some b) e = ap Some (eq_nat a b e)
+header_is None (Some b) e = absurd (false≢true e)
+header_is (Some a) None e = absurd (false≢true e)
+
+header_true : (h g : Option ℕ) → h ≡ g → same_header h g ≡ true
+header_true None None e = refl
+header_true (Some a) (Some b) e = nat_true a b (some_is e)
+header_true None (Some b) e = absurd (cc)
+header_true (Some a) None e = absurd (cc)
+
+both_true : (a b : Bool) → a ≡ true → b ≡ true → (a && b) ≡ true
+both_true a b h g = ap (λ a. a && b) h ∙ g
+
+pub reads : (ks : List (List ℕ)) → is_look (read_of ks) ≡ true
+reads [] = refl
+reads (k ∷ ks) = refl
+
+module _ (z : Objects) (x : ℕ) (p : List ℕ) (y : ℕ) (t : List ℕ) where
+  abbrev O : CopyPaths
+  O = record { source = x ∷ p; target = y ∷ t }
+
+  -- a step leads on
+  abbrev On : Step CopyStage Answer → Objects → Type 0
+  On s m = Goes (holds O z) (gives O z) s m
+
+  -- ---- the copies
+
+  may_copy : IsPlaced O z → ((k l : List ℕ) → IsOneOf k l (standing O z) → fin.get z l ≡ fin.get z k) → MayCopy z (x ∷ p) (y ∷ t)
+  may_copy h a = record { place = h.place; fit = h.fit; agree = λ k l m. by k l m (none_or_some (fin.get z l)) }
+    where
+      by : (k l : List ℕ) → IsMove z (x ∷ p) (y ∷ t) k l → (fin.get z l ≡ None) ⊎ ((v : Object) × (fin.get z l ≡ Some v)) → (fin.get z l ≡ None) ⊎ (fin.get z l ≡ fin.get z k)
+      by k l m (inl n) = inl n
+      by k l m (inr s) = inr (a k l (standing_has z x p y t h.place.source.directory k l m s))
+
+  copies_on : (c : CopyCount) → c ≡ count_of (all_parts O z) → MayCopy z (x ∷ p) (y ∷ t) → (ks ls : List (List ℕ)) → ks ≡ sources (absent O z) → ls ≡ targets (absent O z) → On (copies c ks ls) z
+  copies_on c e h [] ls f g = (
+    h,
+    subst (λ (c : CopyCount). CopiesTree (x ∷ p) (y ∷ t) z c z) (sym e)
+        (subst (λ ps. CopiesTree (x ∷ p) (y ∷ t) z (count_of (all_parts O z)) (copied_all z ps)) (no_moves (absent O z) (sym f))
+        (tree_copied z x p y t h.place.source.directory h)),
+  )
+  copies_on c e h (k ∷ ks) ls f g = (h, e, record { keys = f; places = g; some = omega arith; copied = refl })
+
+  begun_on : (c : Parts) → c ≡ all_parts O z → MayCopy z (x ∷ p) (y ∷ t) → On (begun c) z
+  begun_on c e h = copies_on (count_of c) (ap count_of e) h c.keys c.places (ap (λ (c : Parts). c.keys) e) (ap (λ (c : Parts). c.places) e)
+
+  copied_on : (c : CopyStep) (n : CopyCount) (m : Objects) → MayCopy z (x ∷ p) (y ∷ t) → n ≡ count_of (all_parts O z) → IsCopied z (absent O z) c m → On (on_copied n c) m
+  copied_on (NextCopy c) n m h e i = (h, e, i)
+  copied_on (All ks) n m h e i = (
+    h,
+    subst (λ (c : CopyCount). CopiesTree (x ∷ p) (y ∷ t) z c m) (sym e)
+        (subst (CopiesTree (x ∷ p) (y ∷ t) z (count_of (all_parts O z))) (sym i.1) (tree_copied z x p y t h.place.source.directory h)),
+  )
+
+  -- ---- the pairs of which both stand
+
+  pairs_on : (c : Parts) → c ≡ all_parts O z → IsPlaced O z → (r : List (List ℕ)) → c.stood ≡ r → On (pairs c r) z
+  pairs_on c e h [] f =
+      begun_on c e (may_copy h (λ k l i. absurd (subst (IsIn k) (sym (ap (λ (c : Parts). c.stood) e) ∙ f) (in_sources (standing O z) k l i))))
+  pairs_on c e h (k ∷ ks) f = (
+    refl,
+    record { placed = h; parts = e; some = some_moves (standing O z) k ks (sym (ap (λ (c : Parts). c.stood) e) ∙ f); agree = λ k l i. inr i },
+  )
+
+  module _ (c : Parts) (n : ℕ) (h : IsComparing O z c n) (s : Move) (rest : List Move) (e : drop n (standing O z) ≡ s ∷ rest) where
+    stood_is : drop n c.stood ≡ s.0 ∷ sources rest
+    stood_is = ap (λ (c : Parts). drop n c.stood) h.parts ∙ drop-map (λ (p : Move). p.0) n (standing O z) ∙ ap sources e
+
+    stood_at_is : drop n c.stood_at ≡ s.1 ∷ targets rest
+    stood_at_is = ap (λ (c : Parts). drop n c.stood_at) h.parts ∙ drop-map (λ (p : Move). p.1) n (standing O z) ∙ ap targets e
+
+    here_one : IsOneOf s.0 s.1 (standing O z)
+    here_one = one_in_drop n (standing O z) s.0 s.1 (subst (IsOneOf s.0 s.1) (sym e) (inl (refl, refl)))
+
+    is_moved : IsMove z (x ∷ p) (y ∷ t) s.0 s.1 × Stands z s.1
+    is_moved = standing_each z x p y t h.placed.place.source.directory s.0 s.1 here_one
+
+    read_one : On (on_read c n (found (fin.get z s.0))) z
+    read_one = by (fin.get z s.0) refl
+      where
+        by : (o : Option Object) → fin.get z s.0 ≡ o → On (on_read c n (found o)) z
+        by None f = absurd (none_some f (moved_rest x p y t z s.0 s.1 h.placed.place.source.directory is_moved.0).0.1)
+        by (Some v) f = (refl, h, subst (λ r. StandsFirst z r v.bytes v.header) (sym stood_is) f)
+
+    -- each agrees or is behind this one
+    agree_on : fin.get z s.1 ≡ fin.get z s.0 → (k l : List ℕ) → IsOneOf k l (standing O z) → (fin.get z l ≡ fin.get z k) ⊎ IsOneOf k l rest
+    agree_on g k l i = by (h.agree k l i)
+      where
+        one : ((k ≡ s.0) × (l ≡ s.1)) ⊎ IsOneOf k l rest → (fin.get z l ≡ fin.get z k) ⊎ IsOneOf k l rest
+        one (inl f) = inl (ap (fin.get z) f.1 ∙ g ∙ sym (ap (fin.get z) f.0))
+        one (inr j) = inr j
+
+        by : (fin.get z l ≡ fin.get z k) ⊎ IsOneOf k l (drop n (standing O z)) → (fin.get z l ≡ fin.get z k) ⊎ IsOneOf k l rest
+        by (inl f) = inl f
+        by (inr j) = one (subst (IsOneOf k l) e j)
+
+    count_is : length (drop n c.stood) ≡ suc (length rest)
+    count_is = ap length stood_is ∙ ap suc (length-map rest (λ (p : Move). p.0))
+
+    more : 1 < length (drop n c.stood) → n + 1 < length (standing O z)
+    more l =
+        let a = count_is in
+        let b : length (drop n (standing O z)) ≡ suc (length rest) = ap length e in
+        let d = length-drop n (standing O z) in
+        omega (arith, l, a, b, d)
+
+    agreed_by : fin.get z s.1 ≡ fin.get z s.0 → (b : Bool) → nat_lt 1 (length (drop n c.stood)) ≡ b → On (cond b (Next (Source c (n + 1))) (begun c)) z
+    agreed_by g true f =
+        let one : suc n ≡ n + 1 = omega arith in
+        let next : drop (n + 1) (standing O z) ≡ rest = ap (λ i. drop i (standing O z)) (sym one) ∙ behind_one n (standing O z) s rest e in (
+          refl,
+          record {
+            placed = h.placed;
+            parts = h.parts;
+            some = more (ltb-true 1 (length (drop n c.stood)) f);
+            agree = λ k l i. subst (λ r. (fin.get z l ≡ fin.get z k) ⊎ IsOneOf k l r) (sym next) (agree_on g k l i);
+          },
+        )
+    agreed_by g false f = begun_on c h.parts (may_copy h.placed (λ k l i. by k l (agree_on g k l i)))
+      where
+        none : length rest ≤ 0
+        none = let a = count_is in let l = ltb-false 1 (length (drop n c.stood)) f in omega (arith, a, l)
+
+        by : (k l : List ℕ) → (fin.get z l ≡ fin.get z k) ⊎ IsOneOf k l rest → fin.get z l ≡ fin.get z k
+        by k l (inl a) = a
+        by k l (inr j) = absurd (none_in rest k l none j)
+
+    -- the first that differs
+    first_other : (fin.get z s.1 ≡ fin.get z s.0 → ⊥) → IsFirstOther z (x ∷ p) (y ∷ t) s.1
+    first_other f = record {
+      key = s.0;
+      moves = is_moved.0;
+      other = (is_moved.1, f);
+      first = λ j i m less. by j i m less (none_or_some (fin.get z i));
+    }
+      where
+        rest_rises : RisesFrom s.1 (targets rest)
+        rest_rises =
+            let w = rises_behind n [] (targets (standing O z)) (standing_rise z x p y t) in
+            (subst (RisesFrom w.0) (drop-map (λ (p : Move). p.1) n (standing O z) ∙ ap targets e) w.1).1
+
+        at : (j i : List ℕ) → is_lt (text_cmp i s.1) ≡ true → ((j ≡ s.0) × (i ≡ s.1)) ⊎ IsOneOf j i rest → ⊥
+        at j i less (inl g) = false_true (irrefl text_total s.1) (ap (λ i. lt text_cmp i s.1) (sym g.1) ∙ less)
+        at j i less (inr g) = false_true (lt_not text_total i s.1 less) (behind s.1 i (targets rest) rest_rises (in_targets rest j i g))
+
+        agrees : (j i : List ℕ) → is_lt (text_cmp i s.1) ≡ true → (fin.get z i ≡ fin.get z j) ⊎ IsOneOf j i (drop n (standing O z)) → (fin.get z i ≡ None) ⊎ (fin.get z i ≡ fin.get z j)
+        agrees j i less (inl g) = inr g
+        agrees j i less (inr g) = absurd (at j i less (subst (IsOneOf j i) e g))
+
+        by : (j i : List ℕ) → IsMove z (x ∷ p) (y ∷ t) j i → is_lt (text_cmp i s.1) ≡ true → (fin.get z i ≡ None) ⊎ ((v : Object) × (fin.get z i ≡ Some v)) → (fin.get z i ≡ None) ⊎ (fin.get z i ≡ fin.get z j)
+        by j i m less (inl g) = inl g
+        by j i m less (inr g) = agrees j i less (h.agree j i (standing_has z x p y t h.placed.place.source.directory j i m g))
+
+    compared_on : (b : List ℕ) (g : Option ℕ) (v : Object) → fin.get z s.0 ≡ Some (record { bytes = b; header = g }) → fin.get z s.1 ≡ Some v → (r : Bool) → (text_eq b v.bytes && same_header g v.header) ≡ r → On (compared c n r) z
+    compared_on b g v a d true f =
+        let w = both (text_eq b v.bytes) (same_header g v.header) f in
+        let same : v ≡ record { bytes = b; header = g } = λ i. record { bytes = sym (text_is b v.bytes w.0) i; header = sym (header_is g v.header w.1) i } in
+        agreed_by (d ∙ ap Some same ∙ sym a) (nat_lt 1 (length (drop n c.stood))) refl
+    compared_on b g v a d false f =
+        subst (λ r. On (differ r) z) (sym stood_at_is)
+        (h.placed.place, h.placed.fit, first_other (λ q. other (some_is (sym a ∙ sym q ∙ d))), refl)
+      where
+        other : record { bytes = b; header = g } ≡ v → ⊥
+        other q =
+            false_true f (both_true (text_eq b v.bytes) (same_header g v.header) (text_true b v.bytes (ap (λ (o : Object). o.bytes) q))
+            (header_true g v.header (ap (λ (o : Object). o.header) q)))
+
+    compare_one : (b : List ℕ) (g : Option ℕ) → StandsFirst z (drop n c.stood) b g → On (on_compare c n b g (found (fin.get z s.1))) z
+    compare_one b g a = by (fin.get z s.1) refl
+      where
+        by : (o : Option Object) → fin.get z s.1 ≡ o → On (on_compare c n b g (found o)) z
+        by None f = absurd (none_some f is_moved.1.1)
+        by (Some v) f = compared_on b g v (subst (λ r. StandsFirst z r b g) stood_is a) f (text_eq b v.bytes && same_header g v.header) refl
+
+    read_goes : On (on_read c n (reply_in z (read_of (drop n c.stood)))) (edited (read_of (drop n c.stood)) z)
+    read_goes = subst (λ r. On (on_read c n (reply_in z (read_of r))) (edited (read_of r) z)) (sym stood_is) read_one
+
+    compare_goes : (b : List ℕ) (g : Option ℕ) → StandsFirst z (drop n c.stood) b g → On (on_compare c n b g (reply_in z (read_of (drop n c.stood_at)))) (edited (read_of (drop n c.stood_at)) z)
+    compare_goes b g a = subst (λ r. On (on_compare c n b g (reply_in z (read_of r))) (edited (read_of r) z)) (sym stood_at_is) (compare_one b g a)
+
+  -- ---- the walk below the target
+
+  parts_are : parts_of (sources (moves O z)) (targets (moves O z)) (all_below (marker_of (y ∷ t)) z) ≡ all_parts O z
+  parts_are = λ i. record {
+    stood = chosen_sources true (moves O z) (all_below (marker_of (y ∷ t)) z) i;
+    stood_at = chosen_targets true (moves O z) (all_below (marker_of (y ∷ t)) z) i;
+    keys = chosen_sources false (moves O z) (all_below (marker_of (y ∷ t)) z) i;
+    places = chosen_targets false (moves O z) (all_below (marker_of (y ∷ t)) z) i;
+  }
+
+  shown_on : (ks ls : List (List ℕ)) (w : Walked PageEntry) → IsPlaced O z → ks ≡ sources (moves O z) → ls ≡ targets (moves O z) → IsWalked (marker_of (y ∷ t)) z w → On (on_shown ks ls w) z
+  shown_on ks ls (More w) h e f g = (refl, h, e, f, g)
+  shown_on ks ls (Whole es) h e f g =
+      let a : parts_of ks ls es ≡ parts_of (sources (moves O z)) (targets (moves O z)) (all_below (marker_of (y ∷ t)) z) = λ i. parts_of (e i) (f i) (g i) in
+      pairs_on (parts_of ks ls es) (a ∙ parts_are) h (parts_of ks ls es).stood refl
+
+  showing : (ks ls : List (List ℕ)) (w : List PageEntry) → IsPlaced O z → ks ≡ sources (moves O z) → ls ≡ targets (moves O z) → IsWalking (marker_of (y ∷ t)) z w
+      → On (on_show ks ls w (reply_in z (walk_asks (marker_of (y ∷ t)) w)) (fits (reply_in z (walk_asks (marker_of (y ∷ t)) w)))) z
+  showing ks ls w h e f g =
+      subst (λ b. On (on_show ks ls w (reply_in z (walk_asks (marker_of (y ∷ t)) w)) b) z) (sym (walk_fits (marker_of (y ∷ t)) w z))
+      (shown_on ks ls (walked_entries w (reply_in z (walk_asks (marker_of (y ∷ t)) w))) h e f (walk_goes (marker_of (y ∷ t)) z w g))
+
+  -- ---- the new keys
+
+  all_fit : IsDirectory z (x ∷ p) → ((k : List ℕ) → IsIn k (keys_below (marker_of (x ∷ p)) z) → is_too_long (new_key (marker_of (x ∷ p)) (marker_of (y ∷ t)) k) ≡ false) → AllFit z (x ∷ p) (y ∷ t)
+  all_fit d f k l i =
+      let w = move_of (marker_of (x ∷ p)) (marker_of (y ∷ t)) (keys_below (marker_of (x ∷ p)) z) k l (to_move z x p y t d k l i) in
+      ap is_too_long w.1 ∙ f k w.0
+
+  first_too_long : (k : List ℕ) → IsDirectory z (x ∷ p) → new_keys (marker_of (x ∷ p)) (marker_of (y ∷ t)) (keys_below (marker_of (x ∷ p)) z) ≡ Err k → IsFirstTooLong z (x ∷ p) (y ∷ t) k
+  first_too_long k d e =
+      let w = first_long (marker_of (x ∷ p)) (marker_of (y ∷ t)) [] (keys_below (marker_of (x ∷ p)) z) k (listed_rises (marker_of (x ∷ p)) [] z) e in
+      record {
+        new = new_key (marker_of (x ∷ p)) (marker_of (y ∷ t)) k;
+        moves = from_move z x p y t d k (new_key (marker_of (x ∷ p)) (marker_of (y ∷ t)) k) (to_dir_move z x p y t k w.0);
+        long = w.1;
+        first = λ j l i less.
+            let v = move_of (marker_of (x ∷ p)) (marker_of (y ∷ t)) (keys_below (marker_of (x ∷ p)) z) j l (to_move z x p y t d j l i) in
+            ap is_too_long v.1 ∙ w.2 j v.0 less;
+      }
+
+  with_places_on : (ks : List (List ℕ)) → HasPlace z (x ∷ p) (y ∷ t) → ks ≡ keys_below (marker_of (x ∷ p)) z → (r : Result (List (List ℕ)) (List ℕ)) → new_keys (marker_of (x ∷ p)) (marker_of (y ∷ t)) ks ≡ r → On (with_places ks r) z
+  with_places_on ks h e (Err k) f = (h, first_too_long k h.source.directory (ap (new_keys (marker_of (x ∷ p)) (marker_of (y ∷ t))) (sym e) ∙ f), refl)
+  with_places_on ks h e (Ok ls) f =
+      let w = all_found (marker_of (x ∷ p)) (marker_of (y ∷ t)) (keys_below (marker_of (x ∷ p)) z) ls (ap (new_keys (marker_of (x ∷ p)) (marker_of (y ∷ t))) (sym e) ∙ f) in (
+        refl,
+        record { place = h; fit = all_fit h.source.directory w.1 },
+        e ∙ sym (sources_to (marker_of (x ∷ p)) (marker_of (y ∷ t)) (keys_below (marker_of (x ∷ p)) z)),
+        w.0,
+        walk_begins (marker_of (y ∷ t)) z,
+      )
+
+  -- ---- the paths above the target
+
+  climbed_on : (ks : List (List ℕ)) (c : Climbed) → HasSource z (x ∷ p) (y ∷ t) → ks ≡ keys_below (marker_of (x ∷ p)) z → IsClimbed z (climb (y ∷ t)) c → On (on_climb O ks c) z
+  climbed_on ks (File a) s e h = (s, h, refl)
+  climbed_on ks (Goes_on c) s e h = (refl, s, e, h)
+  climbed_on ks Free s e h = with_places_on ks (record { source = s; free = h }) e (new_keys (marker_of (x ∷ p)) (marker_of (y ∷ t)) ks) refl
+
+  -- ---- the source
+
+  listed_on : (IsOverlap (x ∷ p) (y ∷ t) → ⊥) → fin.get z (x ∷ p) ≡ None → (es : List PageEntry) → all_below (marker_of (x ∷ p)) z ≡ es → On (listed O (keys_on es)) z
+  listed_on a f [] e = (a, (f, none_listed x (p ++ 47 ∷ []) z e), refl)
+  listed_on a f (w ∷ es) e =
+      climbed_on (keys_on (w ∷ es)) (climbing (climb (y ∷ t))) (record { apart = a; directory = (f, first_listed (marker_of (x ∷ p)) z w es e) }) (ap keys_on (sym e)) (all_on z (climb (y ∷ t)))
+
+  walked_on : (w : Walked PageEntry) → (IsOverlap (x ∷ p) (y ∷ t) → ⊥) → fin.get z (x ∷ p) ≡ None → IsWalked (marker_of (x ∷ p)) z w → On (on_walked O w) z
+  walked_on (More w) a f h = (refl, a, f, h)
+  walked_on (Whole es) a f h = listed_on a f es (sym h)
+
+  walking : (w : List PageEntry) → (IsOverlap (x ∷ p) (y ∷ t) → ⊥) → fin.get z (x ∷ p) ≡ None → IsWalking (marker_of (x ∷ p)) z w
+      → On (on_walk O w (reply_in z (walk_asks (marker_of (x ∷ p)) w)) (fits (reply_in z (walk_asks (marker_of (x ∷ p)) w)))) z
+  walking w a f h =
+      subst (λ b. On (on_walk O w (reply_in z (walk_asks (marker_of (x ∷ p)) w)) b) z) (sym (walk_fits (marker_of (x ∷ p)) w z))
+      (walked_on (walked_entries w (reply_in z (walk_asks (marker_of (x ∷ p)) w))) a f (walk_goes (marker_of (x ∷ p)) z w h))
+
+  seen_on : (l : Look) → (IsOverlap (x ∷ p) (y ∷ t) → ⊥) → IsSeen l (Stands z (x ∷ p)) (fin.get z (x ∷ p) ≡ None) → On (here_at false l) z
+  seen_on There a h = (a, h, refl)
+  seen_on Nothing a h = (refl, a, h, walk_begins (marker_of (x ∷ p)) z)
+  seen_on _ a h = absurd h
+
+  here_on : (b c : Bool) → begins (marker_of (x ∷ p)) (marker_of (y ∷ t)) ≡ b → begins (marker_of (y ∷ t)) (marker_of (x ∷ p)) ≡ c → (l : Look) → IsSeen l (Stands z (x ∷ p)) (fin.get z (x ∷ p) ≡ None) → On (here_at (b || c) l) z
+  here_on true c e f l h = (inl e, refl)
+  here_on false true e f l h = (inr f, refl)
+  here_on false false e f l h = seen_on l apart h
+    where
+      apart : IsOverlap (x ∷ p) (y ∷ t) → ⊥
+      apart (inl g) = false_true e g
+      apart (inr g) = false_true f g
+
+  -- ---- each stage
+
+  -- what is asked leads on
+  abbrev Led : CopyStage → Objects → Type 0
+  Led s m = On (on O s (reply_in m (asks O s))) (edited (asks O s) m)
+
+  pub each : (s : CopyStage) (m : Objects) → holds O z s m → Led s m
+  each Here m h =
+      subst (Led Here) (sym h)
+      (here_on (begins (marker_of (x ∷ p)) (marker_of (y ∷ t))) (begins (marker_of (y ∷ t)) (marker_of (x ∷ p))) refl refl (look_of (head (fin.get z (x ∷ p)))) (head_tells z (x ∷ p)))
+  each (Walk w) m h = subst (Led (Walk w)) (sym h.0) (walking w h.1 h.2 h.3)
+  each (Up ks c) m h =
+      let l = look_of (head (fin.get z c.first)) in
+      subst (Led (Up ks c)) (sym h.0) (climbed_on ks (climbed c l) h.1 h.2 (climb_on z (climb (y ∷ t)) c l h.3 (head_tells z c.first)))
+  each (WalkTarget ks ls w) m h = subst (Led (WalkTarget ks ls w)) (sym h.0) (showing ks ls w h.1 h.2 h.3 h.4)
+  each (Source c n) m h = let w = some_left n (standing O z) h.1.some in subst (Led (Source c n)) (sym h.0) (read_goes c n h.1 w.0 w.1 w.2)
+  each (Target c n b g) m h = let w = some_left n (standing O z) h.1.some in subst (Led (Target c n b g)) (sym h.0) (compare_goes c n h.1 w.0 w.1 w.2 b g h.2)
+  each (Copy c count) m h = copied_on (copied_next (has_more c) c) count (edited (copy_asks c) m) h.0 h.1 (copying_goes z (absent O z) c m h.2)
+
+  -- ---- what is copied
+
+  pub sent_copy : (c : Copying) (m : Objects) → MayCopy z (x ∷ p) (y ∷ t) → IsCopying z (absent O z) c m → sends O z (copy_asks c)
+  sent_copy c m h g =
+      let count : length c.keys ≡ length (absent O z) = ap length g.keys ∙ length-map (absent O z) (λ (p : Move). p.0) in
+      let some : c.from < length (absent O z) = subst (λ n. c.from < n) count g.some in
+      let w = some_left c.from (absent O z) some in
+      let ks : drop c.from c.keys ≡ w.0.0 ∷ sources w.1 = ap (drop c.from) g.keys ∙ drop-map (λ (p : Move). p.0) c.from (absent O z) ∙ ap sources w.2 in
+      let ls : drop c.from c.places ≡ w.0.1 ∷ targets w.1 = ap (drop c.from) g.places ∙ drop-map (λ (p : Move). p.1) c.from (absent O z) ∙ ap targets w.2 in
+      let i = one_in_drop c.from (absent O z) w.0.0 w.0.1 (subst (IsOneOf w.0.0 w.0.1) (sym w.2) (inl (refl, refl))) in
+      let m = absent_each z x p y t h.place.source.directory w.0.0 w.0.1 i in
+      inr (w.0.0, w.0.1, (λ i. copy_of (ks i) (ls i)), h, m.0, m.1)

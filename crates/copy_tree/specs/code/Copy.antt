@@ -1,0 +1,185 @@
+-- Copying all that is below a directory, by its stages.
+use Rattle.std.specs.Prelude.{ℕ, ◌+◌, ◌||◌, ◌&&◌, nat_lt, nat_eq, Bool, true, false, cond, List, [], ◌∷◌, ◌++◌, length, drop, Option, Some, None, Result, Ok, Err}
+use Rattle.proof_base.specs.Order.{text_eq}
+use Rattle.s3_types.specs.Pages.{begins}
+use Rattle.s3_types.specs.declared.reply.PageEntry.{PageEntry}
+use Rattle.s3_types.specs.declared.reply.Reply.{Reply}
+use Rattle.s3_types.specs.declared.reply.Reply.TheVariants.{Object as Found}
+use Rattle.operations.specs.declared.plan.Step.{Step}
+use Rattle.operations.specs.declared.plan.Step.TheVariants.{Next, End}
+use Rattle.bucket_ops.specs.declared.look.Look.{Look}
+use Rattle.bucket_ops.specs.declared.look.Look.TheVariants.{There}
+use Rattle.bucket_ops.specs.Looks.{look_of}
+use Rattle.bucket_ops.specs.Asks.{Ask, Head, Get, Page}
+use Rattle.dir_markers.specs.Markers.{marker_of, keys_above}
+use Rattle.list_walk.specs.Walks.{keys_on, Walked, More, Whole, walked_entries}
+use Rattle.fs_tree.specs.declared.copy.CopyRefusal.{CopyRefusal}
+use Rattle.fs_tree.specs.declared.copy.CopyRefusal.TheVariants.{NoSuchBucket, Overlap, SourceIsFile, SourceMissing, TargetFile, TooLong, Differs}
+use Rattle.fs_tree.specs.declared.copy.CopyCount.{CopyCount}
+use Rattle.fs_ops.specs.Places.{key_if, prefix_of, look_asks}
+use Rattle.fs_ops.specs.code.Steps.{unless}
+use Rattle.fs_ops.specs.declared.climb.Climbed.{Climbed}
+use Rattle.fs_ops.specs.declared.climb.Climbed.TheVariants.{File, On as Goes_on, Free}
+use Rattle.fs_ops.specs.code.Climbs.{climbing, climbed}
+use Rattle.bucket_walks.specs.Walking.{walk_asks, fits}
+use Rattle.fs_moves.specs.declared.copying.CopyStep.{CopyStep}
+use Rattle.fs_moves.specs.declared.copying.CopyStep.TheVariants.{Next as NextCopy, All}
+use Rattle.fs_moves.specs.Keys.{place_of, new_keys}
+use Rattle.fs_moves.specs.Copies.{copy_asks, has_more, copied_next}
+use Rattle.copy_tree.specs.declared.stages.Parts.{Parts}
+use Rattle.copy_tree.specs.declared.stages.CopyStage.{CopyStage}
+use Rattle.copy_tree.specs.declared.stages.CopyStage.TheVariants.{Here, Walk, Up, WalkTarget, Source, Target, Copy}
+use Rattle.copy_tree.specs.Parts.{chosen}
+
+-- the paths of a source and a target
+pub record CopyPaths : Type 0 where
+  pub source : List ℕ
+  pub target : List ℕ
+
+abbrev pub Answer : Type 0
+Answer = Result CopyCount CopyRefusal
+
+-- whether one path is the other or below it
+abbrev pub overlaps : CopyPaths → Bool
+overlaps o = begins (prefix_of o.source) (prefix_of o.target) || begins (prefix_of o.target) (prefix_of o.source)
+
+-- the keys of the paths above a target, and its own; the root has none
+abbrev pub one_of : Option (List ℕ) → List (List ℕ)
+one_of None = []
+one_of (Some k) = k ∷ []
+
+abbrev pub climb : List ℕ → List (List ℕ)
+climb t = keys_above t ++ one_of (key_if t)
+
+-- what stands at the first of these keys
+abbrev pub read_of : List (List ℕ) → Ask
+read_of [] = Page [] false [] 1
+read_of (k ∷ ks) = Get k
+
+abbrev pub first : CopyPaths → CopyStage
+first o = Here
+
+abbrev pub asks : CopyPaths → CopyStage → Ask
+asks o Here = look_asks o.source
+asks o (Walk w) = walk_asks (prefix_of o.source) w
+asks o (Up ks c) = Head c.first
+asks o (WalkTarget ks ls w) = walk_asks (prefix_of o.target) w
+asks o (Source c n) = read_of (drop n c.stood)
+asks o (Target c n b h) = read_of (drop n c.stood_at)
+asks o (Copy c count) = copy_asks c
+
+-- ---- the copies
+
+-- how many are copied, and how many stood
+abbrev pub count_of : Parts → CopyCount
+count_of c = record { copied = length c.places; skipped = length c.stood_at }
+
+abbrev pub copies : CopyCount → List (List ℕ) → List (List ℕ) → Step CopyStage Answer
+copies count [] ls = End (Ok count)
+copies count (k ∷ ks) ls = Next (Copy (record { keys = k ∷ ks; places = ls; from = 0 }) count)
+
+-- all agree, and the absent ones are copied
+abbrev pub begun : Parts → Step CopyStage Answer
+begun c = copies (count_of c) c.keys c.places
+
+abbrev pub on_copied : CopyCount → CopyStep → Step CopyStage Answer
+on_copied count (NextCopy c) = Next (Copy c count)
+on_copied count (All ks) = End (Ok count)
+
+-- ---- the pairs of which both stand
+
+abbrev pub pairs : Parts → List (List ℕ) → Step CopyStage Answer
+pairs c [] = begun c
+pairs c (k ∷ ks) = Next (Source c 0)
+
+abbrev pub parts_of : List (List ℕ) → List (List ℕ) → List PageEntry → Parts
+parts_of ks ls es = record { stood = chosen true ks ls es; stood_at = chosen true ls ls es; keys = chosen false ks ls es; places = chosen false ls ls es }
+
+abbrev pub parted : Parts → Step CopyStage Answer
+parted c = pairs c c.stood
+
+-- what was read of the source is kept; what stood does not go
+abbrev pub on_read : Parts → ℕ → Reply → Step CopyStage Answer
+on_read c n (Found b h) = Next (Target c n b h)
+on_read c n _ = End (Err SourceMissing)
+
+abbrev pub same_header : Option ℕ → Option ℕ → Bool
+same_header None None = true
+same_header (Some a) (Some b) = nat_eq a b
+same_header _ _ = false
+
+-- the new key differs from its source
+abbrev pub differ : List (List ℕ) → Step CopyStage Answer
+differ [] = End (Err SourceMissing)
+differ (l ∷ ls) = End (Err (Differs l))
+
+-- the next pair, or all agree
+abbrev pub agreed : Parts → ℕ → Step CopyStage Answer
+agreed c n = cond (nat_lt 1 (length (drop n c.stood))) (Next (Source c (n + 1))) (begun c)
+
+abbrev pub compared : Parts → ℕ → Bool → Step CopyStage Answer
+compared c n true = agreed c n
+compared c n false = differ (drop n c.stood_at)
+
+abbrev pub on_compare : Parts → ℕ → List ℕ → Option ℕ → Reply → Step CopyStage Answer
+on_compare c n b h (Found d g) = compared c n (text_eq b d && same_header h g)
+on_compare c n b h _ = End (Err SourceMissing)
+
+-- ---- the walk below the target
+
+abbrev pub on_shown : List (List ℕ) → List (List ℕ) → Walked PageEntry → Step CopyStage Answer
+on_shown ks ls (More w) = Next (WalkTarget ks ls w)
+on_shown ks ls (Whole es) = parted (parts_of ks ls es)
+
+abbrev pub on_show : List (List ℕ) → List (List ℕ) → List PageEntry → Reply → Bool → Step CopyStage Answer
+on_show ks ls w r true = on_shown ks ls (walked_entries w r)
+on_show ks ls w r false = Next (WalkTarget ks ls w)
+
+-- ---- the paths above the target
+
+abbrev pub with_places : List (List ℕ) → Result (List (List ℕ)) (List ℕ) → Step CopyStage Answer
+with_places ks (Ok ls) = Next (WalkTarget ks ls [])
+with_places ks (Err k) = End (Err (TooLong k))
+
+abbrev pub placed : CopyPaths → Option (List ℕ) → List (List ℕ) → Step CopyStage Answer
+placed o None ks = End (Err SourceMissing)
+placed o (Some t) ks = with_places ks (new_keys (prefix_of o.source) (marker_of t) ks)
+
+-- they are looked at one by one
+abbrev pub on_climb : CopyPaths → List (List ℕ) → Climbed → Step CopyStage Answer
+on_climb o ks (File a) = End (Err (TargetFile a))
+on_climb o ks (Goes_on c) = Next (Up ks c)
+on_climb o ks Free = placed o (place_of o.source o.target) ks
+
+-- ---- the source
+
+abbrev pub listed : CopyPaths → List (List ℕ) → Step CopyStage Answer
+listed o [] = End (Err SourceMissing)
+listed o (k ∷ ks) = on_climb o (k ∷ ks) (climbing (climb o.target))
+
+abbrev pub on_walked : CopyPaths → Walked PageEntry → Step CopyStage Answer
+on_walked o (More w) = Next (Walk w)
+on_walked o (Whole es) = listed o (keys_on es)
+
+abbrev pub on_walk : CopyPaths → List PageEntry → Reply → Bool → Step CopyStage Answer
+on_walk o w r true = on_walked o (walked_entries w r)
+on_walk o w r false = Next (Walk w)
+
+abbrev pub here : Bool → Look → Step CopyStage Answer
+here true l = End (Err Overlap)
+here false There = End (Err SourceIsFile)
+here false _ = Next (Walk [])
+
+-- ---- where a reply leads
+
+abbrev pub on : CopyPaths → CopyStage → Reply → Step CopyStage Answer
+on o Here r = here (overlaps o) (look_of r)
+on o (Walk w) r = on_walk o w r (fits r)
+on o (Up ks c) r = on_climb o ks (climbed c (look_of r))
+on o (WalkTarget ks ls w) r = on_show ks ls w r (fits r)
+on o (Source c n) r = on_read c n r
+on o (Target c n b h) r = on_compare c n b h r
+on o (Copy c count) r = on_copied count (copied_next (has_more c) c)
+
+abbrev pub goes : CopyPaths → CopyStage → Reply → Step CopyStage Answer
+goes o x r = unless (look_of r) (End (Err NoSuchBucket)) (on o x r)

@@ -1,0 +1,538 @@
+-- Making a file, stage by stage.
+use Rattle.std.specs.Prelude.{◌≡◌, ◌⊎◌, ℕ, ◌+◌, ◌*◌, ◌<◌, ◌≤◌, nat_lt, Bool, true, false, cond, List, [], ◌∷◌, Ok, Err, Option, Some, None, length}
+use Rattle.std.proofs.Common.{refl, sym, ap, subst, ◌∙◌, inl, inr, arith}
+use Rattle.std.proofs.lemmas.Bool.{true≢false}
+use Rattle.std.specs.FinMap as fin
+use Rattle.s3_types.specs.Store.{Objects, BucketContent, Scene}
+use Rattle.s3_types.specs.Answer.{answer, apply, answer_at, apply_in, head, without}
+use Rattle.s3_types.specs.Pages.{page, listed}
+use Rattle.s3_types.specs.Requests.{only_reads}
+use Rattle.s3_types.specs.declared.request.Request.{Request}
+use Rattle.s3_types.specs.declared.request.Request.TheVariants.{DeleteObjects}
+use Rattle.s3_types.specs.declared.reply.Reply.{Reply}
+use Rattle.s3_types.specs.declared.reply.Reply.TheVariants.{Deleted, Refused}
+use Rattle.s3_types.specs.declared.reply.Refusal.TheVariants.{TooManyKeys}
+use Rattle.request_frame.proofs.Reading.{reads_nothing}
+use Rattle.path_keys.specs.Paths.{is_key}
+use Rattle.operations.specs.declared.plan.Step.{Step}
+use Rattle.operations.specs.declared.plan.Step.TheVariants.{Next, End}
+use Rattle.operations.specs.Plans.{Goes, Falls}
+use Rattle.operations.specs.Courses.{IsCourse, MaySend, IsCalm}
+use Rattle.bucket_ops.specs.declared.look.Look.{Look}
+use Rattle.bucket_ops.specs.declared.look.Look.TheVariants.{There, Nothing, NoBucket, Other}
+use Rattle.bucket_ops.specs.Looks.{look_of}
+use Rattle.bucket_ops.specs.Asks.{Ask, Head, request_of, reply_in, reply_at, objects_of, objects_at}
+use Rattle.bucket_ops.proofs.AskLaws.{get_put, answered, applied_none, all_gone, are_gone}
+use Rattle.dir_markers.specs.Markers.{marker_of, keys_above, created}
+use Rattle.fs_tree.specs.declared.answers.FsRefusal.{FsRefusal}
+use Rattle.fs_tree.specs.declared.answers.FsRefusal.TheVariants.{AlreadyExists, IsDirectory, NotDirectory, NoSuchBucket}
+use Rattle.fs_tree.specs.Tree.{Stands, SomeBelow, NoneBelow, HasFile, IsAbsent}
+use Rattle.fs_tree.specs.Tree as tree
+use Rattle.fs_tree.specs.Answers.{Creates}
+use Rattle.fs_tree.proofs.Above.{key_no_marker}
+use Rattle.fs_ops.specs.Places.{look_asks, below_asks, NoFileAt}
+use Rattle.fs_ops.proofs.Looks.{IsSeen, head_tells, page_tells}
+use Rattle.fs_ops.specs.code.Steps.{unless}
+use Rattle.fs_ops.proofs.StepLaws.{not_missing}
+use Rattle.fs_ops.specs.declared.climb.Climbed.{Climbed}
+use Rattle.fs_ops.specs.declared.climb.Climbed.TheVariants.{File, On as Goes_on, Free}
+use Rattle.fs_ops.specs.code.Climbs.{climbing, climbed}
+use Rattle.fs_ops.proofs.Climbing.{IsClimbed, seen_on, all_on, IsShorter, climbing_falls, climbed_falls}
+use Rattle.fs_files.specs.declared.create.CreateStage.{CreateStage}
+use Rattle.fs_files.specs.declared.create.CreateStage.TheVariants.{Here, Below, Up, Write, DropMarkers}
+use Rattle.fs_files.specs.declared.create.CreateFile.{CreateFile}
+use Rattle.request_frame.specs.Held.{upload_in, upload_at}
+use Rattle.fs_files.specs.Placed.{placed, IsBeside, InFile, IsFileOrNot, NoneBut, NoneLeft, object_of}
+use Rattle.fs_files.specs.code.Writing as writing
+use Rattle.fs_files.specs.declared.writing.Heard.{Heard}
+use Rattle.fs_files.specs.declared.writing.Heard.TheVariants.{Done, On, Refusing}
+use Rattle.fs_files.specs.code.Writing.{Writing, unsent, stream_of}
+use Rattle.fs_files.specs.code.Hearing as hearing
+use Rattle.fs_files.specs.code.Hearing.{heard}
+use Rattle.fs_files.specs.Creation.{Creation, IsCreation}
+use Rattle.fs_files.proofs.WritingLaws as files
+use Rattle.fs_files.proofs.WritingLaws.{placed_same, placed_by, Wrote, HeardSo, OwnHeard, LessLeft, RoomLeft, room_stays}
+use Rattle.fs_files.proofs.Creating.{created_above, makes_file, few_created}
+use Rattle.block_stream.specs.Holds.{HasRoom}
+use Rattle.fs_files.specs.code.Create.{Answer, CreateStep, asks, write_at, on_climb, climb, replace, here as here_at, on_here, on_below, drop_from, written, on, goes, IsOpen, IsDue, SomeDue, file_in, IsMade, least, HoldsIn, bucket_at, HoldsAt, holds, IsUndone, GivesFile, always_in, AlwaysFile, starts, request, stepped, led, gives, always, sends, upload_of, calm, leaves, write_left, left_at, left, Writes}
+
+-- where there is no bucket it ends, and else it goes on
+unless_so : {X : Type 0} (l : Look) (absent y : X) (P : X → Type 0) → (l ≡ NoBucket → P absent) → P y → P (unless l absent y)
+unless_so There absent y P f h = h
+unless_so Nothing absent y P f h = h
+unless_so NoBucket absent y P f h = f refl
+unless_so Other absent y P f h = h
+
+no_parts : (k n : ℕ) → n ≤ k * 10000 → k * 0 + n ≤ k * 10000
+no_parts k n h = let e : k * 0 ≡ 0 = Rattle.std.proofs.Math.Nat.mul-zero k in omega (arith, e, h)
+
+reads_look : (b k : List ℕ) → only_reads (request_of b (look_asks k)) ≡ true
+reads_look b [] = refl
+reads_look b (x ∷ k) = refl
+
+-- of the uploads that were begun since, the one at hand alone is live
+abbrev OwnStep : Creation → Scene → CreateStep → Scene → Type 0
+OwnStep o z (Next x) s = NoneBut (upload_of x) z o.path.bucket s
+OwnStep o z (End a) s = NoneLeft z o.path.bucket s
+
+own_z : (o : Creation) (z : Scene) (y : CreateStep) → OwnStep o z y z
+own_z o z (Next x) = λ id l e ne. e
+own_z o z (End a) = λ id l e. e
+
+module _ (o : Creation) (z : Scene) (ok : IsCreation o) where
+  abbrev B : List ℕ
+  B = o.path.bucket
+
+  -- a step in a bucket that is there, or that is not
+  abbrev OnAt : Option BucketContent → CreateStep → Scene → Type 0
+  OnAt v (Next x) s = HoldsAt v o z x s false
+  OnAt v (End a) s = least o z → InFile v (λ m n. Creates o.path o.bytes o.overwrite o.policy m a n) (a ≡ Err NoSuchBucket) z B s × IsUndone a z s
+
+  -- ---- no bucket
+
+  none_goes : fin.get z.content.buckets B ≡ None → (s : Scene) → s ≡ z → OnAt None (goes o Here (answer s (asks o Here)) false) (apply s (asks o Here)) × ((repeated : Bool) → goes o Here (answer s (asks o Here)) repeated ≡ End (Err NoSuchBucket))
+  none_goes e s h =
+      let objects : objects_at z B ≡ None = ap objects_of e in
+      let a : answer s (asks o Here) ≡ Refused Rattle.s3_types.specs.declared.reply.Refusal.TheVariants.NoSuchBucket = ap (λ s. answer s (asks o Here)) h ∙ answered z B (look_asks o.path.key) ∙ ap (λ v. reply_at v (look_asks o.path.key)) objects in
+      let g : (repeated : Bool) → goes o Here (answer s (asks o Here)) repeated ≡ End (Err NoSuchBucket) = λ repeated. ap (λ r. goes o Here r repeated) a in
+      let t = ap (λ s. apply s (asks o Here)) h ∙ applied_none z B (look_asks o.path.key) objects in
+      (subst (λ y. OnAt None y (apply s (asks o Here))) (sym (g false)) (λ l. ((t, refl), t)), g)
+
+  -- ---- a bucket that held c
+
+  module _ (c : BucketContent) (there : fin.get z.content.buckets B ≡ Some c) where
+    abbrev At : CreateStep → Scene → Type 0
+    At y s = OnAt (Some c) y s
+
+    abbrev Z : Objects
+    Z = c.objects
+
+    here_is : objects_at z B ≡ Some Z
+    here_is = ap objects_of there
+
+    -- nothing changed
+    still : (holds : Objects → Type 0) → holds Z → IsBeside z B c holds z
+    still holds h = record { content = c; next = z.content.next; scene = sym (placed_same z B c there); later = record { drawn = omega arith; uploads = λ id l. refl }; objects = h }
+
+    map_beside : (P Q : Objects → Type 0) (s : Scene) → ((m : Objects) → P m → Q m) → IsBeside z B c P s → IsBeside z B c Q s
+    map_beside P Q s f h = record { content = h.content; next = h.next; scene = h.scene; later = h.later; objects = f h.content.objects h.objects }
+
+    refuses : (r : FsRefusal) → Creates o.path o.bytes o.overwrite o.policy Z (Err r) Z → At (End (Err r)) z
+    refuses r h = λ l. (still (λ n. Creates o.path o.bytes o.overwrite o.policy Z (Err r) n) h, refl)
+
+    -- ---- look-ups
+
+    room_of : (k : List ℕ) → HasRoom (stream_of B (unsent k o.block o.bytes))
+    room_of k = record { some = ok.block; few = no_parts o.block (length o.bytes) ok.room; counted = λ f e. absurd (true≢false f) }
+
+    write_goes : (k : List ℕ) → o.path.key ≡ k → IsDue o Z → At (write_at k o) z
+    write_goes [] e d = absurd (no_root (subst (λ k. (HasFile Z k × (o.overwrite ≡ true)) ⊎ IsAbsent Z k) e d.allowed))
+      where
+        no_root : (HasFile Z [] × (o.overwrite ≡ true)) ⊎ IsAbsent Z [] → ⊥
+        no_root (inl h) = h.0.1
+        no_root (inr h) = h
+    write_goes (x ∷ p) e d = (d, room_of (x ∷ p), sym e, refl, λ l. files.begins z B o.bytes (x ∷ p) o.block c there l (room_of (x ∷ p)))
+
+    on_goes : (d : Climbed) → IsOpen o Z → IsClimbed Z (keys_above o.path.key) d → At (on_climb o d) z
+    on_goes (File k) h p = refuses (NotDirectory k) (h, p, refl)
+    on_goes (Goes_on d) h p = (refl, h, p)
+    on_goes Free h p = write_goes o.path.key refl (record { allowed = h; free = p })
+
+    climb_goes : IsOpen o Z → At (climb o) z
+    climb_goes h = on_goes (climbing (keys_above o.path.key)) h (all_on Z (keys_above o.path.key))
+
+    replace_goes : (w : Bool) → o.overwrite ≡ w → HasFile Z o.path.key → At (replace w o) z
+    replace_goes true e h = climb_goes (inl (h, e))
+    replace_goes false e h = refuses AlreadyExists (h, e, refl)
+
+    here_goes : (x : ℕ) (p : List ℕ) → o.path.key ≡ x ∷ p → (l : Look) → IsSeen l (Stands Z (x ∷ p)) (fin.get Z (x ∷ p) ≡ None) → At (here_at o l) z
+    here_goes x p e There h = replace_goes o.overwrite refl (subst (HasFile Z) (sym e) h)
+    here_goes x p e Nothing h = (refl, subst (NoFileAt Z) (sym e) h)
+    here_goes x p e _ h = absurd h
+
+    root_is : (k : List ℕ) → k ≡ [] → tree.IsDirectory Z k
+    root_is k e = subst (tree.IsDirectory Z) (sym e) (tt, tt)
+
+    look_goes : (k : List ℕ) → o.path.key ≡ k → At (on_here k o (look_of (reply_in Z (look_asks k)))) z
+    look_goes [] e = refuses IsDirectory (root_is o.path.key e, refl)
+    look_goes (x ∷ p) e = here_goes x p e (look_of (head (fin.get Z (x ∷ p)))) (head_tells Z (x ∷ p))
+
+    below_goes : (x : ℕ) (p : List ℕ) → o.path.key ≡ x ∷ p → (l : Look) → fin.get Z (x ∷ p) ≡ None → IsSeen l (SomeBelow Z (marker_of (x ∷ p))) (NoneBelow Z (marker_of (x ∷ p))) → At (on_below o l) z
+    below_goes x p e There f h = refuses IsDirectory (subst (tree.IsDirectory Z) (sym e) (f, h), refl)
+    below_goes x p e Nothing f h = climb_goes (inr (subst (IsAbsent Z) (sym e) (f, h)))
+    below_goes x p e _ f h = absurd h
+
+    page_goes : (k : List ℕ) → o.path.key ≡ k → NoFileAt Z k → At (on_below o (look_of (reply_in Z (below_asks k 1)))) z
+    page_goes [] e h = absurd h
+    page_goes (x ∷ p) e h = below_goes x p e (look_of (page 1 (listed (marker_of (x ∷ p)) false [] Z))) h (page_tells x (marker_of p) Z)
+
+    -- what is read of the bucket in the scene z
+    read_goes : (x : CreateStage) (a : Ask) → asks o x ≡ request_of B a → only_reads (request_of B a) ≡ true → (repeated : Bool) → At (on o x (reply_in Z a) repeated) z → (s : Scene) → s ≡ z → At (goes o x (answer s (asks o x)) repeated) (apply s (asks o x))
+    read_goes x a e reads repeated h s f =
+        let r : answer s (asks o x) ≡ reply_in Z a = ap (λ s. answer s (asks o x)) f ∙ ap (answer z) e ∙ answered z B a ∙ ap (λ v. reply_at v a) here_is in
+        let t : apply s (asks o x) ≡ z = ap (λ s. apply s (asks o x)) f ∙ ap (apply z) e ∙ reads_nothing z (request_of B a) reads in
+        let g : goes o x (answer s (asks o x)) repeated ≡ on o x (reply_in Z a) repeated = ap (λ r. goes o x r repeated) r ∙ not_missing (End (Err NoSuchBucket)) (on o x (reply_in Z a) repeated) Z a in
+        subst (λ s. At (goes o x (answer s_ (asks o x)) repeated) s) (sym t) (subst (λ y. At y z) (sym g) h)
+      where
+        s_ : Scene
+        s_ = s
+
+    -- ---- the markers
+
+    abbrev Ks : List (List ℕ)
+    Ks = created o.policy o.path
+
+    -- the path is no marker's
+    plain : (k : List ℕ) → o.path.key ≡ k → IsOpen o Z → tree.is_marker o.path.key ≡ false
+    plain [] e h = ap tree.is_marker e
+    plain (x ∷ p) e h = ap tree.is_marker e ∙ key_no_marker x p (ap is_key (sym e) ∙ ok.key)
+
+    makes : (m : Objects) → IsDue o Z → m ≡ without (file_in o Z) Ks → Creates o.path o.bytes o.overwrite o.policy Z (Ok tt) m
+    makes m d e =
+        let t = makes_file o.path.key o.bytes Ks Z (plain o.path.key refl d.allowed) (created_above o.policy o.path) in
+        (d.allowed, d.free, subst (Rattle.fs_tree.specs.Changes.MakesFile o.path.key o.bytes Z) (sym e) t, e)
+
+    wrote_goes : (ks : List (List ℕ)) → Ks ≡ ks → IsDue o Z → (s : Scene) → (least o z → Wrote z B o.path.key o.bytes c s) → At (drop_from ks) s
+    wrote_goes [] e d s f = λ l. (map_beside (λ m. m ≡ file_in o Z) (λ m. Creates o.path o.bytes o.overwrite o.policy Z (Ok tt) m) s (λ m g. makes m d (g ∙ ap (without (file_in o Z)) (sym e))) (f l), tt)
+    wrote_goes (k ∷ ks) e d s f = (d, λ l. map_beside (λ m. m ≡ file_in o Z) (IsMade o Z) s (λ m g. inl g) (f l))
+
+    -- ---- the bytes
+
+    module _ (w : Writing) (s : Scene) (repeated : Bool) (d : IsDue o Z) (room : HasRoom (stream_of B w)) (key : w.key ≡ o.path.key) (block : w.block ≡ o.block) (writes : least o z → Writes z B o.bytes c w s repeated) where
+      abbrev r : Request
+      r = writing.asks B w
+
+      heard_goes : (h : Heard) → RoomLeft B w h → (least o z → HeardSo z B w.key o.bytes c h (apply s r)) → At (written o h) (apply s r)
+      heard_goes Done k f = wrote_goes Ks refl d (apply s r) (λ l. subst (λ k. Wrote z B k o.bytes c (apply s r)) key (f l))
+      heard_goes (On v) k f = (d, k.0, k.1 ∙ key, k.2 ∙ block, f)
+      heard_goes Refusing k f = λ l. absurd (f l)
+
+      stream_goes : At (goes o (Write w) (answer s r) repeated) (apply s r)
+      stream_goes =
+          unless_so (look_of (answer s r)) (End (Err NoSuchBucket)) (written o (heard w (answer s r) repeated)) (λ y. At y (apply s r))
+          (λ e l. absurd (files.no_missing z B o.bytes c w s repeated (writes l) e))
+          (heard_goes (heard w (answer s r) repeated) (room_stays B w (answer s r) repeated room) (λ l. files.goes_on z B o.bytes c w s repeated (writes l)))
+
+    -- ---- the markers' deletion
+
+    abbrev drops : Request
+    drops = DeleteObjects B Ks
+
+    gone_twice : (m : Objects) → without (without m Ks) Ks ≡ without m Ks
+    gone_twice m = all_gone (without m Ks) Ks (are_gone m Ks)
+
+    made_gone : (m : Objects) → IsMade o Z m → without m Ks ≡ without (file_in o Z) Ks
+    made_gone m (inl e) = ap (λ m. without m Ks) e
+    made_gone m (inr e) = ap (λ m. without m Ks) e ∙ gone_twice (file_in o Z)
+
+    few : nat_lt 1000 (length Ks) ≡ false
+    few = few_created o.policy o.path ok.key
+
+    dropped : (s : Scene) → IsBeside z B c (IsMade o Z) s → IsBeside z B c (λ m. m ≡ without (file_in o Z) Ks) (apply s drops)
+    dropped s h = record {
+      content = apply_in h.content h.next z.content.minimum drops;
+      next = h.next;
+      scene = ap (λ s. apply s drops) h.scene ∙ placed_by z B h.content h.next drops refl;
+      later = record { drawn = h.later.drawn; uploads = h.later.uploads };
+      objects = ap (λ b. cond b h.content.objects (without h.content.objects Ks)) few ∙ made_gone h.content.objects h.objects;
+    }
+
+    drop_look : (s : Scene) → IsBeside z B c (IsMade o Z) s → look_of (answer s drops) ≡ NoBucket → ⊥
+    drop_look s h e = no_other (sym a ∙ e)
+      where
+        no_other : Other ≡ NoBucket → ⊥
+        no_other e = cc
+
+        a : look_of (answer s drops) ≡ Other
+        a = ap (λ s. look_of (answer s drops)) h.scene
+            ∙ ap (λ v. look_of (answer_at v h.next z.content.minimum drops)) (get_put z.content.buckets B h.content)
+            ∙ ap (λ b. look_of (cond b (Refused TooManyKeys) Deleted)) few
+
+    drop_goes : (s : Scene) (repeated : Bool) → IsDue o Z → (least o z → IsBeside z B c (IsMade o Z) s) → At (goes o DropMarkers (answer s drops) repeated) (apply s drops)
+    drop_goes s repeated d f =
+        unless_so (look_of (answer s drops)) (End (Err NoSuchBucket)) (End (Ok tt)) (λ y. At y (apply s drops))
+        (λ e l. absurd (drop_look s (f l) e))
+        (λ l. (map_beside (λ m. m ≡ without (file_in o Z) Ks) (λ m. Creates o.path o.bytes o.overwrite o.policy Z (Ok tt) m) (apply s drops) (λ m e. makes m d e) (dropped s (f l)), tt))
+
+    -- ---- each stage
+
+    steps : (x : CreateStage) (s : Scene) (repeated : Bool) → HoldsIn o z c x s repeated → At (goes o x (answer s (asks o x)) repeated) (apply s (asks o x))
+    steps Here s repeated h = read_goes Here (look_asks o.path.key) refl (reads_look B o.path.key) repeated (look_goes o.path.key refl) s h
+    steps Below s repeated h = read_goes Below (below_asks o.path.key 1) refl refl repeated (page_goes o.path.key refl h.1) s h.0
+    steps (Up d) s repeated h =
+        read_goes (Up d) (Head d.first) refl refl repeated
+        (on_goes (climbed d (look_of (head (fin.get Z d.first)))) h.1 (seen_on Z (keys_above o.path.key) d (look_of (head (fin.get Z d.first))) h.2 (head_tells Z d.first))) s h.0
+    steps (Write w) s repeated h = stream_goes w s repeated h.0 h.1 h.2 h.3 h.4
+    steps DropMarkers s repeated h = drop_goes s repeated h.0 h.1
+
+    -- a look leaves the scene
+    same_look : (a : Ask) → only_reads (request_of B a) ≡ true → (s : Scene) → s ≡ z → apply s (request_of B a) ≡ z
+    same_look a reads s e = reads_nothing s (request_of B a) reads ∙ e
+
+    hides : (x : CreateStage) (s : Scene) (repeated : Bool) → HoldsIn o z c x s repeated → HoldsIn o z c x (apply s (asks o x)) true
+    hides Here s repeated h = same_look (look_asks o.path.key) (reads_look B o.path.key) s h
+    hides Below s repeated h = (same_look (below_asks o.path.key 1) refl s h.0, h.1)
+    hides (Up d) s repeated h = (same_look (Head d.first) refl s h.0, h.1, h.2)
+    hides (Write w) s repeated h = (h.0, h.1, h.2, h.3, λ l. files.hidden z B o.bytes c w s repeated (h.4 l))
+    hides DropMarkers s repeated h = (h.0, λ l. map_beside (λ m. m ≡ without (file_in o Z) Ks) (IsMade o Z) (apply s drops) (λ m e. inr e) (dropped s (h.1 l)))
+
+    loses : (x : CreateStage) (s : Scene) (repeated : Bool) → HoldsIn o z c x s repeated → HoldsIn o z c x s true
+    loses (Write w) s repeated h = (h.0, h.1, h.2, h.3, λ l. files.lost z B o.bytes c w s repeated (h.4 l))
+    loses _ s repeated h = h
+
+    still_at : (s : Scene) → s ≡ z → IsBeside z B c (always_in o Z) s
+    still_at s e = subst (IsBeside z B c (always_in o Z)) (sym e) (still (always_in o Z) (inl refl))
+
+    written_so : (w : Writing) (m : Objects) → IsDue o Z → w.key ≡ o.path.key → IsFileOrNot Z w.key o.bytes m → always_in o Z m
+    written_so w m d e (inl f) = inl f
+    written_so w m d e (inr f) = inr (d, inl (f ∙ ap (λ k. fin.insert Z k (object_of o.bytes)) e))
+
+    moments : (x : CreateStage) (s : Scene) (repeated : Bool) → HoldsIn o z c x s repeated → least o z → IsBeside z B c (always_in o Z) s
+    moments Here s repeated h l = still_at s h
+    moments (Write w) s repeated h l = map_beside (IsFileOrNot Z w.key o.bytes) (always_in o Z) s (λ m e. written_so w m h.0 h.2 e) (h.4 l).beside
+    moments DropMarkers s repeated h l = map_beside (IsMade o Z) (always_in o Z) s (λ m e. inr (h.0, e)) (h.1 l)
+    moments _ s repeated h l = still_at s h.0
+
+    -- ---- where each sending was answered
+
+    here_own : (y : CreateStep) (s : Scene) → s ≡ z → OwnStep o z y s
+    here_own y s e = subst (OwnStep o z y) (sym e) (own_z o z y)
+
+    none_left : (ks : List (List ℕ)) (s : Scene) → NoneLeft z B s → OwnStep o z (drop_from ks) s
+    none_left [] s g = g
+    none_left (k ∷ ks) s g = λ id l e ne. g id l e
+
+    written_own : (w : Writing) (v : Heard) (s : Scene) → HeardSo z B w.key o.bytes c v s → OwnHeard z B v s → OwnStep o z (written o v) s
+    written_own w Done s h g = none_left Ks s g
+    written_own w (On v) s h g = g
+    written_own w Refusing s h g = absurd h
+
+    stream_own : (w : Writing) (s : Scene) → Writes z B o.bytes c w s false → NoneBut w.upload z B s → OwnStep o z (goes o (Write w) (answer s (writing.asks B w)) false) (apply s (writing.asks B w))
+    stream_own w s h g =
+        let a = answer s (writing.asks B w) in
+        unless_so (look_of a) (End (Err NoSuchBucket)) (written o (heard w a false)) (λ y. OwnStep o z y (apply s (writing.asks B w)))
+        (λ e. absurd (files.no_missing z B o.bytes c w s false h e))
+        (written_own w (heard w a false) (apply s (writing.asks B w)) (files.goes_on z B o.bytes c w s false h) (files.own_goes z B o.bytes c w s h g))
+
+    drop_own : (s : Scene) → IsBeside z B c (IsMade o Z) s → NoneBut None z B s → OwnStep o z (goes o DropMarkers (answer s drops) false) (apply s drops)
+    unfolding dropped
+    drop_own s h g =
+        unless_so (look_of (answer s drops)) (End (Err NoSuchBucket)) (End (Ok tt)) (λ y. OwnStep o z y (apply s drops))
+        (λ e. absurd (drop_look s h e))
+        (λ id l e. upload_there (apply s drops) (dropped s h).content (dropped s h).next id (dropped s h).scene ∙ sym (upload_there s h.content h.next id h.scene) ∙ g id l e (λ f. absurd (cc)))
+      where
+        upload_there : (s : Scene) (d : BucketContent) (n id : ℕ) → s ≡ placed z B d n → upload_at s.content B id ≡ fin.get d.uploads id
+        upload_there s d n id e = ap (λ (s : Scene). upload_at s.content B id) e ∙ ap (λ v. upload_in v id) (get_put z.content.buckets B d)
+
+    owns : (x : CreateStage) (s : Scene) → HoldsIn o z c x s false → least o z → NoneBut (upload_of x) z B s → OwnStep o z (goes o x (answer s (asks o x)) false) (apply s (asks o x))
+    owns Here s h l g = here_own (goes o Here (answer s (asks o Here)) false) (apply s (asks o Here)) (same_look (look_asks o.path.key) (reads_look B o.path.key) s h)
+    owns Below s h l g = here_own (goes o Below (answer s (asks o Below)) false) (apply s (asks o Below)) (same_look (below_asks o.path.key 1) refl s h.0)
+    owns (Up d) s h l g = here_own (goes o (Up d) (answer s (asks o (Up d))) false) (apply s (asks o (Up d))) (same_look (Head d.first) refl s h.0)
+    owns (Write w) s h l g = stream_own w s (h.4 l) g
+    owns DropMarkers s h l g = drop_own s (h.1 l) g
+
+    -- ---- what is sent
+
+    asked : (x : CreateStage) (s : Scene) (repeated : Bool) → HoldsIn o z c x s repeated → (only_reads (asks o x) ≡ true) ⊎ IsDue o Z
+    asked Here s repeated h = inl (reads_look B o.path.key)
+    asked (Write w) s repeated h = inr h.0
+    asked DropMarkers s repeated h = inr h.0
+    asked _ s repeated h = inl refl
+
+  -- ---- whether there is the bucket or not
+
+  abbrev Steps : Option BucketContent → CreateStage → Scene → Bool → Type 0
+  Steps v x s repeated = OnAt v (goes o x (answer s (asks o x)) repeated) (apply s (asks o x))
+
+  none_steps : fin.get z.content.buckets B ≡ None → (x : CreateStage) (s : Scene) (repeated : Bool) → s ≡ z → x ≡ Here → Steps None x s repeated
+  none_steps e x s repeated h f =
+      subst (λ x. Steps None x s repeated) (sym f)
+      (let k = none_goes e s h in subst (λ y. OnAt None y (apply s (asks o Here))) (k.1 false ∙ sym (k.1 repeated)) k.0)
+
+  all_steps : (v : Option BucketContent) → fin.get z.content.buckets B ≡ v → (x : CreateStage) (s : Scene) (repeated : Bool) → HoldsAt v o z x s repeated → Steps v x s repeated
+  all_steps None e x s repeated h = none_steps e x s repeated h.0 h.1
+  all_steps (Some c) e x s repeated h = steps c e x s repeated h
+
+  none_hides : fin.get z.content.buckets B ≡ None → (s : Scene) → s ≡ z → apply s (asks o Here) ≡ z
+  none_hides e s h = ap (λ s. apply s (asks o Here)) h ∙ applied_none z B (look_asks o.path.key) (ap objects_of e)
+
+  all_hide : (v : Option BucketContent) → fin.get z.content.buckets B ≡ v → (x : CreateStage) (s : Scene) (repeated : Bool) → HoldsAt v o z x s repeated → HoldsAt v o z x (apply s (asks o x)) true
+  all_hide None e x s repeated h = (ap (λ x. apply s (asks o x)) h.1 ∙ none_hides e s h.0, h.1)
+  all_hide (Some c) e x s repeated h = hides c e x s repeated h
+
+  all_lose : (v : Option BucketContent) → fin.get z.content.buckets B ≡ v → (x : CreateStage) (s : Scene) (repeated : Bool) → HoldsAt v o z x s repeated → HoldsAt v o z x s true
+  all_lose None e x s repeated h = h
+  all_lose (Some c) e x s repeated h = loses c e x s repeated h
+
+  all_moments : (v : Option BucketContent) → fin.get z.content.buckets B ≡ v → (x : CreateStage) (s : Scene) (repeated : Bool) → HoldsAt v o z x s repeated → least o z → InFile v (always_in o) (Unit {0}) z B s
+  all_moments None e x s repeated h l = (h.0, tt)
+  all_moments (Some c) e x s repeated h l = moments c e x s repeated h l
+
+  all_own : (v : Option BucketContent) → fin.get z.content.buckets B ≡ v → (x : CreateStage) (s : Scene) → HoldsAt v o z x s false → least o z → NoneBut (upload_of x) z B s → OwnStep o z (goes o x (answer s (asks o x)) false) (apply s (asks o x))
+  all_own None e x s h l g =
+      subst (λ x. OwnStep o z (goes o x (answer s (asks o x)) false) (apply s (asks o x))) (sym h.1)
+      (subst (OwnStep o z (goes o Here (answer s (asks o Here)) false)) (sym (none_hides e s h.0)) (own_z o z (goes o Here (answer s (asks o Here)) false)))
+  all_own (Some c) e x s h l g = owns c e x s h l g
+
+  all_asked : (v : Option BucketContent) → fin.get z.content.buckets B ≡ v → (x : CreateStage) (s : Scene) (repeated : Bool) → HoldsAt v o z x s repeated → (only_reads (asks o x) ≡ true) ⊎ SomeDue o v
+  all_asked None e x s repeated h = subst (λ x. (only_reads (asks o x) ≡ true) ⊎ SomeDue o None) (sym h.1) (inl (reads_look B o.path.key))
+  all_asked (Some c) e x s repeated h = asked c e x s repeated h
+
+  began : (v : Option BucketContent) → HoldsAt v o z Here z false
+  began None = (refl, refl)
+  began (Some c) = refl
+
+  goes_so : (y : CreateStep) (s : Scene) → OnAt (bucket_at z B) y s → (n : CreateFile) → n.file ≡ o → Goes (λ p s. holds n z p s false) (gives n z) (stepped o y) s
+  goes_so (Next x) s h n e = (sym e, subst IsCreation (sym e) ok, subst (λ o. HoldsAt (bucket_at z o.path.bucket) o z x s false) (sym e) h)
+  goes_so (End a) s h n e = subst (λ o. GivesFile o z a s) (sym e) h
+
+answered_in : (o : Creation) (z : Objects) (a : Answer) (m : Objects) → Creates o.path o.bytes o.overwrite o.policy z a m → always_in o z m
+answered_in o z (Ok x) m h = inr (record { allowed = h.0; free = h.1 }, inr h.3)
+answered_in o z (Err AlreadyExists) m h = inl h.2
+answered_in o z (Err IsDirectory) m h = inl h.1
+answered_in o z (Err (NotDirectory a)) m h = inl h.2
+answered_in o z (Err r) m h = absurd h
+
+-- what is given at the end was so before
+ends_always : (o : Creation) (z : Scene) (a : Answer) (s : Scene) → GivesFile o z a s → AlwaysFile o z s
+ends_always o z a s h l = by (bucket_at z o.path.bucket) refl (h l).0
+  where
+    by : (v : Option BucketContent) → bucket_at z o.path.bucket ≡ v → InFile v (λ m n. Creates o.path o.bytes o.overwrite o.policy m a n) (a ≡ Err NoSuchBucket) z o.path.bucket s → InFile v (always_in o) (Unit {0}) z o.path.bucket s
+    by None e g = (g.0, tt)
+    by (Some c) e g = record { content = g.content; next = g.next; scene = g.scene; later = g.later; objects = answered_in o c.objects a g.content.objects g.objects }
+
+-- ---- what is left falls
+
+abbrev FallsTo : Creation → CreateStep → ℕ → Type 0
+FallsTo o (Next x) n = left_at o x < n
+FallsTo o (End a) n = Unit {0}
+
+fall_write : (k : List ℕ) (o : Creation) (n : ℕ) → write_left o ≤ n → FallsTo o (write_at k o) n
+fall_write [] o n h = tt
+fall_write (x ∷ p) o n h = omega (arith, h)
+
+fall_climb : (o : Creation) (c : Climbed) (m n : ℕ) → IsShorter c m → m + write_left o ≤ n → FallsTo o (on_climb o c) n
+fall_climb o (File k) m n s h = tt
+fall_climb o (Goes_on c) m n s h = omega (arith, s, h)
+fall_climb o Free m n s h = fall_write o.path.key o n (omega (arith, h))
+
+fall_all : (o : Creation) (n : ℕ) → length (keys_above o.path.key) + write_left o ≤ n → FallsTo o (climb o) n
+fall_all o n h = fall_climb o (climbing (keys_above o.path.key)) (length (keys_above o.path.key)) n (climbing_falls (keys_above o.path.key)) h
+
+fall_replace : (w : Bool) (o : Creation) (n : ℕ) → length (keys_above o.path.key) + write_left o ≤ n → FallsTo o (replace w o) n
+fall_replace true o n h = fall_all o n h
+fall_replace false o n h = tt
+
+fall_here : (o : Creation) (l : Look) → FallsTo o (here_at o l) (left_at o Here)
+fall_here o There = fall_replace o.overwrite o (left_at o Here) (omega arith)
+fall_here o _ = omega arith
+
+fall_look : (k : List ℕ) (o : Creation) (l : Look) → FallsTo o (on_here k o l) (left_at o Here)
+fall_look [] o l = tt
+fall_look (x ∷ p) o l = fall_here o l
+
+fall_below : (o : Creation) (l : Look) → FallsTo o (on_below o l) (left_at o Below)
+fall_below o There = tt
+fall_below o _ = fall_all o (left_at o Below) (omega arith)
+
+fall_drop : (ks : List (List ℕ)) (o : Creation) (n : ℕ) → 0 < n → FallsTo o (drop_from ks) n
+fall_drop [] o n h = tt
+fall_drop (k ∷ ks) o n h = h
+
+fall_heard : (o : Creation) (w : Writing) (h : Heard) → LessLeft h (hearing.left w) → FallsTo o (written o h) (left_at o (Write w))
+fall_heard o w Done h = fall_drop (created o.policy o.path) o (left_at o (Write w)) (omega arith)
+fall_heard o w (On v) h = omega (arith, h)
+fall_heard o w Refusing h = tt
+
+-- a stage's writing is of no empty blocks
+abbrev HasBlock : CreateStage → Type 0
+HasBlock (Write w) = 1 ≤ w.block
+HasBlock _ = Unit {0}
+
+falls_on : (o : Creation) (x : CreateStage) (r : Reply) (repeated : Bool) → HasBlock x → FallsTo o (on o x r repeated) (left_at o x)
+falls_on o Here r repeated h = fall_look o.path.key o (look_of r)
+falls_on o Below r repeated h = fall_below o (look_of r)
+falls_on o (Up c) r repeated h = fall_climb o (climbed c (look_of r)) (length c.rest) (left_at o (Up c)) (climbed_falls c (look_of r)) (omega arith)
+falls_on o (Write w) r repeated h = fall_heard o w (heard w r repeated) (files.falls w r repeated h)
+falls_on o DropMarkers r repeated h = tt
+
+falls_to : (o : Creation) (x : CreateStage) (r : Reply) (repeated : Bool) → HasBlock x → FallsTo o (goes o x r repeated) (left_at o x)
+falls_to o x r repeated h = unless_so (look_of r) (End (Err NoSuchBucket)) (on o x r repeated) (λ y. FallsTo o y (left_at o x)) (λ e. tt) (falls_on o x r repeated h)
+
+stepped_falls : (o : Creation) (y : CreateStep) (s : Scene) (n : ℕ) → FallsTo o y n → Falls left (stepped o y) s n
+stepped_falls o (Next x) s n h = h
+stepped_falls o (End a) s n h = tt
+
+has_block : (v : Option BucketContent) (o : Creation) (z : Scene) (x : CreateStage) (s : Scene) (repeated : Bool) → HoldsAt v o z x s repeated → HasBlock x
+has_block None o z x s repeated h = subst HasBlock (sym h.1) tt
+has_block (Some c) o z Here s repeated h = tt
+has_block (Some c) o z Below s repeated h = tt
+has_block (Some c) o z (Up d) s repeated h = tt
+has_block (Some c) o z (Write w) s repeated h = h.1.some
+has_block (Some c) o z DropMarkers s repeated h = tt
+
+-- ---- the laws
+
+abbrev Next_so : CreateFile → Scene → CreateFile → Scene → Bool → Type 0
+Next_so o z p s repeated = Goes (λ p s. holds o z p s false) (gives o z) (led p (answer s (request p)) repeated) (apply s (request p))
+
+course_goes : (o : CreateFile) (z : Scene) (p : CreateFile) (s : Scene) (repeated : Bool) → holds o z p s repeated → Next_so o z p s repeated
+course_goes o z p s repeated h =
+    subst (λ n. Goes (λ p s. holds o z p s false) (gives o z) (stepped n (goes n p.stage (answer s (asks n p.stage)) repeated)) (apply s (asks n p.stage))) (sym h.0)
+    (goes_so o.file z h.1 (goes o.file p.stage (answer s (asks o.file p.stage)) repeated) (apply s (asks o.file p.stage))
+    (all_steps o.file z h.1 (bucket_at z o.file.path.bucket) refl p.stage s repeated h.2) o refl)
+
+course_hidden : (o : CreateFile) (z : Scene) (p : CreateFile) (s : Scene) (repeated : Bool) → holds o z p s repeated → holds o z p (apply s (request p)) true
+course_hidden o z p s repeated h =
+    (h.0, h.1, subst (λ n. HoldsAt (bucket_at z o.file.path.bucket) o.file z p.stage (apply s (asks n p.stage)) true) (sym h.0) (all_hide o.file z h.1 (bucket_at z o.file.path.bucket) refl p.stage s repeated h.2))
+
+course_falls : (o : CreateFile) (z : Scene) (p : CreateFile) (s : Scene) (repeated : Bool) → holds o z p s repeated → Falls left (led p (answer s (request p)) repeated) (apply s (request p)) (left p s)
+course_falls o z p s repeated h =
+    stepped_falls p.file (goes p.file p.stage (answer s (request p)) repeated) (apply s (request p)) (left p s)
+    (falls_to p.file p.stage (answer s (request p)) repeated (has_block (bucket_at z o.file.path.bucket) o.file z p.stage s repeated h.2))
+
+begins_so : (p : CreateFile) (s : Scene) → starts p → holds p s p s false
+begins_so p s h = (refl, h.0, subst (λ x. HoldsAt (bucket_at s p.file.path.bucket) p.file s x s false) (sym h.1) (began p.file s h.0 (bucket_at s p.file.path.bucket)))
+
+pub create_laws : IsCourse starts request led holds gives always left
+create_laws = record {
+  begin = λ p s h. begins_so p s h;
+  lost = λ o z p s repeated h. (h.0, h.1, all_lose o.file z h.1 (bucket_at z o.file.path.bucket) refl p.stage s repeated h.2);
+  hidden = λ o z p s repeated h. course_hidden o z p s repeated h;
+  goes_on = λ o z p s repeated h. course_goes o z p s repeated h;
+  falls = λ o z p s repeated h. course_falls o z p s repeated h;
+  no_rise = λ o z p s repeated h. omega arith;
+  during = λ o z p s repeated h l. all_moments o.file z h.1 (bucket_at z o.file.path.bucket) refl p.stage s repeated h.2 l;
+  at_end = λ o z a s h. ends_always o.file z a s h;
+}
+
+-- ---- where each sending was answered
+
+abbrev NextOwn : CreateFile → Scene → Step CreateFile Answer → Scene → Type 0
+NextOwn o z (Next p) s = least o.file z → NoneBut (upload_of p.stage) z o.file.path.bucket s
+NextOwn o z (End a) s = least o.file z → NoneLeft z o.file.path.bucket s
+
+both_so : (o : CreateFile) (z : Scene) (y : Step CreateFile Answer) (s : Scene) → Goes (λ p s. holds o z p s false) (gives o z) y s → NextOwn o z y s → Goes (calm o z) (leaves o z) y s
+both_so o z (Next p) s h g = (h, g)
+both_so o z (End a) s h g = (h, g)
+
+own_so : (o : CreateFile) (z : Scene) (f : Creation) (y : CreateStep) (s : Scene) → (least o.file z → OwnStep o.file z y s) → NextOwn o z (stepped f y) s
+own_so o z f (Next x) s g = g
+own_so o z f (End a) s g = g
+
+calm_goes : (o : CreateFile) (z : Scene) (p : CreateFile) (s : Scene) → calm o z p s → Goes (calm o z) (leaves o z) (led p (answer s (request p)) false) (apply s (request p))
+calm_goes o z p s h =
+    both_so o z (led p (answer s (request p)) false) (apply s (request p)) (course_goes o z p s false h.0)
+    (subst (λ n. NextOwn o z (stepped n (goes n p.stage (answer s (asks n p.stage)) false)) (apply s (asks n p.stage))) (sym h.0.0)
+    (own_so o z o.file (goes o.file p.stage (answer s (asks o.file p.stage)) false) (apply s (asks o.file p.stage))
+    (λ l. all_own o.file z h.0.1 (bucket_at z o.file.path.bucket) refl p.stage s h.0.2 l (h.1 l))))
+
+pub create_calm : IsCalm starts request led calm leaves
+create_calm = record {
+  begin = λ p s h. (begins_so p s h, λ l id le e ne. e);
+  goes_on = λ o z p s h. calm_goes o z p s h;
+}
+
+pub create_asked : MaySend request holds sends
+create_asked o z p s repeated h =
+    subst (λ n. (only_reads (asks n p.stage) ≡ true) ⊎ SomeDue o.file (bucket_at z o.file.path.bucket)) (sym h.0) (all_asked o.file z h.1 (bucket_at z o.file.path.bucket) refl p.stage s repeated h.2)

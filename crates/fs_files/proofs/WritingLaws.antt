@@ -1,0 +1,573 @@
+-- A file that is written is a closed stream: its bytes are held, whatever the store loses, and nothing else changes. Contracts cite none of these laws.
+use Rattle.std.specs.Prelude.{◌≡◌, ◌⊎◌, ℕ, ◌+◌, ◌-◌, ◌<◌, ◌≤◌, ◌||◌, not, nat_lt, nat_le, Bool, true, false, cond, List, [], ◌∷◌, ◌++◌, take, drop, length, Option, Some, None, Result, Ok, Err}
+use Rattle.std.proofs.Common.{refl, sym, ap, subst, ◌∙◌, inl, inr, arith, length-drop}
+use Rattle.std.proofs.lemmas.Bool.Decides.{nat_tests}
+use Rattle.std.proofs.lemmas.List.{take_all}
+use Rattle.std.proofs.lemmas.Map.Lookups.{exact_bytes}
+use Rattle.std.specs.Option.{unwrap_or}
+use Rattle.std.specs.FinMap as fin
+use Rattle.proof_base.specs.Order.{text_total}
+use Rattle.proof_base.proofs.Tree.{insert_same}
+use Rattle.s3_types.specs.Store.{Objects, Uploads, Upload, BucketContent, Buckets, Scene}
+use Rattle.s3_types.specs.Answer.{answer, apply, answer_at, apply_at, apply_in, bucket_of, draws, part_put, complete_answer, completed}
+use Rattle.s3_types.specs.Multipart.{live, is_part_number, with_part, joined}
+use Rattle.s3_types.specs.Tags.{Spelled}
+use Rattle.s3_types.specs.Blocks.{named_from}
+use Rattle.s3_types.specs.declared.request.Request.{Request}
+use Rattle.s3_types.specs.declared.request.Request.TheVariants.{PutObject, CreateUpload, UploadPart, CompleteUpload}
+use Rattle.s3_types.specs.declared.reply.Reply.{Reply}
+use Rattle.s3_types.specs.declared.reply.Reply.TheVariants.{Stored, Upload as Drawn, Part, Completed, Refused}
+use Rattle.s3_types.specs.declared.reply.Refusal.{Refusal}
+use Rattle.s3_types.specs.declared.reply.Refusal.TheVariants.{NoSuchUpload}
+use Rattle.request_frame.specs.Held.{upload_in, upload_at}
+use Rattle.request_frame.proofs.Members.{some_is, same_or_not, nat_other, nat_left, nat_gone}
+use Rattle.bucket_ops.specs.declared.look.Look.TheVariants.{NoBucket}
+use Rattle.bucket_ops.specs.Looks.{look_of}
+use Rattle.bucket_ops.proofs.AskLaws.{get_put, put_put}
+use Rattle.block_stream.specs.declared.stage.Stage.{Stage}
+use Rattle.block_stream.specs.declared.stage.Stage.TheVariants.{Waiting, Putting, Beginning, Sending, Completing, Over}
+use Rattle.block_stream.specs.declared.mode.StreamEnd.TheVariants.{Done as Ended}
+use Rattle.block_stream.specs.Stream as streams
+use Rattle.block_stream.specs.Stream.{Stream, has_some, has_part, begin_or_wait, stage, stage_of, wanted, told, answers, ended, one_if, is_begun}
+use Rattle.block_stream.specs.Holds.{HasRoom, Holds}
+use Rattle.block_stream.proofs.FillingLaws.{due, room_after, room_begun, held_at}
+use Rattle.block_stream.proofs.KeepingLaws as keeping
+use Rattle.fs_files.specs.Placed.{placed, IsLater, IsBeside, IsFileOrNot, NoneBut, NoneLeft, object_of}
+use Rattle.fs_files.specs.declared.writing.Heard.{Heard}
+use Rattle.fs_files.specs.declared.writing.Heard.TheVariants.{Done, On, Refusing}
+use Rattle.fs_files.specs.code.Writing.{Writing, unsent, stream_of, first_stage, later_stage, is_short, is_due, stage_by, stage_in, id_in, asks_at, asks}
+use Rattle.fs_files.specs.code.Create.{Writes}
+use Rattle.fs_files.specs.code.Hearing.{begun, parted, refused, heard_at, heard, left}
+
+-- ---- the stages are the stream's
+
+not_less : (a b : ℕ) → nat_lt a b ≡ false → nat_le b a ≡ true
+not_less a b h = grind (arith, nat_tests)
+
+is_less : (a b : ℕ) → nat_lt a b ≡ true → a ≤ b
+is_less a b h = grind (arith, nat_tests)
+
+at_most : (a b : ℕ) → nat_le a b ≡ true → a ≤ b
+at_most a b h = grind (arith, nat_tests)
+
+has_long : {X : Type 0} (xs : List X) → 0 < length xs → has_some xs ≡ true
+has_long [] h = absurd (omega (arith, h))
+has_long (x ∷ xs) h = refl
+
+module _ (b : List ℕ) (w : Writing) (some : 1 ≤ w.block) where
+  abbrev M : Stream
+  M = stream_of b w
+
+  pub part_due : has_part M ≡ is_due w
+  part_due = by (nat_le w.block (length w.pending)) refl
+    where
+      by : (c : Bool) → nat_le w.block (length w.pending) ≡ c → (c || is_due w) ≡ is_due w
+      by true e =
+          let long : 0 < length w.pending = let l = at_most w.block (length w.pending) e in omega (arith, l, some) in
+          sym (ap (λ h. h || not (has_some w.tags)) (has_long w.pending long))
+      by false e = refl
+
+  begin_stage : cond (is_short w) Putting (begin_or_wait (has_part M)) ≡ first_stage (is_short w)
+  begin_stage = by (is_short w) refl
+    where
+      by : (c : Bool) → is_short w ≡ c → cond c Putting (begin_or_wait (has_part M)) ≡ first_stage c
+      by true e = refl
+      by false e = ap (λ c. begin_or_wait (c || is_due w)) (not_less (length w.pending) w.block e)
+
+  pub stage_is : stage M ≡ stage_in w
+  stage_is = by w.upload
+    where
+      end_stage : (c : Bool) → cond c Sending Completing ≡ later_stage c
+      end_stage true = refl
+      end_stage false = refl
+
+      by : (u : Option ℕ) → stage_of None u M ≡ stage_by u w
+      by None = begin_stage
+      by (Some id) = ap (λ c. cond c Sending Completing) part_due ∙ end_stage (is_due w)
+
+  asked_first : (c : Bool) → is_short w ≡ c → streams.asks (first_stage c) M ≡ Some (asks_at (first_stage c) b w)
+  asked_first true e = ap (λ x. Some (PutObject b w.key x None)) (take_all w.block w.pending (is_less (length w.pending) w.block e))
+  asked_first false e = refl
+
+  asked_later : (c : Bool) → streams.asks (later_stage c) M ≡ Some (asks_at (later_stage c) b w)
+  asked_later true = refl
+  asked_later false = refl
+
+  asked : (u : Option ℕ) → streams.asks (stage_by u w) M ≡ Some (asks_at (stage_by u w) b w)
+  asked None = asked_first (is_short w) refl
+  asked (Some id) = asked_later (is_due w)
+
+  -- it asks what the stream asks
+  pub wanted_is : wanted M ≡ Some (asks b w)
+  wanted_is = ap (λ g. streams.asks g M) stage_is ∙ asked w.upload
+
+-- ---- one bucket's requests
+
+pub placed_same : (z : Scene) (b : List ℕ) (c : BucketContent) → fin.get z.content.buckets b ≡ Some c → placed z b c z.content.next ≡ z
+placed_same z b c h = ap (λ (m : Buckets). record { content = record { buckets = m; next = z.content.next; minimum = z.content.minimum }; files = z.files }) (insert_same text_total exact_bytes z.content.buckets b c h)
+
+pub placed_by : (z : Scene) (b : List ℕ) (d : BucketContent) (n : ℕ) (r : Request) → bucket_of r ≡ b
+    → record { content = apply_at (fin.get (placed z b d n).content.buckets (bucket_of r)) (placed z b d n).content r; files = z.files } ≡ placed z b (apply_in d n z.content.minimum r) (cond (draws r) (n + 1) n)
+placed_by z b d n r h =
+    ap (λ k. record { content = apply_at (fin.get (placed z b d n).content.buckets k) (placed z b d n).content r; files = z.files }) h
+    ∙ ap (λ o. record { content = apply_at o (placed z b d n).content r; files = z.files }) (get_put z.content.buckets b d)
+    ∙ ap (λ k. record { content = record { buckets = fin.insert (fin.insert z.content.buckets b d) k (apply_in d n z.content.minimum r); next = cond (draws r) (n + 1) n; minimum = z.content.minimum }; files = z.files }) h
+    ∙ ap (λ (m : Buckets). record { content = record { buckets = m; next = cond (draws r) (n + 1) n; minimum = z.content.minimum }; files = z.files }) (put_put z.content.buckets b d (apply_in d n z.content.minimum r))
+
+applied_at : (g : Stage) (w : Writing) (z : Scene) (b : List ℕ) (d : BucketContent) (n : ℕ)
+    → apply (placed z b d n) (asks_at g b w) ≡ placed z b (apply_in d n z.content.minimum (asks_at g b w)) (cond (draws (asks_at g b w)) (n + 1) n)
+applied_at Putting w z b d n = placed_by z b d n (PutObject b w.key w.pending None) refl
+applied_at Beginning w z b d n = placed_by z b d n (CreateUpload b w.key) refl
+applied_at Sending w z b d n = placed_by z b d n (UploadPart b w.key (id_in w) (length w.tags + 1) (take w.block w.pending)) refl
+applied_at _ w z b d n = placed_by z b d n (CompleteUpload b w.key (id_in w) (named_from 1 w.tags)) refl
+
+pub placed_there : (z : Scene) (b : List ℕ) (d c : BucketContent) (n : ℕ) (s : Scene) → s ≡ placed z b d n → fin.get s.content.buckets b ≡ Some c → c ≡ d
+placed_there z b d c n s e h = some_is (sym h ∙ ap (λ (s : Scene). fin.get s.content.buckets b) e ∙ get_put z.content.buckets b d)
+
+-- ---- what is kept
+
+-- the file stands
+abbrev pub Wrote : Scene → List ℕ → List ℕ → List ℕ → BucketContent → Scene → Type 0
+Wrote z b key bytes c s = IsBeside z b c (λ m. m ≡ fin.insert c.objects key (object_of bytes)) s
+
+pub begins : (z : Scene) (b bytes key : List ℕ) (block : ℕ) (c : BucketContent) → fin.get z.content.buckets b ≡ Some c → z.content.minimum ≤ block → HasRoom (stream_of b (unsent key block bytes)) → Writes z b bytes c (unsent key block bytes) z false
+begins z b bytes key block c h least room = record {
+  beside = record { content = c; next = z.content.next; scene = sym (placed_same z b c h); later = record { drawn = omega arith; uploads = λ id l. refl }; objects = inl refl };
+  drawn = λ id e. absurd (cc);
+  holds = record { content = c; there = h; least = least; room = room; held = (refl, refl) };
+}
+
+-- a bucket's uploads after a request of the stream
+
+part_kept : (m : Uploads) (i j : ℕ) (o : Option Upload) (n : ℕ) (bytes : List ℕ) → (j ≡ i → ⊥) → fin.get (part_put m i o n bytes) j ≡ fin.get m j
+part_kept m i j None n bytes h = refl
+part_kept m i j (Some u) n bytes h = by (is_part_number n)
+  where
+    by : (c : Bool) → fin.get (cond c (fin.insert m i (with_part u n bytes)) m) j ≡ fin.get m j
+    by true = nat_other m i j (with_part u n bytes) h
+    by false = refl
+
+ended_kept : (d : BucketContent) (key : List ℕ) (i j : ℕ) (r : Result (List ℕ) Refusal) → (j ≡ i → ⊥) → fin.get (completed d key i r).uploads j ≡ fin.get d.uploads j
+ended_kept d key i j (Ok bytes) h = nat_left d.uploads i j h
+ended_kept d key i j (Err r) h = refl
+
+apart : (i j n : ℕ) → n ≤ i → j < n → j ≡ i → ⊥
+apart i j n h l e = omega (arith, h, l, e)
+
+module _ (z : Scene) (b bytes : List ℕ) (c : BucketContent) (w : Writing) (drawn : (id : ℕ) → w.upload ≡ Some id → z.content.next ≤ id) (d : BucketContent) (n : ℕ) (later : IsLater z c d n) where
+  abbrev After : Stage → Type 0
+  After g = IsLater z c (apply_in d n z.content.minimum (asks_at g b w)) (cond (draws (asks_at g b w)) (n + 1) n)
+
+  later_first : (short : Bool) → After (first_stage short)
+  later_first true = record { drawn = later.drawn; uploads = later.uploads }
+  later_first false = record {
+    drawn = let l = later.drawn in omega (arith, l);
+    uploads = λ j l. nat_other d.uploads n j (record { key = w.key; parts = fin.empty }) (apart n j z.content.next later.drawn l) ∙ later.uploads j l;
+  }
+
+  later_next : (due : Bool) → z.content.next ≤ id_in w → After (later_stage due)
+  later_next true h = record {
+    drawn = later.drawn;
+    uploads = λ j l. part_kept d.uploads (id_in w) j (live d.uploads w.key (id_in w)) (length w.tags + 1) (take w.block w.pending) (apart (id_in w) j z.content.next h l) ∙ later.uploads j l;
+  }
+  later_next false h = record {
+    drawn = later.drawn;
+    uploads = λ j l. ended_kept d w.key (id_in w) j (joined (live d.uploads w.key (id_in w)) (named_from 1 w.tags) z.content.minimum) (apart (id_in w) j z.content.next h l) ∙ later.uploads j l;
+  }
+
+  later_after : After (stage_in w)
+  later_after = by w.upload refl
+    where
+      by : (u : Option ℕ) → w.upload ≡ u → After (stage_by u w)
+      by None e = later_first (is_short w)
+      by (Some id) e = later_next (is_due w) (subst (λ i. z.content.next ≤ i) (sym (ap (λ u. unwrap_or u 0) e)) (drawn id e))
+
+-- ---- a request of the stream
+
+abbrev next_of : ℕ → Request → ℕ
+next_of n r = cond (draws r) (n + 1) n
+
+twice : (z m : Objects) (key bytes : List ℕ) → IsFileOrNot z key bytes m → fin.insert m key (object_of bytes) ≡ fin.insert z key (object_of bytes)
+twice z m key bytes (inl e) = ap (λ (m : Objects). fin.insert m key (object_of bytes)) e
+twice z m key bytes (inr e) = ap (λ (m : Objects). fin.insert m key (object_of bytes)) e ∙ put_put z key (object_of bytes) (object_of bytes)
+
+-- where the file stands whole
+whole_is : (z m : Objects) (key bytes : List ℕ) → IsFileOrNot z key bytes m → fin.get m key ≡ Some (object_of bytes) → m ≡ fin.insert z key (object_of bytes)
+whole_is z m key bytes (inl e) g = e ∙ sym (insert_same text_total exact_bytes z key (object_of bytes) (ap (λ (m : Objects). fin.get m key) (sym e) ∙ g))
+whole_is z m key bytes (inr e) g = e
+
+-- what a reply has led to
+abbrev pub HeardSo : Scene → List ℕ → List ℕ → List ℕ → BucketContent → Heard → Scene → Type 0
+HeardSo z b key bytes c Done s = Wrote z b key bytes c s
+HeardSo z b key bytes c (On v) s = Writes z b bytes c v s false
+HeardSo z b key bytes c Refusing s = ⊥
+
+-- the bucket is there
+not_gone : (g : Stage) (a : Reply) → answers g a ≡ true → look_of a ≡ NoBucket → ⊥
+not_gone Putting (Stored t) f e = absurd (cc)
+not_gone Beginning (Drawn id) f e = absurd (cc)
+not_gone Sending (Part t) f e = absurd (cc)
+not_gone Sending (Refused NoSuchUpload) f e = absurd (cc)
+not_gone Completing (Completed t) f e = absurd (cc)
+not_gone Completing (Refused NoSuchUpload) f e = absurd (cc)
+not_gone _ _ f e = absurd (cc)
+
+module _ (z : Scene) (b bytes : List ℕ) (c : BucketContent) (w : Writing) (s : Scene) (repeated : Bool) (h : Writes z b bytes c w s repeated) where
+  abbrev S : Stream
+  S = stream_of b w
+
+  abbrev d : BucketContent
+  d = h.beside.content
+
+  abbrev n : ℕ
+  n = h.beside.next
+
+  abbrev r : Request
+  r = asks b w
+
+  some_block : 1 ≤ w.block
+  some_block = h.holds.room.some
+
+  is_wanted : wanted S ≡ Some r
+  is_wanted = wanted_is b w some_block
+
+  scene_after : apply s r ≡ placed z b (apply_in d n z.content.minimum r) (next_of n r)
+  scene_after = ap (λ s. apply s r) h.beside.scene ∙ applied_at (stage_in w) w z b d n
+
+  -- what the stream holds and is told
+  took : Holds (told (stage_in w) S repeated (answer s r)) (apply s r) false bytes
+  took = subst (λ g. Holds (told g S repeated (answer s r)) (apply s r) false bytes) (stage_is b w some_block) (keeping.took S s repeated bytes h.holds r is_wanted)
+
+  fits : answers (stage_in w) (answer s r) ≡ true
+  fits = subst (λ g. answers g (answer s r) ≡ true) (stage_is b w some_block) (keeping.fit S s repeated bytes h.holds r is_wanted)
+
+  -- ---- the objects
+
+  stands : (s' : Scene) → Holds (ended S Ended) s' false bytes → (e : BucketContent) × (fin.get s'.content.buckets b ≡ Some e) × (fin.get e.objects w.key ≡ Some (object_of bytes))
+  stands s' k = (k.content, k.there, k.held.1)
+
+  completes : (a : Reply) (s' : Scene) → answers Completing a ≡ true → Holds (told Completing S repeated a) s' false bytes → (e : BucketContent) × (fin.get s'.content.buckets b ≡ Some e) × (fin.get e.objects w.key ≡ Some (object_of bytes))
+  completes (Completed t) s' f k = stands s' k
+  completes (Refused NoSuchUpload) s' f k = again repeated k
+    where
+      again : (c : Bool) → Holds (streams.refused S c NoSuchUpload) s' false bytes → (e : BucketContent) × (fin.get s'.content.buckets b ≡ Some e) × (fin.get e.objects w.key ≡ Some (object_of bytes))
+      again true k = stands s' k
+      again false k = absurd k.held
+  completes (Refused x) s' f k = absurd (cc)
+  completes _ s' f k = absurd (cc)
+
+  joined_is : (m : Result (List ℕ) Refusal) → fin.get (completed d w.key (id_in w) m).objects w.key ≡ Some (object_of bytes) → IsFileOrNot c.objects w.key bytes (completed d w.key (id_in w) m).objects
+  joined_is (Ok x) g = inr (ap (λ o. fin.insert d.objects w.key o) (some_is (sym (get_put d.objects w.key (object_of x)) ∙ g)) ∙ twice c.objects d.objects w.key bytes h.beside.objects)
+  joined_is (Err x) g = h.beside.objects
+
+  put_is : w.upload ≡ None → bytes ≡ w.pending
+  put_is e = (held_at S h.holds.content repeated bytes None None refl e h.holds.held).0
+
+  objects_at : (g : Stage) → stage_in w ≡ g → IsFileOrNot c.objects w.key bytes (apply_in d n z.content.minimum (asks_at g b w)).objects
+  objects_at Putting e = inr (ap (λ x. fin.insert d.objects w.key (object_of x)) (sym (put_is (no_upload w.upload refl e))) ∙ twice c.objects d.objects w.key bytes h.beside.objects)
+    where
+      no_upload : (u : Option ℕ) → w.upload ≡ u → stage_by u w ≡ Putting → w.upload ≡ None
+      no_upload None f e = f
+      no_upload (Some id) f e = absurd (by (is_due w) e)
+        where
+          by : (c : Bool) → later_stage c ≡ Putting → ⊥
+          by true e = cc
+          by false e = cc
+  objects_at Beginning e = h.beside.objects
+  objects_at Sending e = h.beside.objects
+  objects_at Completing e =
+      let k = completes (answer s r) (apply s r) (subst (λ g. answers g (answer s r) ≡ true) e fits) (subst (λ g. Holds (told g S repeated (answer s r)) (apply s r) false bytes) e took) in
+      let f = placed_there z b (apply_in d n z.content.minimum r) k.0 (next_of n r) (apply s r) scene_after k.1 in
+      let g : fin.get (apply_in d n z.content.minimum (asks_at Completing b w)).objects w.key ≡ Some (object_of bytes) =
+      ap (λ g. fin.get (apply_in d n z.content.minimum (asks_at g b w)).objects w.key) (sym e) ∙ ap (λ (e : BucketContent). fin.get e.objects w.key) (sym f) ∙ k.2 in
+      joined_is (joined (live d.uploads w.key (id_in w)) (named_from 1 w.tags) z.content.minimum) g
+  objects_at Waiting e = absurd (waits w.upload e)
+    where
+      waits : (u : Option ℕ) → stage_by u w ≡ Waiting → ⊥
+      waits None e = by (is_short w) e
+        where
+          by : (c : Bool) → first_stage c ≡ Waiting → ⊥
+          by true e = cc
+          by false e = cc
+      waits (Some id) e = by (is_due w) e
+        where
+          by : (c : Bool) → later_stage c ≡ Waiting → ⊥
+          by true e = cc
+          by false e = cc
+  objects_at Over e = absurd (over w.upload e)
+    where
+      over : (u : Option ℕ) → stage_by u w ≡ Over → ⊥
+      over None e = by (is_short w) e
+        where
+          by : (c : Bool) → first_stage c ≡ Over → ⊥
+          by true e = cc
+          by false e = cc
+      over (Some id) e = by (is_due w) e
+        where
+          by : (c : Bool) → later_stage c ≡ Over → ⊥
+          by true e = cc
+          by false e = cc
+
+  beside_after : IsBeside z b c (IsFileOrNot c.objects w.key bytes) (apply s r)
+  beside_after = record {
+    content = apply_in d n z.content.minimum r;
+    next = next_of n r;
+    scene = scene_after;
+    later = later_after z b bytes c w h.drawn d n h.beside.later;
+    objects = objects_at (stage_in w) refl;
+  }
+
+  -- its effect, whose answer was lost, keeps it
+  pub hidden : Writes z b bytes c w (apply s r) true
+  hidden = record { beside = beside_after; drawn = h.drawn; holds = keeping.hidden S s repeated bytes h.holds r is_wanted }
+
+  -- a sending that was lost before its effect
+  pub lost : Writes z b bytes c w s true
+  lost = record { beside = h.beside; drawn = h.drawn; holds = keeping.lost S s repeated bytes h.holds }
+
+  -- ---- its answer leads on
+
+  abbrev So : Heard → Scene → Type 0
+  So = HeardSo z b w.key bytes c
+
+  wrote : (e : BucketContent) → fin.get (apply s r).content.buckets b ≡ Some e → fin.get e.objects w.key ≡ Some (object_of bytes) → Wrote z b w.key bytes c (apply s r)
+  wrote e f g =
+      let k = placed_there z b beside_after.content e beside_after.next (apply s r) beside_after.scene f in
+      record {
+        content = beside_after.content;
+        next = beside_after.next;
+        scene = beside_after.scene;
+        later = beside_after.later;
+        objects = whole_is c.objects beside_after.content.objects w.key bytes beside_after.objects (ap (λ (e : BucketContent). fin.get e.objects w.key) (sym k) ∙ g);
+      }
+
+  heard_so : (g : Stage) (a : Reply) → stage_in w ≡ g → answers g a ≡ true → Holds (told g S repeated a) (apply s r) false bytes → ((id : ℕ) → g ≡ Beginning → a ≡ Drawn id → z.content.next ≤ id) → So (heard_at g w a repeated) (apply s r)
+  heard_so Putting (Stored t) e f k i = let v = stands (apply s r) k in wrote v.0 v.1 v.2
+  heard_so Beginning (Drawn id) e f k i = record { beside = beside_after; drawn = λ j x. subst (λ j. z.content.next ≤ j) (some_is x) (i id refl refl); holds = k }
+  heard_so Sending (Part t) e f k i = record { beside = beside_after; drawn = h.drawn; holds = k }
+  heard_so Sending (Refused NoSuchUpload) e f k i = absurd k.held
+  heard_so Completing (Completed t) e f k i = let v = stands (apply s r) k in wrote v.0 v.1 v.2
+  heard_so Completing (Refused NoSuchUpload) e f k i = again repeated k
+    where
+      again : (c : Bool) → Holds (streams.refused S c NoSuchUpload) (apply s r) false bytes → So (refused c NoSuchUpload) (apply s r)
+      again true k = let v = stands (apply s r) k in wrote v.0 v.1 v.2
+      again false k = absurd k.held
+  heard_so _ _ e f k i = absurd (cc)
+
+  -- the id that is drawn is a later one
+  later_id : (id : ℕ) → stage_in w ≡ Beginning → answer s r ≡ Drawn id → z.content.next ≤ id
+  later_id id e f =
+      let a : answer s (CreateUpload b w.key) ≡ Drawn n = ap (λ s. answer s (CreateUpload b w.key)) h.beside.scene ∙ ap (λ o. answer_at o n z.content.minimum (CreateUpload b w.key)) (get_put z.content.buckets b d) in
+      let g : Drawn n ≡ Drawn id = sym a ∙ ap (λ g. answer s (asks_at g b w)) (sym e) ∙ f in
+      subst (λ j. z.content.next ≤ j) (same g) h.beside.later.drawn
+    where
+      same : {i j : ℕ} → Drawn i ≡ Drawn j → i ≡ j
+      same {i} {j} g = cc
+
+  pub no_missing : look_of (answer s r) ≡ NoBucket → ⊥
+  no_missing e = not_gone (stage_in w) (answer s r) fits e
+
+  pub goes_on : HeardSo z b w.key bytes c (heard w (answer s r) repeated) (apply s r)
+  goes_on = heard_so (stage_in w) (answer s r) refl fits took (λ id e f. later_id id e f)
+
+-- ---- where each sending was answered, its own upload alone is live
+
+abbrev pub OwnHeard : Scene → List ℕ → Heard → Scene → Type 0
+OwnHeard z b Done s = NoneLeft z b s
+OwnHeard z b (On v) s = NoneBut v.upload z b s
+OwnHeard z b Refusing s = Unit {0}
+
+no_own : (u : Option ℕ) (id : ℕ) → u ≡ None → u ≡ Some id → ⊥
+no_own u id e f = cc
+
+drawn_same : (i j : ℕ) → Drawn i ≡ Drawn j → i ≡ j
+drawn_same i j e = cc
+
+module _ (z : Scene) (b bytes : List ℕ) (c : BucketContent) (w : Writing) (s : Scene) (h : Writes z b bytes c w s false) (own : NoneBut w.upload z b s) where
+  abbrev dd : BucketContent
+  dd = h.beside.content
+
+  abbrev nn : ℕ
+  nn = h.beside.next
+
+  there : (id : ℕ) → upload_at s.content b id ≡ fin.get dd.uploads id
+  there id = ap (λ (s : Scene). upload_at s.content b id) h.beside.scene ∙ ap (λ o. upload_in o id) (get_put z.content.buckets b dd)
+
+  since : (g : Stage) (id : ℕ) → upload_at (apply s (asks_at g b w)).content b id ≡ fin.get (apply_in dd nn z.content.minimum (asks_at g b w)).uploads id
+  since g id =
+      ap (λ (s : Scene). upload_at (apply s (asks_at g b w)).content b id) h.beside.scene
+      ∙ ap (λ (s : Scene). upload_at s.content b id) (applied_at g w z b dd nn)
+      ∙ ap (λ o. upload_in o id) (get_put z.content.buckets b (apply_in dd nn z.content.minimum (asks_at g b w)))
+
+  -- an id that is not its own
+  other : (id : ℕ) → z.content.next ≤ id → upload_at z.content b id ≡ None → (w.upload ≡ Some id → ⊥) → fin.get dd.uploads id ≡ None
+  other id l e ne = sym (there id) ∙ own id l e ne
+
+  put_own : (a : Reply) → w.upload ≡ None → OwnHeard z b (heard_at Putting w a false) (apply s (asks_at Putting b w))
+  put_own (Stored t) e = λ id l f. since Putting id ∙ other id l f (no_own w.upload id e)
+  put_own _ e = tt
+
+  begin_own : (a : Reply) → w.upload ≡ None → a ≡ Drawn nn → OwnHeard z b (heard_at Beginning w a false) (apply s (asks_at Beginning b w))
+  begin_own (Drawn i) e q = λ id l f ne.
+      since Beginning id
+      ∙ nat_other dd.uploads nn id (record { key = w.key; parts = fin.empty }) (λ g. ne (ap Some (drawn_same i nn q ∙ sym g)))
+      ∙ other id l f (no_own w.upload id e)
+  begin_own _ e q = tt
+
+  send_own : (a : Reply) → w.upload ≡ Some (id_in w) → OwnHeard z b (heard_at Sending w a false) (apply s (asks_at Sending b w))
+  send_own (Part t) e = λ id l f ne.
+      since Sending id
+      ∙ part_kept dd.uploads (id_in w) id (live dd.uploads w.key (id_in w)) (length w.tags + 1) (take w.block w.pending) (λ g. ne (e ∙ ap Some (sym g)))
+      ∙ other id l f ne
+  send_own _ e = tt
+
+  ended_gone : (id : ℕ) (t : Spelled) (m : Result (List ℕ) Refusal) → id ≡ id_in w → complete_answer (named_from 1 w.tags) m ≡ Completed t → fin.get (completed dd w.key (id_in w) m).uploads id ≡ None
+  ended_gone id t (Ok x) f e = nat_gone dd.uploads (id_in w) id f
+  ended_gone id t (Err r) f e = absurd (cc)
+
+  refused_own : (r : Refusal) (v : Scene) → OwnHeard z b (refused false r) v
+  refused_own r v = tt
+
+  end_own : (a : Reply) → w.upload ≡ Some (id_in w) → a ≡ complete_answer (named_from 1 w.tags) (joined (live dd.uploads w.key (id_in w)) (named_from 1 w.tags) z.content.minimum)
+      → OwnHeard z b (heard_at Completing w a false) (apply s (asks_at Completing b w))
+  end_own (Completed t) e q = λ id l f. since Completing id ∙ by id l f (same_or_not id (id_in w))
+    where
+      by : (id : ℕ) → z.content.next ≤ id → upload_at z.content b id ≡ None → (id ≡ id_in w) ⊎ (id ≡ id_in w → ⊥) → fin.get (completed dd w.key (id_in w) (joined (live dd.uploads w.key (id_in w)) (named_from 1 w.tags) z.content.minimum)).uploads id ≡ None
+      by id l f (inl g) = ended_gone id t (joined (live dd.uploads w.key (id_in w)) (named_from 1 w.tags) z.content.minimum) g (sym q)
+      by id l f (inr g) = ended_kept dd w.key (id_in w) id (joined (live dd.uploads w.key (id_in w)) (named_from 1 w.tags) z.content.minimum) g ∙ other id l f (λ k. g (some_is (sym k ∙ e)))
+  end_own (Refused r) e q = refused_own r (apply s (asks_at Completing b w))
+  end_own _ e q = tt
+
+  pub own_goes : OwnHeard z b (heard w (answer s (asks b w)) false) (apply s (asks b w))
+  own_goes = by w.upload refl
+    where
+      first : (t : Bool) → w.upload ≡ None → OwnHeard z b (heard_at (first_stage t) w (answer s (asks_at (first_stage t) b w)) false) (apply s (asks_at (first_stage t) b w))
+      first true e = put_own (answer s (asks_at Putting b w)) e
+      first false e = begin_own (answer s (asks_at Beginning b w)) e
+          (ap (λ s. answer s (CreateUpload b w.key)) h.beside.scene ∙ ap (λ o. answer_at o nn z.content.minimum (CreateUpload b w.key)) (get_put z.content.buckets b dd))
+
+      later : (t : Bool) → w.upload ≡ Some (id_in w) → OwnHeard z b (heard_at (later_stage t) w (answer s (asks_at (later_stage t) b w)) false) (apply s (asks_at (later_stage t) b w))
+      later true e = send_own (answer s (asks_at Sending b w)) e
+      later false e = end_own (answer s (asks_at Completing b w)) e
+          (ap (λ s. answer s (CompleteUpload b w.key (id_in w) (named_from 1 w.tags))) h.beside.scene
+          ∙ ap (λ o. answer_at o nn z.content.minimum (CompleteUpload b w.key (id_in w) (named_from 1 w.tags))) (get_put z.content.buckets b dd))
+
+      by : (u : Option ℕ) → w.upload ≡ u → OwnHeard z b (heard_at (stage_by u w) w (answer s (asks_at (stage_by u w) b w)) false) (apply s (asks_at (stage_by u w) b w))
+      by None e = first (is_short w) e
+      by (Some id) e = later (is_due w) (e ∙ ap Some (sym (ap (λ u. unwrap_or u 0) e)))
+
+-- ---- what is left falls, whatever is answered
+
+abbrev pub LessLeft : Heard → ℕ → Type 0
+LessLeft (On w) n = left w < n
+LessLeft _ n = Unit {0}
+
+-- and it still has room, and is the same output
+abbrev pub RoomLeft : List ℕ → Writing → Heard → Type 0
+RoomLeft b w (On v) = HasRoom (stream_of b v) × (v.key ≡ w.key) × (v.block ≡ w.block)
+RoomLeft b w _ = Unit {0}
+
+begun_left : (w : Writing) (id : ℕ) → w.upload ≡ None → left (begun w id) < left w
+begun_left w id e = by w.upload e
+  where
+    by : (u : Option ℕ) → u ≡ None → length w.pending + (0 + one_if (not (has_some w.tags))) < length w.pending + (one_if (not (is_begun u)) + one_if (not (has_some w.tags)))
+    by None e = omega arith
+    by (Some id) e = absurd (cc)
+
+snoc_has : {X : Type 0} (xs : List X) (x : X) → has_some (xs ++ x ∷ []) ≡ true
+snoc_has [] x = refl
+snoc_has (y ∷ xs) x = refl
+
+parted_left : (w : Writing) (t : Spelled) → 1 ≤ w.block → is_due w ≡ true → left (parted w t) < left w
+parted_left w t some due =
+    subst (λ c. length (drop w.block w.pending) + (one_if (not (is_begun w.upload)) + one_if (not c)) < left w) (sym (snoc_has w.tags t)) (by w.pending refl (has_some w.tags) refl due)
+  where
+    by : (p : List ℕ) → w.pending ≡ p → (c : Bool) → has_some w.tags ≡ c → (has_some p || not c) ≡ true → length (drop w.block w.pending) + (one_if (not (is_begun w.upload)) + 0) < left w
+    by (x ∷ p) e c f g =
+        let k : length (drop w.block w.pending) ≡ length w.pending - w.block = length-drop w.block w.pending in
+        let l : 0 < length w.pending = subst (λ (p : List ℕ). 0 < length p) (sym e) (omega arith) in
+        omega (arith, k, l, some)
+    by [] e true f g = absurd (cc)
+    by [] e false f g =
+        let k : length (drop w.block w.pending) ≡ length w.pending - w.block = length-drop w.block w.pending in
+        let l : one_if (not (has_some w.tags)) ≡ 1 = ap (λ c. one_if (not c)) f in
+        omega (arith, k, l)
+
+-- a part that is due leaves room
+pub parted_room : (b : List ℕ) (w : Writing) (t : Spelled) → HasRoom (stream_of b w) → is_due w ≡ true → HasRoom (stream_of b (parted w t))
+parted_room b w t room d = room_after (stream_of b w) t room (due (stream_of b w) (part_due b w room.some ∙ d))
+
+pub begun_room : (b : List ℕ) (w : Writing) (id : ℕ) → HasRoom (stream_of b w) → HasRoom (stream_of b (begun w id))
+begun_room b w id room = room_begun (stream_of b w) id room
+
+no_more : (c : Bool) (r : Refusal) (n : ℕ) → LessLeft (refused c r) n
+no_more true NoSuchUpload n = tt
+no_more _ _ n = tt
+
+no_room : (b : List ℕ) (w : Writing) (c : Bool) (r : Refusal) → RoomLeft b w (refused c r)
+no_room b w true NoSuchUpload = tt
+no_room b w _ _ = tt
+
+put_falls : (w : Writing) (r : Reply) (repeated : Bool) → LessLeft (heard_at Putting w r repeated) (left w)
+put_falls w (Stored t) repeated = tt
+put_falls w _ repeated = tt
+
+begin_falls : (w : Writing) (r : Reply) (repeated : Bool) → w.upload ≡ None → LessLeft (heard_at Beginning w r repeated) (left w)
+begin_falls w (Drawn id) repeated e = begun_left w id e
+begin_falls w _ repeated e = tt
+
+send_falls : (w : Writing) (r : Reply) (repeated : Bool) → 1 ≤ w.block → is_due w ≡ true → LessLeft (heard_at Sending w r repeated) (left w)
+send_falls w (Part t) repeated some d = parted_left w t some d
+send_falls w _ repeated some d = tt
+
+end_falls : (w : Writing) (r : Reply) (repeated : Bool) → LessLeft (heard_at Completing w r repeated) (left w)
+end_falls w (Completed t) repeated = tt
+end_falls w (Refused r) repeated = no_more repeated r (left w)
+end_falls w _ repeated = tt
+
+pub falls : (w : Writing) (r : Reply) (repeated : Bool) → 1 ≤ w.block → LessLeft (heard w r repeated) (left w)
+falls w r repeated some = by w.upload refl
+  where
+    first : (c : Bool) → w.upload ≡ None → LessLeft (heard_at (first_stage c) w r repeated) (left w)
+    first true e = put_falls w r repeated
+    first false e = begin_falls w r repeated e
+
+    later : (c : Bool) → is_due w ≡ c → LessLeft (heard_at (later_stage c) w r repeated) (left w)
+    later true e = send_falls w r repeated some e
+    later false e = end_falls w r repeated
+
+    by : (u : Option ℕ) → w.upload ≡ u → LessLeft (heard_at (stage_by u w) w r repeated) (left w)
+    by None e = first (is_short w) e
+    by (Some id) e = later (is_due w) refl
+
+begin_room : (b : List ℕ) (w : Writing) (r : Reply) (repeated : Bool) → HasRoom (stream_of b w) → RoomLeft b w (heard_at Beginning w r repeated)
+begin_room b w (Drawn id) repeated room = (begun_room b w id room, refl, refl)
+begin_room b w _ repeated room = tt
+
+put_room : (b : List ℕ) (w : Writing) (r : Reply) (repeated : Bool) → RoomLeft b w (heard_at Putting w r repeated)
+put_room b w (Stored t) repeated = tt
+put_room b w _ repeated = tt
+
+send_room : (b : List ℕ) (w : Writing) (r : Reply) (repeated : Bool) → HasRoom (stream_of b w) → is_due w ≡ true → RoomLeft b w (heard_at Sending w r repeated)
+send_room b w (Part t) repeated room d = (parted_room b w t room d, refl, refl)
+send_room b w _ repeated room d = tt
+
+end_room : (b : List ℕ) (w : Writing) (r : Reply) (repeated : Bool) → RoomLeft b w (heard_at Completing w r repeated)
+end_room b w (Completed t) repeated = tt
+end_room b w (Refused r) repeated = no_room b w repeated r
+end_room b w _ repeated = tt
+
+pub room_stays : (b : List ℕ) (w : Writing) (r : Reply) (repeated : Bool) → HasRoom (stream_of b w) → RoomLeft b w (heard w r repeated)
+room_stays b w r repeated room = by w.upload
+  where
+    first : (c : Bool) → RoomLeft b w (heard_at (first_stage c) w r repeated)
+    first true = put_room b w r repeated
+    first false = begin_room b w r repeated room
+
+    later : (c : Bool) → is_due w ≡ c → RoomLeft b w (heard_at (later_stage c) w r repeated)
+    later true e = send_room b w r repeated room e
+    later false e = end_room b w r repeated
+
+    by : (u : Option ℕ) → RoomLeft b w (heard_at (stage_by u w) w r repeated)
+    by None = first (is_short w)
+    by (Some id) = later (is_due w) refl

@@ -1,0 +1,217 @@
+-- Making a file, by its stages: look-ups, then its bytes, then the markers above it.
+use Rattle.std.specs.Prelude.{◌≡◌, ◌⊎◌, ℕ, ◌+◌, ◌≤◌, Bool, true, false, List, [], ◌∷◌, Result, Ok, Err, Option, Some, None, length}
+use Rattle.std.specs.FinMap as fin
+use Rattle.s3_types.specs.Store.{Objects, BucketContent, Scene}
+use Rattle.s3_types.specs.Answer.{without}
+use Rattle.s3_types.specs.Requests.{only_reads}
+use Rattle.s3_types.specs.declared.request.Request.{Request}
+use Rattle.s3_types.specs.declared.reply.Reply.{Reply}
+use Rattle.operations.specs.declared.plan.Step.{Step}
+use Rattle.operations.specs.declared.plan.Step.TheVariants.{Next, End}
+use Rattle.bucket_ops.specs.declared.look.Look.{Look}
+use Rattle.bucket_ops.specs.declared.look.Look.TheVariants.{There}
+use Rattle.bucket_ops.specs.Looks.{look_of}
+use Rattle.bucket_ops.specs.Asks.{request_of, Head, DropAll}
+use Rattle.dir_markers.specs.Markers.{keys_above, created}
+use Rattle.fs_tree.specs.declared.answers.FsRefusal.{FsRefusal}
+use Rattle.fs_tree.specs.declared.answers.FsRefusal.TheVariants.{NotFound, AlreadyExists, IsDirectory, NotDirectory, NoSuchBucket}
+use Rattle.fs_tree.specs.Tree.{HasFile, IsAbsent, NoFiles}
+use Rattle.fs_tree.specs.Answers.{Creates}
+use Rattle.fs_ops.specs.Places.{look_asks, below_asks, NoFileAt}
+use Rattle.fs_ops.specs.code.Steps.{unless}
+use Rattle.fs_ops.specs.declared.climb.Climbed.{Climbed}
+use Rattle.fs_ops.specs.declared.climb.Climbed.TheVariants.{File, On as Goes_on, Free}
+use Rattle.fs_ops.specs.code.Climbs.{climbing, climbed, IsClimb}
+use Rattle.fs_files.specs.declared.create.CreateStage.{CreateStage}
+use Rattle.fs_files.specs.declared.create.CreateStage.TheVariants.{Here, Below, Up, Write, DropMarkers}
+use Rattle.fs_files.specs.declared.create.CreateFile.{CreateFile}
+use Rattle.fs_files.specs.Placed.{InFile, IsBeside, IsFileOrNot, NoneBut, NoneLeft, object_of}
+use Rattle.fs_files.specs.code.Writing as writing
+use Rattle.fs_files.specs.declared.writing.Heard.{Heard}
+use Rattle.fs_files.specs.declared.writing.Heard.TheVariants.{Done, On, Refusing}
+use Rattle.fs_files.specs.code.Writing.{Writing, unsent, stream_of}
+use Rattle.fs_files.specs.code.Hearing as hearing
+use Rattle.fs_files.specs.code.Hearing.{heard}
+use Rattle.fs_files.specs.Creation.{Creation, IsCreation}
+use Rattle.block_stream.specs.Holds.{HasRoom, Holds}
+
+abbrev pub Answer : Type 0
+Answer = Result (Unit {0}) FsRefusal
+
+abbrev pub CreateStep : Type 0
+CreateStep = Step CreateStage Answer
+
+-- ---- the stages
+
+abbrev pub asks : Creation → CreateStage → Request
+asks o Here = request_of o.path.bucket (look_asks o.path.key)
+asks o Below = request_of o.path.bucket (below_asks o.path.key 1)
+asks o (Up c) = request_of o.path.bucket (Head c.first)
+asks o (Write w) = writing.asks o.path.bucket w
+asks o DropMarkers = request_of o.path.bucket (DropAll (created o.policy o.path))
+
+-- its bytes are written; the root is never a file
+abbrev pub write_at : List ℕ → Creation → CreateStep
+write_at [] o = End (Err IsDirectory)
+write_at (x ∷ p) o = Next (Write (unsent (x ∷ p) o.block o.bytes))
+
+-- the directories above are looked at one by one before that
+abbrev pub on_climb : Creation → Climbed → CreateStep
+on_climb o (File k) = End (Err (NotDirectory k))
+on_climb o (Goes_on c) = Next (Up c)
+on_climb o Free = write_at o.path.key o
+
+abbrev pub climb : Creation → CreateStep
+climb o = on_climb o (climbing (keys_above o.path.key))
+
+-- a file that stands there
+abbrev pub replace : Bool → Creation → CreateStep
+replace true o = climb o
+replace false o = End (Err AlreadyExists)
+
+abbrev pub here : Creation → Look → CreateStep
+here o There = replace o.overwrite o
+here o _ = Next Below
+
+abbrev pub on_here : List ℕ → Creation → Look → CreateStep
+on_here [] o l = End (Err IsDirectory)
+on_here (x ∷ p) o l = here o l
+
+abbrev pub on_below : Creation → Look → CreateStep
+on_below o There = End (Err IsDirectory)
+on_below o _ = climb o
+
+-- the markers are deleted in one batch, where there are some
+abbrev pub drop_from : List (List ℕ) → CreateStep
+drop_from [] = End (Ok tt)
+drop_from (k ∷ ks) = Next DropMarkers
+
+abbrev pub written : Creation → Heard → CreateStep
+written o Done = drop_from (created o.policy o.path)
+written o (On w) = Next (Write w)
+written o Refusing = End (Err NotFound)
+
+abbrev pub on : Creation → CreateStage → Reply → Bool → CreateStep
+on o Here r repeated = on_here o.path.key o (look_of r)
+on o Below r repeated = on_below o (look_of r)
+on o (Up c) r repeated = on_climb o (climbed c (look_of r))
+on o (Write w) r repeated = written o (heard w r repeated)
+on o DropMarkers r repeated = End (Ok tt)
+
+abbrev pub goes : Creation → CreateStage → Reply → Bool → CreateStep
+goes o x r repeated = unless (look_of r) (End (Err NoSuchBucket)) (on o x r repeated)
+
+-- ---- what holds
+
+-- nothing stands at the path, or a file that may be replaced
+abbrev pub IsOpen : Creation → Objects → Type 0
+IsOpen o z = (HasFile z o.path.key × (o.overwrite ≡ true)) ⊎ IsAbsent z o.path.key
+
+-- and no file above it
+pub record IsDue (o : Creation) (z : Objects) : Type 0 where
+  pub allowed : IsOpen o z
+  pub free : NoFiles z (keys_above o.path.key)
+
+-- there is a bucket, and the file is to be written there
+abbrev pub SomeDue : Creation → Option BucketContent → Type 0
+SomeDue o None = ⊥
+SomeDue o (Some c) = IsDue o c.objects
+
+abbrev pub file_in : Creation → Objects → Objects
+file_in o z = fin.insert z o.path.key (object_of o.bytes)
+
+-- the file stands among these objects, and with it maybe no marker above it
+abbrev pub IsMade : Creation → Objects → Objects → Type 0
+IsMade o z m = (m ≡ file_in o z) ⊎ (m ≡ without (file_in o z) (created o.policy o.path))
+
+abbrev pub least : Creation → Scene → Type 0
+least o z = z.content.minimum ≤ o.block
+
+-- the bytes are held by the store and by what is pending
+pub record Writes (z : Scene) (b bytes : List ℕ) (c : BucketContent) (w : Writing) (s : Scene) (repeated : Bool) : Type 0 where
+  pub beside : IsBeside z b c (IsFileOrNot c.objects w.key bytes) s
+  pub drawn : (id : ℕ) → w.upload ≡ Some id → z.content.next ≤ id
+  pub holds : Holds (stream_of b w) s repeated bytes
+
+-- what holds of a stage in a bucket that held c
+abbrev pub HoldsIn : Creation → Scene → BucketContent → CreateStage → Scene → Bool → Type 0
+HoldsIn o z c Here s repeated = s ≡ z
+HoldsIn o z c Below s repeated = (s ≡ z) × NoFileAt c.objects o.path.key
+HoldsIn o z c (Up d) s repeated = (s ≡ z) × IsOpen o c.objects × IsClimb c.objects (keys_above o.path.key) d
+HoldsIn o z c (Write w) s repeated = IsDue o c.objects × HasRoom (stream_of o.path.bucket w) × (w.key ≡ o.path.key) × (w.block ≡ o.block) × (least o z → Writes z o.path.bucket o.bytes c w s repeated)
+HoldsIn o z c DropMarkers s repeated = IsDue o c.objects × (least o z → IsBeside z o.path.bucket c (IsMade o c.objects) s)
+
+abbrev pub bucket_at : Scene → List ℕ → Option BucketContent
+bucket_at z b = fin.get z.content.buckets b
+
+abbrev pub HoldsAt : Option BucketContent → Creation → Scene → CreateStage → Scene → Bool → Type 0
+HoldsAt None o z x s repeated = (s ≡ z) × (x ≡ Here)
+HoldsAt (Some c) o z x s repeated = HoldsIn o z c x s repeated
+
+-- begun so, it may be in this stage
+abbrev pub holds : CreateFile → Scene → CreateFile → Scene → Bool → Type 0
+holds o z p s repeated = (p.file ≡ o.file) × IsCreation o.file × HoldsAt (bucket_at z o.file.path.bucket) o.file z p.stage s repeated
+
+-- a refusal leaves all as it was
+abbrev pub IsUndone : Answer → Scene → Scene → Type 0
+IsUndone (Ok x) z s = Unit {0}
+IsUndone (Err r) z s = s ≡ z
+
+-- where no part is shorter than the store's least one, this is what is made, or what is refused, and that changes nothing
+abbrev pub GivesFile : Creation → Scene → Answer → Scene → Type 0
+GivesFile o z a s = least o z → InFile (bucket_at z o.path.bucket) (λ m n. Creates o.path o.bytes o.overwrite o.policy m a n) (a ≡ Err NoSuchBucket) z o.path.bucket s × IsUndone a z s
+
+-- at any moment the objects are as they were, or the file was made where it is due
+abbrev pub always_in : Creation → Objects → Objects → Type 0
+always_in o z m = (m ≡ z) ⊎ (IsDue o z × IsMade o z m)
+
+abbrev pub AlwaysFile : Creation → Scene → Scene → Type 0
+AlwaysFile o z s = least o z → InFile (bucket_at z o.path.bucket) (always_in o) (Unit {0}) z o.path.bucket s
+
+abbrev pub starts : CreateFile → Type 0
+starts p = IsCreation p.file × (p.stage ≡ Here)
+
+abbrev pub request : CreateFile → Request
+request p = asks p.file p.stage
+
+abbrev pub stepped : Creation → CreateStep → Step CreateFile Answer
+stepped o (Next x) = Next (record { file = o; stage = x })
+stepped o (End a) = End a
+
+abbrev pub led : CreateFile → Reply → Bool → Step CreateFile Answer
+led p r repeated = stepped p.file (goes p.file p.stage r repeated)
+
+abbrev pub gives : CreateFile → Scene → Answer → Scene → Type 0
+gives o z a s = GivesFile o.file z a s
+
+abbrev pub always : CreateFile → Scene → Scene → Type 0
+always o z s = AlwaysFile o.file z s
+
+-- it looks, and sends something else only where the file is to be written
+abbrev pub sends : CreateFile → Scene → Request → Type 0
+sends o z r = (only_reads r ≡ true) ⊎ SomeDue o.file (bucket_at z o.file.path.bucket)
+
+-- the upload at hand
+abbrev pub upload_of : CreateStage → Option ℕ
+upload_of (Write w) = w.upload
+upload_of _ = None
+
+-- where each sending was answered, of the uploads that were begun since the one at hand alone is live, and at the end none
+abbrev pub calm : CreateFile → Scene → CreateFile → Scene → Type 0
+calm o z p s = holds o z p s false × (least o.file z → NoneBut (upload_of p.stage) z o.file.path.bucket s)
+
+abbrev pub leaves : CreateFile → Scene → Answer → Scene → Type 0
+leaves o z a s = gives o z a s × (least o.file z → NoneLeft z o.file.path.bucket s)
+
+abbrev pub write_left : Creation → ℕ
+write_left o = length o.bytes + 4
+
+abbrev pub left_at : Creation → CreateStage → ℕ
+left_at o Here = length (keys_above o.path.key) + 1 + write_left o
+left_at o Below = length (keys_above o.path.key) + write_left o
+left_at o (Up c) = length c.rest + write_left o
+left_at o (Write w) = hearing.left w + 1
+left_at o DropMarkers = 0
+
+abbrev pub left : CreateFile → Scene → ℕ
+left p s = left_at p.file p.stage

@@ -1,0 +1,55 @@
+-- Where replies lead a file that is written.
+use Rattle.std.specs.Prelude.{ℕ, ◌+◌, not, Bool, true, [], ◌∷◌, ◌++◌, drop, length, Some}
+use Rattle.s3_types.specs.Tags.{Spelled}
+use Rattle.s3_types.specs.declared.reply.Reply.{Reply}
+use Rattle.s3_types.specs.declared.reply.Reply.TheVariants.{Stored, Upload, Part, Completed, Refused}
+use Rattle.s3_types.specs.declared.reply.Refusal.{Refusal}
+use Rattle.s3_types.specs.declared.reply.Refusal.TheVariants.{NoSuchUpload}
+use Rattle.block_stream.specs.declared.stage.Stage.{Stage}
+use Rattle.block_stream.specs.declared.stage.Stage.TheVariants.{Putting, Beginning, Sending}
+use Rattle.block_stream.specs.Stream.{has_some, one_if, is_begun}
+use Rattle.fs_files.specs.declared.writing.Heard.{Heard}
+use Rattle.fs_files.specs.declared.writing.Heard.TheVariants.{Done, On, Refusing}
+use Rattle.fs_files.specs.code.Writing.{Writing, stage_in}
+
+abbrev pub begun : Writing → ℕ → Writing
+begun w id = record { key = w.key; block = w.block; pending = w.pending; upload = Some id; tags = w.tags }
+
+-- the next part was answered
+abbrev pub parted : Writing → Spelled → Writing
+parted w t = record { key = w.key; block = w.block; pending = drop w.block w.pending; upload = w.upload; tags = w.tags ++ t ∷ [] }
+
+abbrev pub put_heard : Reply → Heard
+put_heard (Stored t) = Done
+put_heard _ = Refusing
+
+abbrev pub begin_heard : Writing → Reply → Heard
+begin_heard w (Upload id) = On (begun w id)
+begin_heard w _ = Refusing
+
+abbrev pub send_heard : Writing → Reply → Heard
+send_heard w (Part t) = On (parted w t)
+send_heard w _ = Refusing
+
+-- where there is no upload, a completion that was sent before has ended it
+abbrev pub refused : Bool → Refusal → Heard
+refused true NoSuchUpload = Done
+refused _ _ = Refusing
+
+abbrev pub end_heard : Bool → Reply → Heard
+end_heard repeated (Completed t) = Done
+end_heard repeated (Refused r) = refused repeated r
+end_heard repeated _ = Refusing
+
+abbrev pub heard_at : Stage → Writing → Reply → Bool → Heard
+heard_at Putting w r repeated = put_heard r
+heard_at Beginning w r repeated = begin_heard w r
+heard_at Sending w r repeated = send_heard w r
+heard_at _ w r repeated = end_heard repeated r
+
+abbrev pub heard : Writing → Reply → Bool → Heard
+heard w r repeated = heard_at (stage_in w) w r repeated
+
+-- at most so many answers are to come
+abbrev pub left : Writing → ℕ
+left w = length w.pending + (one_if (not (is_begun w.upload)) + one_if (not (has_some w.tags)))

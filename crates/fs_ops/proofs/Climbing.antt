@@ -1,0 +1,45 @@
+-- What a climb over the directories above a path has seen.
+use Rattle.std.specs.Prelude.{◌≡◌, ℕ, ◌<◌, List, [], ◌∷◌, None, length}
+use Rattle.std.proofs.Common.{refl, arith, inl, inr}
+use Rattle.std.specs.FinMap as fin
+use Rattle.s3_types.specs.Store.{Objects}
+use Rattle.bucket_ops.specs.declared.look.Look.{Look}
+use Rattle.bucket_ops.specs.declared.look.Look.TheVariants.{There, Nothing}
+use Rattle.fs_tree.specs.Tree.{Stands, NoFiles, IsFirstFile}
+use Rattle.fs_ops.proofs.Looks.{IsSeen}
+use Rattle.fs_ops.specs.declared.climb.Climb.{Climb}
+use Rattle.fs_ops.specs.declared.climb.Climbed.{Climbed}
+use Rattle.fs_ops.specs.declared.climb.Climbed.TheVariants.{File, On, Free}
+use Rattle.fs_ops.specs.code.Climbs.{climbing, climbed, Passed, IsClimb}
+
+module _ (z : Objects) (all : List (List ℕ)) where
+  -- what it leads to is so of all
+  abbrev pub IsClimbed : Climbed → Type 0
+  IsClimbed (File k) = IsFirstFile z all k
+  IsClimbed (On c) = IsClimb z all c
+  IsClimbed Free = NoFiles z all
+
+  begun : (ks : List (List ℕ)) → Passed z all ks → IsClimbed (climbing ks)
+  begun [] p = p.free tt
+  begun (k ∷ ks) p = p
+
+  pub seen_on : (c : Climb) (l : Look) → IsClimb z all c → IsSeen l (Stands z c.first) (fin.get z c.first ≡ None) → IsClimbed (climbed c l)
+  seen_on c There p h = p.file c.first (inl (refl, h))
+  seen_on c Nothing p h = begun c.rest (record { file = λ a g. p.file a (inr (h, g)); free = λ g. p.free (h, g) })
+  seen_on c _ p h = absurd h
+
+  pub all_on : IsClimbed (climbing all)
+  all_on = begun all (record { file = λ a g. g; free = λ g. g })
+
+-- a climb that goes on has fewer than so many to come
+abbrev pub IsShorter : Climbed → ℕ → Type 0
+IsShorter (On c) n = length c.rest < n
+IsShorter _ n = Unit {0}
+
+pub climbing_falls : (ks : List (List ℕ)) → IsShorter (climbing ks) (length ks)
+climbing_falls [] = tt
+climbing_falls (k ∷ ks) = omega arith
+
+pub climbed_falls : (c : Climb) (l : Look) → IsShorter (climbed c l) (length c.rest)
+climbed_falls c There = tt
+climbed_falls c _ = climbing_falls c.rest

@@ -1,0 +1,366 @@
+-- Deleting a path, stage by stage.
+use Rattle.std.specs.Prelude.{◌≡◌, ◌⊎◌, ℕ, ◌+◌, ◌<◌, Bool, true, false, List, [], ◌∷◌, Option, Some, None, Ok, Err, take, if◌then◌else◌, map}
+use Rattle.std.proofs.Common.{refl, sym, ap, subst, ◌∙◌, arith, inl, inr}
+use Rattle.std.proofs.lemmas.Bool.{false≢true}
+use Rattle.std.specs.FinMap as fin
+use Rattle.std.specs.Ordering.{is_lt}
+use Rattle.proof_base.specs.Order.{text_cmp, text_eq, text_total}
+use Rattle.proof_base.proofs.Less.{irrefl}
+use Rattle.s3_types.specs.Store.{Objects}
+use Rattle.s3_types.specs.Answer.{head, without}
+use Rattle.s3_types.specs.Pages.{page, listed, begins, text_in}
+use Rattle.s3_types.specs.declared.object.Object.{Object}
+use Rattle.s3_types.specs.declared.reply.PageEntry.{PageEntry}
+use Rattle.request_frame.specs.Members.{IsIn, RisesFrom}
+use Rattle.request_frame.proofs.Members.{same_or_other, text_is, text_true, text_here, text_other, text_gone, text_left, in_front, true_or_false}
+use Rattle.request_frame.proofs.Flat.{listed_rises}
+use Rattle.operations.specs.declared.plan.Step.{Step}
+use Rattle.operations.specs.declared.plan.Step.TheVariants.{Next, End}
+use Rattle.operations.specs.Plans.{Goes, Falls}
+use Rattle.bucket_ops.specs.declared.look.Look.{Look}
+use Rattle.bucket_ops.specs.declared.look.Look.TheVariants.{There, Nothing, NoBucket, Other}
+use Rattle.bucket_ops.specs.Looks.{look_of}
+use Rattle.bucket_ops.specs.Asks.{reply_in, edited}
+use Rattle.bucket_ops.proofs.AskLaws.{gone_still}
+use Rattle.bucket_ops.specs.Phases.{IsPhases, MayAsk}
+use Rattle.dir_markers.specs.Markers.{marker_of}
+use Rattle.list_walk.specs.Walks.{sweep_start, sweep_hears, all_go, Listing, Deleting}
+use Rattle.list_walk.specs.Walks as walks
+use Rattle.fs_tree.specs.declared.answers.FsRefusal.TheVariants.{NotFound, NotEmpty, IsRoot, NoSuchBucket}
+use Rattle.fs_tree.specs.Tree.{Stands, SomeBelow, NoneBelow, marker, IsEmpty, HasChildren}
+use Rattle.fs_tree.specs.Changes.{parent, marker_if, IsMarked, IsWithoutBelow}
+use Rattle.fs_tree.proofs.Begins.{begins_all}
+use Rattle.fs_ops.specs.declared.delete.Inside.{Inside}
+use Rattle.fs_ops.specs.declared.delete.Inside.TheVariants.{Empty, MarkerAlone, Children}
+use Rattle.fs_ops.specs.declared.delete.DeleteStage.{DeleteStage}
+use Rattle.fs_ops.specs.declared.delete.DeleteStage.TheVariants.{Here, DropFile, Below, DropMarker, Sweep, Parent, PutMarker}
+use Rattle.fs_ops.specs.Places.{look_asks, prefix_of, NoFileAt}
+use Rattle.fs_ops.specs.code.Steps.{goes_by, IsStages}
+use Rattle.fs_ops.proofs.StepLaws.{phases_of}
+use Rattle.fs_ops.proofs.AtPathLaws.{looks_there}
+use Rattle.fs_ops.proofs.Looks.{IsSeen, head_tells, page_tells, none_listed}
+use Rattle.bucket_walks.specs.Sweeping.{sweep_asks, IsSweeping, IsSwept, sweep_left, LessLeft}
+use Rattle.bucket_walks.specs.Walking.{fits, keys_below}
+use Rattle.bucket_walks.proofs.Sweeps.{sweep_begins, sweep_goes, sweep_fits, sweep_falls, sweep_stays}
+use Rattle.bucket_walks.proofs.Below.{is_in, below_stands, stands_below, gone_in, kept_out}
+use Rattle.fs_ops.proofs.Deleting.{deletes}
+use Rattle.fs_ops.specs.code.Delete.{Deletion, Answer, first, asks, up_to, up, here as here_at, on_here, inside, children, entries_in, on_inside, swept, on_sweep, on_parent, on, Removed, holds, IsDue, sends, ends, GoesWith, IsKept, always, gives, left}
+
+-- without all keys below a prefix none is left there, and the others are as they were
+without_below : (x : ℕ) (q : List ℕ) (z : Objects) → IsWithoutBelow (x ∷ q) z (without z (keys_below (x ∷ q) z))
+without_below x q z = record {
+  gone = λ k b. by k b (fin.get z k) refl;
+  others = λ k b. kept_out z (keys_below (x ∷ q) z) k (λ i. false≢true (sym b ∙ (below_stands (x ∷ q) z k i).0));
+}
+  where
+    by : (k : List ℕ) → begins (x ∷ q) k ≡ true → (o : Option Object) → fin.get z k ≡ o → fin.get (without z (keys_below (x ∷ q) z)) k ≡ None
+    by k b None e = gone_still z (keys_below (x ∷ q) z) k e
+    by k b (Some v) e = gone_in z (keys_below (x ∷ q) z) k (stands_below x q z k v b e)
+
+-- ---- what the first two entries below a directory tell
+
+abbrev Tells : Objects → List ℕ → Inside → Type 0
+Tells z p Empty = NoneBelow z (marker_of p)
+Tells z p MarkerAlone = IsEmpty z p
+Tells z p Children = HasChildren z p
+
+module _ (z : Objects) (x : ℕ) (p : List ℕ) where
+  abbrev Q : List ℕ
+  Q = marker_of (x ∷ p)
+
+  alone : (e : PageEntry) → listed Q false [] z ≡ e ∷ [] → text_in e ≡ Q → IsEmpty z (x ∷ p)
+  alone e h f =
+      let w = below_stands Q z Q (subst (λ l. IsIn Q (map text_in l)) (sym h) (inl (sym f))) in
+      (w.1, λ k b n. by k b n (fin.get z k) refl)
+    where
+      other : (k : List ℕ) → (k ≡ Q → ⊥) → IsIn k (map text_in (e ∷ [])) → ⊥
+      other k n (inl g) = n (g ∙ f)
+      other k n (inr g) = g
+
+      by : (k : List ℕ) → begins Q k ≡ true → (k ≡ Q → ⊥) → (o : Option Object) → fin.get z k ≡ o → fin.get z k ≡ None
+      by k b n None g = g
+      by k b n (Some v) g = absurd (other k n (subst (λ l. IsIn k (map text_in l)) h (stands_below x (marker_of p) z k v b g)))
+
+  child : (k : List ℕ) → IsIn k (keys_below Q z) → (k ≡ Q → ⊥) → HasChildren z (x ∷ p)
+  child k i n = let w = below_stands Q z k i in (k, w.0, n, w.1.0, w.1.1)
+
+  one : (e : PageEntry) → listed Q false [] z ≡ e ∷ [] → (b : Bool) → text_eq (text_in e) Q ≡ b → Tells z (x ∷ p) (if b then MarkerAlone else Children)
+  one e h true f = alone e h (text_is (text_in e) Q f)
+  one e h false f = child (text_in e) (subst (λ l. IsIn (text_in e) (map text_in l)) (sym h) (inl refl)) (λ g. false≢true (sym f ∙ text_true (text_in e) Q g))
+
+  two : (e f : PageEntry) (es : List PageEntry) → listed Q false [] z ≡ e ∷ f ∷ es → HasChildren z (x ∷ p)
+  two e f es h = by (same_or_other (text_in e) Q)
+    where
+      rises : is_lt (text_cmp (text_in e) (text_in f)) ≡ true
+      rises = (subst (λ l. RisesFrom [] (map text_in l)) h (listed_rises Q [] z)).1.0
+
+      later : text_in e ≡ Q → text_in f ≡ Q → ⊥
+      later g i = false≢true (sym (irrefl text_total Q) ∙ ap (λ v. is_lt (text_cmp v Q)) (sym g) ∙ ap (λ v. is_lt (text_cmp (text_in e) v)) (sym i) ∙ rises)
+
+      by : (text_in e ≡ Q) ⊎ (text_in e ≡ Q → ⊥) → HasChildren z (x ∷ p)
+      by (inr n) = child (text_in e) (subst (λ l. IsIn (text_in e) (map text_in l)) (sym h) (inl refl)) n
+      by (inl g) = child (text_in f) (subst (λ l. IsIn (text_in f) (map text_in l)) (sym h) (inr (inl refl))) (later g)
+
+  inside_tells : Tells z (x ∷ p) (inside Q (take 2 (listed Q false [] z)))
+  inside_tells = by (listed Q false [] z) refl
+    where
+      by : (l : List PageEntry) → listed Q false [] z ≡ l → Tells z (x ∷ p) (inside Q (take 2 l))
+      by [] e = none_listed x (marker_of p) z e
+      by (e ∷ []) h = one e h (text_eq (text_in e) Q) refl
+      by (e ∷ f ∷ es) h = two e f es h
+
+-- ---- stages
+
+some_marker : (u k : List ℕ) → marker_if u ≡ Some k → marker_of u ≡ k
+some_marker [] k h = absurd (cc)
+some_marker (x ∷ u) k h = cc
+
+pub parent_page : (u k : List ℕ) (m : Objects) → marker_if u ≡ Some k → IsSeen (look_of (page 1 (listed k false [] m))) (SomeBelow m k) (NoneBelow m k)
+parent_page [] k m h = absurd (cc)
+parent_page (x ∷ u) k m h = subst (λ k. IsSeen (look_of (page 1 (listed k false [] m))) (SomeBelow m k) (NoneBelow m k)) (some_marker (x ∷ u) k h) (page_tells x (marker_of u) m)
+
+module _ (recursive : Bool) (z : Objects) where
+  abbrev D : List ℕ → Deletion
+  D p = record { path = p; recursive = recursive }
+
+  abbrev On : List ℕ → Step DeleteStage Answer → Objects → Type 0
+  On p y m = Goes (holds (D p) z) (ends (D p) z) y m
+
+  upward : (p : List ℕ) (m : Objects) → Removed (D p) z m → On p (up (D p)) m
+  upward p m h = by (marker_if (parent p)) refl
+    where
+      by : (u : Option (List ℕ)) → marker_if (parent p) ≡ u → On p (up_to u) m
+      by None e = (m, h, subst (λ u. IsMarked u m m) (sym e) refl)
+      by (Some k) e = (e, h)
+
+  here : (x : ℕ) (p : List ℕ) (l : Look) → IsSeen l (Stands z (x ∷ p)) (fin.get z (x ∷ p) ≡ None) → On (x ∷ p) (here_at l) z
+  here x p NoBucket h = absurd h
+  here x p Other h = absurd h
+  here x p _ h = (h, refl)
+
+  some_inside : (p : List ℕ) → HasChildren z p → SomeBelow z (marker_of p)
+  some_inside p h = (h.0, h.1, h.3, h.4)
+
+  below_children : (b : Bool) → recursive ≡ b → (x : ℕ) (p : List ℕ) → fin.get z (x ∷ p) ≡ None → HasChildren z (x ∷ p) → On (x ∷ p) (children b) z
+  below_children true e x p f h = (f, some_inside (x ∷ p) h, e, sweep_begins (marker_of (x ∷ p)) z)
+  below_children false e x p f h = (e, f, h, refl)
+
+  below : (x : ℕ) (p : List ℕ) (i : Inside) → fin.get z (x ∷ p) ≡ None → Tells z (x ∷ p) i → On (x ∷ p) (on_inside recursive i) z
+  below x p Empty f h = ((f, h), refl)
+  below x p MarkerAlone f h = (f, h, refl)
+  below x p Children f h = below_children recursive refl x p f h
+
+  drop_marker : (x : ℕ) (p : List ℕ) → fin.get z (x ∷ p) ≡ None → IsEmpty z (x ∷ p) → Removed (D (x ∷ p)) z (fin.remove z (marker_of (x ∷ p)))
+  drop_marker x p f h =
+      inr (f, (marker_of (x ∷ p), begins_all (marker_of (x ∷ p)), h.0.0, h.0.1), λ _. h, record { gone = gone; others = others })
+    where
+      gone : (k : List ℕ) → begins (marker_of (x ∷ p)) k ≡ true → fin.get (fin.remove z (marker_of (x ∷ p))) k ≡ None
+      gone k b = by (same_or_other k (marker_of (x ∷ p)))
+        where
+          by : (k ≡ marker_of (x ∷ p)) ⊎ (k ≡ marker_of (x ∷ p) → ⊥) → fin.get (fin.remove z (marker_of (x ∷ p))) k ≡ None
+          by (inl e) = text_gone z (marker_of (x ∷ p)) k e
+          by (inr n) = text_left z (marker_of (x ∷ p)) k n ∙ h.1 k b n
+
+      others : (k : List ℕ) → begins (marker_of (x ∷ p)) k ≡ false → fin.get (fin.remove z (marker_of (x ∷ p))) k ≡ fin.get z k
+      others k b = text_left z (marker_of (x ∷ p)) k (λ e. false≢true (sym b ∙ ap (begins (marker_of (x ∷ p))) e ∙ begins_all (marker_of (x ∷ p))))
+
+  not_so : recursive ≡ true → recursive ≡ false → ⊥
+  not_so e f = false≢true (sym f ∙ e)
+
+  after_sweep : (x : ℕ) (p : List ℕ) (m : Objects) (w : Option walks.Sweep) → fin.get z (x ∷ p) ≡ None → SomeBelow z (marker_of (x ∷ p)) → recursive ≡ true → IsSwept (marker_of (x ∷ p)) z w m → On (x ∷ p) (swept (D (x ∷ p)) w) m
+  after_sweep x p m (Some w) f s e h = (f, s, e, h)
+  after_sweep x p m None f s e h =
+      upward (x ∷ p) m (inr (f, s, λ g. absurd (not_so e g), subst (IsWithoutBelow (marker_of (x ∷ p)) z) (sym h) (without_below x (marker_of p) z)))
+
+  sweeping : (x : ℕ) (p : List ℕ) (w : walks.Sweep) (m : Objects) → fin.get z (x ∷ p) ≡ None → SomeBelow z (marker_of (x ∷ p)) → recursive ≡ true → IsSweeping (marker_of (x ∷ p)) z w m
+      → On (x ∷ p) (on_sweep (D (x ∷ p)) w (reply_in m (sweep_asks (marker_of (x ∷ p)) w)) (fits (reply_in m (sweep_asks (marker_of (x ∷ p)) w)))) (edited (sweep_asks (marker_of (x ∷ p)) w) m)
+  sweeping x p w m f s e h =
+      subst (λ b. On (x ∷ p) (on_sweep (D (x ∷ p)) w (reply_in m (sweep_asks (marker_of (x ∷ p)) w)) b) (edited (sweep_asks (marker_of (x ∷ p)) w) m)) (sym (sweep_fits (marker_of (x ∷ p)) w m))
+      (after_sweep x p (edited (sweep_asks (marker_of (x ∷ p)) w) m) (sweep_hears all_go w (reply_in m (sweep_asks (marker_of (x ∷ p)) w))) f s e (sweep_goes (marker_of (x ∷ p)) z w m h))
+
+  parent_seen : (p k : List ℕ) (m : Objects) (l : Look) → marker_if (parent p) ≡ Some k → Removed (D p) z m → IsSeen l (SomeBelow m k) (NoneBelow m k) → On p (on_parent k l) m
+  parent_seen p k m There e h s = (m, h, subst (λ u. IsMarked u m m) (sym e) (inl (s, refl)))
+  parent_seen p k m Nothing e h s = (e, h, s)
+  parent_seen p k m _ e h s = absurd s
+
+  -- the reply that is due leads on
+  step : (p : List ℕ) (x : DeleteStage) (m : Objects) → holds (D p) z x m → On p (on (D p) x (reply_in m (asks (D p) x))) (edited (asks (D p) x) m)
+  step [] Here m h = (refl, h)
+  step (x ∷ p) Here m h = subst (λ m. On (x ∷ p) (here_at (look_of (head (fin.get m (x ∷ p))))) m) (sym h) (here x p (look_of (head (fin.get z (x ∷ p)))) (head_tells z (x ∷ p)))
+  step [] DropFile m h = absurd h.0.1
+  step (x ∷ p) DropFile m h = upward (x ∷ p) (fin.remove m (x ∷ p)) (inl (h.0, ap (λ m. fin.remove m (x ∷ p)) h.1))
+  step [] Below m h = absurd h.0
+  step (x ∷ p) Below m h =
+      subst (λ m. On (x ∷ p) (on_inside recursive (inside (marker_of (x ∷ p)) (take 2 (listed (marker_of (x ∷ p)) false [] m)))) m) (sym h.1)
+      (below x p (inside (marker_of (x ∷ p)) (take 2 (listed (marker_of (x ∷ p)) false [] z))) h.0 (inside_tells z x p))
+  step [] DropMarker m h = absurd h.0
+  step (x ∷ p) DropMarker m h =
+      subst (λ m. On (x ∷ p) (up (D (x ∷ p))) (fin.remove m (marker_of (x ∷ p)))) (sym h.2)
+      (upward (x ∷ p) (fin.remove z (marker_of (x ∷ p))) (drop_marker x p h.0 h.1))
+  step [] (Sweep w) m h = absurd h.0
+  step (x ∷ p) (Sweep w) m h = sweeping x p w m h.0 h.1 h.2 h.3
+  step p (Parent k) m h = parent_seen p k m (look_of (page 1 (listed k false [] m))) h.0 h.1 (parent_page (parent p) k m h.0)
+  step p (PutMarker k) m h = (m, h.1, subst (λ u. IsMarked u m (fin.insert m k marker)) (sym h.0) (inr (h.2, refl)))
+
+-- ---- there is something to delete
+
+due_empty : (recursive : Bool) (p : List ℕ) (z : Objects) → NoFileAt z p → IsEmpty z p → IsDue (record { path = p; recursive = recursive }) z
+due_empty recursive [] z f h = absurd f
+due_empty recursive (x ∷ p) z f h = inr (f, (marker_of (x ∷ p), begins_all (marker_of (x ∷ p)), h.0.0, h.0.1), λ _. h)
+
+due_removed : (o : Deletion) (z m : Objects) → Removed o z m → IsDue o z
+due_removed o z m (inl h) = inl h.0
+due_removed o z m (inr h) = inr (h.0, h.1, h.2)
+
+-- ---- at any moment
+
+module _ (o : Deletion) (z : Objects) where
+  abbrev Gone : Objects → List ℕ → Type 0
+  Gone m k = (fin.get m k ≡ fin.get z k) ⊎ ((fin.get m k ≡ None) × GoesWith o z k)
+
+  as_kept : (m : Objects) (k : List ℕ) → Gone m k → IsKept o z m k
+  as_kept m k (inl e) = inl e
+  as_kept m k (inr h) = inr (inl h)
+
+  gone_below : (ks : List (List ℕ)) → NoFileAt z o.path → ((k : List ℕ) → IsIn k ks → begins (prefix_of o.path) k ≡ true) → (k : List ℕ) → Gone (without z ks) k
+  gone_below ks free b k = by (is_in k ks)
+    where
+      by : IsIn k ks ⊎ (IsIn k ks → ⊥) → Gone (without z ks) k
+      by (inl h) = inr (gone_in z ks k h, inr (free, b k h))
+      by (inr g) = inl (kept_out z ks k g)
+
+  gone_swept : (w : walks.Sweep) (m : Objects) → NoFileAt z o.path → IsSweeping (prefix_of o.path) z w m → (k : List ℕ) → Gone m k
+  gone_swept (Listing keys) m free h k = inl (ap (λ m. fin.get m k) h.0)
+  gone_swept (Deleting q qs) m free h k =
+      subst (λ m. Gone m k) (sym h.2)
+      (gone_below h.0 free (λ k i. (below_stands (prefix_of o.path) z k (subst (IsIn k) h.1 (in_front k h.0 (q ∷ qs) i))).0) k)
+
+  gone_removed : (n : Objects) → Removed o z n → (k : List ℕ) → Gone n k
+  gone_removed n (inl h) k = subst (λ m. Gone m k) (sym h.1) (by (same_or_other k o.path))
+    where
+      by : (k ≡ o.path) ⊎ (k ≡ o.path → ⊥) → Gone (fin.remove z o.path) k
+      by (inl e) = inr (text_gone z o.path k e, inl (h.0, e))
+      by (inr g) = inl (text_left z o.path k g)
+  gone_removed n (inr h) k = by (true_or_false (begins (prefix_of o.path) k))
+    where
+      by : (begins (prefix_of o.path) k ≡ true) ⊎ (begins (prefix_of o.path) k ≡ false) → Gone n k
+      by (inl t) = inr (h.3.gone k t, inr (h.0, t))
+      by (inr f) = inl (h.3.others k f)
+
+  kept_marked : (q : List ℕ) (n : Objects) → marker_if (parent o.path) ≡ Some q → ((k : List ℕ) → Gone n k) → (k : List ℕ) → IsKept o z (fin.insert n q marker) k
+  kept_marked q n e h k = by (same_or_other k q)
+    where
+      old : fin.get (fin.insert n q marker) k ≡ fin.get n k → Gone n k → IsKept o z (fin.insert n q marker) k
+      old s (inl g) = inl (s ∙ g)
+      old s (inr g) = inr (inl (s ∙ g.0, g.1))
+
+      by : (k ≡ q) ⊎ (k ≡ q → ⊥) → IsKept o z (fin.insert n q marker) k
+      by (inl i) = inr (inr (e ∙ ap Some (sym i), text_here n q k marker i))
+      by (inr i) = old (text_other n q k marker i) (h k)
+
+  during : (x : DeleteStage) (m : Objects) → holds o z x m → always o z m
+  during Here m h = inl h
+  during DropMarker m h = inl h.2
+  during (Sweep w) m h = inr (inr (h.0, h.1, λ e. absurd (false≢true (sym e ∙ h.2))), λ k. as_kept m k (gone_swept w m h.0 h.3 k))
+  during (Parent q) m h = inr (due_removed o z m h.1, λ k. as_kept m k (gone_removed m h.1 k))
+  during (PutMarker q) m h = inr (due_removed o z m h.1, λ k. as_kept m k (gone_removed m h.1 k))
+  during _ m h = inl h.1
+
+  marked_end : (q : Option (List ℕ)) (n m : Objects) → marker_if (parent o.path) ≡ q → Removed o z n → IsMarked q n m → (k : List ℕ) → IsKept o z m k
+  marked_end None n m e h g k = subst (λ m. IsKept o z m k) (sym g) (as_kept n k (gone_removed n h k))
+  marked_end (Some q) n m e h (inl g) k = subst (λ m. IsKept o z m k) (sym g.1) (as_kept n k (gone_removed n h k))
+  marked_end (Some q) n m e h (inr g) k = subst (λ m. IsKept o z m k) (sym g.1) (kept_marked q n e (gone_removed n h) k)
+
+  at_end : (a : Answer) (m : Objects) → ends o z a m → always o z m
+  at_end (Ok x) m h = inr (due_removed o z h.0 h.1, marked_end (marker_if (parent o.path)) h.0 m refl h.1 h.2)
+  at_end (Err IsRoot) m h = inl h.1
+  at_end (Err NotFound) m h = inl h.1
+  at_end (Err NotEmpty) m h = inl h.3
+  at_end (Err r) m h = absurd h
+
+  -- ---- what is left
+
+  fall_up : (u : Option (List ℕ)) (m : Objects) (n : ℕ) → 1 < n → Falls (left o) (up_to u) m n
+  fall_up None m n h = tt
+  fall_up (Some k) m n h = h
+
+  fall_here : (l : Look) (m : Objects) → Falls (left o) (here_at l) m (sweep_left (prefix_of o.path) sweep_start m + 4)
+  fall_here There m = omega arith
+  fall_here _ m = omega arith
+
+  fall_root : (p : List ℕ) (l : Look) (m : Objects) → Falls (left o) (on_here p l) m (sweep_left (prefix_of o.path) sweep_start m + 4)
+  fall_root [] l m = tt
+  fall_root (x ∷ p) l m = fall_here l m
+
+  fall_children : (b : Bool) (m : Objects) → Falls (left o) (children b) m (sweep_left (prefix_of o.path) sweep_start m + 3)
+  fall_children true m = omega arith
+  fall_children false m = tt
+
+  fall_inside : (i : Inside) (m : Objects) → Falls (left o) (on_inside o.recursive i) m (sweep_left (prefix_of o.path) sweep_start m + 3)
+  fall_inside Empty m = tt
+  fall_inside MarkerAlone m = omega arith
+  fall_inside Children m = fall_children o.recursive m
+
+  fall_swept : (w : Option walks.Sweep) (m : Objects) (n : ℕ) → LessLeft (prefix_of o.path) m w n → Falls (left o) (swept o w) m (n + 2)
+  fall_swept (Some w) m n h = omega (arith, h)
+  fall_swept None m n h = fall_up (marker_if (parent o.path)) m (n + 2) (omega (arith, h))
+
+  fall_parent : (k : List ℕ) (l : Look) (m : Objects) → Falls (left o) (on_parent k l) m 1
+  fall_parent k There m = tt
+  fall_parent k _ m = omega arith
+
+falls_sweep : (o : Deletion) (w : walks.Sweep) (m : Objects) → Falls (left o) (on_sweep o w (reply_in m (sweep_asks (prefix_of o.path) w)) (fits (reply_in m (sweep_asks (prefix_of o.path) w)))) (edited (sweep_asks (prefix_of o.path) w) m) (sweep_left (prefix_of o.path) w m + 2)
+falls_sweep o w m =
+    subst (λ b. Falls (left o) (on_sweep o w (reply_in m (sweep_asks (prefix_of o.path) w)) b) (edited (sweep_asks (prefix_of o.path) w) m) (sweep_left (prefix_of o.path) w m + 2)) (sym (sweep_fits (prefix_of o.path) w m))
+    (fall_swept o m (sweep_hears all_go w (reply_in m (sweep_asks (prefix_of o.path) w))) (edited (sweep_asks (prefix_of o.path) w) m) (sweep_left (prefix_of o.path) w m) (sweep_falls (prefix_of o.path) w m))
+
+still_look : (p : List ℕ) (m : Objects) → edited (asks (record { path = p; recursive = false }) Here) m ≡ m
+still_look [] m = refl
+still_look (x ∷ p) m = refl
+
+falls : (o : Deletion) (z : Objects) (x : DeleteStage) (m : Objects) → Falls (left o) (on o x (reply_in m (asks o x))) (edited (asks o x) m) (left o x m)
+falls o z Here m =
+    subst (λ n. Falls (left o) (on_here o.path (look_of (reply_in m (asks o Here)))) n (left o Here m)) (sym (still_look o.path m))
+    (fall_root o z o.path (look_of (reply_in m (asks o Here))) m)
+falls o z DropFile m = fall_up o z (marker_if (parent o.path)) (edited (asks o DropFile) m) 2 (omega arith)
+falls o z Below m = fall_inside o z (inside (prefix_of o.path) (entries_in (reply_in m (asks o Below)))) m
+falls o z DropMarker m = fall_up o z (marker_if (parent o.path)) (edited (asks o DropMarker) m) 2 (omega arith)
+falls o z (Sweep w) m = falls_sweep o w m
+falls o z (Parent k) m = fall_parent o z k (look_of (reply_in m (asks o (Parent k)))) m
+falls o z (PutMarker k) m = tt
+
+stays_here : (p : List ℕ) (m : Objects) → sweep_left (prefix_of p) sweep_start (edited (look_asks p) m) + 4 ≡ sweep_left (prefix_of p) sweep_start m + 4
+stays_here [] m = refl
+stays_here (x ∷ p) m = refl
+
+stays : (o : Deletion) (x : DeleteStage) (m : Objects) → left o x (edited (asks o x) m) ≡ left o x m
+stays o Here m = stays_here o.path m
+stays o (Sweep w) m = ap (λ n. n + 2) (sweep_stays (prefix_of o.path) w m)
+stays o _ m = refl
+
+goes : (o : Deletion) (z : Objects) (y : Step DeleteStage Answer) (m : Objects) → Goes (holds o z) (ends o z) y m → Goes (holds o z) (gives o z) y m
+goes o z (Next x) m h = h
+goes o z (End a) m h = (λ k. deletes o.recursive o.path z a m k h, at_end o z a m h)
+
+stages : IsStages {O = Deletion} first asks on holds gives always left
+stages = record {
+  begin = λ o z. refl;
+  goes_on = λ o z x m h. goes o z (on o x (reply_in m (asks o x))) (edited (asks o x) m) (step o.recursive z o.path x m h);
+  falls = λ o z x m h. falls o z x m;
+  stays = λ o z x m h. stays o x m;
+  during = λ o z x m h. during o z x m h;
+  at_end = λ o z a m h. h.1;
+}
+
+pub delete_laws : IsPhases {O = Deletion} first asks (goes_by on) holds gives always left (Err NoSuchBucket)
+delete_laws = phases_of stages
+
+-- ---- what is asked
+
+pub delete_asked : MayAsk {O = Deletion} asks holds sends
+delete_asked o z Here m h = inl (looks_there o.path)
+delete_asked o z DropFile m h = inr (inl h.0)
+delete_asked o z DropMarker m h = inr (due_empty o.recursive o.path z h.0 h.1)
+delete_asked o z (Sweep w) m h = inr (inr (h.0, h.1, λ e. absurd (false≢true (sym e ∙ h.2))))
+delete_asked o z (PutMarker k) m h = inr (due_removed o z m h.1)
+delete_asked o z _ m h = inl refl

@@ -1,0 +1,61 @@
+-- What looks tell where there is the bucket.
+use Rattle.std.specs.Prelude.{◌≡◌, ℕ, true, false, List, [], ◌∷◌, Option, Some, None, take, map}
+use Rattle.std.proofs.Common.{refl, sym, subst, inl}
+use Rattle.std.specs.FinMap as fin
+use Rattle.std.specs.Ordering.{is_lt}
+use Rattle.proof_base.specs.Order.{text_cmp}
+use Rattle.s3_types.specs.Store.{Objects}
+use Rattle.s3_types.specs.Pages.{begins, page, listed, text_in}
+use Rattle.s3_types.specs.Answer.{head}
+use Rattle.s3_types.specs.declared.object.Object.{Object}
+use Rattle.s3_types.specs.declared.reply.PageEntry.{PageEntry}
+use Rattle.request_frame.specs.Members.{IsIn}
+use Rattle.request_frame.proofs.Flat.{listed_all, page_begins}
+use Rattle.bucket_ops.specs.declared.look.Look.{Look}
+use Rattle.bucket_ops.specs.declared.look.Look.TheVariants.{There, Nothing}
+use Rattle.bucket_ops.specs.Looks.{look_of}
+use Rattle.fs_tree.specs.Tree.{Stands, SomeBelow, NoneBelow}
+
+-- what a look says is so
+abbrev pub IsSeen : Look → Type 0 → Type 0 → Type 0
+IsSeen There there nothing = there
+IsSeen Nothing there nothing = nothing
+IsSeen _ there nothing = ⊥
+
+-- ---- a look at a key
+
+seen_key : (o : Option Object) → IsSeen (look_of (head o)) ((v : Object) × (o ≡ Some v)) (o ≡ None)
+seen_key None = refl
+seen_key (Some v) = (v, refl)
+
+-- it tells whether an object stands there
+pub head_tells : (m : Objects) (k : List ℕ) → IsSeen (look_of (head (fin.get m k))) (Stands m k) (fin.get m k ≡ None)
+head_tells m k = seen_key (fin.get m k)
+
+-- ---- a look below a prefix that is not empty
+
+-- where nothing is listed nothing stands
+pub none_listed : (x : ℕ) (q : List ℕ) (m : Objects) → listed (x ∷ q) false [] m ≡ [] → NoneBelow m (x ∷ q)
+none_listed x q m e k b = by k b (fin.get m k) refl
+  where
+    stands : (k : List ℕ) → begins (x ∷ q) k ≡ true → (o : Object) → fin.get m k ≡ Some o → is_lt (text_cmp [] k) ≡ true → IsIn k (map text_in (listed (x ∷ q) false [] m))
+    stands k b o f l = listed_all (x ∷ q) [] m k o f b l
+
+    by : (k : List ℕ) → begins (x ∷ q) k ≡ true → (o : Option Object) → fin.get m k ≡ o → fin.get m k ≡ None
+    by k b None f = f
+    by [] b (Some o) f = absurd (cc)
+    by (y ∷ k) b (Some o) f = absurd (subst (λ l. IsIn (y ∷ k) (map text_in l)) e (stands (y ∷ k) b o f refl))
+
+-- what is listed first stands below
+pub first_listed : (q : List ℕ) (m : Objects) (e : PageEntry) (es : List PageEntry) → listed q false [] m ≡ e ∷ es → SomeBelow m q
+first_listed q m e es h =
+    let w = page_begins 1 q [] (text_in e) m (subst (λ l. IsIn (text_in e) (map text_in (take 1 l))) (sym h) (inl refl)) in
+    (text_in e, w.0, w.1.0, w.1.1)
+
+-- it tells whether a key stands there
+pub page_tells : (x : ℕ) (q : List ℕ) (m : Objects) → IsSeen (look_of (page 1 (listed (x ∷ q) false [] m))) (SomeBelow m (x ∷ q)) (NoneBelow m (x ∷ q))
+page_tells x q m = by (listed (x ∷ q) false [] m) refl
+  where
+    by : (l : List PageEntry) → listed (x ∷ q) false [] m ≡ l → IsSeen (look_of (page 1 l)) (SomeBelow m (x ∷ q)) (NoneBelow m (x ∷ q))
+    by [] e = none_listed x q m e
+    by (y ∷ l) e = first_listed (x ∷ q) m y l e

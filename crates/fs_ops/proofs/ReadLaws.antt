@@ -1,0 +1,46 @@
+-- The bytes of a file are a question at its path.
+use Rattle.std.specs.Prelude.{◌≡◌, ℕ, List, [], ◌∷◌, Ok, Err, Option, Some, None}
+use Rattle.std.proofs.Common.{refl}
+use Rattle.std.specs.FinMap as fin
+use Rattle.s3_types.specs.Store.{Objects}
+use Rattle.s3_types.specs.Answer.{found}
+use Rattle.s3_types.specs.declared.object.Object.{Object}
+use Rattle.operations.specs.Plans.{Goes}
+use Rattle.bucket_ops.specs.Asks.{edited}
+use Rattle.bucket_ops.specs.Phases.{IsPhases, MayAsk}
+use Rattle.fs_tree.specs.declared.answers.FsRefusal.TheVariants.{NotFound, NoSuchBucket, IsDirectory}
+use Rattle.fs_tree.specs.Answers.{Reads}
+use Rattle.fs_ops.specs.Places.{get_asks}
+use Rattle.fs_ops.specs.code.Steps.{goes_by, IsStill, OnlyLooks}
+use Rattle.fs_ops.specs.code.AtPath.{first, told, holds, left}
+use Rattle.fs_ops.proofs.AtPathLaws.{IsQuestion, question_laws, question_asked, gets_there}
+use Rattle.fs_ops.specs.code.Read.{Answer, asks, bytes_in, on}
+
+nothing_edited : (p : List ℕ) (z : Objects) → edited (get_asks p) z ≡ z
+nothing_edited [] z = refl
+nothing_edited (x ∷ p) z = refl
+
+bytes_here : (x : ℕ) (p : List ℕ) (z : Objects) (v : Option Object) → fin.get z (x ∷ p) ≡ v → Goes (holds (x ∷ p) z) (Reads (x ∷ p) z) (told (bytes_in (found v))) z
+bytes_here x p z None e = (refl, e)
+bytes_here x p z (Some v) e = ((v, e, refl), refl)
+
+nothing_changed : (p : List ℕ) (z : Objects) (a : Answer) (m : Objects) → Reads p z a m → m ≡ z
+nothing_changed p z (Ok s) m h = h.1
+nothing_changed p z (Err NotFound) m h = h.1
+nothing_changed p z (Err IsDirectory) m h = h.1
+nothing_changed p z (Err r) m h = absurd h
+
+question : IsQuestion get_asks bytes_in (Err IsDirectory) Reads
+question = record {
+  still = nothing_edited;
+  here = λ x p z. bytes_here x p z (fin.get z (x ∷ p)) refl;
+  found = λ p z h. (h, refl);
+  missing = λ p z h. (h, refl);
+  at_end = nothing_changed;
+}
+
+pub read_laws : IsPhases {O = List ℕ} first asks (goes_by on) holds Reads IsStill left (Err NoSuchBucket)
+read_laws = question_laws question
+
+pub read_asked : MayAsk {O = List ℕ} asks holds OnlyLooks
+read_asked = question_asked get_asks gets_there

@@ -1,0 +1,132 @@
+-- What a directory holds, by its stages.
+use Rattle.std.specs.Prelude.{◌≡◌, ◌⊎◌, ℕ, ◌+◌, ◌&&◌, nat_eq, Bool, true, false, List, [], ◌∷◌, ◌++◌, take_while, reverse, drop, length, Result, Ok, Err, Option, Some, None, if◌then◌else◌}
+use Rattle.std.specs.List.{starts_with, list_any}
+use Rattle.proof_base.specs.Order.{text_eq}
+use Rattle.words.specs.Parts.{parts_of}
+use Rattle.s3_types.specs.Store.{Objects}
+use Rattle.s3_types.specs.Pages.{begins, listed, text_in}
+use Rattle.s3_types.specs.declared.reply.PageEntry.{PageEntry}
+use Rattle.s3_types.specs.declared.reply.PageEntry.TheVariants.{Object as Single, Prefix}
+use Rattle.s3_types.specs.declared.reply.Reply.{Reply}
+use Rattle.s3_types.specs.declared.reply.Reply.TheVariants.{Page as APage}
+use Rattle.operations.specs.declared.plan.Step.{Step}
+use Rattle.operations.specs.declared.plan.Step.TheVariants.{Next, End}
+use Rattle.bucket_ops.specs.Asks.{Ask, Page}
+use Rattle.dir_markers.specs.declared.status.Status.{Status}
+use Rattle.dir_markers.specs.declared.status.Status.TheVariants.{Directory, File}
+use Rattle.fs_tree.specs.declared.answers.DirEntry.{DirEntry}
+use Rattle.fs_tree.specs.declared.answers.FsRefusal.{FsRefusal}
+use Rattle.fs_tree.specs.declared.answers.FsRefusal.TheVariants.{NotFound}
+use Rattle.fs_tree.specs.Tree.{NoFile, HasDir}
+use Rattle.fs_tree.specs.Changes.{own_name}
+use Rattle.fs_ops.specs.declared.list.ListStage.{ListStage}
+use Rattle.fs_ops.specs.declared.list.ListStage.TheVariants.{Here, Pages}
+use Rattle.fs_ops.specs.Places.{look_asks, prefix_of}
+use Rattle.fs_ops.specs.code.Stat.{length_in}
+use Rattle.fs_ops.specs.code.Delete.{entries_in}
+
+abbrev pub Answer : Type 0
+Answer = Result (List DirEntry) FsRefusal
+
+-- ---- the children that an entry shows
+
+-- what stands behind a prefix in a text that begins so
+abbrev pub rest_of : List ℕ → List ℕ → Option (List ℕ)
+rest_of q t = if starts_with nat_eq t q then Some (drop (length q) t) else None
+
+abbrev pub is_file : Status → Bool
+is_file Directory = false
+is_file (File n) = true
+
+abbrev pub is_file_named : List ℕ → DirEntry → Bool
+is_file_named n e = is_file e.status && text_eq e.name n
+
+-- a file of this name was found, which is one of the last that begin with the name
+abbrev pub has_file : List DirEntry → List ℕ → Bool
+has_file found n = list_any (is_file_named n) (take_while (λ e. begins n e.name) (reverse found))
+
+-- a file; the key that is the prefix itself is the directory's own marker
+abbrev pub file_by : Option (List ℕ) → ℕ → Option DirEntry
+file_by None n = None
+file_by (Some []) n = None
+file_by (Some (x ∷ r)) n = Some (record { name = x ∷ r; status = File n })
+
+-- the first part of a text
+abbrev pub first_of : List (List ℕ) → List ℕ
+first_of [] = []
+first_of (p ∷ ps) = p
+
+abbrev pub dir_named : Bool → List ℕ → Option DirEntry
+dir_named true n = None
+dir_named false n = Some (record { name = n; status = Directory })
+
+-- a directory, unless it is a file too
+abbrev pub dir_by : List DirEntry → Option (List ℕ) → Option DirEntry
+dir_by found None = None
+dir_by found (Some r) = dir_named (has_file found (first_of (parts_of 47 r))) (first_of (parts_of 47 r))
+
+abbrev pub shown : List ℕ → List DirEntry → PageEntry → Option DirEntry
+shown q found (Single k n) = file_by (rest_of q k) n
+shown q found (Prefix t) = dir_by found (rest_of q t)
+
+abbrev pub added : List DirEntry → Option DirEntry → List DirEntry
+added found None = found
+added found (Some e) = found ++ e ∷ []
+
+-- what was found, with the children that these entries show
+abbrev pub all_added : List ℕ → List DirEntry → List PageEntry → List DirEntry
+all_added q found [] = found
+all_added q found (e ∷ es) = all_added q (added found (shown q found e)) es
+
+-- the text of the last entry, or the mark before it
+abbrev pub last_text : List ℕ → List PageEntry → List ℕ
+last_text mark [] = mark
+last_text mark (e ∷ es) = last_text (text_in e) es
+
+-- ---- the stages
+
+-- the root is listed at once
+abbrev pub first : List ℕ → ListStage
+first [] = Pages [] []
+first (x ∷ p) = Here
+
+abbrev pub asks : List ℕ → ListStage → Ask
+asks o Here = look_asks o
+asks o (Pages found mark) = Page (prefix_of o) true mark 1000
+
+abbrev pub told : List ℕ → Option ℕ → Step ListStage Answer
+told p (Some n) = End (Ok (record { name = own_name p; status = File n } ∷ []))
+told p None = Next (Pages [] [])
+
+abbrev pub more_in : Reply → Bool
+more_in (APage es more) = more
+more_in _ = false
+
+-- where nothing was listed there is no directory, unless it is the root
+abbrev pub whole : List ℕ → List DirEntry → List ℕ → Step ListStage Answer
+whole [] found mark = End (Ok found)
+whole (x ∷ p) found [] = End (Err NotFound)
+whole (x ∷ p) found (y ∷ mark) = End (Ok found)
+
+abbrev pub paged : List ℕ → Bool → List DirEntry → List ℕ → Step ListStage Answer
+paged o true found mark = Next (Pages found mark)
+paged o false found mark = whole o found mark
+
+abbrev pub on : List ℕ → ListStage → Reply → Step ListStage Answer
+on o Here r = told o (length_in r)
+on o (Pages found mark) r = paged o (more_in r) (all_added (prefix_of o) found (entries_in r)) (last_text mark (entries_in r))
+
+-- ---- what holds
+
+-- the children of a directory by its listing
+abbrev pub children : List ℕ → Objects → List DirEntry
+children q z = all_added q [] (listed q true [] z)
+
+-- no file stands at the path; what was found and what is left are all, and something was listed before a mark
+abbrev pub holds : List ℕ → Objects → ListStage → Objects → Type 0
+holds o z Here m = m ≡ z
+holds o z (Pages found mark) m = (m ≡ z) × NoFile z o × ((mark ≡ []) ⊎ HasDir z o) × (all_added (prefix_of o) found (listed (prefix_of o) true mark z) ≡ children (prefix_of o) z)
+
+abbrev pub left : List ℕ → ListStage → Objects → ℕ
+left o Here m = 1 + length (listed (prefix_of o) true [] m)
+left o (Pages found mark) m = length (listed (prefix_of o) true mark m)

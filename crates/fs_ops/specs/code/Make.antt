@@ -1,0 +1,79 @@
+-- Making a directory, by its stages.
+use Rattle.std.specs.Prelude.{◌≡◌, ◌⊎◌, ℕ, ◌+◌, true, List, [], ◌∷◌, Result, Ok, Err, length}
+use Rattle.std.specs.FinMap as fin
+use Rattle.s3_types.specs.Store.{Objects}
+use Rattle.s3_types.specs.declared.reply.Reply.{Reply}
+use Rattle.operations.specs.declared.plan.Step.{Step}
+use Rattle.operations.specs.declared.plan.Step.TheVariants.{Next, End}
+use Rattle.bucket_ops.specs.declared.look.Look.{Look}
+use Rattle.bucket_ops.specs.declared.look.Look.TheVariants.{There}
+use Rattle.bucket_ops.specs.Looks.{look_of}
+use Rattle.bucket_ops.specs.Asks.{Ask, Head, is_look}
+use Rattle.dir_markers.specs.Markers.{marker_of, keys_above}
+use Rattle.fs_tree.specs.declared.answers.FsRefusal.{FsRefusal}
+use Rattle.fs_tree.specs.declared.answers.FsRefusal.TheVariants.{AlreadyExists, NotDirectory}
+use Rattle.fs_tree.specs.Tree.{marker, IsAbsent, NoFiles}
+use Rattle.fs_ops.specs.declared.climb.Climbed.{Climbed}
+use Rattle.fs_ops.specs.declared.climb.Climbed.TheVariants.{File, On, Free}
+use Rattle.fs_ops.specs.code.Climbs.{climbing, climbed, IsClimb}
+use Rattle.fs_ops.specs.declared.make_dirs.MakeStage.{MakeStage}
+use Rattle.fs_ops.specs.declared.make_dirs.MakeStage.TheVariants.{Here, Below, Up, PutMarker}
+use Rattle.fs_ops.specs.Places.{look_asks, below_asks, put_marker_asks, NoFileAt}
+
+abbrev pub Answer : Type 0
+Answer = Result (Unit {0}) FsRefusal
+
+abbrev pub first : List ℕ → MakeStage
+first o = Here
+
+abbrev pub asks : List ℕ → MakeStage → Ask
+asks o Here = look_asks o
+asks o Below = below_asks o 1
+asks o (Up c) = Head c.first
+asks o PutMarker = put_marker_asks o
+
+-- the directories above are looked at one by one, and then the marker is put
+abbrev pub on_climb : Climbed → Step MakeStage Answer
+on_climb (File k) = End (Err (NotDirectory k))
+on_climb (On c) = Next (Up c)
+on_climb Free = Next PutMarker
+
+abbrev pub here : Look → Step MakeStage Answer
+here There = End (Err AlreadyExists)
+here _ = Next Below
+
+abbrev pub on_here : List ℕ → Look → Step MakeStage Answer
+on_here [] l = End (Ok tt)
+on_here (x ∷ p) l = here l
+
+abbrev pub on_below : List ℕ → Look → Step MakeStage Answer
+on_below o There = End (Ok tt)
+on_below o _ = on_climb (climbing (keys_above o))
+
+abbrev pub on : List ℕ → MakeStage → Reply → Step MakeStage Answer
+on o Here r = on_here o (look_of r)
+on o Below r = on_below o (look_of r)
+on o (Up c) r = on_climb (climbed c (look_of r))
+on o PutMarker r = End (Ok tt)
+
+-- ---- what holds
+
+abbrev pub holds : List ℕ → Objects → MakeStage → Objects → Type 0
+holds o z Here m = m ≡ z
+holds o z Below m = (m ≡ z) × NoFileAt z o
+holds o z (Up c) m = (m ≡ z) × IsAbsent z o × IsClimb z (keys_above o) c
+holds o z PutMarker m = (m ≡ z) × IsAbsent z o × NoFiles z (keys_above o)
+
+-- at any moment all is as it was, or the marker was put where it was due
+abbrev pub always : List ℕ → Objects → Objects → Type 0
+always o z m = (m ≡ z) ⊎ (IsAbsent z o × NoFiles z (keys_above o) × (m ≡ fin.insert z (marker_of o) marker))
+
+-- it looks, or puts the marker where it is due
+abbrev pub sends : List ℕ → Objects → Ask → Type 0
+sends o z a = (is_look a ≡ true) ⊎ (IsAbsent z o × NoFiles z (keys_above o) × (a ≡ put_marker_asks o))
+
+abbrev pub left : List ℕ → MakeStage → Objects → ℕ
+left o Here m = length (keys_above o) + 2
+left o Below m = length (keys_above o) + 1
+left o (Up c) m = length c.rest + 1
+left o PutMarker m = 0

@@ -1,0 +1,25 @@
+-- The bytes of a file.
+use Rattle.std.specs.Prelude.{ℕ, List, Result, Err, Option, Some, None}
+use Rattle.s3_types.specs.declared.reply.Reply.{Reply}
+use Rattle.s3_types.specs.declared.reply.Reply.TheVariants.{Object as Found}
+use Rattle.operations.specs.declared.plan.Step.{Step}
+use Rattle.bucket_ops.specs.Asks.{Ask}
+use Rattle.fs_tree.specs.declared.answers.FsRefusal.{FsRefusal}
+use Rattle.fs_tree.specs.declared.answers.FsRefusal.TheVariants.{IsDirectory}
+use Rattle.fs_ops.specs.declared.at_path.PathStage.{PathStage}
+use Rattle.fs_ops.specs.Places.{get_asks}
+use Rattle.fs_ops.specs.code.AtPath as path
+
+abbrev pub Answer : Type 0
+Answer = Result (List ℕ) FsRefusal
+
+abbrev pub asks : List ℕ → PathStage → Ask
+asks o x = path.asks get_asks o x
+
+-- the bytes that a reply has
+abbrev pub bytes_in : Reply → Option (List ℕ)
+bytes_in (Found bytes h) = Some bytes
+bytes_in _ = None
+
+abbrev pub on : List ℕ → PathStage → Reply → Step PathStage Answer
+on o x r = path.on (Err IsDirectory) bytes_in o x r

@@ -1,0 +1,31 @@
+-- The status of a path.
+use Rattle.std.specs.Prelude.{ℕ, List, Result, Ok, Option, Some, None}
+use Rattle.s3_types.specs.declared.reply.Reply.{Reply}
+use Rattle.s3_types.specs.declared.reply.Reply.TheVariants.{Head}
+use Rattle.operations.specs.declared.plan.Step.{Step}
+use Rattle.bucket_ops.specs.Asks.{Ask}
+use Rattle.dir_markers.specs.declared.status.Status.{Status}
+use Rattle.dir_markers.specs.declared.status.Status.TheVariants.{Directory, File}
+use Rattle.fs_tree.specs.declared.answers.FsRefusal.{FsRefusal}
+use Rattle.fs_ops.specs.declared.at_path.PathStage.{PathStage}
+use Rattle.fs_ops.specs.Places.{look_asks}
+use Rattle.fs_ops.specs.code.AtPath as path
+
+abbrev pub Answer : Type 0
+Answer = Result Status FsRefusal
+
+abbrev pub asks : List ℕ → PathStage → Ask
+asks o x = path.asks look_asks o x
+
+-- the length of the object that a reply tells of
+abbrev pub length_in : Reply → Option ℕ
+length_in (Head n h) = Some n
+length_in _ = None
+
+-- the status of the file that a reply tells of
+abbrev pub status_in : Reply → Option Status
+status_in (Head n h) = Some (File n)
+status_in _ = None
+
+abbrev pub on : List ℕ → PathStage → Reply → Step PathStage Answer
+on o x r = path.on (Ok Directory) status_in o x r

@@ -1,0 +1,421 @@
+-- Renaming, stage by stage.
+use Rattle.std.specs.Prelude.{◌≡◌, ◌⊎◌, ℕ, ◌+◌, Bool, true, false, List, [], ◌∷◌, Option, Some, None, Result, Ok, Err, cond, drop}
+use Rattle.std.proofs.Common.{refl, sym, ap, subst, ◌∙◌, arith, inl, inr}
+use Rattle.std.proofs.lemmas.Bool.{false≢true}
+use Rattle.std.proofs.lemmas.List.{append-nil}
+use Rattle.std.specs.FinMap as fin
+use Rattle.std.specs.Ordering.{is_lt}
+use Rattle.proof_base.specs.Order.{text_cmp, text_total}
+use Rattle.proof_base.proofs.Less.{irrefl}
+use Rattle.s3_types.specs.Store.{Objects}
+use Rattle.s3_types.specs.Pages.{page, listed, begins}
+use Rattle.s3_types.specs.declared.reply.PageEntry.{PageEntry}
+use Rattle.request_frame.specs.Members.{IsIn}
+use Rattle.request_frame.proofs.Flat.{listed_rises}
+use Rattle.operations.specs.declared.plan.Step.{Step}
+use Rattle.operations.specs.declared.plan.Step.TheVariants.{End}
+use Rattle.operations.specs.Plans.{Goes, Falls}
+use Rattle.bucket_ops.specs.declared.look.Look.{Look}
+use Rattle.bucket_ops.specs.declared.look.Look.TheVariants.{There, Nothing as NothingThere, NoBucket, Other}
+use Rattle.bucket_ops.specs.Looks.{look_of}
+use Rattle.bucket_ops.specs.Asks.{reply_in, edited, is_look}
+use Rattle.bucket_ops.specs.Phases.{IsPhases, MayAsk}
+use Rattle.dir_markers.specs.Markers.{marker_of}
+use Rattle.list_walk.specs.Walks.{keys_on, Walked, More, Whole, walked_entries, Listing, Deleting, sweep_hears, deleting, all_go}
+use Rattle.list_walk.specs.Walks as walks
+use Rattle.fs_tree.specs.declared.rename.RenameRefusal.TheVariants.{SourceMissing, UnderSource, TargetFile, TargetExists, ParentMissing, ParentIsFile, NoSuchBucket, TooLong}
+use Rattle.fs_tree.specs.Tree.{SomeBelow, NoneBelow, marker, HasFile, IsDirectory, IsAbsent}
+use Rattle.fs_tree.specs.Changes.{parent, marker_if, IsMarked}
+use Rattle.fs_tree.specs.Moves.{IsAtOrBelow, MayMove, inside, is_too_long, AllFit, IsFirstTooLong}
+use Rattle.fs_tree.specs.declared.rename.RenameRefusal.{RenameRefusal}
+use Rattle.fs_tree.specs.Renames.{RenamesPath, Renames}
+use Rattle.fs_tree.proofs.Begins.{marker_at, begins_all, begins_trans, begins_marker}
+use Rattle.fs_ops.specs.Places.{key_if, prefix_of}
+use Rattle.fs_ops.proofs.StepLaws.{not_missing}
+use Rattle.bucket_walks.specs.Walking.{keys_below, walk_asks, IsWalking, IsWalked, fits}
+use Rattle.bucket_walks.specs.Sweeping.{IsDeleted, sweep_asks}
+use Rattle.bucket_walks.proofs.Sweeps.{sweep_fits, sweep_falls, sweep_stays}
+use Rattle.bucket_walks.proofs.Walks.{walk_fits, walk_goes, walk_falls}
+use Rattle.bucket_walks.proofs.Batches.{batch_goes, deleting_all}
+use Rattle.bucket_walks.proofs.Below.{stands_below}
+use Rattle.fs_ops.proofs.DeleteLaws.{parent_page}
+use Rattle.fs_ops.proofs.Looks.{IsSeen}
+use Rattle.fs_moves.specs.declared.copying.Copying.{Copying}
+use Rattle.fs_moves.specs.declared.copying.CopyStep.{CopyStep}
+use Rattle.fs_moves.specs.declared.copying.CopyStep.TheVariants.{Next as NextCopy, All}
+use Rattle.fs_moves.specs.Keys.{new_key, new_keys}
+use Rattle.fs_moves.specs.Copies.{sources, copied_all, copy_asks, has_more, copied_next, IsCopied, copies_left, LessCopies, moves_of}
+use Rattle.fs_moves.proofs.CopyLaws.{copying_goes, copying_falls}
+use Rattle.fs_moves.proofs.Placed.{move_of, sources_to, all_found, first_long, only_file, dir_to, dir_from, to_dir_move}
+use Rattle.fs_rename.specs.declared.stages.Spot.{Spot}
+use Rattle.fs_rename.specs.declared.stages.Spot.TheVariants.{Source, Target, Inside, Above}
+use Rattle.fs_rename.specs.declared.stages.Kind.{Kind}
+use Rattle.fs_rename.specs.declared.stages.Kind.TheVariants.{File, Directory, Nothing}
+use Rattle.fs_rename.specs.declared.stages.RenameStage.{RenameStage}
+use Rattle.fs_rename.specs.declared.stages.RenameStage.TheVariants.{Look as Looking, Walk, Copy, Batch, Parent, PutMarker}
+use Rattle.fs_rename.specs.code.Rename.{Renaming, Answer, place_at, asks_at, inside_asks_if, seen_inside, seen_at, is_root_at, is_none, kind_of, one_copy, file_to, go, begun as begun_at, on_source, on_target, on_inside, on_above, found, looked, with_places, listed_to, on_walked, on_walk, up_to, up, swept, on_copied, on_batch, on_parent, first, asks, on, goes, look_at_asks}
+use Rattle.fs_rename.specs.code.Meaning.{IsSource, Begun, Before, path_at, NoFileIf, IsReady, MayGo, IsMoved, holds, gives, always, sends, left}
+use Rattle.fs_rename.proofs.Seen.{Tells, TellsKind, place_tells, inside_tells}
+use Rattle.fs_rename.proofs.Steps.{fall_looked, fall_walked, fall_swept, fall_all, fall_parent}
+
+-- ---- the source
+
+-- it is not the root
+no_root : (d : Bool) (z : Objects) → IsSource d z [] → ⊥
+no_root true z h = h.0
+no_root false z h = h.1
+
+stands : (d : Bool) (z : Objects) (x : ℕ) (p : List ℕ) → IsSource d z (x ∷ p) → HasFile z (x ∷ p) ⊎ IsDirectory z (x ∷ p)
+stands true z x p h = inr h
+stands false z x p h = inl h
+
+-- ---- a look changes nothing
+
+still_at : (p : List ℕ) (b : Bool) (m : Objects) → edited (asks_at p b) m ≡ m
+still_at [] true m = refl
+still_at [] false m = refl
+still_at (x ∷ p) true m = refl
+still_at (x ∷ p) false m = refl
+
+still_in : (o : Renaming) (q : Option (List ℕ)) (b : Bool) (m : Objects) → edited (inside_asks_if o q b) m ≡ m
+still_in o None b m = still_at o.source b m
+still_in o (Some q) true m = refl
+still_in o (Some q) false m = refl
+
+still : (o : Renaming) (s : Spot) (b : Bool) (m : Objects) → edited (look_at_asks o s b) m ≡ m
+still o Source b m = still_at o.source b m
+still o Target b m = still_at o.target b m
+still o Above b m = still_at (parent o.target) b m
+still o Inside b m = still_in o (place_at o true) b m
+
+module _ (x : ℕ) (p t : List ℕ) (z : Objects) where
+  abbrev O : Renaming
+  O = record { source = x ∷ p; target = t }
+
+  abbrev On : Step RenameStage Answer → Objects → Type 0
+  On y m = Goes (holds O z) (gives O z) y m
+
+  may_move : (d : Bool) → Begun O z d → MayMove z (x ∷ p) t
+  may_move d h = record { stands = stands d z x p h.source; apart = h.apart }
+
+  -- ---- looks
+
+  under_by : IsAtOrBelow (x ∷ p) t → begins (marker_of (x ∷ p)) (prefix_of t) ≡ true
+  under_by (inl e) = subst (λ t. begins (marker_of (x ∷ p)) (prefix_of t) ≡ true) (sym e) (begins_all (marker_of (x ∷ p)))
+  under_by (inr b) = more t b
+    where
+      more : (t : List ℕ) → begins (marker_of (x ∷ p)) t ≡ true → begins (marker_of (x ∷ p)) (prefix_of t) ≡ true
+      more [] b = absurd (false≢true b)
+      more (y ∷ t) b = begins_trans (marker_of (x ∷ p)) (y ∷ t) (marker_of (y ∷ t)) b (begins_marker (y ∷ t))
+
+  under_is : (t : List ℕ) → begins (marker_of (x ∷ p)) (prefix_of t) ≡ true → IsAtOrBelow (x ∷ p) t
+  under_is [] b = absurd (false≢true b)
+  under_is (y ∷ t) b = by (marker_at (x ∷ p) (y ∷ t) b)
+    where
+      by : (x ∷ p ≡ y ∷ t) ⊎ (begins (marker_of (x ∷ p)) (y ∷ t) ≡ true) → IsAtOrBelow (x ∷ p) (y ∷ t)
+      by (inl e) = inl (sym e)
+      by (inr b) = inr b
+
+  begins_at : (u d : Bool) → begins (marker_of (x ∷ p)) (prefix_of t) ≡ u → IsSource d z (x ∷ p) → On (begun_at u d) z
+  begins_at true d e h = (stands d z x p h, under_is t e, refl)
+  begins_at false d e h = (refl, record { source = h; apart = λ i. false≢true (sym e ∙ under_by i) }, tt)
+
+  source_found : (k : Kind) → TellsKind z (x ∷ p) k → On (on_source O false k) z
+  source_found File h = begins_at (begins (marker_of (x ∷ p)) (prefix_of t)) false refl h
+  source_found Directory h = begins_at (begins (marker_of (x ∷ p)) (prefix_of t)) true refl h
+  source_found Nothing h = (h, refl)
+
+  target_found : (d : Bool) (k : Kind) → Begun O z d → TellsKind z t k → On (on_target d k) z
+  target_found d File b h = (may_move d b, inl h, refl)
+  target_found d _ b h = (refl, (b, h), tt)
+
+  -- ---- the file's own key, or the keys below the directory
+
+  -- the file's key alone is moved
+  one_fit : (q : List ℕ) → is_too_long q ≡ false → HasFile z (x ∷ p) → AllFit z (x ∷ p) q
+  one_fit q f h k l i = ap is_too_long (only_file z x p q h k l i).1 ∙ f
+
+  one_long : (q : List ℕ) → is_too_long q ≡ true → HasFile z (x ∷ p) → IsFirstTooLong z (x ∷ p) q (x ∷ p)
+  one_long q f h = record {
+    new = q;
+    moves = inl (h, refl, refl);
+    long = f;
+    first = λ j l i less. absurd (false≢true (sym (irrefl text_total (x ∷ p)) ∙ ap (λ v. is_lt (text_cmp v (x ∷ p))) (sym (only_file z x p q h j l i).0) ∙ less));
+  }
+
+  file_goes : (i : Bool) (q : List ℕ) → IsReady O z false i q → On (file_to O (Some q)) z
+  file_goes i q h = by (is_too_long q) refl
+    where
+      by : (b : Bool) → is_too_long q ≡ b → On (one_copy (Some (x ∷ p)) (cond b None (Some q))) z
+      by true e = ((q, record { source = may_move false h.begun; place = h.place; free = h.free }, one_long q e h.begun.source), refl)
+      by false e = (false, i, q, record { ready = h; fit = one_fit q e h.begun.source }, record { keys = refl; places = refl; some = omega arith; copied = refl })
+
+  goes_to : (d i : Bool) (q : List ℕ) → IsReady O z d i q → On (go O d i) z
+  goes_to true i q h = (refl, (q, h), refl)
+  goes_to false i q h = subst (λ v. On (file_to O v) z) (sym h.at) (file_goes i q h)
+
+  some_target : (t : List ℕ) → IsAbsent z t → key_if t ≡ Some t
+  some_target [] h = absurd h
+  some_target (y ∷ t) h = refl
+
+  inside_found : (d : Bool) (k : Kind) → Begun O z d → IsDirectory z t → TellsKind z (inside (x ∷ p) t) k → On (on_inside O d k) z
+  inside_found d File b i h = (may_move d b, inr (i, h), refl)
+  inside_found d Directory b i h = (may_move d b, i, h, refl)
+  inside_found d Nothing b i h = goes_to d true (inside (x ∷ p) t) (record { begun = b; place = inl (i, refl); free = h; at = some_target (inside (x ∷ p) t) h })
+
+  above_found : (d : Bool) (k : Kind) → Begun O z d → IsAbsent z t → TellsKind z (parent t) k → On (on_above O d k) z
+  above_found d Directory b n h = goes_to d false t (record { begun = b; place = inr (n, h, refl); free = n; at = some_target t n })
+  above_found d _ b n h = (may_move d b, n, h, refl)
+
+  kind_found : (s : Spot) (d : Bool) (k : Kind) → Before O z s d → TellsKind z (path_at O s) k → On (found O s d k) z
+  kind_found Source d k b h = source_found k h
+  kind_found Target d k b h = target_found d k b h
+  kind_found Inside d k b h = inside_found d k b.0 b.1 h
+  kind_found Above d k b h = above_found d k b.0 b.1 h
+
+  look_goes : (s : Spot) (d : Bool) (k : Option Kind) → Before O z s d → Tells z (path_at O s) k → On (looked O s d k) z
+  look_goes s d (Some k) b h = kind_found s d k b h
+  look_goes s d None b h = (refl, b, h)
+
+  -- ---- the walk
+
+  some_listed : IsSource true z (x ∷ p) → keys_below (marker_of (x ∷ p)) z ≡ [] → ⊥
+  some_listed h e = subst (IsIn h.1.0) e (stands_below x (marker_of p) z h.1.0 h.1.2 h.1.1 h.1.3)
+
+  all_fit : (y : ℕ) (q : List ℕ) → IsSource true z (x ∷ p) → ((k : List ℕ) → IsIn k (keys_below (marker_of (x ∷ p)) z) → is_too_long (new_key (marker_of (x ∷ p)) (marker_of (y ∷ q)) k) ≡ false) → AllFit z (x ∷ p) (y ∷ q)
+  all_fit y q h f k l i =
+      let w = move_of (marker_of (x ∷ p)) (marker_of (y ∷ q)) (keys_below (marker_of (x ∷ p)) z) k l (dir_to z x p y q h k l i) in
+      ap is_too_long w.1 ∙ f k w.0
+
+  first_fit : (y : ℕ) (q k : List ℕ) → IsSource true z (x ∷ p) → new_keys (marker_of (x ∷ p)) (marker_of (y ∷ q)) (keys_below (marker_of (x ∷ p)) z) ≡ Err k → IsFirstTooLong z (x ∷ p) (y ∷ q) k
+  first_fit y q k h e =
+      let w = first_long (marker_of (x ∷ p)) (marker_of (y ∷ q)) [] (keys_below (marker_of (x ∷ p)) z) k (listed_rises (marker_of (x ∷ p)) [] z) e in
+      record {
+        new = new_key (marker_of (x ∷ p)) (marker_of (y ∷ q)) k;
+        moves = dir_from z x p y q h k (new_key (marker_of (x ∷ p)) (marker_of (y ∷ q)) k) (to_dir_move z x p y q k w.0);
+        long = w.1;
+        first = λ j l i less.
+            let v = move_of (marker_of (x ∷ p)) (marker_of (y ∷ q)) (keys_below (marker_of (x ∷ p)) z) j l (dir_to z x p y q h j l i) in
+            ap is_too_long v.1 ∙ w.2 j v.0 less;
+      }
+
+  placed : (i : Bool) (y : ℕ) (q : List ℕ) → IsReady O z true i (y ∷ q) → (keys : List (List ℕ)) → keys ≡ keys_below (marker_of (x ∷ p)) z
+      → (r : Result (List (List ℕ)) (List ℕ)) → new_keys (marker_of (x ∷ p)) (marker_of (y ∷ q)) keys ≡ r → On (with_places keys r) z
+  placed i y q h keys e (Err k) f = (
+    (y ∷ q, record { source = may_move true h.begun; place = h.place; free = h.free }, first_fit y q k h.begun.source (ap (new_keys (marker_of (x ∷ p)) (marker_of (y ∷ q))) (sym e) ∙ f)),
+    refl,
+  )
+  placed i y q h [] e (Ok ls) f = absurd (some_listed h.begun.source (sym e))
+  placed i y q h (k ∷ ks) e (Ok ls) f =
+      let w = all_found (marker_of (x ∷ p)) (marker_of (y ∷ q)) (keys_below (marker_of (x ∷ p)) z) ls (ap (new_keys (marker_of (x ∷ p)) (marker_of (y ∷ q))) (sym e) ∙ f) in (
+        true,
+        i,
+        y ∷ q,
+        record { ready = h; fit = all_fit y q h.begun.source w.1 },
+        record { keys = e ∙ sym (sources_to (marker_of (x ∷ p)) (marker_of (y ∷ q)) (keys_below (marker_of (x ∷ p)) z)); places = w.0; some = omega arith; copied = refl },
+      )
+
+  walk_to : (i : Bool) (q : List ℕ) → IsReady O z true i q → (keys : List (List ℕ)) → keys ≡ keys_below (marker_of (x ∷ p)) z → On (listed_to O (Some q) keys) z
+  walk_to i [] h keys e = absurd h.free
+  walk_to i (y ∷ q) h keys e = placed i y q h keys e (new_keys (marker_of (x ∷ p)) (marker_of (y ∷ q)) keys) refl
+
+  walked_on : (i : Bool) (q : List ℕ) → IsReady O z true i q → (w : Walked PageEntry) → IsWalked (marker_of (x ∷ p)) z w → On (on_walked O i w) z
+  walked_on i q h (More found) w = (refl, (q, h), w)
+  walked_on i q h (Whole found) w = subst (λ v. On (listed_to O v (keys_on found)) z) (sym h.at) (walk_to i q h (keys_on found) (ap keys_on w))
+
+  walking : (i : Bool) (q : List ℕ) (found : List PageEntry) → IsReady O z true i q → IsWalking (marker_of (x ∷ p)) z found → On (on_walk O i found (reply_in z (walk_asks (marker_of (x ∷ p)) found)) (fits (reply_in z (walk_asks (marker_of (x ∷ p)) found)))) z
+  walking i q found h w =
+      subst (λ b. On (on_walk O i found (reply_in z (walk_asks (marker_of (x ∷ p)) found)) b) z) (sym (walk_fits (marker_of (x ∷ p)) found z))
+      (walked_on i q h (walked_entries found (reply_in z (walk_asks (marker_of (x ∷ p)) found))) (walk_goes (marker_of (x ∷ p)) z found w))
+
+  -- ---- the copies, the batches and the marker
+
+  upward : (m : Objects) → IsMoved O z m → On (up O) m
+  upward m h = by (marker_if (parent (x ∷ p))) refl
+    where
+      by : (u : Option (List ℕ)) → marker_if (parent (x ∷ p)) ≡ u → On (up_to u) m
+      by None e = (m, h, subst (λ u. IsMarked u m m) (sym e) refl)
+      by (Some k) e = (e, h)
+
+  batches : (d i : Bool) (q : List ℕ) → MayGo O z d i q → (w : Option walks.Sweep) (m : Objects) → IsDeleted (copied_all z (moves_of d (x ∷ p) q z)) (sources (moves_of d (x ∷ p) q z)) w m → On (swept O w) m
+  batches d i q g (Some w) m h = (d, i, q, g, h)
+  batches d i q g None m h = upward m (d, i, q, g, h)
+
+  copied_on : (d i : Bool) (q : List ℕ) → MayGo O z d i q → (c : CopyStep) (m : Objects) → IsCopied z (moves_of d (x ∷ p) q z) c m → On (on_copied O c) m
+  copied_on d i q g (NextCopy c) m h = (d, i, q, g, h)
+  copied_on d i q g (All ks) m h =
+      batches d i q g (deleting ks) m
+      (subst (λ m. IsDeleted (copied_all z (moves_of d (x ∷ p) q z)) (sources (moves_of d (x ∷ p) q z)) (deleting ks) m) (sym h.1)
+      (deleting_all (copied_all z (moves_of d (x ∷ p) q z)) (sources (moves_of d (x ∷ p) q z)) ks h.0))
+
+  batch_on : (d i : Bool) (q : List ℕ) → MayGo O z d i q → (w : walks.Sweep) (m : Objects) → IsDeleted (copied_all z (moves_of d (x ∷ p) q z)) (sources (moves_of d (x ∷ p) q z)) (Some w) m
+      → On (on_batch O w (reply_in m (sweep_asks (marker_of (x ∷ p)) w)) (fits (reply_in m (sweep_asks (marker_of (x ∷ p)) w)))) (edited (sweep_asks (marker_of (x ∷ p)) w) m)
+  batch_on d i q g (Listing keys) m h = absurd h
+  batch_on d i q g (Deleting k ks) m h =
+      subst (λ b. On (on_batch O (Deleting k ks) (reply_in m (sweep_asks (marker_of (x ∷ p)) (Deleting k ks))) b) (edited (sweep_asks (marker_of (x ∷ p)) (Deleting k ks)) m)) (sym (sweep_fits (marker_of (x ∷ p)) (Deleting k ks) m))
+      (batches d i q g (deleting (drop 1000 (k ∷ ks))) (edited (sweep_asks (marker_of (x ∷ p)) (Deleting k ks)) m)
+      (batch_goes (copied_all z (moves_of d (x ∷ p) q z)) (sources (moves_of d (x ∷ p) q z)) (k ∷ ks) m h))
+
+  parent_seen : (k : List ℕ) (m : Objects) (l : Look) → marker_if (parent (x ∷ p)) ≡ Some k → IsMoved O z m → IsSeen l (SomeBelow m k) (NoneBelow m k) → On (on_parent k l) m
+  parent_seen k m There e h s = (m, h, subst (λ u. IsMarked u m m) (sym e) (inl (s, refl)))
+  parent_seen k m NothingThere e h s = (e, h, s)
+  parent_seen k m _ e h s = absurd s
+
+  -- ---- each stage
+
+  tells_inside : (u : List ℕ) (b : Bool) → NoFileIf b z u → Tells z u (kind_of (is_none (key_if u)) b (seen_inside (key_if u) b (reply_in z (inside_asks_if O (key_if u) b))))
+  tells_inside [] b n = (tt, tt)
+  tells_inside (y ∷ q) b n = inside_tells z y q b n
+
+  stage_look : (s : Spot) (b d : Bool) → Before O z s d → NoFileIf b z (path_at O s) → On (on O (Looking s b d) (reply_in z (look_at_asks O s b))) z
+  stage_look Source b d g n = look_goes Source d _ g (place_tells z (x ∷ p) b n)
+  stage_look Target b d g n = look_goes Target d _ g (place_tells z t b n)
+  stage_look Above b d g n = look_goes Above d _ g (place_tells z (parent t) b n)
+  stage_look Inside b d g n = look_goes Inside d _ g (tells_inside (inside (x ∷ p) t) b n)
+
+  step : (s : RenameStage) (m : Objects) → holds O z s m → On (on O s (reply_in m (asks O s))) (edited (asks O s) m)
+  step (Looking s b d) m h =
+      subst (On (on O (Looking s b d) (reply_in m (look_at_asks O s b)))) (sym (still O s b m))
+      (subst (λ m. On (on O (Looking s b d) (reply_in m (look_at_asks O s b))) m) (sym h.0) (stage_look s b d h.1 h.2))
+  step (Walk i found) m h =
+      subst (λ m. On (on_walk O i found (reply_in m (walk_asks (marker_of (x ∷ p)) found)) (fits (reply_in m (walk_asks (marker_of (x ∷ p)) found)))) m) (sym h.0) (walking i h.1.0 found h.1.1 h.2)
+  step (Copy c) m h = copied_on h.0 h.1 h.2 h.3 (copied_next (has_more c) c) (edited (copy_asks c) m) (copying_goes z (moves_of h.0 (x ∷ p) h.2 z) c m h.4)
+  step (Batch w) m h = batch_on h.0 h.1 h.2 h.3 w m h.4
+  step (Parent k) m h = parent_seen k m (look_of (page 1 (listed k false [] m))) h.0 h.1 (parent_page (parent (x ∷ p)) k m h.0)
+  step (PutMarker k) m h = (m, h.1, subst (λ u. IsMarked u m (fin.insert m k marker)) (sym h.0) (inr (h.2, refl)))
+
+-- ---- at the root
+
+root_step : (t : List ℕ) (z : Objects) (s : RenameStage) (m : Objects) → holds (record { source = []; target = t }) z s m
+    → Goes (holds (record { source = []; target = t }) z) (gives (record { source = []; target = t }) z) (on (record { source = []; target = t }) s (reply_in m (asks (record { source = []; target = t }) s))) (edited (asks (record { source = []; target = t }) s) m)
+root_step t z (Looking Source true d) m h = absurd h.2
+root_step t z (Looking Source false d) m h = (refl, h.0)
+root_step t z (Looking Target b d) m h = absurd (no_root d z h.1.source)
+root_step t z (Looking Inside b d) m h = absurd (no_root d z h.1.0.source)
+root_step t z (Looking Above b d) m h = absurd (no_root d z h.1.0.source)
+root_step t z (Walk i keys) m h = absurd (no_root true z h.1.1.begun.source)
+root_step t z (Parent k) m h = absurd (no_root h.1.0 z h.1.3.ready.begun.source)
+root_step t z (PutMarker k) m h = absurd (no_root h.1.0 z h.1.3.ready.begun.source)
+root_step t z _ m h = absurd (no_root h.0 z h.3.ready.begun.source)
+
+steps : (p t : List ℕ) (z : Objects) (s : RenameStage) (m : Objects) → holds (record { source = p; target = t }) z s m
+    → Goes (holds (record { source = p; target = t }) z) (gives (record { source = p; target = t }) z) (on (record { source = p; target = t }) s (reply_in m (asks (record { source = p; target = t }) s))) (edited (asks (record { source = p; target = t }) s) m)
+steps [] t z s m h = root_step t z s m h
+steps (x ∷ p) t z s m h = step x p t z s m h
+
+-- ---- what is left
+
+-- where no file was seen the look below a path tells
+told : (r b : Bool) (l : Look) → b ≡ true → kind_of r b l ≡ None → ⊥
+told true b l e f = absurd (cc)
+told false true There e f = absurd (cc)
+told false true NothingThere e f = absurd (cc)
+told false true NoBucket e f = absurd (cc)
+told false true Other e f = absurd (cc)
+told false false l e f = false≢true e
+
+falls_walk : (o : Renaming) (i : Bool) (found : List PageEntry) (m : Objects) → Falls (left o) (on o (Walk i found) (reply_in m (asks o (Walk i found)))) m (left o (Walk i found) m)
+falls_walk o i found m =
+    subst (λ b. Falls (left o) (on_walk o i found (reply_in m (walk_asks (prefix_of o.source) found)) b) m (left o (Walk i found) m)) (sym (walk_fits (prefix_of o.source) found m))
+    (fall_walked o m i (walked_entries found (reply_in m (walk_asks (prefix_of o.source) found))) _ (walk_falls (prefix_of o.source) found m))
+
+falls_batch : (o : Renaming) (w : walks.Sweep) (m : Objects) → Falls (left o) (on o (Batch w) (reply_in m (asks o (Batch w)))) (edited (asks o (Batch w)) m) (left o (Batch w) m)
+falls_batch o w m =
+    subst (λ b. Falls (left o) (on_batch o w (reply_in m (sweep_asks (prefix_of o.source) w)) b) (edited (sweep_asks (prefix_of o.source) w) m) (left o (Batch w) m)) (sym (sweep_fits (prefix_of o.source) w m))
+    (fall_swept o (edited (sweep_asks (prefix_of o.source) w) m) (sweep_hears all_go w (reply_in m (sweep_asks (prefix_of o.source) w))) _ (sweep_falls (prefix_of o.source) w m))
+
+falls_copied : (o : Renaming) (c : Copying) (m : Objects) (b : Bool) → LessCopies (copied_next b c) (copies_left c) → Falls (left o) (on_copied o (copied_next b c)) m (left o (Copy c) m)
+falls_copied o c m true h = omega (arith, h)
+falls_copied o c m false h = fall_all o m c.keys _ (omega arith)
+
+falls : (o : Renaming) (z : Objects) (s : RenameStage) (m : Objects) → holds o z s m → Falls (left o) (on o s (reply_in m (asks o s))) (edited (asks o s) m) (left o s m)
+falls o z (Looking s b d) m h =
+    subst (λ n. Falls (left o) (on o (Looking s b d) (reply_in m (look_at_asks o s b))) n (left o (Looking s b d) m)) (sym (still o s b m))
+    (fall_looked o m s d b (kind_of (is_root_at o s) b (seen_at o s b (reply_in m (look_at_asks o s b)))) (told (is_root_at o s) b (seen_at o s b (reply_in m (look_at_asks o s b)))))
+falls o z (Walk i found) m h = falls_walk o i found m
+falls o z (Copy c) m h = falls_copied o c (edited (copy_asks c) m) (has_more c) (copying_falls c h.4.some)
+falls o z (Batch w) m h = falls_batch o w m
+falls o z (Parent k) m h = fall_parent o m k (look_of (reply_in m (asks o (Parent k))))
+falls o z (PutMarker k) m h = tt
+
+stays : (o : Renaming) (s : RenameStage) (m : Objects) → left o s (edited (asks o s) m) ≡ left o s m
+stays o (Looking s b d) m = ap (left o (Looking s b d)) (still o s b m)
+stays o (Batch w) m = ap (λ n. n + 3) (sweep_stays (prefix_of o.source) w m)
+stays o _ m = refl
+
+-- ---- at any moment
+
+deleted_way : (o : Renaming) (z : Objects) (d i : Bool) (q : List ℕ) (w : walks.Sweep) (m : Objects) → MayGo o z d i q → IsDeleted (copied_all z (moves_of d o.source q z)) (sources (moves_of d o.source q z)) (Some w) m → always o z m
+deleted_way o z d i q (Listing keys) m g h = absurd h
+deleted_way o z d i q (Deleting k ks) m g h = inr (d, i, q, g, inr (inl (k ∷ ks, h)))
+
+moved_way : (o : Renaming) (z m : Objects) → IsMoved o z m → always o z m
+moved_way o z m h = inr (h.0, h.1, h.2, h.3, inr (inl ([], (sources (moves_of h.0 o.source h.2 z), append-nil (sources (moves_of h.0 o.source h.2 z)), h.4))))
+
+during : (o : Renaming) (z : Objects) (s : RenameStage) (m : Objects) → holds o z s m → always o z m
+during o z (Copy c) m h = inr (h.0, h.1, h.2, h.3, inl (c.from, h.4.copied))
+during o z (Batch w) m h = deleted_way o z h.0 h.1 h.2 w m h.3 h.4
+during o z (Parent k) m h = moved_way o z m h.1
+during o z (PutMarker k) m h = moved_way o z m h.1
+during o z _ m h = inl h.0
+
+-- a refused renaming changes nothing
+refused : (x : ℕ) (p t : List ℕ) (z m : Objects) (r : RenameRefusal) → RenamesPath (x ∷ p) t z (Err r) m → m ≡ z
+refused x p t z m SourceMissing h = h.1
+refused x p t z m UnderSource h = h.2
+refused x p t z m TargetFile h = h.2
+refused x p t z m TargetExists h = h.3
+refused x p t z m ParentIsFile h = h.3
+refused x p t z m ParentMissing h = h.3
+refused x p t z m (TooLong k) h = h.1
+refused x p t z m r h = absurd h
+
+refused_at : (p t : List ℕ) (z m : Objects) (r : RenameRefusal) → Renames p t z (Err r) m → m ≡ z
+refused_at [] t z m r h = h.1
+refused_at (x ∷ p) t z m r h = refused x p t z m r h
+
+at_end : (o : Renaming) (z : Objects) (a : Answer) (m : Objects) → gives o z a m → always o z m
+at_end o z (Ok x) m h = inr (h.1.0, h.1.1, h.1.2, h.1.3, inr (inr (subst (λ n. IsMarked (marker_if (parent o.source)) n m) h.1.4 h.2)))
+at_end o z (Err r) m h = inl (refused_at o.source o.target z m r h)
+
+-- ---- the laws
+
+there : (o : Renaming) (s : RenameStage) (m : Objects) → on o s (reply_in m (asks o s)) ≡ goes o s (reply_in m (asks o s))
+there o s m = sym (not_missing (End (Err NoSuchBucket)) (on o s (reply_in m (asks o s))) m (asks o s))
+
+pub rename_laws : IsPhases {O = Renaming} first asks goes holds gives always left (Err NoSuchBucket)
+rename_laws = record {
+  begin = λ o z. (refl, tt, tt);
+  goes_on = λ o z s m h. subst (λ y. Goes (holds o z) (gives o z) y (edited (asks o s) m)) (there o s m) (steps o.source o.target z s m h);
+  falls = λ o z s m h. subst (λ y. Falls (left o) y (edited (asks o s) m) (left o s m)) (there o s m) (falls o z s m h);
+  stays = λ o z s m h. stays o s m;
+  during = λ o z s m h. during o z s m h;
+  at_end = λ o z a m h. at_end o z a m h;
+  missing = λ o s. refl;
+}
+
+-- ---- what is asked
+
+looks_at : (p : List ℕ) (b : Bool) → is_look (asks_at p b) ≡ true
+looks_at [] true = refl
+looks_at [] false = refl
+looks_at (x ∷ p) true = refl
+looks_at (x ∷ p) false = refl
+
+looks_in : (o : Renaming) (q : Option (List ℕ)) (b : Bool) → is_look (inside_asks_if o q b) ≡ true
+looks_in o None b = looks_at o.source b
+looks_in o (Some q) true = refl
+looks_in o (Some q) false = refl
+
+looks_there : (o : Renaming) (s : Spot) (b : Bool) → is_look (look_at_asks o s b) ≡ true
+looks_there o Source b = looks_at o.source b
+looks_there o Target b = looks_at o.target b
+looks_there o Above b = looks_at (parent o.target) b
+looks_there o Inside b = looks_in o (place_at o true) b
+
+pub rename_asked : MayAsk {O = Renaming} asks holds sends
+rename_asked o z (Looking s b d) m h = inl (looks_there o s b)
+rename_asked o z (Copy c) m h = inr (h.0, h.1, h.2, h.3)
+rename_asked o z (Batch w) m h = inr (h.0, h.1, h.2, h.3)
+rename_asked o z (PutMarker k) m h = inr (h.1.0, h.1.1, h.1.2, h.1.3)
+rename_asked o z _ m h = inl refl

@@ -1,0 +1,109 @@
+-- What the looks of a renaming tell.
+use Rattle.std.proofs.Common.{◌≡◌, ◌⊎◌, inl, inr, ℕ, Bool, true, false, List, [], ◌∷◌, ◌++◌, map, take, Option, Some, None, refl, sym, ap, subst, ◌∙◌, if◌then◌else◌}
+use Rattle.std.proofs.lemmas.Bool.{false≢true}
+use Rattle.std.proofs.lemmas.List.{append-nil}
+use Rattle.std.specs.FinMap as fin
+use Rattle.std.specs.Ordering.{is_lt}
+use Rattle.proof_base.specs.Order.{text_cmp, text_eq}
+use Rattle.s3_types.specs.Store.{Objects}
+use Rattle.s3_types.specs.Answer.{head}
+use Rattle.s3_types.specs.Pages.{page, listed, begins, text_in}
+use Rattle.s3_types.specs.declared.object.Object.{Object}
+use Rattle.s3_types.specs.declared.reply.PageEntry.{PageEntry}
+use Rattle.request_frame.specs.Members.{IsIn, RisesFrom}
+use Rattle.request_frame.proofs.Members.{none_or_some, text_is, text_true}
+use Rattle.request_frame.proofs.Flat.{listed_rises, behind}
+use Rattle.bucket_ops.specs.declared.look.Look.{Look}
+use Rattle.bucket_ops.specs.declared.look.Look.TheVariants.{There, Nothing as NothingThere, NoBucket, Other}
+use Rattle.bucket_ops.specs.Looks.{look_of}
+use Rattle.bucket_ops.specs.Asks.{reply_in}
+use Rattle.dir_markers.specs.Markers.{marker_of}
+use Rattle.fs_tree.specs.Tree.{Stands, SomeBelow, NoneBelow, HasFile, IsDirectory, IsAbsent}
+use Rattle.fs_tree.proofs.Begins.{begins_all}
+use Rattle.fs_tree.proofs.Moving.{rest_after}
+use Rattle.fs_ops.specs.Places.{NoFileAt}
+use Rattle.fs_ops.proofs.Looks.{IsSeen, head_tells, page_tells}
+use Rattle.fs_ops.proofs.Showing.{cmp_behind}
+use Rattle.bucket_walks.specs.Walking.{keys_below}
+use Rattle.bucket_walks.proofs.Below.{below_stands, stands_below}
+use Rattle.fs_rename.specs.declared.stages.Kind.{Kind}
+use Rattle.fs_rename.specs.declared.stages.Kind.TheVariants.{File, Directory, Nothing}
+use Rattle.fs_rename.specs.code.Rename.{asks_at, inside_asks, first_is, seen_inside, is_root, kind_of}
+use Rattle.fs_rename.specs.code.Meaning.{NoFileIf}
+
+-- what stands at a path
+abbrev pub TellsKind : Objects → List ℕ → Kind → Type 0
+TellsKind z p File = HasFile z p
+TellsKind z p Directory = IsDirectory z p
+TellsKind z p Nothing = IsAbsent z p
+
+-- it is known, or no file does
+abbrev pub Tells : Objects → List ℕ → Option Kind → Type 0
+Tells z p (Some k) = TellsKind z p k
+Tells z p None = NoFileAt z p
+
+file_tells : (z : Objects) (x : ℕ) (p : List ℕ) (l : Look) → IsSeen l (Stands z (x ∷ p)) (fin.get z (x ∷ p) ≡ None) → Tells z (x ∷ p) (kind_of false false l)
+file_tells z x p NoBucket h = absurd h
+file_tells z x p Other h = absurd h
+file_tells z x p _ h = h
+
+below_tells : (z : Objects) (x : ℕ) (p : List ℕ) (l : Look) → NoFileAt z (x ∷ p) → IsSeen l (SomeBelow z (marker_of (x ∷ p))) (NoneBelow z (marker_of (x ∷ p))) → Tells z (x ∷ p) (kind_of false true l)
+below_tells z x p NoBucket n h = absurd h
+below_tells z x p Other n h = absurd h
+below_tells z x p _ n h = (n, h)
+
+-- a look at a path, or below it
+pub place_tells : (z : Objects) (p : List ℕ) (b : Bool) → NoFileIf b z p → Tells z p (kind_of (is_root p) b (look_of (reply_in z (asks_at p b))))
+place_tells z [] b n = (tt, tt)
+place_tells z (x ∷ p) false n = file_tells z x p (look_of (head (fin.get z (x ∷ p)))) (head_tells z (x ∷ p))
+place_tells z (x ∷ p) true n = below_tells z x p (look_of (page 1 (listed (marker_of (x ∷ p)) false [] z))) n (page_tells x (marker_of p) z)
+
+-- ---- the first key that begins with a path is the path, where it stands
+
+-- a text that begins with another is not less
+not_less : (p k : List ℕ) → begins p k ≡ true → is_lt (text_cmp k p) ≡ true → ⊥
+not_less p k b l =
+    let r = rest_after p k b in
+    behind_empty r.0 (ap is_lt (sym (cmp_behind p r.0 []) ∙ ap (text_cmp (p ++ r.0)) (append-nil p) ∙ ap (λ v. text_cmp v p) (sym r.1)) ∙ l)
+  where
+    behind_empty : (r : List ℕ) → is_lt (text_cmp r []) ≡ true → ⊥
+    behind_empty [] l = false≢true l
+    behind_empty (y ∷ r) l = false≢true l
+
+module _ (z : Objects) (x : ℕ) (p : List ℕ) where
+  abbrev Q : List ℕ
+  Q = x ∷ p
+
+  first_tells : (l : List PageEntry) → listed Q false [] z ≡ l → IsSeen (first_is Q (take 1 l)) (Stands z Q) (fin.get z Q ≡ None)
+  first_tells [] e = by (none_or_some (fin.get z Q))
+    where
+      by : (fin.get z Q ≡ None) ⊎ ((v : Object) × (fin.get z Q ≡ Some v)) → fin.get z Q ≡ None
+      by (inl n) = n
+      by (inr s) = absurd (subst (λ l. IsIn Q (map text_in l)) e (stands_below x p z Q s.0 (begins_all Q) s.1))
+  first_tells (y ∷ l) e = by (text_eq (text_in y) Q) refl
+    where
+      is_there : IsIn (text_in y) (keys_below Q z)
+      is_there = subst (λ l. IsIn (text_in y) (map text_in l)) (sym e) (inl refl)
+
+      none : (text_in y ≡ Q → ⊥) → (fin.get z Q ≡ None) ⊎ ((v : Object) × (fin.get z Q ≡ Some v)) → fin.get z Q ≡ None
+      none f (inl n) = n
+      none f (inr s) = absurd (other (subst (λ l. IsIn Q (map text_in l)) e (stands_below x p z Q s.0 (begins_all Q) s.1)))
+        where
+          rises : RisesFrom (text_in y) (map text_in l)
+          rises = (subst (λ l. RisesFrom [] (map text_in l)) e (listed_rises Q [] z)).1
+
+          other : (Q ≡ text_in y) ⊎ IsIn Q (map text_in l) → ⊥
+          other (inl g) = f (sym g)
+          other (inr i) = absurd (not_first (behind (text_in y) Q (map text_in l) rises i))
+            where
+              not_first : is_lt (text_cmp (text_in y) Q) ≡ true → ⊥
+              not_first g = not_less Q (text_in y) (below_stands Q z (text_in y) is_there).0 g
+
+      by : (b : Bool) → text_eq (text_in y) Q ≡ b → IsSeen (if b then There else NothingThere) (Stands z Q) (fin.get z Q ≡ None)
+      by true t = subst (Stands z) (text_is (text_in y) Q t) (below_stands Q z (text_in y) is_there).1
+      by false t = none (λ g. false≢true (sym t ∙ text_true (text_in y) Q g)) (none_or_some (fin.get z Q))
+
+  -- a look at a path that may be over the limit of keys, or below it
+  pub inside_tells : (b : Bool) → NoFileIf b z Q → Tells z Q (kind_of false b (seen_inside (Some Q) b (reply_in z (inside_asks Q b))))
+  inside_tells false n = file_tells z x p (first_is Q (take 1 (listed Q false [] z))) (first_tells (listed Q false [] z) refl)
+  inside_tells true n = below_tells z x p (look_of (page 1 (listed (marker_of Q) false [] z))) n (page_tells x (marker_of p) z)

@@ -1,0 +1,115 @@
+-- A renaming comes to an end.
+use Rattle.std.specs.Prelude.{◌≡◌, ℕ, ◌+◌, ◌*◌, ◌<◌, Bool, true, false, List, [], ◌∷◌, Result, Ok, Err, Option, Some, None, length}
+use Rattle.std.proofs.Common.{refl, arith}
+use Rattle.s3_types.specs.Store.{Objects}
+use Rattle.operations.specs.Plans.{Falls}
+use Rattle.bucket_ops.specs.declared.look.Look.{Look}
+use Rattle.bucket_ops.specs.declared.look.Look.TheVariants.{There}
+use Rattle.s3_types.specs.declared.reply.PageEntry.{PageEntry}
+use Rattle.list_walk.specs.Walks.{keys_on, Walked, More, Whole, sweep_start, deleting}
+use Rattle.list_walk.specs.Walks as walks
+use Rattle.fs_tree.specs.Changes.{parent, marker_if}
+use Rattle.fs_ops.specs.Places.{prefix_of, key_if}
+use Rattle.bucket_walks.specs.Sweeping.{sweep_left, LessLeft}
+use Rattle.bucket_walks.specs.Walking.{LessWalked}
+use Rattle.bucket_walks.proofs.Sweeps.{length_keys}
+use Rattle.fs_moves.specs.declared.copying.CopyStep.TheVariants.{All}
+use Rattle.fs_moves.specs.Keys.{fitting}
+use Rattle.fs_rename.specs.declared.stages.Spot.{Spot}
+use Rattle.fs_rename.specs.declared.stages.Spot.TheVariants.{Source, Target, Inside, Above}
+use Rattle.fs_rename.specs.declared.stages.Kind.{Kind}
+use Rattle.fs_rename.specs.declared.stages.Kind.TheVariants.{File, Directory, Nothing}
+use Rattle.fs_rename.specs.code.Meaning.{looks_left, left}
+use Rattle.fs_rename.specs.code.Rename.{Renaming, place_at, one_copy, file_to, go, begun, on_kind, on_source, on_target, on_inside, on_above, found, looked, with_places, listed_to, on_walked, up_to, swept, on_copied, on_parent}
+
+-- ---- it falls
+
+module _ (o : Renaming) (m : Objects) where
+  fall_copy : (k l : Option (List ℕ)) (n : ℕ) → 6 < n → Falls (left o) (one_copy k l) m n
+  fall_copy None l n h = tt
+  fall_copy (Some k) None n h = tt
+  fall_copy (Some k) (Some l) n h = omega (arith, h)
+
+  fall_file : (q : Option (List ℕ)) (n : ℕ) → 6 < n → Falls (left o) (file_to o q) m n
+  fall_file None n h = tt
+  fall_file (Some q) n h = fall_copy (key_if o.source) (fitting q) n h
+
+  fall_go : (d i : Bool) (n : ℕ) → 2 * sweep_left (prefix_of o.source) sweep_start m + 4 < n → Falls (left o) (go o d i) m n
+  fall_go true i n h = h
+  fall_go false i n h = fall_file (place_at o i) n (omega (arith, h))
+
+  fall_begun : (u d : Bool) (n : ℕ) → 2 * sweep_left (prefix_of o.source) sweep_start m + 8 < n → Falls (left o) (begun u d) m n
+  fall_begun true d n h = tt
+  fall_begun false d n h = omega (arith, h)
+
+  fall_kind : (u : Bool) (k : Kind) (n : ℕ) → 2 * sweep_left (prefix_of o.source) sweep_start m + 8 < n → Falls (left o) (on_kind u k) m n
+  fall_kind u File n h = fall_begun u false n h
+  fall_kind u Directory n h = fall_begun u true n h
+  fall_kind u Nothing n h = tt
+
+  fall_source : (r : Bool) (k : Kind) (n : ℕ) → 2 * sweep_left (prefix_of o.source) sweep_start m + 8 < n → Falls (left o) (on_source o r k) m n
+  fall_source true k n h = tt
+  fall_source false k n h = fall_kind _ k n h
+
+  fall_target : (d : Bool) (k : Kind) (n : ℕ) → 2 * sweep_left (prefix_of o.source) sweep_start m + 6 < n → Falls (left o) (on_target d k) m n
+  fall_target d File n h = tt
+  fall_target d _ n h = omega (arith, h)
+
+  fall_inside : (d : Bool) (k : Kind) (n : ℕ) → 2 * sweep_left (prefix_of o.source) sweep_start m + 4 < n → Falls (left o) (on_inside o d k) m n
+  fall_inside d Nothing n h = fall_go d true n h
+  fall_inside d _ n h = tt
+
+  fall_above : (d : Bool) (k : Kind) (n : ℕ) → 2 * sweep_left (prefix_of o.source) sweep_start m + 4 < n → Falls (left o) (on_above o d k) m n
+  fall_above d Directory n h = fall_go d false n h
+  fall_above d _ n h = tt
+
+  fall_found : (s : Spot) (d : Bool) (k : Kind) (b : Bool) → Falls (left o) (found o s d k) m (2 * sweep_left (prefix_of o.source) sweep_start m + 4 + looks_left s b)
+  fall_found Source d k true = fall_source _ k _ (omega arith)
+  fall_found Source d k false = fall_source _ k _ (omega arith)
+  fall_found Target d k true = fall_target d k _ (omega arith)
+  fall_found Target d k false = fall_target d k _ (omega arith)
+  fall_found Inside d k true = fall_inside d k _ (omega arith)
+  fall_found Inside d k false = fall_inside d k _ (omega arith)
+  fall_found Above d k true = fall_above d k _ (omega arith)
+  fall_found Above d k false = fall_above d k _ (omega arith)
+
+  -- where no file is seen at a path, it is looked below it once
+  pub fall_looked : (s : Spot) (d b : Bool) (k : Option Kind) → (b ≡ true → k ≡ None → ⊥) → Falls (left o) (looked o s d k) m (2 * sweep_left (prefix_of o.source) sweep_start m + 4 + looks_left s b)
+  fall_looked s d b (Some k) f = fall_found s d k b
+  fall_looked s d true None f = absurd (f refl refl)
+  fall_looked Source d false None f = omega arith
+  fall_looked Target d false None f = omega arith
+  fall_looked Inside d false None f = omega arith
+  fall_looked Above d false None f = omega arith
+
+  fall_places : (ks : List (List ℕ)) (r : Result (List (List ℕ)) (List ℕ)) (n : ℕ) → 2 * length ks + 4 < n → Falls (left o) (with_places ks r) m n
+  fall_places ks (Err k) n h = tt
+  fall_places [] (Ok ls) n h = tt
+  fall_places (k ∷ ks) (Ok ls) n h = omega (arith, h)
+
+  fall_listed : (q : Option (List ℕ)) (ks : List (List ℕ)) (n : ℕ) → 2 * length ks + 4 < n → Falls (left o) (listed_to o q ks) m n
+  fall_listed None ks n h = tt
+  fall_listed (Some q) ks n h = fall_places ks _ n h
+
+  pub fall_walked : (i : Bool) (w : Walked PageEntry) (n : ℕ) → LessWalked (prefix_of o.source) m w n → Falls (left o) (on_walked o i w) m (2 * n + 4)
+  fall_walked i (More found) n h = omega (arith, h)
+  fall_walked i (Whole found) n h = fall_listed (place_at o i) (keys_on found) (2 * n + 4) (let e = length_keys found in omega (arith, e, h))
+
+  fall_up : (u : Option (List ℕ)) (n : ℕ) → 1 < n → Falls (left o) (up_to u) m n
+  fall_up None n h = tt
+  fall_up (Some k) n h = h
+
+  pub fall_swept : (w : Option walks.Sweep) (n : ℕ) → LessLeft (prefix_of o.source) m w n → Falls (left o) (swept o w) m (n + 3)
+  fall_swept (Some w) n h = omega (arith, h)
+  fall_swept None n h = fall_up (marker_if (parent o.source)) (n + 3) (omega arith)
+
+  fall_deleting : (ks : List (List ℕ)) (n : ℕ) → length ks + 3 < n → Falls (left o) (swept o (deleting ks)) m n
+  fall_deleting [] n h = fall_up (marker_if (parent o.source)) n (omega (arith, h))
+  fall_deleting (k ∷ ks) n h = h
+
+  pub fall_parent : (k : List ℕ) (l : Look) → Falls (left o) (on_parent k l) m 1
+  fall_parent k There = tt
+  fall_parent k _ = omega arith
+
+  pub fall_all : (ks : List (List ℕ)) (n : ℕ) → length ks + 3 < n → Falls (left o) (on_copied o (All ks)) m n
+  fall_all ks n h = fall_deleting ks n h

@@ -1,0 +1,182 @@
+-- What the markers of a listing are where the objects stand that were listed.
+use Rattle.std.specs.Prelude.{◌≡◌, ℕ, zero, suc, ◌==◌, ◌<◌, Bool, true, false, cond, List, [], ◌∷◌, ◌++◌, map, length, Some, if◌then◌else◌}
+use Rattle.std.proofs.Common.{refl, sym, ap, subst, ◌∙◌, inl, inr, arith}
+use Rattle.std.proofs.lemmas.Bool.{false≢true, eqb-true}
+use Rattle.std.specs.FinMap as fin
+use Rattle.std.specs.List.{filter}
+use Rattle.proof_base.specs.Order.{text_cmp, text_total}
+use Rattle.proof_base.proofs.Less.{lt, irrefl, lt_not}
+use Rattle.s3_types.specs.Store.{Objects}
+use Rattle.s3_types.specs.Pages.{begins, text_in}
+use Rattle.s3_types.specs.declared.object.Object.{Object}
+use Rattle.s3_types.specs.declared.reply.PageEntry.{PageEntry}
+use Rattle.s3_types.specs.declared.reply.PageEntry.TheVariants.{Object as Single, Prefix}
+use Rattle.s3_types.proofs.Begins.{between}
+use Rattle.path_keys.specs.Paths.{below}
+use Rattle.request_frame.specs.Members.{IsIn, RisesFrom}
+use Rattle.request_frame.proofs.Members.{false_true, some_is, in_front, in_back, in_map, map_in, in_filter, filter_in}
+use Rattle.request_frame.proofs.Flat.{behind}
+use Rattle.fs_tree.specs.Tree.{is_marker, Stands}
+use Rattle.fs_tree.specs.MarkerTool.{IsBare, HasBytes, HasMore, IsKind, IsSurplus, AreAll, HasMarkers}
+use Rattle.fs_tree.specs.declared.markers.MarkerKind.{MarkerKind}
+use Rattle.fs_tree.specs.declared.markers.MarkerKind.TheVariants.{Surplus, Leaf, Odd}
+use Rattle.fs_tree.specs.declared.markers.MarkerEntry.{MarkerEntry}
+use Rattle.fs_tree.proofs.Begins.{begins_trans}
+use Rattle.marker_tool.specs.Markers.{goes_on, kind_of, marker_at, markers_in, is_surplus, surplus_in}
+use Rattle.bucket_walks.proofs.Rising.{lower, sorted}
+use Rattle.marker_tool.proofs.Listing.{IsListing, above, rises_filter, behind_first}
+
+-- ---- what a marker is
+
+not_zero : (n : ℕ) → (n == 0) ≡ false → 0 < n
+not_zero zero h = absurd (false≢true (sym h))
+not_zero (suc n) h = omega arith
+
+bare_bytes : (z : Objects) (k : List ℕ) → IsBare z k → HasBytes z k → ⊥
+bare_bytes z k h g =
+    let n : length g.0.bytes ≡ 0 = ap (λ (o : Object). length o.bytes) (some_is (sym g.1 ∙ h.1)) ∙ h.2 in
+    let l : 0 < length g.0.bytes = g.2 in
+    omega (arith, n, l)
+
+-- a key has one kind
+pub one_kind : (z : Objects) (k : List ℕ) (a b : MarkerKind) → IsKind z k a → IsKind z k b → a ≡ b
+one_kind z k Surplus Surplus h g = refl
+one_kind z k Leaf Leaf h g = refl
+one_kind z k Odd Odd h g = refl
+one_kind z k Surplus Leaf h g = absurd (g.1 h.1)
+one_kind z k Leaf Surplus h g = absurd (h.1 g.1)
+one_kind z k Odd Surplus h g = absurd (bare_bytes z k g.0 h)
+one_kind z k Odd Leaf h g = absurd (bare_bytes z k g.0 h)
+one_kind z k Surplus Odd h g = absurd (bare_bytes z k h.0 g)
+one_kind z k Leaf Odd h g = absurd (bare_bytes z k h.0 g)
+
+stands_of : (z : Objects) (k : List ℕ) (a : MarkerKind) → IsKind z k a → Stands z k
+stands_of z k Odd h = (h.0, h.1)
+stands_of z k _ h = (h.0.0, h.0.1)
+
+-- a marker and what it is
+abbrev entry : List ℕ → MarkerKind → MarkerEntry
+entry k kind = record { key = k; kind = kind }
+
+-- the length that an entry tells
+abbrev bytes_in : PageEntry → ℕ
+bytes_in (Single k n) = n
+bytes_in (Prefix t) = 0
+
+module _ (q : List ℕ) (z : Objects) where
+  -- a key that begins with it stands behind it, and so does the next one
+  next_up : (k j : List ℕ) (n : ℕ) (es : List PageEntry) → IsListing q k z es → begins k j ≡ true → IsIn (Single j n) es → goes_on k es ≡ true
+  next_up k j n [] h b i = absurd i
+  next_up k j n (f ∷ fs) h b (inl i) = ap (λ e. begins k (text_in e)) (sym i) ∙ b
+  next_up k j n (f ∷ fs) h b (inr i) =
+      between k (text_in f) j (lt_not text_total k (text_in f) h.rises.0)
+      (lt_not text_total (text_in f) j (behind (text_in f) j (map text_in fs) h.rises.1 (map_in text_in (Single j n) fs i))) b
+
+  more_next : (l k : List ℕ) (n : ℕ) (es : List PageEntry) → IsListing q l z (Single k n ∷ es) → begins q k ≡ true → HasMore z k → goes_on k es ≡ true
+  more_next l k n es h b more =
+      let rest = behind_first q l z (Single k n) es h in
+      next_up k more.0 (length more.3.0.bytes) es rest more.1 (rest.all more.0 more.3.0 more.3.1 (begins_trans q k more.0 b more.1) (above k more.0 more.1 more.2))
+
+  next_more : (l k : List ℕ) (n : ℕ) (es : List PageEntry) → IsListing q l z (Single k n ∷ es) → goes_on k es ≡ true → HasMore z k
+  next_more l k n [] h t = absurd (false≢true t)
+  next_more l k n (f ∷ fs) h t =
+      let w = h.each f (inr (inl refl)) in
+      (text_in f, t, (λ e. false_true (irrefl text_total k) (ap (lt text_cmp k) (sym e) ∙ h.rises.1.0)), (w.1, ap (fin.get z) (ap text_in w.2) ∙ w.4))
+
+  kind_by : (k : List ℕ) (o : Object) (n : ℕ) (b c : Bool) → fin.get z k ≡ Some o → n ≡ length o.bytes → (n == 0) ≡ b → (c ≡ true → HasMore z k) → (HasMore z k → c ≡ true)
+      → IsKind z k (if b then (if c then Surplus else Leaf) else Odd)
+  kind_by k o n false c g e t f h = (o, g, subst (λ n. 0 < n) e (not_zero n t))
+  kind_by k o n true true g e t f h = ((o, g, sym e ∙ eqb-true n 0 t), f refl)
+  kind_by k o n true false g e t f h = ((o, g, sym e ∙ eqb-true n 0 t), λ more. false≢true (h more))
+
+  -- an entry's kind is told
+  kind_here : (l k : List ℕ) (n : ℕ) (es : List PageEntry) → IsListing q l z (Single k n ∷ es) → IsKind z k (kind_of n (goes_on k es))
+  kind_here l k n es h =
+      let w = h.each (Single k n) (inl refl) in
+      let key : k ≡ w.0 = ap text_in w.2 in
+      kind_by k w.1 n (n == 0) (goes_on k es) (ap (fin.get z) key ∙ w.4) (ap bytes_in w.2) refl (next_more l k n es h)
+      (more_next l k n es h (ap (begins q) key ∙ w.3))
+
+  -- it is a marker below the prefix, of its kind
+  abbrev IsFound : MarkerEntry → Type 0
+  IsFound x = (begins q x.key ≡ true) × (is_marker x.key ≡ true) × IsKind z x.key x.kind
+
+  each_marker : (l : List ℕ) (es : List PageEntry) → IsListing q l z es → (x : MarkerEntry) → IsIn x (markers_in es) → IsFound x
+  each_marker l [] h x i = absurd i
+  each_marker l (Prefix t ∷ es) h x i = each_marker t es (behind_first q l z (Prefix t) es h) x i
+  each_marker l (Single k n ∷ es) h x i = by (is_marker k) refl i (each_marker k es (behind_first q l z (Single k n) es h) x)
+    where
+      here : begins q k ≡ true
+      here = let w = h.each (Single k n) (inl refl) in ap (begins q) (ap text_in w.2) ∙ w.3
+
+      by : (b : Bool) → is_marker k ≡ b → IsIn x (cond b (entry k (kind_of n (goes_on k es)) ∷ []) [] ++ markers_in es) → (IsIn x (markers_in es) → IsFound x) → IsFound x
+      by true e (inl s) old = subst IsFound (sym s) (here, e, kind_here l k n es h)
+      by true e (inr i) old = old i
+      by false e i old = old i
+
+  find_marker : (k : List ℕ) (kind : MarkerKind) → is_marker k ≡ true → IsKind z k kind → (l : List ℕ) (es : List PageEntry) → IsListing q l z es → (n : ℕ) → IsIn (Single k n) es
+      → IsIn (entry k kind) (markers_in es)
+  find_marker k kind m g l [] h n i = absurd i
+  find_marker k kind m g l (Prefix t ∷ es) h n (inl e) = absurd (cc)
+  find_marker k kind m g l (Prefix t ∷ es) h n (inr i) = find_marker k kind m g t es (behind_first q l z (Prefix t) es h) n i
+  find_marker k kind m g l (Single j c ∷ es) h n (inr i) =
+      in_back (entry k kind) (marker_at (Single j c) es) (markers_in es) (find_marker k kind m g j es (behind_first q l z (Single j c) es h) n i)
+  find_marker k kind m g l (Single j c ∷ es) h n (inl e) =
+      in_front (entry k kind) (marker_at (Single j c) es) (markers_in es)
+      (subst (λ b. IsIn (entry k kind) (cond b (entry j (kind_of c (goes_on j es)) ∷ []) [])) (sym (ap is_marker (sym same) ∙ m))
+      (inl (λ i. entry (same i) (alike i))))
+    where
+      same : k ≡ j
+      same = ap text_in e
+
+      alike : kind ≡ kind_of c (goes_on j es)
+      alike = one_kind z j kind (kind_of c (goes_on j es)) (subst (λ k. IsKind z k kind) same g) (kind_here l j c es h)
+
+pub markers_rise : (l : List ℕ) (es : List PageEntry) → RisesFrom l (map text_in es) → RisesFrom l (map (λ x. x.key) (markers_in es))
+markers_rise l [] h = tt
+markers_rise l (Prefix t ∷ es) h = lower l t (map (λ x. x.key) (markers_in es)) h.0 (markers_rise t es h.1)
+markers_rise l (Single k n ∷ es) h = by (is_marker k) (markers_rise k es h.1)
+  where
+    by : (b : Bool) → RisesFrom k (map (λ x. x.key) (markers_in es)) → RisesFrom l (map (λ x. x.key) (cond b (entry k (kind_of n (goes_on k es)) ∷ []) [] ++ markers_in es))
+    by true old = (h.0, old)
+    by false old = lower l k (map (λ x. x.key) (markers_in es)) h.0 old
+
+pub some_marker : (k : List ℕ) → is_marker k ≡ true → lt text_cmp [] k ≡ true
+some_marker [] m = absurd (false≢true m)
+some_marker (x ∷ k) m = refl
+
+module _ (p : List ℕ) (z : Objects) (es : List PageEntry) (h : IsListing (below p []) [] z es) where
+  -- they are the markers below the path
+  pub has_markers : HasMarkers p z (markers_in es)
+  has_markers = record {
+    each = λ x i. let w = each_marker (below p []) z [] es h x i in ((w.0, w.1), w.2);
+    all = λ k kind b g.
+        let s = stands_of z k kind g in
+        find_marker (below p []) z k kind b.1 g [] es h (length s.0.bytes) (h.all k s.0 s.1 b.0 (some_marker k b.1));
+    rises = sorted [] (map (λ x. x.key) (markers_in es)) (markers_rise [] es h.rises);
+  }
+
+  surplus_is : (a : MarkerKind) → is_surplus a ≡ true → a ≡ Surplus
+  surplus_is Surplus t = refl
+  surplus_is _ t = absurd (false≢true t)
+
+  surplus_each : (k : List ℕ) → IsIn k (surplus_in es) → IsSurplus p z k
+  surplus_each k i =
+      let a = in_map (λ x. x.key) k (filter (λ x. is_surplus x.kind) (markers_in es)) i in
+      let c = in_filter (λ x. is_surplus x.kind) a.0 (markers_in es) a.1 in
+      let w = each_marker (below p []) z [] es h a.0 c.0 in
+      subst (IsSurplus p z) (sym a.2) ((w.0, w.1), subst (IsKind z a.0.key) (surplus_is a.0.kind c.1) w.2)
+
+  surplus_has : (k : List ℕ) → IsSurplus p z k → IsIn k (surplus_in es)
+  surplus_has k s =
+      let x : MarkerEntry = entry k Surplus in
+      map_in (λ x. x.key) x (filter (λ x. is_surplus x.kind) (markers_in es))
+      (filter_in (λ x. is_surplus x.kind) x (markers_in es) (has_markers.all k Surplus s.0 s.1) refl)
+
+  -- and these the surplus ones
+  pub all_surplus : AreAll (IsSurplus p z) (surplus_in es)
+  all_surplus = record {
+    each = surplus_each;
+    all = surplus_has;
+    rises = sorted [] (surplus_in es) (rises_filter (λ x. x.key) (λ x. is_surplus x.kind) [] (markers_in es) (markers_rise [] es h.rises));
+  }
