@@ -23,10 +23,11 @@ use Rattle.job_promise.specs.Seen.{Seen, see_all, nothing_seen}
 use Rattle.job_promise.specs.States.{missing, commit_event}
 use Rattle.job_facts.specs.Runs.{IsOpening}
 use Rattle.job_facts.specs.Standing.{HasPublished}
-use Rattle.job_happenings.specs.Happenings.{Play, Refuses, Opens, Sends, Finishes, Closes, knows_now, begun, open_running, hear, happen, MaySend, Happened, nothing_happened, happens}
+use Rattle.job_happenings.specs.Happenings.{Play, Refuses, Opens, Sends, Finishes, Closes, knows_now, begun, open_running, hear, happen, MaySend, Happened, nothing_happened, happens, Strays}
 use Rattle.job_happenings.specs.Running.{Ahead, operation_of}
+use Rattle.job_facts.specs.Told.{strange_entry}
 use Rattle.job_happenings.proofs.Actors.{same_or_not, put_here, put_other}
-use Rattle.job_happenings.proofs.Running.{sent_ahead, finished_ahead, opened_ahead, refused_ahead, not_refused, closed_ahead}
+use Rattle.job_happenings.proofs.Running.{sent_ahead, finished_ahead, opened_ahead, refused_ahead, not_refused, closed_ahead, strayed_ahead}
 use Rattle.job_answers.specs.Due.{AllPublished}
 use Rattle.job_happenings.proofs.Reported.{AllReported, none_left, Unclean, later, unclean_before, reported}
 
@@ -185,3 +186,6 @@ module _ (g : Setting) (opening : Content) (j : IsLegal g.script) (is_opening : 
   driver_reads x (happens y (Sends e) past may) ahead clean = sends y e may (driver_reads y past (sent_ahead g y e all_ends ahead) (unclean_before g opening j is_opening all_ends y e clean))
   driver_reads x (happens y (Finishes v) past may) ahead clean = driver_reads y past (finished_ahead g y v all_ends ahead) clean
   driver_reads x (happens y (Closes end) past may) ahead clean = driver_reads y past (closed_ahead g y end all_ends (not_refused w y.past.state may.event end _ may.turns) ahead) clean
+  driver_reads x (happens y (Strays r o) past may) ahead clean =
+      let e = strange_entry (length y.ends) r o in
+      driver_still w (seen_by y) (seen_by (happen g y (Strays r o))) (later g opening j is_opening all_ends y e) (operation_of (y.running Driver)) (driver_reads y past (strayed_ahead g y r o all_ends ahead) (unclean_before g opening j is_opening all_ends y e clean))

@@ -21,7 +21,7 @@ use Rattle.job_facts.specs.Told.{Told}
 use Rattle.job_facts.specs.Emptying.{SetsUp}
 use Rattle.job_facts.specs.FiledLaws.{Commits}
 use Rattle.job_facts.specs.Runs.{Stand, IsOpening, is_set}
-use Rattle.job_facts.proofs.Running.{Empty, InCommit, At, Early, Late}
+use Rattle.job_facts.proofs.Running.{Replaces, InCommit, At, Early, Late}
 use Rattle.job_facts.proofs.EveryRun.{good}
 use Rattle.job_facts.proofs.Entries.{sees, tells_so, late_now}
 use Rattle.job_facts.proofs.Changes.{moment_scene}
@@ -91,7 +91,7 @@ module _ (g : Setting) (opening : Content) (x : Play) (j : IsLegal g.script) (is
       | inl none ↦ absurd (none_some none d)
       | inr y ↦ inr (subst (λ (u : Retried Setup). SetsUp w stand.seen.scene.content u.operation) (setup_is (sym y.1 ∙ d)) y.2, e.none)
     ]
-    | inr l ↦ inl (subst (λ v. At g opening v stand.seen stand.told stand.commit) d l.driver).0
+    | inr l ↦ inl (subst (λ v. At g opening v stand.seen stand.told) d l.driver).0
   ]
 
   -- ---- the driver's commit
@@ -100,14 +100,14 @@ module _ (g : Setting) (opening : Content) (x : Play) (j : IsLegal g.script) (is
     commit_late : Late g opening stand
     commit_late = late_set (ap is_set d)
 
-    in_commit : InCommit g opening stand.seen.scene.content stand.seen.picks stand.seen.put_mark stand.seen.begun stand.told stand.commit c
-    in_commit = subst (λ v. At g opening v stand.seen stand.told stand.commit) d commit_late.driver
+    in_commit : InCommit g opening stand.seen.picks stand.told c
+    in_commit = subst (λ v. At g opening v stand.seen stand.told) d commit_late.driver
 
     -- a magic job has no replace mode
     pub never_replaces : w.committer ≡ Magic → (sets : Sets) (p : List ℕ) (ps : List (List ℕ)) (t : Sweep) (n : ℕ) → c ≡ Replacing sets p ps t n → ⊥
     never_replaces magic sets p ps t n is =
-        let h = subst (Empty g opening stand.seen.scene.content) is in_commit.empty in
-        no_replacing h.behind p ps (h.parts ∙ ap (λ z. replaced z w.mode w (picks_of sets)) magic)
+        let h = subst (Replaces g opening) is in_commit.replaces in
+        no_replacing h.0 p ps (h.1 ∙ ap (λ z. replaced z w.mode w (picks_of sets)) magic)
 
     reads : AllRead w stand.seen c
     reads =

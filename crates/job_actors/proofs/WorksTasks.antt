@@ -14,7 +14,7 @@ use Rattle.job_operations.specs.Operations.{Setting, Operation, TheSetup, TheWri
 use Rattle.request_frame.proofs.Members.{none_some}
 use Rattle.job_facts.specs.Told.{known}
 use Rattle.job_facts.proofs.Whose.{put_at}
-use Rattle.job_facts.specs.Runs.{Stand, Runs, run_begins, setup_begins, commit_begins, clean_begins, driver_sends, write_begins, publish_begins, abort_begins, attempt_sends, IsOpening}
+use Rattle.job_facts.specs.Runs.{Stand, Runs, run_begins, driver_sends, attempt_sends, IsOpening, Beginning, BeginWrite, BeginPublish, BeginAbort, begin, actor_begins, strays}
 use Rattle.job_answers.specs.Due.{ReadsOwn}
 use Rattle.job_answers.proofs.Kept.{reads_begin, reads_go}
 
@@ -40,13 +40,15 @@ module _ (g : Setting) (k : Option ℕ) (opening : Content) (j : IsLegal g.scrip
   abbrev w : Script
   w = g.script
 
+  own_begin : (y : Stand) (b : Beginning) → ((a : Who) (op : Operation) → y.attempts a ≡ Some op → OwnTask w a op) → (a : Who) (op : Operation) → (begin g y b).attempts a ≡ Some op → OwnTask w a op
+  own_begin y (BeginWrite b) old a op e = put_at (OwnTask w) y.attempts b (TheWrite (fresh w.retries (write_start w b))) tt old a op e
+  own_begin y (BeginPublish b) old a op e = put_at (OwnTask w) y.attempts b (TheTaskCommit (fresh w.retries (task_commit_start w b))) (reads_begin w b) old a op e
+  own_begin y (BeginAbort b) old a op e = put_at (OwnTask w) y.attempts b (TheTaskAbort (fresh w.retries (task_abort_start w (known y.told b)))) tt old a op e
+  own_begin y _ old a op e = old a op e
+
   pub own_task : (es : List Entry) (x : Stand) → Runs g k opening es x → (a : Who) (op : Operation) → x.attempts a ≡ Some op → OwnTask w a op
   own_task es x (run_begins) a op e = absurd (none_some refl e)
-  own_task es x (setup_begins fs y run may) a op e = own_task fs y run a op e
-  own_task es x (commit_begins fs y missing run just) a op e = own_task fs y run a op e
-  own_task es x (clean_begins fs y run set) a op e = own_task fs y run a op e
+  own_task es x (actor_begins fs y b run may) a op e = own_begin y b (own_task fs y run) a op e
   own_task es x (driver_sends fs y v n r o run d asked timely few honest) a op e = own_task fs y run a op e
-  own_task es x (write_begins fs y b run set d none) a op e = put_at (OwnTask w) y.attempts b (TheWrite (fresh w.retries (write_start w b))) tt (own_task fs y run) a op e
-  own_task es x (publish_begins fs y b spare repeated run set at) a op e = put_at (OwnTask w) y.attempts b (TheTaskCommit (fresh w.retries (task_commit_start w b))) (reads_begin w b) (own_task fs y run) a op e
-  own_task es x (abort_begins fs y b run set d) a op e = put_at (OwnTask w) y.attempts b (TheTaskAbort (fresh w.retries (task_abort_start w (known y.told b)))) tt (own_task fs y run) a op e
   own_task es x (attempt_sends fs y b v n r o run set at asked honest) a op e = put_at (OwnTask w) y.attempts b (tells g b v o) (own_tells g b v o (own_task fs y run b v at)) (own_task fs y run) a op e
+  own_task es x (strays fs y n r o run f) a op e = own_task fs y run a op e

@@ -26,8 +26,8 @@ use Rattle.job_promise.specs.Headline.{Same, Always, Kept}
 use Rattle.job_promise.specs.OperationEnds.{is_untouched}
 use Rattle.job_promise.specs.Seen.{Seen, see, is_reading, see_all, seen, nothing_seen}
 use Rattle.request_frame.proofs.Members.{some_is, none_some, false_true, true_or_false, same_or_not}
-use Rattle.job_facts.specs.Told.{Told, entry, driver_entry}
-use Rattle.job_facts.specs.Runs.{Stand, Runs, run_begins, setup_begins, commit_begins, clean_begins, driver_sends, write_begins, publish_begins, abort_begins, attempt_sends, IsOpening, IsTimely, nothing_learnt}
+use Rattle.job_facts.specs.Told.{Told, entry, driver_entry, strange_entry}
+use Rattle.job_facts.specs.Runs.{Stand, Runs, run_begins, actor_begins, driver_sends, attempt_sends, strays, IsOpening, IsTimely, nothing_learnt}
 use Rattle.job_facts.proofs.Wanted.{same_picked}
 use Rattle.job_facts.proofs.Running.{At}
 use Rattle.job_facts.proofs.Entries.{take_front, take_all, sees}
@@ -142,14 +142,11 @@ module _ (g : Setting) (j : IsLegal g.script) (k : Option ℕ) (opening : Conten
   IsDriver (TheClean t) = Unit {0}
   IsDriver _ = ⊥
 
-  late_driver : (d : Option Operation) (s : Seen) (m : Told) (es : List Entry) → At g opening d s m es → (op : Operation) → d ≡ Some op → IsDriver op
-  late_driver None s m es y op e = absurd y
-  late_driver (Some (TheSetup t)) s m es y op e = subst IsDriver (some_is e) tt
-  late_driver (Some (TheCommit c)) s m es y op e = subst IsDriver (some_is e) tt
-  late_driver (Some (TheClean t)) s m es y op e = subst IsDriver (some_is e) tt
-  late_driver (Some (TheWrite t)) s m es y op e = absurd y
-  late_driver (Some (TheTaskCommit t)) s m es y op e = absurd y
-  late_driver (Some (TheTaskAbort t)) s m es y op e = absurd y
+  late_driver : (d : Option Operation) (s : Seen) (m : Told) → At g opening d s m → (op : Operation) → d ≡ Some op → IsDriver op
+  late_driver (Some (TheSetup t)) s m y op e = subst IsDriver (some_is e) tt
+  late_driver (Some (TheCommit c)) s m y op e = subst IsDriver (some_is e) tt
+  late_driver (Some (TheClean t)) s m y op e = subst IsDriver (some_is e) tt
+  late_driver _ s m y op e = absurd y
 
   pub no_driver : (es : List Entry) (x : Stand) → Runs g k opening es x → (op : Operation) → x.driver ≡ Some op → (IsDriver op → ⊥) → ⊥
   no_driver es x run op d none = elim (good g k opening j is_opening es x run) [
@@ -157,7 +154,7 @@ module _ (g : Setting) (j : IsLegal g.script) (k : Option ℕ) (opening : Conten
       | inl nothing ↦ none_some nothing d
       | inr y ↦ none (subst IsDriver (some_is (sym y.1 ∙ d)) tt)
     ]
-    | inr late ↦ none (late_driver x.driver x.seen x.told x.commit late.driver op d)
+    | inr late ↦ none (late_driver x.driver x.seen x.told late.driver op d)
   ]
 
   driver_on : (es : List Entry) (x : Stand) → Runs g k opening es x → (op : Operation) → x.driver ≡ Some op → (n : ℕ) (r : Request) (o : Outcome) → asks g (who Driver) nothing_learnt op ≡ Some r → IsTimely k n op → x.seen.scene.content.next ≤ 2 ^ 64 → IsHonestOutcome o (answer x.seen.scene r)
@@ -196,14 +193,10 @@ module _ (g : Setting) (j : IsLegal g.script) (k : Option ℕ) (opening : Conten
 
   pub earlier : (es : List Entry) (x : Stand) → Runs g k opening es x → Earlier es x
   earlier es x (run_begins) = λ m l t low. inr (ap (λ (p : Picks). p t) (whole [] x run_begins m (omega arith)))
-  earlier es x (setup_begins fs y run may) = earlier fs y run
-  earlier es x (commit_begins fs y missing run just) = earlier fs y run
-  earlier es x (clean_begins fs y run set) = earlier fs y run
+  earlier es x (actor_begins fs y b run may) = earlier fs y run
   earlier es x (driver_sends fs y op n r o run d asked timely few honest) = earlier_more fs y (driver_entry n r o) x (driver_sends fs y op n r o run d asked timely few honest) (earlier fs y run) (driver_on fs y run op d n r o asked timely few honest)
-  earlier es x (write_begins fs y a run set d none) = earlier fs y run
-  earlier es x (publish_begins fs y a spare repeated run set at) = earlier fs y run
-  earlier es x (abort_begins fs y a run set d) = earlier fs y run
   earlier es x (attempt_sends fs y a op n r o run set at asked honest) = earlier_more fs y (entry a n r o) x (attempt_sends fs y a op n r o run set at asked honest) (earlier fs y run) (λ t l. inl (ap (λ (p : Picks). p t) (attempts_leave w k y.seen a n r o)))
+  earlier es x (strays fs y n r o run f) = earlier_more fs y (strange_entry n r o) x (strays fs y n r o run f) (earlier fs y run) (λ t l. inl refl)
 
   -- ---- a commit that ended before its first completion
 

@@ -28,27 +28,28 @@ use Rattle.job_operations.specs.Setup.{Setup, Heading, Checking, Clearing, Sweep
 use Rattle.list_walk.specs.Walks.{Listing, Deleting}
 use Rattle.job_operations.specs.Cleanups.{Clean, Walking, Aborting, Naming, Removing, CleanOver, clean_asks}
 use Rattle.job_operations.specs.Cleanups as cleanups
-use Rattle.job_operations.specs.JobCommits.{picks_of, Commit, Fetching, Replacing, Completing, Marking, Reverting, CommitOver, commit_start, commit_asks, commit_tells, commit_over}
+use Rattle.job_operations.specs.JobCommits.{picks_of, Commit, CommitOver, commit_start, commit_asks, commit_tells, commit_over}
 use Rattle.job_operations.specs.LaneTable.{Sound, AllSound}
 use Rattle.job_operations.specs.Laws.{EndIs}
-use Rattle.job_operations.specs.Operations.{Setting, Operation, TheSetup, TheWrite, TheTaskCommit, TheTaskAbort, TheCommit, TheClean, who, asks, tells}
+use Rattle.job_operations.specs.Operations.{Setting, Operation, TheSetup, TheCommit, who, asks, tells}
 use Rattle.job_operations.proofs.LaneEnds.{ends_by_worn}
+use Rattle.job_promise.specs.Entries.{AreOwn}
 use Rattle.job_promise.specs.Ends.{commit_due, end_or, is_mark_answered, CommitEnded}
 use Rattle.job_promise.specs.Promise.{picks_below, picked}
 use Rattle.job_promise.specs.Seen.{Seen, see, is_begun, is_reading, is_marked}
 use Rattle.request_frame.proofs.Members.{some_is, none_some, false_true, same_or_not}
-use Rattle.job_facts.specs.Told.{Told, known, entry, driver_entry}
+use Rattle.job_facts.specs.Told.{entry, driver_entry}
 use Rattle.job_facts.specs.Stores.{at_key}
 use Rattle.job_facts.specs.Facts.{Hold}
-use Rattle.job_facts.specs.Runs.{Stand, Runs, run_begins, setup_begins, commit_begins, clean_begins, driver_sends, write_begins, publish_begins, abort_begins, attempt_sends, IsOpening, is_set, is_just_set, IsTimely, nothing_learnt, with_attempt, with_driver, with_commit, commit_with, saw}
+use Rattle.job_facts.specs.Runs.{Stand, Beginning, BeginSetup, BeginCommit, BeginClean, BeginWrite, BeginPublish, BeginAbort, begin, MayBegin, Runs, run_begins, actor_begins, driver_sends, attempt_sends, strays, IsOpening, is_set, is_just_set, IsTimely, nothing_learnt, with_driver, with_commit, commit_with, saw}
 use Rattle.job_facts.proofs.Legal.{some_dest}
 use Rattle.job_facts.proofs.Owning.{operation_own}
 use Rattle.job_facts.proofs.Keeping.{Quiet, attempt_quiet}
-use Rattle.job_facts.proofs.Running.{InCommit, Idle, At}
-use Rattle.job_facts.proofs.EveryRun.{good, just_set, late}
-use Rattle.job_ends.specs.CommitRuns.{IsDue, HasMarked, CommitStands, PicksOneMore, PicksGrow, EndsDue, CommitRuns}
+use Rattle.job_facts.proofs.Running.{InCommit, At}
+use Rattle.job_facts.proofs.EveryRun.{good, just_set, just_idle, late, own_front, own_last}
+use Rattle.job_ends.specs.CommitRuns.{IsDue, WhereCommitted, CommitStands, PicksOneMore, PicksGrow, EndsDue, CommitRuns}
 use Rattle.job_ends.proofs.Shared.{same_shared}
-use Rattle.job_ends.proofs.CommitSteps.{at_start, one_start, marked_at_start, marked_next, sound_now, sound_more}
+use Rattle.job_ends.proofs.CommitSteps.{at_start, one_start, where_on, where_start, answered_next, marked_next, sound_now, sound_more}
 use Rattle.job_ends.proofs.Picks.{after_entry}
 
 some_lane : {a : ℕ} → 1 ≤ a → 0 < a
@@ -60,6 +61,12 @@ commit_is e = cc
 no_setup : {t : Retried Setup} {c : Commit} → Some (TheSetup t) ≡ Some (TheCommit c) → ⊥
 no_setup e = cc
 
+pub attempts_leave : (w : Script) (k : Option ℕ) (s : Seen) (a : Who) (n : ℕ) (r : Request) (o : Outcome) → (see w k s (entry a n r o)).picks ≡ s.picks
+attempts_leave w k s a n r (Answered y) = refl
+attempts_leave w k s a n r Slow = refl
+attempts_leave w k s a n r RequestLost = refl
+attempts_leave w k s a n r ReplyLost = refl
+
 module _ (g : Setting) (j : IsLegal g.script) (k : Option ℕ) (opening : Content) (is_opening : IsOpening g opening) where
   abbrev w : Script
   w = g.script
@@ -69,35 +76,26 @@ module _ (g : Setting) (j : IsLegal g.script) (k : Option ℕ) (opening : Conten
 
   -- ---- as it begins
 
-  just_idle : (d : Option Operation) (s : Seen) (m : Told) (es : List Entry) → At g opening d s m es → is_just_set d ≡ true → Idle g opening s m
-  just_idle None s m es y e = absurd y
-  just_idle (Some (TheSetup t)) s m es y e = y.1
-  just_idle (Some (TheWrite t)) s m es y e = absurd y
-  just_idle (Some (TheTaskCommit t)) s m es y e = absurd y
-  just_idle (Some (TheTaskAbort t)) s m es y e = absurd y
-  just_idle (Some (TheCommit c)) s m es y e = absurd (false_true refl e)
-  just_idle (Some (TheClean t)) s m es y e = absurd (false_true refl e)
-
   starts : (es : List Entry) (y : Stand) → Runs g k opening es y → (missing : Option ℕ) → is_just_set y.driver ≡ true
       → CommitStands g (record { seen = y.seen; told = y.told; attempts = y.attempts; driver = Some (TheCommit (commit_start w missing)); commit = [] }) (commit_start w missing)
   starts es y run missing just =
       let l = late g k opening j is_opening y (good g k opening j is_opening es y run) (just_set y.driver just) in
-      let idle = just_idle y.driver y.seen y.told y.commit l.driver just in
-      record { missing = missing; follows = tt; leads = refl; sound = tt; sets = []; at = at_start w missing; picks = λ t l. idle.unpicked t; marked = marked_at_start w [] y.seen missing }
+      let idle = just_idle g k opening j is_opening y.driver y.seen y.told l.driver just in
+      record { missing = missing; follows = tt; leads = refl; sound = tt; sets = []; at = at_start w missing; picks = λ t l. idle.unpicked t; answered = where_start _ w missing }
 
   -- ---- one of its entries
 
-  late_at : (es : List Entry) (x : Stand) → Runs g k opening es x → (c : Commit) → x.driver ≡ Some (TheCommit c) → Hold w g.minimum x.seen x.told × InCommit g opening x.seen.scene.content x.seen.picks x.seen.put_mark x.seen.begun x.told x.commit c
+  late_at : (es : List Entry) (x : Stand) → Runs g k opening es x → (c : Commit) → x.driver ≡ Some (TheCommit c) → Hold w g.minimum x.seen x.told × InCommit g opening x.seen.picks x.told c
   late_at es x run c d =
       let l = late g k opening j is_opening x (good g k opening j is_opening es x run) (ap is_set d) in
-      (l.hold, subst (λ v. At g opening v x.seen x.told x.commit) d l.driver)
+      (l.hold, subst (λ v. At g opening v x.seen x.told) d l.driver)
 
   module _ (es : List Entry) (x : Stand) (runs : Runs g k opening es x) (c : Commit) (d : x.driver ≡ Some (TheCommit c)) (old : CommitStands g x c) (n : ℕ) (r : Request) (o : Outcome) (asked : commit_asks w c ≡ Some r) (timely : is_begun k n ≡ true) (few : x.seen.scene.content.next ≤ 2 ^ 64) (honest : IsHonestOutcome o (answer x.seen.scene r)) where
     abbrev next : Stand
     next = with_commit (with_driver (saw g k x (driver_entry n r o)) (TheCommit (commit_tells w c o))) (x.commit ++ driver_entry n r o ∷ [])
 
-    abbrev begin : Commit
-    begin = commit_start w old.missing
+    abbrev first : Commit
+    first = commit_start w old.missing
 
     sends_on : CommitStands g next (commit_tells w c o)
     sends_on =
@@ -105,13 +103,13 @@ module _ (g : Setting) (j : IsLegal g.script) (k : Option ℕ) (opening : Conten
         let a = after_entry g j k x.seen x.told l.0 l.1.uncleaned few n timely old.missing old.sets c l.1.decides old.at old.picks r asked o honest in
         record {
           missing = old.missing;
-          follows = follows_more (commit_asks w) (commit_tells w) begin x.commit (driver_entry n r o) old.follows (ap (commit_asks w) old.leads ∙ asked);
-          leads = run_more (commit_tells w) begin x.commit (driver_entry n r o) ∙ ap (λ v. commit_tells w v o) old.leads;
-          sound = sound_more w begin x.commit (driver_entry n r o) old.sound (subst Sound (sym old.leads) (sound_now w g.minimum x.seen x.told j l.0 c l.1.fits));
+          follows = follows_more (commit_asks w) (commit_tells w) first x.commit (driver_entry n r o) old.follows (ap (commit_asks w) old.leads ∙ asked);
+          leads = run_more (commit_tells w) first x.commit (driver_entry n r o) ∙ ap (λ v. commit_tells w v o) old.leads;
+          sound = sound_more w first x.commit (driver_entry n r o) old.sound (subst Sound (sym old.leads) (sound_now w g.minimum x.seen x.told j l.0 c l.1.fits));
           sets = a.sets;
           at = a.at;
           picks = a.picks;
-          marked = marked_next w k x.seen l.0.there n r x.commit c asked o;
+          answered = answered_next w k x.seen l.0.there n r x.commit c asked o;
         }
 
     pub picks_on : PicksGrow w x.seen.picks (see w k x.seen (driver_entry n r o)).picks c (commit_tells w c o)
@@ -120,52 +118,11 @@ module _ (g : Setting) (j : IsLegal g.script) (k : Option ℕ) (opening : Conten
   driver_on : (es : List Entry) (x : Stand) → Runs g k opening es x → Stood x → (op : Operation) (n : ℕ) (r : Request) (o : Outcome) → x.driver ≡ Some op → asks g (who Driver) nothing_learnt op ≡ Some r → IsTimely k n op → x.seen.scene.content.next ≤ 2 ^ 64 → IsHonestOutcome o (answer x.seen.scene r)
       → Stood (with_commit (with_driver (saw g k x (driver_entry n r o)) (tells g (who Driver) op o)) (commit_with op x.commit (driver_entry n r o)))
   driver_on es x runs old (TheCommit c) n r o d asked timely few honest v e = subst (CommitStands g _) (commit_is e) (sends_on es x runs c d (old c d) n r o asked timely few honest)
-  driver_on es x runs old (TheSetup t) n r o d asked timely few honest v e = absurd (no_setup e)
-  driver_on es x runs old (TheWrite t) n r o d asked timely few honest v e = absurd cc
-  driver_on es x runs old (TheTaskCommit t) n r o d asked timely few honest v e = absurd cc
-  driver_on es x runs old (TheTaskAbort t) n r o d asked timely few honest v e = absurd cc
-  driver_on es x runs old (TheClean t) n r o d asked timely few honest v e = absurd cc
+  driver_on es x runs old _ n r o d asked timely few honest v e = absurd cc
 
-  -- ---- an attempt's
+  -- ---- entries of others, and what begins beside it
 
-  success_free : begins (magic_prefix w.dest.key w.job) (success_key w.dest.key) ≡ false
-  success_free = key_magic w.dest.key w.job SuccessPlace (some_dest j) tt
-
-  still_marked : (s u : Seen) → Quiet w s u → is_marked w u ≡ is_marked w s
-  still_marked s u q = ap (λ b. b && is_some (at_key w u.scene.content (success_key w.dest.key))) q.mark ∙ ap (λ y. s.put_mark && is_some y) (q.keys (success_key w.dest.key) success_free)
-
-  still_has : (es : List Entry) (s u : Seen) → Quiet w s u → (c : Commit) → HasMarked w es s c → HasMarked w es u c
-  still_has es s u q (CommitOver commits.Committed) h = (h.0, still_marked s u q ∙ h.1)
-  still_has es s u q (CommitOver (commits.StoreFault t)) h = tt
-  still_has es s u q (CommitOver (commits.Missing t)) h = tt
-  still_has es s u q (CommitOver (commits.SamePath p t v)) h = tt
-  still_has es s u q (CommitOver commits.NoMemory) h = tt
-  still_has es s u q (Fetching x n) h = tt
-  still_has es s u q (Replacing x p ps y n) h = tt
-  still_has es s u q (Completing x y ys finished) h = tt
-  still_has es s u q (Marking x n) h = tt
-  still_has es s u q (Reverting z zs n) h = tt
-
-  attempt_on : (es : List Entry) (x : Stand) → Runs g k opening es x → Stood x → (a : Who) (op : Operation) (n : ℕ) (r : Request) (o : Outcome) → is_set x.driver ≡ true → x.attempts a ≡ Some op → asks g a (known x.told a) op ≡ Some r
-      → Stood (with_attempt (saw g k x (entry a n r o)) a (tells g a op o))
-  attempt_on es x runs old a op n r o set at asked c e =
-      let h = old c e in
-      let l = late g k opening j is_opening x (good g k opening j is_opening es x runs) set in
-      let f = l.fine a op at in
-      let own = operation_own g j x.told a f.0 op f.1 r asked in
-      let q = attempt_quiet w k x.seen a n r l.hold.there (λ b v i. own.keys v i) o in
-      record {
-        missing = h.missing;
-        follows = h.follows;
-        leads = h.leads;
-        sound = h.sound;
-        sets = h.sets;
-        at = h.at;
-        picks = λ t v. ap (λ (p : Picks). p t) q.picks ∙ h.picks t v;
-        marked = still_has x.commit x.seen (see w k x.seen (entry a n r o)) q c h.marked;
-      }
-
-  same_stand : (x y : Stand) → y.seen ≡ x.seen → y.commit ≡ x.commit → (c : Commit) → CommitStands g x c → CommitStands g y c
+  same_stand : (x y : Stand) → ((t : ℕ) → y.seen.picks t ≡ x.seen.picks t) → y.commit ≡ x.commit → (c : Commit) → CommitStands g x c → CommitStands g y c
   same_stand x y s e c h = record {
     missing = h.missing;
     follows = subst (Follows (commit_asks w) (commit_tells w) (commit_start w h.missing)) (sym e) h.follows;
@@ -173,22 +130,60 @@ module _ (g : Setting) (j : IsLegal g.script) (k : Option ℕ) (opening : Conten
     sound = subst (AllSound w (commit_start w h.missing)) (sym e) h.sound;
     sets = h.sets;
     at = h.at;
-    picks = λ t v. ap (λ (z : Seen). z.picks t) s ∙ h.picks t v;
-    marked = subst (λ z. HasMarked w y.commit z c) (sym s) (subst (λ l. HasMarked w l x.seen c) (sym e) h.marked);
+    picks = λ t v. s t ∙ h.picks t v;
+    answered = subst (λ l. WhereCommitted (is_mark_answered w l ≡ true) c) (sym e) h.answered;
   }
+
+  begins_on : (es : List Entry) (x : Stand) → Runs g k opening es x → Stood x → (b : Beginning) → MayBegin g x b → Stood (begin g x b)
+  begins_on es x runs old BeginSetup may c e = absurd (no_setup e)
+  begins_on es x runs old (BeginCommit missing) may c e = subst (CommitStands g _) (commit_is e) (starts es x runs missing may)
+  begins_on es x runs old BeginClean may c e = absurd cc
+  begins_on es x runs old (BeginWrite a) may c e = same_stand x (begin g x (BeginWrite a)) (λ t. refl) refl c (old c e)
+  begins_on es x runs old (BeginPublish a) may c e = same_stand x (begin g x (BeginPublish a)) (λ t. refl) refl c (old c e)
+  begins_on es x runs old (BeginAbort a) may c e = same_stand x (begin g x (BeginAbort a)) (λ t. refl) refl c (old c e)
 
   -- ---- every run
 
   pub stood : (es : List Entry) (x : Stand) → Runs g k opening es x → Stood x
   stood es x (run_begins) c e = absurd (none_some refl e)
-  stood es x (setup_begins fs y runs may) c e = absurd (no_setup e)
-  stood es x (commit_begins fs y missing runs just) c e = subst (CommitStands g _) (commit_is e) (starts fs y runs missing just)
-  stood es x (clean_begins fs y runs set) c e = absurd cc
+  stood es x (actor_begins fs y b runs may) c e = begins_on fs y runs (stood fs y runs) b may c e
   stood es x (driver_sends fs y op n r o runs d asked timely few honest) c e = driver_on fs y runs (stood fs y runs) op n r o d asked timely few honest c e
-  stood es x (write_begins fs y a runs set d none) c e = same_stand y (with_attempt y a _) refl refl c (stood fs y runs c e)
-  stood es x (publish_begins fs y a spare repeated runs set at) c e = same_stand y (with_attempt y a _) refl refl c (stood fs y runs c e)
-  stood es x (abort_begins fs y a runs set d) c e = same_stand y (with_attempt y a _) refl refl c (stood fs y runs c e)
-  stood es x (attempt_sends fs y a op n r o runs set at asked honest) c e = attempt_on fs y runs (stood fs y runs) a op n r o set at asked c e
+  stood es x (attempt_sends fs y a op n r o runs set at asked honest) c e = same_stand y x (λ t. ap (λ (p : Picks). p t) (attempts_leave w k y.seen a n r o)) refl c (stood fs y runs c e)
+  stood es x (strays fs y n r o runs f) c e = same_stand y x (λ t. refl) refl c (stood fs y runs c e)
+
+  -- ---- the marker stands, where no stranger sends
+
+  abbrev Marked : Stand → Type 0
+  Marked x = (c : Commit) → x.driver ≡ Some (TheCommit c) → WhereCommitted (is_marked w x.seen ≡ true) c
+
+  success_free : begins (magic_prefix w.dest.key w.job) (success_key w.dest.key) ≡ false
+  success_free = key_magic w.dest.key w.job SuccessPlace (some_dest j) tt
+
+  still_marked : (s u : Seen) → Quiet w s u → is_marked w u ≡ is_marked w s
+  still_marked s u q = ap (λ b. b && is_some (at_key w u.scene.content (success_key w.dest.key))) q.mark ∙ ap (λ y. s.put_mark && is_some y) (q.keys (success_key w.dest.key) success_free)
+
+  mark_begins : (x : Stand) → Marked x → (b : Beginning) → Marked (begin g x b)
+  mark_begins x old BeginSetup c e = absurd (no_setup e)
+  mark_begins x old (BeginCommit missing) c e = subst (WhereCommitted (is_marked w x.seen ≡ true)) (commit_is e) (where_start _ w missing)
+  mark_begins x old BeginClean c e = absurd cc
+  mark_begins x old _ c e = old c e
+
+  mark_driver : (es : List Entry) (x : Stand) → Runs g k opening es x → (op : Operation) → x.driver ≡ Some op → (n : ℕ) (r : Request) (o : Outcome) → asks g (who Driver) nothing_learnt op ≡ Some r
+      → Marked (with_commit (with_driver (saw g k x (driver_entry n r o)) (tells g (who Driver) op o)) (commit_with op x.commit (driver_entry n r o)))
+  mark_driver es x runs (TheCommit v) d n r o asked c e = subst (WhereCommitted (is_marked w (see w k x.seen (driver_entry n r o)) ≡ true)) (commit_is e) (marked_next w k x.seen (late_at es x runs v d).0.there n r x.commit v asked o)
+  mark_driver es x runs _ d n r o asked c e = absurd cc
+
+  pub marks : (es : List Entry) (x : Stand) → Runs g k opening es x → AreOwn es → Marked x
+  marks es x (run_begins) own c e = absurd (none_some refl e)
+  marks es x (actor_begins fs y b runs may) own c e = mark_begins y (marks fs y runs own) b c e
+  marks es x (driver_sends fs y op n r o runs d asked timely few honest) own c e = mark_driver fs y runs op d n r o asked c e
+  marks es x (attempt_sends fs y a op n r o runs set at asked honest) own c e =
+      let l = late g k opening j is_opening y (good g k opening j is_opening fs y runs) set in
+      let f = l.fine a op at in
+      let mine = operation_own g j y.told a f.0 op f.1 r asked in
+      let q = attempt_quiet w k y.seen a n r l.hold.there (λ b v i. mine.keys v i) o in
+      where_on (λ h. still_marked y.seen (see w k y.seen (entry a n r o)) q ∙ h) c (marks fs y runs (own_front fs _ own) c e)
+  marks es x (strays fs y n r o runs f) own c e = absurd (false_true refl (own_last fs _ own))
 
 -- ---- the end
 
@@ -240,14 +235,8 @@ module _ (g : Setting) (j : IsLegal g.script) (x : Stand) (end : CommitEnd) (h :
       by None e = none_missing e
       by (Some t) e = missing_end t e
 
-has_mark : (g : Setting) (x : Stand) (end : CommitEnd) → CommitStands g x (CommitOver end) → end ≡ commits.Committed → (is_mark_answered g.script x.commit ≡ true) × (is_marked g.script x.seen ≡ true)
-has_mark g x end h e = subst (λ v. HasMarked g.script x.commit x.seen (CommitOver v)) e h.marked
-
-pub attempts_leave : (w : Script) (k : Option ℕ) (s : Seen) (a : Who) (n : ℕ) (r : Request) (o : Outcome) → (see w k s (entry a n r o)).picks ≡ s.picks
-attempts_leave w k s a n r (Answered y) = refl
-attempts_leave w k s a n r Slow = refl
-attempts_leave w k s a n r RequestLost = refl
-attempts_leave w k s a n r ReplyLost = refl
+has_answered : (g : Setting) (x : Stand) (end : CommitEnd) → CommitStands g x (CommitOver end) → end ≡ commits.Committed → is_mark_answered g.script x.commit ≡ true
+has_answered g x end h e = subst (λ v. WhereCommitted (is_mark_answered g.script x.commit ≡ true) (CommitOver v)) e h.answered
 
 commit_ended : (g : Setting) → IsLegal g.script → (k : Option ℕ) (opening : Content) → IsOpening g opening → (es : List Entry) (x : Stand) → Runs g k opening es x → (end : CommitEnd) → x.driver ≡ Some (TheCommit (CommitOver end))
     → (missing : Option ℕ) → run (commit_tells g.script) (commit_start g.script missing) x.commit ≡ CommitOver end → CommitEnded g.script x.seen missing x.commit end
@@ -255,7 +244,7 @@ commit_ended g j k opening is_opening es x runs end d missing leads =
     let h = stood g j k opening is_opening es x runs (CommitOver end) d in
     let o = ended_so g j x end h in
     let one : h.missing ≡ missing = one_start g.script h.missing missing x.commit (h.leads ∙ sym leads) in
-    record { worn = o.0; first = o.1; due = inr (o.2 ∙ ap (λ v. commit_due g.script x.seen.picks v o.0) one); answered = λ e. (has_mark g x end h e).0 }
+    record { worn = o.0; first = o.1; due = inr (o.2 ∙ ap (λ v. commit_due g.script x.seen.picks v o.0) one); answered = has_answered g x end h }
 
 -- ---- the driver's other operations read no set
 
@@ -332,7 +321,8 @@ commit_runs = record {
   stands = λ g j k opening is_opening es x runs c d. stood g j k opening is_opening es x runs c d;
   one_start = one_start;
   ends = λ g j x end h. ended_so g j x end h;
-  marked = has_mark;
+  answered = has_answered;
+  marked = λ g j k opening is_opening es x runs own d. marks g j k opening is_opening es x runs own (CommitOver commits.Committed) d;
   ended = commit_ended;
   grows = λ g j k opening is_opening es x runs c d n r o asked timely few honest. picks_on g j k opening is_opening es x runs c d (stood g j k opening is_opening es x runs c d) n r o asked timely few honest;
   list = λ w before now c d m. list_more w before now c d m w.tasks m.next (omega arith);

@@ -27,8 +27,8 @@ use Rattle.job_operations.specs.Lanes.{Turn, again, follow, dealt, nth, completi
 use Rattle.job_operations.specs.JobCommits.{Sets, picks_of, all_commits, set_read, Commit, Fetching, Replacing, Completing, Marking, Reverting, CommitOver, completing, is_no_magic, replaced, replacing, decided, fetching, fetched, swept, reverting, worn_completion, commit_asks, commit_hears, commit_misses, commit_tells, commit_start}
 use Rattle.job_operations.specs.LaneTable.{RequestsApart, Sound, AllSound}
 use Rattle.job_operations.proofs.Shared.{shared_found}
-use Rattle.job_promise.specs.Ends.{commit_due, end_or, is_driver}
-use Rattle.job_promise.specs.Seen.{Seen, see, is_marking}
+use Rattle.job_promise.specs.Ends.{commit_due, end_or, is_driver, is_mark_answered}
+use Rattle.job_promise.specs.Seen.{Seen, see, is_marking, is_marked}
 use Rattle.request_frame.specs.Held.{HasBucket}
 use Rattle.request_frame.proofs.Members.{some_is, none_some, text_true}
 use Rattle.job_facts.specs.Told.{Told, driver_entry}
@@ -39,7 +39,7 @@ use Rattle.job_facts.specs.Filed.{Decides}
 use Rattle.job_facts.proofs.Whose.{or_true}
 use Rattle.job_facts.proofs.Shapes.{puts}
 use Rattle.job_facts.proofs.Turning.{uploads_apart}
-use Rattle.job_ends.specs.CommitRuns.{IsDue, IsAt, HasMarked}
+use Rattle.job_ends.specs.CommitRuns.{IsDue, IsAt, WhereCommitted}
 
 -- ---- where outcomes lead with the sets
 
@@ -226,21 +226,17 @@ abbrev NotCommitted : CommitEnd → Type 0
 NotCommitted commits.Committed = ⊥
 NotCommitted _ = Unit {0}
 
-unmarked : (w : Script) (es : List Entry) (s : Seen) (c : Commit) → EndsBy NotCommitted c → HasMarked w es s c
-unmarked w es s (CommitOver commits.Committed) h = absurd h
-unmarked w es s (CommitOver (commits.StoreFault t)) h = tt
-unmarked w es s (CommitOver (commits.Missing t)) h = tt
-unmarked w es s (CommitOver (commits.SamePath p t u)) h = tt
-unmarked w es s (CommitOver commits.NoMemory) h = tt
-unmarked w es s (Fetching x n) h = tt
-unmarked w es s (Replacing x p ps y n) h = tt
-unmarked w es s (Completing x y ys finished) h = tt
-unmarked w es s (Marking x n) h = tt
-unmarked w es s (Reverting q qs n) h = tt
+uncommitted : (P : Type 0) (c : Commit) → EndsBy NotCommitted c → WhereCommitted P c
+uncommitted P (CommitOver commits.Committed) h = absurd h
+uncommitted P _ h = tt
 
-pub marked_at_start : (w : Script) (es : List Entry) (s : Seen) (missing : Option ℕ) → HasMarked w es s (commit_start w missing)
-marked_at_start w es s None = unmarked w es s (fetching w []) (by_fetching w NotCommitted (λ t. tt) (λ p t u. tt) [])
-marked_at_start w es s (Some t) = tt
+pub where_on : {P Q : Type 0} → (P → Q) → (c : Commit) → WhereCommitted P c → WhereCommitted Q c
+where_on h (CommitOver commits.Committed) y = h y
+where_on h _ y = tt
+
+pub where_start : (P : Type 0) (w : Script) (missing : Option ℕ) → WhereCommitted P (commit_start w missing)
+where_start P w None = uncommitted P (fetching w []) (by_fetching w NotCommitted (λ t. tt) (λ p t u. tt) [])
+where_start P w (Some t) = tt
 
 any_last : (p : Entry → Bool) (es : List Entry) (e : Entry) → p e ≡ true → list_any p (es ++ e ∷ []) ≡ true
 any_last p [] e h = ap (λ b. b || false) h
@@ -253,20 +249,27 @@ module _ (w : Script) (k : Option ℕ) (s : Seen) (there : HasBucket s.scene.con
   mark_put : (sets : Sets) (x : ℕ) → commit_asks w (Marking sets x) ≡ Some r → at_key w (apply s.scene r).content (layout.success_key w.dest.key) ≡ Some (record { bytes = mark_text w (picks_of sets); header = None })
   mark_put sets x asked = ap (λ q. at_key w (apply s.scene q).content (layout.success_key w.dest.key)) (sym (some_is asked)) ∙ (puts w s.scene there.0 there.1 (layout.success_key w.dest.key) (mark_text w (picks_of sets)) None).here
 
-  mark_answered : (sets : Sets) (x : ℕ) → commit_asks w (Marking sets x) ≡ Some r → (y : Reply)
-      → HasMarked w (es ++ driver_entry n r (Answered y) ∷ []) (see w k s (driver_entry n r (Answered y))) (CommitOver commits.Committed)
-  mark_answered sets x asked y = (
-    any_last (λ e. is_driver e.actor && (is_marking w e.request && not (is_unanswered e.outcome))) es (driver_entry n r (Answered y)) (ap (λ b. b && true) (marks_request sets x asked)),
-    ap (λ b. (s.put_mark || b) && is_some (at_key w (apply s.scene r).content (layout.success_key w.dest.key))) (marks_request sets x asked)
-        ∙ ap (λ o. (s.put_mark || true) && is_some o) (mark_put sets x asked)
-        ∙ ap (λ b. b && true) (or_true s.put_mark),
-  )
+  -- the answer to the put of the marker
+  put_answered : (sets : Sets) (x : ℕ) → commit_asks w (Marking sets x) ≡ Some r → (y : Reply) → is_mark_answered w (es ++ driver_entry n r (Answered y) ∷ []) ≡ true
+  put_answered sets x asked y = any_last (λ e. is_driver e.actor && (is_marking w e.request && not (is_unanswered e.outcome))) es (driver_entry n r (Answered y)) (ap (λ b. b && true) (marks_request sets x asked))
+
+  put_stands : (sets : Sets) (x : ℕ) → commit_asks w (Marking sets x) ≡ Some r → (y : Reply) → is_marked w (see w k s (driver_entry n r (Answered y))) ≡ true
+  put_stands sets x asked y =
+      ap (λ b. (s.put_mark || b) && is_some (at_key w (apply s.scene r).content (layout.success_key w.dest.key))) (marks_request sets x asked)
+      ∙ ap (λ o. (s.put_mark || true) && is_some o) (mark_put sets x asked)
+      ∙ ap (λ b. b && true) (or_true s.put_mark)
 
   -- after one more entry of the commit
-  pub marked_next : (c : Commit) → commit_asks w c ≡ Some r → (o : Outcome) → HasMarked w (es ++ driver_entry n r o ∷ []) (see w k s (driver_entry n r o)) (commit_tells w c o)
-  marked_next (Marking sets x) asked (Answered y) = mark_answered sets x asked y
-  marked_next (CommitOver end) asked o = absurd (none_some refl asked)
-  marked_next c asked o = unmarked w (es ++ driver_entry n r o ∷ []) (see w k s (driver_entry n r o)) (commit_tells w c o) (by_tells w NotCommitted (λ t. tt) (λ p t u. tt) c o (λ i. i) tt)
+  where_next : (P : Outcome → Type 0) → ((sets : Sets) (x : ℕ) → commit_asks w (Marking sets x) ≡ Some r → (y : Reply) → P (Answered y)) → (c : Commit) → commit_asks w c ≡ Some r → (o : Outcome) → WhereCommitted (P o) (commit_tells w c o)
+  where_next P put (Marking sets x) asked (Answered y) = put sets x asked y
+  where_next P put (CommitOver end) asked o = absurd (none_some refl asked)
+  where_next P put c asked o = uncommitted (P o) (commit_tells w c o) (by_tells w NotCommitted (λ t. tt) (λ p t u. tt) c o (λ i. i) tt)
+
+  pub answered_next : (c : Commit) → commit_asks w c ≡ Some r → (o : Outcome) → WhereCommitted (is_mark_answered w (es ++ driver_entry n r o ∷ []) ≡ true) (commit_tells w c o)
+  answered_next = where_next (λ o. is_mark_answered w (es ++ driver_entry n r o ∷ []) ≡ true) put_answered
+
+  pub marked_next : (c : Commit) → commit_asks w c ≡ Some r → (o : Outcome) → WhereCommitted (is_marked w (see w k s (driver_entry n r o)) ≡ true) (commit_tells w c o)
+  marked_next = where_next (λ o. is_marked w (see w k s (driver_entry n r o)) ≡ true) put_stands
 
 -- ---- its requests
 

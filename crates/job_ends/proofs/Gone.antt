@@ -1,4 +1,4 @@
--- In a run among no strangers, until the driver's abort or clean has begun an attempt's write or commit finds nothing gone, and a commit that is done has published.
+-- In a run, until the driver's abort or clean has begun an attempt's write or commit finds nothing gone, and a commit that is done has published.
 use Rattle.std.proofs.Common.{◌≡◌, ℕ, inl, inr, Bool, true, false, List, [], ◌∷◌, Option, Some, None, refl, sym, ap, subst, ◌∙◌}
 use Rattle.std.specs.Option.{option_map}
 use Rattle.s3_types.specs.Store.{Content}

@@ -4,6 +4,7 @@ pub mod Picks
 pub mod CommitRuns
 pub mod Went
 pub mod Least
+pub mod SetupListed
 pub mod SetupEnds
 pub mod Alone
 pub mod TaskEnds

@@ -22,11 +22,11 @@ use Rattle.job_operations.specs.JobCommits.{Commit}
 use Rattle.job_operations.specs.Operations.{Setting, Operation, TheSetup, TheWrite, TheTaskCommit, TheTaskAbort, TheCommit, TheClean, who, asks, tells, start_of}
 use Rattle.job_promise.specs.OperationEnds.{WasPublished}
 use Rattle.job_promise.specs.Seen.{is_begun, is_publishing}
-use Rattle.job_promise.specs.Turns.{by_actor, until_last, AllBy, AllUpTo}
+use Rattle.job_promise.specs.Turns.{by_actor, until_last, AllBy, AllUpTo, is_own, own}
 use Rattle.job_promise.specs.States.{same_actor}
 use Rattle.request_frame.proofs.Members.{some_is, none_some, false_true}
-use Rattle.job_facts.specs.Told.{known, put_who, entry, driver_entry}
-use Rattle.job_facts.specs.Runs.{Stand, Runs, run_begins, setup_begins, commit_begins, clean_begins, driver_sends, write_begins, publish_begins, abort_begins, attempt_sends, is_set, is_done, is_just_set, MaySetUp, IsTimely, commit_with, nothing_learnt}
+use Rattle.job_facts.specs.Told.{known, put_who, entry, driver_entry, strange_entry}
+use Rattle.job_facts.specs.Runs.{Stand, Runs, run_begins, driver_sends, attempt_sends, is_set, is_done, is_just_set, MaySetUp, IsTimely, commit_with, nothing_learnt, Beginning, BeginSetup, BeginCommit, BeginClean, BeginWrite, BeginPublish, BeginAbort, begin, MayBegin, actor_begins, strays}
 use Rattle.job_facts.proofs.Whose.{same_or_another, who_true, who_false, who_here, who_other, or_false, or_true}
 use Rattle.job_ends.specs.RunEntries.{RunEntries}
 
@@ -71,9 +71,9 @@ module _ (g : Setting) (k : Option ℕ) (opening : Content) where
       by true e = rw e refl
       by false e = rw e refl
 
-  attempt_more : (es : List Entry) (a : Who) (n : ℕ) (r : Request) (o : Outcome) → since_commit (es ++ entry a n r o ∷ []) ≡ since_commit es
-  attempt_more es a n r o =
-      ap (filter (λ e. is_begun k e.event)) (filter-append (λ e. same_actor e.actor Driver) es (entry a n r o ∷ []) ∙ append-nil (by_actor Driver es))
+  other_more : (es : List Entry) (e : Entry) → same_actor e.actor Driver ≡ false → since_commit (es ++ e ∷ []) ≡ since_commit es
+  other_more es e other =
+      ap (filter (λ e. is_begun k e.event)) (filter-append (λ e. same_actor e.actor Driver) es (e ∷ []) ∙ ap (λ l. by_actor Driver es ++ l) (rw other refl) ∙ append-nil (by_actor Driver es))
 
   abbrev Stood : Option Operation → List Entry → List Entry → Type 0
   Stood None es commit = since_commit es ≡ []
@@ -87,50 +87,42 @@ module _ (g : Setting) (k : Option ℕ) (opening : Content) where
   before_set (Some (TheSetup t)) es commit e h = h
   before_set (Some (TheCommit c)) es commit e h = absurd (false_true e refl)
   before_set (Some (TheClean t)) es commit e h = absurd (false_true e refl)
-  before_set (Some (TheWrite t)) es commit e h = absurd h
-  before_set (Some (TheTaskCommit t)) es commit e h = absurd h
-  before_set (Some (TheTaskAbort t)) es commit e h = absurd h
+  before_set (Some _) es commit e h = absurd h
 
   just_so : (d : Option Operation) (es commit : List Entry) → is_just_set d ≡ true → Stood d es commit → since_commit es ≡ []
   just_so None es commit e h = h
   just_so (Some (TheSetup t)) es commit e h = h
-  just_so (Some (TheCommit c)) es commit e h = absurd (false_true refl e)
-  just_so (Some (TheClean t)) es commit e h = absurd (false_true refl e)
-  just_so (Some (TheWrite t)) es commit e h = absurd h
-  just_so (Some (TheTaskCommit t)) es commit e h = absurd h
-  just_so (Some (TheTaskAbort t)) es commit e h = absurd h
+  just_so (Some _) es commit e h = absurd (false_true refl e)
 
   may_so : (y : Stand) (es : List Entry) → MaySetUp y → Stood y.driver es y.commit → since_commit es ≡ []
   may_so y es (inl e) h = before_set y.driver es y.commit e h
   may_so y es (inr e) h = just_so y.driver es y.commit e.0 h
 
-  attempt_stood : (d : Option Operation) (es commit : List Entry) (a : Who) (n : ℕ) (r : Request) (o : Outcome) → Stood d es commit → Stood d (es ++ entry a n r o ∷ []) commit
-  attempt_stood None es commit a n r o h = attempt_more es a n r o ∙ h
-  attempt_stood (Some (TheSetup t)) es commit a n r o h = attempt_more es a n r o ∙ h
-  attempt_stood (Some (TheCommit c)) es commit a n r o h = h ∙ sym (attempt_more es a n r o)
-  attempt_stood (Some (TheClean t)) es commit a n r o h = tt
-  attempt_stood (Some (TheWrite t)) es commit a n r o h = absurd h
-  attempt_stood (Some (TheTaskCommit t)) es commit a n r o h = absurd h
-  attempt_stood (Some (TheTaskAbort t)) es commit a n r o h = absurd h
+  other_stood : (d : Option Operation) (es commit : List Entry) (e : Entry) → same_actor e.actor Driver ≡ false → Stood d es commit → Stood d (es ++ e ∷ []) commit
+  other_stood None es commit e other h = other_more es e other ∙ h
+  other_stood (Some (TheSetup t)) es commit e other h = other_more es e other ∙ h
+  other_stood (Some (TheCommit c)) es commit e other h = h ∙ sym (other_more es e other)
+  other_stood (Some (TheClean t)) es commit e other h = tt
+  other_stood (Some _) es commit e other h = absurd h
 
   driver_stood : (op : Operation) (es commit : List Entry) (n : ℕ) (r : Request) (o : Outcome) → IsTimely k n op → Stood (Some op) es commit → Stood (Some (tells g (who Driver) op o)) (es ++ driver_entry n r o ∷ []) (commit_with op commit (driver_entry n r o))
   driver_stood (TheSetup t) es commit n r o timely h = driver_more es n r o ∙ ap (λ b. since_commit es ++ cond b (driver_entry n r o ∷ []) []) timely ∙ ap (λ l. l ++ []) h
   driver_stood (TheCommit c) es commit n r o timely h = ap (λ l. l ++ driver_entry n r o ∷ []) h ∙ sym (driver_more es n r o ∙ ap (λ b. since_commit es ++ cond b (driver_entry n r o ∷ []) []) timely)
   driver_stood (TheClean t) es commit n r o timely h = tt
-  driver_stood (TheWrite t) es commit n r o timely h = absurd h
-  driver_stood (TheTaskCommit t) es commit n r o timely h = absurd h
-  driver_stood (TheTaskAbort t) es commit n r o timely h = absurd h
+  driver_stood _ es commit n r o timely h = absurd h
+
+  begin_stood : (es : List Entry) (x : Stand) (b : Beginning) → MayBegin g x b → Stood x.driver es x.commit → Stood (begin g x b).driver es (begin g x b).commit
+  begin_stood es x BeginSetup may h = may_so x es may h
+  begin_stood es x (BeginCommit missing) may h = sym (just_so x.driver es x.commit may h)
+  begin_stood es x BeginClean may h = tt
+  begin_stood es x _ may h = h
 
   stood : (es : List Entry) (x : Stand) → Runs g k opening es x → Stood x.driver es x.commit
   stood es x (run_begins) = refl
-  stood es x (setup_begins fs y run may) = may_so y fs may (stood fs y run)
-  stood es x (commit_begins fs y missing run just) = sym (just_so y.driver fs y.commit just (stood fs y run))
-  stood es x (clean_begins fs y run set) = tt
+  stood es x (actor_begins fs y b run may) = begin_stood fs y b may (stood fs y run)
   stood es x (driver_sends fs y op n r o run d asked timely few honest) = driver_stood op fs y.commit n r o timely (subst (λ v. Stood v fs y.commit) d (stood fs y run))
-  stood es x (write_begins fs y a run set d none) = stood fs y run
-  stood es x (publish_begins fs y a spare repeated run set at) = stood fs y run
-  stood es x (abort_begins fs y a run set d) = stood fs y run
-  stood es x (attempt_sends fs y a op n r o run set at asked honest) = attempt_stood y.driver fs y.commit a n r o (stood fs y run)
+  stood es x (attempt_sends fs y a op n r o run set at asked honest) = other_stood y.driver fs y.commit (entry a n r o) refl (stood fs y run)
+  stood es x (strays fs y n r o run f) = other_stood y.driver fs y.commit (strange_entry n r o) refl (stood fs y run)
 
   pub commit_entries : (es : List Entry) (x : Stand) → Runs g k opening es x → (c : Commit) → x.driver ≡ Some (TheCommit c) → x.commit ≡ since_commit es
   commit_entries es x run c d = subst (λ v. Stood v es x.commit) d (stood es x run)
@@ -142,27 +134,33 @@ module _ (g : Setting) (k : Option ℕ) (opening : Content) where
   all_more (e ∷ es) n r o h = (h.0, all_more es n r o h.1)
 
   abbrev Alone : List Entry → Stand → Type 0
-  Alone es x = AllBy Driver es ⊎ ((a : Who) × (op : Operation) × (x.attempts a ≡ Some op))
+  Alone es x = AllBy Driver (own es) ⊎ ((a : Who) × (op : Operation) × (x.attempts a ≡ Some op))
 
   driver_alone : (es : List Entry) (x : Stand) (n : ℕ) (r : Request) (o : Outcome) → Alone es x → Alone (es ++ driver_entry n r o ∷ []) x
-  driver_alone es x n r o (inl h) = inl (all_more es n r o h)
+  driver_alone es x n r o (inl h) = inl (subst (AllBy Driver) (sym (filter-append (λ e. is_own e.actor) es (driver_entry n r o ∷ []))) (all_more (own es) n r o h))
   driver_alone es x n r o (inr h) = inr h
+
+  strange_alone : (es : List Entry) (x : Stand) (n : ℕ) (r : Request) (o : Outcome) → Alone es x → Alone (es ++ strange_entry n r o ∷ []) x
+  strange_alone es x n r o (inl h) = inl (subst (AllBy Driver) (sym (filter-append (λ e. is_own e.actor) es (strange_entry n r o ∷ []) ∙ append-nil (own es))) h)
+  strange_alone es x n r o (inr h) = inr h
+
+  begin_alone : (es : List Entry) (x : Stand) (b : Beginning) → Alone es x → Alone es (begin g x b)
+  begin_alone es x (BeginWrite a) h = inr (a, _, who_here x.attempts a (Some _) a refl)
+  begin_alone es x (BeginPublish a) h = inr (a, _, who_here x.attempts a (Some _) a refl)
+  begin_alone es x (BeginAbort a) h = inr (a, _, who_here x.attempts a (Some _) a refl)
+  begin_alone es x _ h = h
 
   alone : (es : List Entry) (x : Stand) → Runs g k opening es x → Alone es x
   alone es x (run_begins) = inl tt
-  alone es x (setup_begins fs y run may) = alone fs y run
-  alone es x (commit_begins fs y missing run just) = alone fs y run
-  alone es x (clean_begins fs y run set) = alone fs y run
+  alone es x (actor_begins fs y b run may) = begin_alone fs y b (alone fs y run)
   alone es x (driver_sends fs y op n r o run d asked timely few honest) = driver_alone fs y n r o (alone fs y run)
-  alone es x (write_begins fs y a run set d none) = inr (a, _, who_here y.attempts a (Some _) a refl)
-  alone es x (publish_begins fs y a spare repeated run set at) = inr (a, _, who_here y.attempts a (Some _) a refl)
-  alone es x (abort_begins fs y a run set d) = inr (a, _, who_here y.attempts a (Some _) a refl)
   alone es x (attempt_sends fs y a op n r o run set at asked honest) = inr (a, _, who_here y.attempts a (Some _) a refl)
+  alone es x (strays fs y n r o run f) = strange_alone fs y n r o (alone fs y run)
 
-  pub all_alone : (es : List Entry) (x : Stand) → Runs g k opening es x → ((a : Who) → x.attempts a ≡ None) → AllBy Driver es
+  pub all_alone : (es : List Entry) (x : Stand) → Runs g k opening es x → ((a : Who) → x.attempts a ≡ None) → AllBy Driver (own es)
   all_alone es x run none = by (alone es x run)
     where
-      by : Alone es x → AllBy Driver es
+      by : Alone es x → AllBy Driver (own es)
       by (inl h) = h
       by (inr h) = absurd (none_some (none h.0) h.2)
 
@@ -183,20 +181,21 @@ module _ (g : Setting) (k : Option ℕ) (opening : Content) where
   was_unset (TheTaskCommit t) r o asked e = refl
   was_unset (TheTaskAbort t) r o asked e = refl
 
+  none_begin : (x : Stand) (b : Beginning) → MayBegin g x b → (is_set x.driver ≡ false → (a : Who) → x.attempts a ≡ None) → is_set (begin g x b).driver ≡ false → (a : Who) → (begin g x b).attempts a ≡ None
+  none_begin x BeginSetup (inl unset) old e = old unset
+  none_begin x BeginSetup (inr just) old e = just.1
+  none_begin x (BeginCommit missing) may old e = absurd (false_true e refl)
+  none_begin x BeginClean may old e = absurd (false_true e refl)
+  none_begin x (BeginWrite a) may old e = absurd (false_true e may.0)
+  none_begin x (BeginPublish a) may old e = absurd (false_true e may.0)
+  none_begin x (BeginAbort a) may old e = absurd (false_true e may.0)
+
   none_begun : (es : List Entry) (x : Stand) → Runs g k opening es x → is_set x.driver ≡ false → (a : Who) → x.attempts a ≡ None
   none_begun es x (run_begins) e b = refl
-  none_begun es x (setup_begins fs y run may) e b = by may (none_begun fs y run)
-    where
-      by : MaySetUp y → (is_set y.driver ≡ false → (a : Who) → y.attempts a ≡ None) → y.attempts b ≡ None
-      by (inl unset) old = old unset b
-      by (inr just) old = just.1 b
-  none_begun es x (commit_begins fs y missing run just) e b = absurd (false_true e refl)
-  none_begun es x (clean_begins fs y run set) e b = absurd (false_true e refl)
+  none_begun es x (actor_begins fs y v run may) e b = none_begin y v may (none_begun fs y run) e b
   none_begun es x (driver_sends fs y op n r o run d asked timely few honest) e b = none_begun fs y run (ap is_set d ∙ was_unset op r o asked e) b
-  none_begun es x (write_begins fs y a run set d none) e b = absurd (false_true e set)
-  none_begun es x (publish_begins fs y a spare repeated run set at) e b = absurd (false_true e set)
-  none_begun es x (abort_begins fs y a run set d) e b = absurd (false_true e set)
   none_begun es x (attempt_sends fs y a op n r o run set at asked honest) e b = absurd (false_true e set)
+  none_begun es x (strays fs y n r o run f) e b = none_begun fs y run e b
 
   -- ---- up to an attempt's last entry
 
@@ -210,19 +209,21 @@ module _ (g : Setting) (k : Option ℕ) (opening : Content) where
       | inr ne ↦ sym (who_other y.attempts b (Some s) a ne) ∙ at
     ]
 
+    begun_at : (y : Stand) (b : Beginning) → (begin g y b).attempts a ≡ Some op → y.attempts a ≡ Some op
+    begun_at y (BeginWrite b) at = begun y b ops.Write nothing_learnt _ refl at
+    begun_at y (BeginPublish b) at = begun y b ops.Commit nothing_learnt _ refl at
+    begun_at y (BeginAbort b) at = begun y b ops.Abort (known y.told b) _ refl at
+    begun_at y _ at = at
+
     pub at_last : (es : List Entry) (x : Stand) → Runs g k opening es x → x.attempts a ≡ Some op → At a op (until_last (actor_of a) es)
     at_last es x (run_begins) at = absurd (none_some refl at)
-    at_last es x (setup_begins fs y run may) at = at_last fs y run at
-    at_last es x (commit_begins fs y missing run just) at = at_last fs y run at
-    at_last es x (clean_begins fs y run set) at = at_last fs y run at
+    at_last es x (actor_begins fs y b run may) at = at_last fs y run (begun_at y b at)
     at_last es x (driver_sends fs y d n r o run is asked timely few honest) at = subst (At a op) (sym (last_other (actor_of a) fs (driver_entry n r o) refl)) (at_last fs y run at)
-    at_last es x (write_begins fs y b run set d none) at = at_last fs y run (begun y b ops.Write nothing_learnt _ refl at)
-    at_last es x (publish_begins fs y b spare repeated run set is) at = at_last fs y run (begun y b ops.Commit nothing_learnt _ refl at)
-    at_last es x (abort_begins fs y b run set d) at = at_last fs y run (begun y b ops.Abort (known y.told b) _ refl at)
     at_last es x (attempt_sends fs y b m n r o run set is asked honest) at = elim (same_or_another b a) [
       | inl same ↦ subst (At a op) (sym (last_own (actor_of a) fs (entry b n r o) (who_true b a same))) (x, attempt_sends fs y b m n r o run set is asked honest, at)
       | inr ne ↦ subst (At a op) (sym (last_other (actor_of a) fs (entry b n r o) (who_false b a ne))) (at_last fs y run (sym (who_other y.attempts b _ a (λ e. ne (sym e))) ∙ at))
     ]
+    at_last es x (strays fs y n r o run f) at = subst (At a op) (sym (last_other (actor_of a) fs (strange_entry n r o) refl)) (at_last fs y run at)
 
 -- ---- what was published
 

@@ -7,7 +7,7 @@ use Rattle.s3_types.specs.Store.{Content}
 use Rattle.s3_types.specs.Multipart.{live, with_key, joined}
 use Rattle.s3_types.specs.Answer.{answer, complete_answer}
 use Rattle.s3_types.specs.Moment.{IsHonestOutcome}
-use Rattle.s3_types.specs.declared.request.Actor.TheVariants.{Driver}
+use Rattle.s3_types.specs.declared.request.Actor.TheVariants.{Driver, Shell}
 use Rattle.s3_types.specs.declared.request.Request.{Request}
 use Rattle.s3_types.specs.declared.reply.Refusal.{Refusal}
 use Rattle.s3_types.specs.declared.reply.Refusal.TheVariants.{NoSuchUpload}
@@ -37,12 +37,12 @@ use Rattle.job_operations.proofs.Tables.{dealt_fresh, follow_cases}
 use Rattle.job_promise.specs.OperationEnds.{is_lost, was_lost}
 use Rattle.job_promise.specs.Seen.{Seen, is_begun, is_reading}
 use Rattle.request_frame.proofs.Members.{some_is, none_some, false_true, true_or_false}
-use Rattle.job_facts.specs.Told.{Told, entry, driver_entry}
+use Rattle.job_facts.specs.Told.{Told, entry, driver_entry, strange_entry}
 use Rattle.job_facts.specs.Facts.{Hold}
 use Rattle.job_facts.specs.Filed.{Gone}
 use Rattle.job_facts.specs.Driver.{Reads}
 use Rattle.job_facts.specs.Turning.{Turns}
-use Rattle.job_facts.specs.Runs.{Stand, Runs, run_begins, setup_begins, commit_begins, clean_begins, driver_sends, write_begins, publish_begins, abort_begins, attempt_sends, IsOpening, is_set, IsTimely, nothing_learnt, with_commit, with_driver, commit_with, saw}
+use Rattle.job_facts.specs.Runs.{Stand, Runs, run_begins, actor_begins, driver_sends, attempt_sends, strays, Beginning, BeginSetup, BeginCommit, BeginClean, begin, IsOpening, is_set, IsTimely, nothing_learnt, with_commit, with_driver, commit_with, saw}
 use Rattle.job_facts.proofs.Whose.{or_true}
 use Rattle.job_facts.proofs.Held.{nth_of, of_sets}
 use Rattle.job_facts.proofs.Replies.{completed}
@@ -224,10 +224,10 @@ module _ (g : Setting) (k : Option ℕ) (opening : Content) (j : IsLegal g.scrip
 
   -- what is known while the commit goes on
   pub in_commit : (es : List Entry) (x : Stand) → Runs g k opening es x → (c : Commit) → x.driver ≡ Some (TheCommit c)
-      → Hold w g.minimum x.seen x.told × Gone w x.seen.scene.content x.told × InCommit g opening x.seen.scene.content x.seen.picks x.seen.put_mark x.seen.begun x.told x.commit c
+      → Hold w g.minimum x.seen x.told × Gone w x.seen.scene.content x.told × InCommit g opening x.seen.picks x.told c
   in_commit es x run c d =
       let l = late_now g k opening j is_opening es x run (ap is_set d) in
-      let i : InCommit g opening x.seen.scene.content x.seen.picks x.seen.put_mark x.seen.begun x.told x.commit c = subst (λ v. At g opening v x.seen x.told x.commit) d l.driver in
+      let i : InCommit g opening x.seen.picks x.told c = subst (λ v. At g opening v x.seen x.told) d l.driver in
       (l.hold, l.gone i.uncleaned, i)
 
   -- ---- completions
@@ -262,22 +262,20 @@ module _ (g : Setting) (k : Option ℕ) (opening : Content) (j : IsLegal g.scrip
         subst (Lost (x.commit ++ driver_entry n r o ∷ [])) (commit_is e) (lost_tells w x.commit (driver_entry n r o) c asked h.0),
         each_more IsRefusedLost x.commit (driver_entry n r o) h.1 (refused_next es x run c d h.0 n r o asked honest),
       )
-  driver_answers es x run old (TheSetup t) n r o d asked honest v e = absurd cc
-  driver_answers es x run old (TheWrite t) n r o d asked honest v e = absurd cc
-  driver_answers es x run old (TheTaskCommit t) n r o d asked honest v e = absurd cc
-  driver_answers es x run old (TheTaskAbort t) n r o d asked honest v e = absurd cc
-  driver_answers es x run old (TheClean t) n r o d asked honest v e = absurd cc
+  driver_answers es x run old _ n r o d asked honest v e = absurd cc
+
+  begin_answers : (x : Stand) (b : Beginning) → Answers x → Answers (begin g x b)
+  begin_answers x (BeginCommit missing) old c e = (subst (Lost []) (commit_is e) (lost_start w [] missing), λ before z later q. absurd (no_member before z later q))
+  begin_answers x BeginSetup old c e = absurd cc
+  begin_answers x BeginClean old c e = absurd cc
+  begin_answers x _ old c e = old c e
 
   pub answers : (es : List Entry) (x : Stand) → Runs g k opening es x → Answers x
   answers es x (run_begins) c e = absurd (none_some refl e)
-  answers es x (setup_begins fs y run may) c e = absurd cc
-  answers es x (commit_begins fs y missing run just) c e = (subst (Lost []) (commit_is e) (lost_start w [] missing), λ before z later q. absurd (no_member before z later q))
-  answers es x (clean_begins fs y run set) c e = absurd cc
+  answers es x (actor_begins fs y b run may) c e = begin_answers y b (answers fs y run) c e
   answers es x (driver_sends fs y op n r o run d asked timely few honest) c e = driver_answers fs y run (answers fs y run) op n r o d asked honest c e
-  answers es x (write_begins fs y a run set d none) c e = answers fs y run c e
-  answers es x (publish_begins fs y a spare repeated run set at) c e = answers fs y run c e
-  answers es x (abort_begins fs y a run set d) c e = answers fs y run c e
   answers es x (attempt_sends fs y a op n r o run set at asked honest) c e = answers fs y run c e
+  answers es x (strays fs y n r o run f) c e = answers fs y run c e
 
   -- ---- reads
 
@@ -308,16 +306,15 @@ module _ (g : Setting) (k : Option ℕ) (opening : Content) (j : IsLegal g.scrip
   not_driver : (a : Who) → actor_of a ≡ Driver → ⊥
   not_driver a e = cc
 
+  no_shell : Shell ≡ Driver → ⊥
+  no_shell e = cc
+
   pub there : (es : List Entry) (x : Stand) → Runs g k opening es x → Each IsThere es
   there es x (run_begins) = λ before z later q. absurd (no_member before z later q)
-  there es x (setup_begins fs y run may) = there fs y run
-  there es x (commit_begins fs y missing run just) = there fs y run
-  there es x (clean_begins fs y run set) = there fs y run
+  there es x (actor_begins fs y b run may) = there fs y run
   there es x (driver_sends fs y op n r o run d asked timely few honest) = each_more IsThere fs (driver_entry n r o) (there fs y run) (driver_there fs y run op n r o d asked timely few honest)
-  there es x (write_begins fs y a run set d none) = there fs y run
-  there es x (publish_begins fs y a spare repeated run set at) = there fs y run
-  there es x (abort_begins fs y a run set d) = there fs y run
   there es x (attempt_sends fs y a op n r o run set at asked honest) = each_more IsThere fs (entry a n r o) (there fs y run) (λ by t v is got. absurd (not_driver a by))
+  there es x (strays fs y n r o run f) = each_more IsThere fs (strange_entry n r o) (there fs y run) (λ by t v is got. absurd (no_shell by))
 
 pub commit_answers : CommitAnswers
 commit_answers = record {

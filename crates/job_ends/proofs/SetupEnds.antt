@@ -54,6 +54,7 @@ use Rattle.job_facts.proofs.JobCommitting.{dest_below}
 use Rattle.job_ends.specs.SetupEnds.{setting_up, SetupEnds}
 use Rattle.job_ends.proofs.Alone.{setup_follows, setup_run}
 use Rattle.job_ends.proofs.Went.{Went, went}
+use Rattle.job_ends.proofs.SetupListed.{setup_listed}
 use Rattle.job_ends.proofs.Least.{last_of_all, seen_below, shown_at, below_cmp, unseen_in, unseen_more, first_of}
 
 some_text : (p k : List ℕ) → begins (p ++ codes "/") k ≡ true → is_lt (text_cmp [] k) ≡ true
@@ -298,4 +299,10 @@ running_ends g j a k s es f honest e is =
     setup_ends g.script j s es (setup_follows g a k t es f) honest e (over_setup (run (step g.script.retries (setup_after g.script)) t es).operation e (sym (ap over (setup_run g a k t es)) ∙ is))
 
 pub setups_end : SetupEnds
-setups_end = record { ends = λ w j s es f honest e is. setup_ends w j s es f honest e is; running = running_ends }
+setups_end = record {
+  ends = λ w j s es f honest e is. setup_ends w j s es f honest e is;
+  running = running_ends;
+  listed = λ g a k es f e is.
+      let t = fresh g.script.retries setup_start in
+      setup_listed g.script es (setup_follows g a k t es f) e (over_setup (run (step g.script.retries (setup_after g.script)) t es).operation e (sym (ap over (setup_run g a k t es)) ∙ is));
+}

@@ -14,7 +14,6 @@ use Rattle.s3_types.specs.declared.reply.PageEntry.{PageEntry}
 use Rattle.s3_types.specs.declared.reply.Reply.{Reply}
 use Rattle.s3_types.specs.declared.reply.Reply.TheVariants.{Page, Refused}
 use Rattle.s3_types.specs.declared.reply.Refusal.TheVariants.{NoSuchKey, NoSuchFile}
-use Rattle.s3_types.specs.declared.journal.Outcome.{Outcome}
 use Rattle.s3_types.specs.declared.journal.Outcome.TheVariants.{Answered}
 use Rattle.s3_types.specs.declared.journal.Entry.{Entry}
 use Rattle.sendings.specs.Operation.{run, Follows}
@@ -42,7 +41,7 @@ use Rattle.job_operations.specs.Operations.{Setting, Operation, TheWrite, TheTas
 use Rattle.job_operations.specs.Laws.{is_serial, spare_of, is_fault}
 use Rattle.job_operations.proofs.Wearing.{first_spent}
 use Rattle.job_operations.proofs.Faults.{faults}
-use Rattle.job_promise.specs.OperationEnds.{WasListed, IsFirstListed, TaskMay, TaskIs}
+use Rattle.job_promise.specs.OperationEnds.{WasListed, TaskMay, TaskIs}
 use Rattle.request_frame.proofs.Members.{some_is, none_some, false_true}
 use Rattle.job_facts.proofs.Going.{step_so}
 

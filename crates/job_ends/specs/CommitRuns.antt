@@ -28,6 +28,7 @@ use Rattle.job_operations.specs.Cleanups.{Clean, clean_asks}
 use Rattle.job_operations.specs.LaneTable.{AllSound}
 use Rattle.job_operations.specs.Operations.{Setting, TheCommit}
 use Rattle.job_promise.specs.OperationEnds.{was_lost}
+use Rattle.job_promise.specs.Entries.{AreOwn}
 use Rattle.job_promise.specs.Ends.{commit_due, is_mark_answered, CommitEnded}
 use Rattle.job_promise.specs.Promise.{picks_below, picked}
 use Rattle.job_promise.specs.Seen.{Seen, see, see_all, nothing_seen, is_marked}
@@ -50,10 +51,10 @@ IsAt w missing sets (Marking s n) = (missing ≡ None) × (s ≡ sets)
 IsAt w missing sets (Reverting r rs n) = missing ≡ None
 IsAt w missing sets (CommitOver end) = IsDue w missing sets end
 
--- where it ended Committed its marker was answered, and stands
-abbrev pub HasMarked : Script → List Entry → Seen → Commit → Type 0
-HasMarked w es s (CommitOver commits.Committed) = (is_mark_answered w es ≡ true) × (is_marked w s ≡ true)
-HasMarked w es s _ = Unit {0}
+-- where it ended Committed
+abbrev pub WhereCommitted : Type 0 → Commit → Type 0
+WhereCommitted P (CommitOver commits.Committed) = P
+WhereCommitted P _ = Unit {0}
 
 -- the picks of the job's tasks are those of these sets
 abbrev pub ArePicks : Script → Picks → Sets → Type 0
@@ -70,7 +71,8 @@ pub record CommitStands (g : Setting) (x : Stand) (c : Commit) : Type 0 where
   pub sets : Sets
   pub at : IsAt g.script missing sets c
   pub picks : ArePicks g.script x.seen.picks sets
-  pub marked : HasMarked g.script x.commit x.seen c
+  -- its marker was answered
+  pub answered : WhereCommitted (is_mark_answered g.script x.commit ≡ true) c
 
 -- the picks after one more entry: the old ones, or one more, that of the next task's set, which was read then
 pub record PicksOneMore (w : Script) (before now : Picks) (c d : Commit) : Type 0 where
@@ -96,14 +98,16 @@ Unpublished w k opening es = (t : ℕ) × (t < w.tasks) × ((see_all w k (nothin
 abbrev pub EndsDue : Script → Picks → Option ℕ → List Entry → CommitEnd → Type 0
 EndsDue w picks missing es end = (worn : Option Request) × WornFirst w.retries es worn × (end ≡ commit_due w picks missing worn)
 
--- In every run of a job, of every committer and mode, with every number of lanes.
+-- In every run of a job, of every committer and mode, with every number of lanes, among strangers.
 pub record CommitRuns : Type 0 where
   pub stands : (g : Setting) → IsLegal g.script → (k : Option ℕ) (opening : Content) → IsOpening g opening → (es : List Entry) (x : Stand) → Runs g k opening es x → (c : Commit) → x.driver ≡ Some (TheCommit c) → CommitStands g x c
   -- where it stands tells which task it missed
   pub one_start : (w : Script) (a b : Option ℕ) (es : List Entry) → run (commit_tells w) (commit_start w a) es ≡ run (commit_tells w) (commit_start w b) es → a ≡ b
-  -- it ends as is due by the picks that are seen then; where it ends Committed its marker was answered, and stands
+  -- it ends as is due by the picks that are seen then; where it ends Committed its marker was answered
   pub ends : (g : Setting) → IsLegal g.script → (x : Stand) (end : CommitEnd) → (h : CommitStands g x (CommitOver end)) → EndsDue g.script x.seen.picks h.missing x.commit end
-  pub marked : (g : Setting) (x : Stand) (end : CommitEnd) → CommitStands g x (CommitOver end) → end ≡ commits.Committed → (is_mark_answered g.script x.commit ≡ true) × (is_marked g.script x.seen ≡ true)
+  pub answered : (g : Setting) (x : Stand) (end : CommitEnd) → CommitStands g x (CommitOver end) → end ≡ commits.Committed → is_mark_answered g.script x.commit ≡ true
+  -- and stands, where no stranger sends
+  pub marked : (g : Setting) → IsLegal g.script → (k : Option ℕ) (opening : Content) → IsOpening g opening → (es : List Entry) (x : Stand) → Runs g k opening es x → AreOwn es → x.driver ≡ Some (TheCommit (CommitOver commits.Committed)) → is_marked g.script x.seen ≡ true
   -- all of it, with the task that it missed as it began
   pub ended : (g : Setting) → IsLegal g.script → (k : Option ℕ) (opening : Content) → IsOpening g opening → (es : List Entry) (x : Stand) → Runs g k opening es x → (end : CommitEnd) → x.driver ≡ Some (TheCommit (CommitOver end))
       → (missing : Option ℕ) → run (commit_tells g.script) (commit_start g.script missing) x.commit ≡ CommitOver end → CommitEnded g.script x.seen missing x.commit end

@@ -14,14 +14,14 @@ use Rattle.job_operations.specs.JobCommits.{Commit}
 use Rattle.job_operations.specs.Operations.{Setting, Operation, TheSetup, TheCommit, start_of}
 use Rattle.job_promise.specs.OperationEnds.{WasPublished}
 use Rattle.job_promise.specs.Seen.{is_begun}
-use Rattle.job_promise.specs.Turns.{by_actor, until_last, AllBy, AllUpTo}
+use Rattle.job_promise.specs.Turns.{by_actor, until_last, AllBy, AllUpTo, own}
 use Rattle.job_facts.specs.Runs.{Stand, Runs, is_done}
 
 pub record RunEntries : Type 0 where
   -- the entries of the driver's commit are all of the driver's in the event of the commit and later ones
   pub commit : (g : Setting) (k : Option ℕ) (opening : Content) (es : List Entry) (x : Stand) → Runs g k opening es x → (c : Commit) → x.driver ≡ Some (TheCommit c) → x.commit ≡ filter (λ e. is_begun k e.event) (by_actor Driver es)
-  -- where no attempt has begun anything all entries are the driver's
-  pub alone : (g : Setting) (k : Option ℕ) (opening : Content) (es : List Entry) (x : Stand) → Runs g k opening es x → ((a : Who) → x.attempts a ≡ None) → AllBy Driver es
+  -- where no attempt has begun anything all of the job's own are the driver's
+  pub alone : (g : Setting) (k : Option ℕ) (opening : Content) (es : List Entry) (x : Stand) → Runs g k opening es x → ((a : Who) → x.attempts a ≡ None) → AllBy Driver (own es)
   -- so is it until its set-up has ended Done
   pub setup : (g : Setting) (k : Option ℕ) (opening : Content) (es : List Entry) (x : Stand) → Runs g k opening es x → (t : Retried Setup) → x.driver ≡ Some (TheSetup t) → is_done t.operation ≡ false → (a : Who) → x.attempts a ≡ None
   -- an attempt's operation that is none that begins was the same in the run up to its attempt's last entry

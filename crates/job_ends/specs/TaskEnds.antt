@@ -31,7 +31,7 @@ pub record TaskEnds : Type 0 where
   -- by its own entries alone, whatever was answered, as if the driver had cleaned up
   pub ends : (g : Setting) (t a : ℕ) (op : Op) (missing : Option ℕ) (k : Known) (m : Operation) → start_of g (Attempt t a) op missing k ≡ Some m → (es : List Entry) → Follows (wants g (Attempt t a)) (advance g (Attempt t a)) (record { operation = m; known = k }) es
       → (e : TaskEnd) → over (run (advance g (Attempt t a)) (record { operation = m; known = k }) es).operation ≡ Some (op_ends.Task e) → (worn : Option Request) × WornFirst g.script.retries es worn × TaskIs op g.script (record { task = t; attempt = a }) es k.publish_sent true worn e
-  -- in a run among no strangers a write or commit finds something gone only where the driver's abort or clean has begun before the attempt's last entry
+  -- in a run a write or commit finds something gone only where the driver's abort or clean has begun before the attempt's last entry
   pub gone : (g : Setting) → IsLegal g.script → (k : Option ℕ) (opening : Content) → IsOpening g opening → (es : List Entry) (x : Stand) → Runs g k opening es x → (a : Who) (op : Operation) (name : List ℕ)
       → x.attempts a ≡ Some op → is_abort op ≡ false → over op ≡ Some (op_ends.Task (tasks.Gone name)) → has_cleaned (until_last (actor_of a) es) ≡ true
   -- and a commit that is done has published where it has not

@@ -4,10 +4,11 @@
 //!
 //! The driver's commit ends as is due by the task that it missed, by the first of its requests that
 //! wore out, and by the picks that are seen, which are those of the sets that it read; where it ends
-//! committed its marker stands, each set that it reads is there, and a completion is refused only where
-//! an earlier sending of it was lost (`commits`); where it ends before its first completion the opening
-//! files are shown at each moment (`moments`). By their entries alone a set-up ends as the store had it
-//! when it began (`setups`), an attempt's operation as its table says (`attempts`), and an abort or
+//! committed its marker was answered, and stands where no stranger sends; each set that it reads is
+//! there, and a completion is refused only where an earlier sending of it was lost (`commits`); where it
+//! ends before its first completion the opening files are shown at each moment (`moments`). By their
+//! entries alone a set-up ends by what its pages listed, and, where nobody else sends, as the store had
+//! it when it began (`setups`), an attempt's operation as its table says (`attempts`), and an abort or
 //! clean done or at fault (`cleans`). What a write or commit finds gone is gone only where an abort or
 //! clean has begun; one that is done, while nobody else sends, has left nothing and hidden nothing.
 #![tactic(auto)]
@@ -32,7 +33,7 @@ pub fn moments()
     ensures picks { CommitMoments }
 {}
 
-/// The driver's set-up, where nobody else sends between its requests.
+/// The driver's set-up, by what its pages listed, and where nobody else sends by what stood.
 pub fn setups()
     ensures end { SetupEnds }
 {}

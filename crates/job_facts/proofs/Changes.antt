@@ -14,21 +14,22 @@ use Rattle.job_model.specs.Legal.{IsLegal}
 use Rattle.job_model.specs.JobScript.{Script}
 use Rattle.job_operations.specs.Setup.{dest_prefix, setup_asks}
 use Rattle.job_operations.specs.View.{object_at}
-use Rattle.job_operations.specs.Operations.{Setting, Operation, TheSetup, TheWrite, TheTaskCommit, TheTaskAbort, TheCommit, TheClean, who, asks}
-use Rattle.job_promise.specs.Entries.{IsZeroRename, ZeroRename}
+use Rattle.job_operations.specs.Operations.{Setting, Operation, TheSetup, TheCommit, TheClean, who, asks}
+use Rattle.job_promise.specs.Entries.{IsZeroRename, ZeroRename, AreOwn}
+use Rattle.job_promise.specs.Turns.{is_own}
 use Rattle.job_promise.specs.Scope.{upload_at, SameOutsideUpload, SameOutside}
 use Rattle.job_promise.specs.Seen.{see}
 use Rattle.request_frame.specs.Held.{HasBucket}
 use Rattle.request_frame.proofs.Members.{some_is, none_some, false_true, true_or_false}
 use Rattle.job_model.specs.Attempts.{Who}
-use Rattle.job_facts.specs.Told.{known, entry, driver_entry}
+use Rattle.job_facts.specs.Told.{known, entry, driver_entry, strange_entry}
 use Rattle.job_facts.specs.Stores.{at_id}
 use Rattle.job_facts.proofs.Ended.{stood_so}
 use Rattle.job_facts.proofs.SettingUp.{setup_alone}
-use Rattle.job_facts.specs.Runs.{Stand, Runs, run_begins, setup_begins, commit_begins, clean_begins, driver_sends, write_begins, publish_begins, abort_begins, attempt_sends, IsOpening, is_set, nothing_learnt}
+use Rattle.job_facts.specs.Runs.{Stand, Runs, run_begins, actor_begins, driver_sends, attempt_sends, strays, IsOpening, is_set, nothing_learnt}
 use Rattle.job_facts.proofs.Running.{At, Late}
 use Rattle.job_facts.proofs.OwnRequests.{setup_changes, attempt_changes, commit_changes, clean_changes}
-use Rattle.job_facts.proofs.EveryRun.{good, late}
+use Rattle.job_facts.proofs.EveryRun.{good, late, own_front, own_last}
 use Rattle.job_facts.proofs.Entries.{take_front, take_all}
 
 -- ---- contents that are the same outside
@@ -110,23 +111,21 @@ module _ (g : Setting) (k : Option ℕ) (opening : Content) (j : IsLegal g.scrip
   abbrev Step : Stand → Entry → Request → Outcome → Type 0
   Step x e r o = Changes w e x.seen.scene.content (effect x.seen.scene r o).content
 
-  late_change : (x : Stand) → Late g opening x → (op : Operation) → At g opening (Some op) x.seen x.told x.commit → (n : ℕ) (r : Request) → asks g (who Driver) nothing_learnt op ≡ Some r → (o : Outcome) → Step x (driver_entry n r o) r o
+  late_change : (x : Stand) → Late g opening x → (op : Operation) → At g opening (Some op) x.seen x.told → (n : ℕ) (r : Request) → asks g (who Driver) nothing_learnt op ≡ Some r → (o : Outcome) → Step x (driver_entry n r o) r o
   late_change x l (TheSetup t) y n r asked o = absurd (none_some (ap (setup_asks w) y.0) asked)
-  late_change x l (TheWrite t) y n r asked o = absurd y
-  late_change x l (TheTaskCommit t) y n r asked o = absurd y
-  late_change x l (TheTaskAbort t) y n r asked o = absurd y
   late_change x l (TheCommit c) y n r asked o = record {
     rename = commit_changes g j x.seen x.told c (record { hold = l.hold; gone = l.gone y.uncleaned; fits = y.fits; tabled = y.tabled; turns = y.turns; decides = y.decides }) r asked n o;
     keys = keys_stay w x.seen.scene l.hold.there l.hold.ids.fresh r o;
   }
   late_change x l (TheClean t) y n r asked o = record {
-    rename = clean_changes g j x.seen x.told l.hold t.operation y.0 r asked n o;
+    rename = clean_changes g j x.seen x.told l.hold t.operation y r asked n o;
     keys = keys_stay w x.seen.scene l.hold.there l.hold.ids.fresh r o;
   }
+  late_change x l _ y n r asked o = absurd y
 
   driver_change : (es : List Entry) (x : Stand) → Runs g k opening es x → (op : Operation) → x.driver ≡ Some op → (n : ℕ) (r : Request) → asks g (who Driver) nothing_learnt op ≡ Some r → (o : Outcome) → Step x (driver_entry n r o) r o
   driver_change es x run op d n r asked o = elim (good g k opening j is_opening es x run) [
-    | inr l ↦ late_change x l op (subst (λ v. At g opening v x.seen x.told x.commit) d l.driver) n r asked o
+    | inr l ↦ late_change x l op (subst (λ v. At g opening v x.seen x.told) d l.driver) n r asked o
     | inl e ↦ elim e.setup [
       | inl none ↦ absurd (none_some none d)
       | inr y ↦
@@ -165,14 +164,10 @@ module _ (g : Setting) (k : Option ℕ) (opening : Content) (j : IsLegal g.scrip
 
   after_is : (es : List Entry) (x : Stand) → Runs g k opening es x → x.seen.scene ≡ after_all (opening_scene opening) es
   after_is es x (run_begins) = refl
-  after_is es x (setup_begins fs y run may) = after_is fs y run
-  after_is es x (commit_begins fs y missing run just) = after_is fs y run
-  after_is es x (clean_begins fs y run set) = after_is fs y run
+  after_is es x (actor_begins fs y b run may) = after_is fs y run
   after_is es x (driver_sends fs y op n r o run d asked timely few honest) = driver_content y n r o ∙ ap (λ s. effect s r o) (after_is fs y run) ∙ sym (after_more (opening_scene opening) fs (driver_entry n r o))
-  after_is es x (write_begins fs y a run set d none) = after_is fs y run
-  after_is es x (publish_begins fs y a spare repeated run set at) = after_is fs y run
-  after_is es x (abort_begins fs y a run set d) = after_is fs y run
   after_is es x (attempt_sends fs y a op n r o run set at asked honest) = attempt_content y a n r o ∙ ap (λ s. effect s r o) (after_is fs y run) ∙ sym (after_more (opening_scene opening) fs (entry a n r o))
+  after_is es x (strays fs y n r o run f) = ap (λ s. effect s r o) (after_is fs y run) ∙ sym (after_more (opening_scene opening) fs (strange_entry n r o))
 
   pub moment_scene : (es : List Entry) (x : Stand) → Runs g k opening es x → moment opening es (length es) ≡ x.seen.scene
   moment_scene es x run = ap (after_all (opening_scene opening)) (take_all es (length es) (omega arith)) ∙ sym (after_is es x run)
@@ -202,10 +197,11 @@ module _ (g : Setting) (k : Option ℕ) (opening : Content) (j : IsLegal g.scrip
   -- all of its moments, with the contents that they have
   record Moments (es : List Entry) (now : Content) : Type 0 where
     pub entries : ZeroRename w opening es
-    pub outside : (m : ℕ) → m ≤ length es → Leaves w opening (moment opening es m).content
-    pub whole : Leaves w opening now
+    pub outside : AreOwn es → (m : ℕ) → m ≤ length es → Leaves w opening (moment opening es m).content
+    pub whole : AreOwn es → Leaves w opening now
 
-  one_more : (es : List Entry) (e : Entry) (now next : Content) → (moment opening es (length es)).content ≡ now → (moment opening (es ++ e ∷ []) (length (es ++ e ∷ []))).content ≡ next → Changes w e now next → Moments es now → Moments (es ++ e ∷ []) next
+  -- one more entry changes what it may where it is the job's own
+  one_more : (es : List Entry) (e : Entry) (now next : Content) → (moment opening es (length es)).content ≡ now → (moment opening (es ++ e ∷ []) (length (es ++ e ∷ []))).content ≡ next → (is_own e.actor ≡ true → Changes w e now next) → Moments es now → Moments (es ++ e ∷ []) next
   one_more es e now next at after c h = record {
     entries = λ m x is own. elim (less_or_more (m + 1) (length es)) [
       | inl low ↦
@@ -217,37 +213,38 @@ module _ (g : Setting) (k : Option ℕ) (opening : Content) (j : IsLegal g.scrip
           let at_m : (moment opening (es ++ e ∷ []) m).content ≡ now = ap (λ n. (moment opening (es ++ e ∷ []) n).content) last.0 ∙ ap (λ (s : Scene). s.content) (earlier es e (length es) (omega arith)) ∙ at in
           let end : m + 1 ≡ length (es ++ e ∷ []) = ap (λ n. n + 1) last.0 ∙ sym long in
           let at_next : (moment opening (es ++ e ∷ []) (m + 1)).content ≡ next = ap (λ n. (moment opening (es ++ e ∷ []) n).content) end ∙ after in
+          let mine : is_own e.actor ≡ true = ap (λ (y : Entry). is_own y.actor) last.1 ∙ own in
           subst (λ y. IsZeroRename w y (moment opening (es ++ e ∷ []) m).content (moment opening (es ++ e ∷ []) (m + 1)).content) last.1
-          (subst (λ c. IsZeroRename w e c (moment opening (es ++ e ∷ []) (m + 1)).content) (sym at_m) (subst (IsZeroRename w e now) (sym at_next) c.rename))
+          (subst (λ c. IsZeroRename w e c (moment opening (es ++ e ∷ []) (m + 1)).content) (sym at_m) (subst (IsZeroRename w e now) (sym at_next) (c mine).rename))
     ];
-    outside = λ m l. elim (less_or_more m (length es)) [
-      | inl low ↦ subst (λ s. Leaves w opening s.content) (sym (earlier es e m low)) (h.outside m low)
+    outside = λ own m l. elim (less_or_more m (length es)) [
+      | inl low ↦ subst (λ s. Leaves w opening s.content) (sym (earlier es e m low)) (h.outside (own_front es (e ∷ []) own) m low)
       | inr high ↦
           let long : length (es ++ e ∷ []) ≡ length es + 1 = length-append es (e ∷ []) in
           let end : m ≡ length (es ++ e ∷ []) = omega (arith, long, high, l) in
           let at_next : (moment opening (es ++ e ∷ []) m).content ≡ next = ap (λ n. (moment opening (es ++ e ∷ []) n).content) end ∙ after in
-          subst (Leaves w opening) (sym at_next) (leaves_on w opening now next h.whole (changes_leave w e now next c))
+          subst (Leaves w opening) (sym at_next) (now_leaves own)
     ];
-    whole = leaves_on w opening now next h.whole (changes_leave w e now next c);
+    whole = now_leaves;
   }
+    where
+      now_leaves : AreOwn (es ++ e ∷ []) → Leaves w opening next
+      now_leaves own = leaves_on w opening now next (h.whole (own_front es (e ∷ []) own)) (changes_leave w e now next (c (own_last es e own)))
 
   moments : (es : List Entry) (x : Stand) → Runs g k opening es x → Moments es x.seen.scene.content
-  moments es x (run_begins) = record { entries = λ m e is own. absurd (none_some refl is); outside = λ m l. subst (λ xs. Leaves w opening (after_all (opening_scene opening) xs).content) (sym (take_all [] m (omega arith))) (leaves_same w opening); whole = leaves_same w opening }
-  moments es x (setup_begins fs y run may) = moments fs y run
-  moments es x (commit_begins fs y missing run just) = moments fs y run
-  moments es x (clean_begins fs y run set) = moments fs y run
+  moments es x (run_begins) = record { entries = λ m e is own. absurd (none_some refl is); outside = λ own m l. subst (λ xs. Leaves w opening (after_all (opening_scene opening) xs).content) (sym (take_all [] m (omega arith))) (leaves_same w opening); whole = λ own. leaves_same w opening }
+  moments es x (actor_begins fs y b run may) = moments fs y run
   moments es x (driver_sends fs y op n r o run d asked timely few honest) =
       one_more fs (driver_entry n r o) y.seen.scene.content x.seen.scene.content (moment_is fs y run) (moment_is es x (driver_sends fs y op n r o run d asked timely few honest))
-      (subst (λ (s : Scene). Changes w (driver_entry n r o) y.seen.scene.content s.content) (sym (driver_content y n r o)) (driver_change fs y run op d n r asked o)) (moments fs y run)
-  moments es x (write_begins fs y a run set d none) = moments fs y run
-  moments es x (publish_begins fs y a spare repeated run set at) = moments fs y run
-  moments es x (abort_begins fs y a run set d) = moments fs y run
+      (λ own. subst (λ (s : Scene). Changes w (driver_entry n r o) y.seen.scene.content s.content) (sym (driver_content y n r o)) (driver_change fs y run op d n r asked o)) (moments fs y run)
   moments es x (attempt_sends fs y a op n r o run set at asked honest) =
       one_more fs (entry a n r o) y.seen.scene.content x.seen.scene.content (moment_is fs y run) (moment_is es x (attempt_sends fs y a op n r o run set at asked honest))
-      (subst (λ (s : Scene). Changes w (entry a n r o) y.seen.scene.content s.content) (sym (attempt_content y a n r o)) (attempt_change fs y run set a op at n r asked o)) (moments fs y run)
+      (λ own. subst (λ (s : Scene). Changes w (entry a n r o) y.seen.scene.content s.content) (sym (attempt_content y a n r o)) (attempt_change fs y run set a op at n r asked o)) (moments fs y run)
+  moments es x (strays fs y n r o run f) =
+      one_more fs (strange_entry n r o) y.seen.scene.content x.seen.scene.content (moment_is fs y run) (moment_is es x (strays fs y n r o run f)) (λ own. absurd (false_true refl own)) (moments fs y run)
 
   pub runs_rename : (es : List Entry) (x : Stand) → Runs g k opening es x → ZeroRename w opening es
   runs_rename es x run = (moments es x run).entries
 
-  pub runs_outside : (es : List Entry) (x : Stand) → Runs g k opening es x → (m : ℕ) → m ≤ length es → SameOutside w opening (moment opening es m).content
-  runs_outside es x run m l = leaves_outside w opening (moment opening es m).content ((moments es x run).outside m l)
+  pub runs_outside : (es : List Entry) (x : Stand) → Runs g k opening es x → AreOwn es → (m : ℕ) → m ≤ length es → SameOutside w opening (moment opening es m).content
+  runs_outside es x run own m l = leaves_outside w opening (moment opening es m).content ((moments es x run).outside own m l)

@@ -10,13 +10,14 @@ use Rattle.job_model.specs.declared.ends.Stage.TheVariants as stages
 use Rattle.job_operations.specs.View.{view}
 use Rattle.job_operations.specs.JobCommits.{CommitOver}
 use Rattle.job_operations.specs.Operations.{Setting, TheCommit}
+use Rattle.job_promise.specs.Entries.{AreOwn}
 use Rattle.job_promise.specs.Headline.{Same, Kept, Always}
 use Rattle.job_promise.specs.OperationEnds.{is_untouched, NoDeletionWorn, OnlyOpening}
 use Rattle.job_promise.specs.Seen.{Seen, see, see_all, nothing_seen}
-use Rattle.job_facts.specs.Told.{Told, entry, driver_entry, nothing_told, tell, tell_all}
-use Rattle.job_facts.specs.Runs.{Stand, Runs, run_begins, setup_begins, commit_begins, clean_begins, driver_sends, write_begins, publish_begins, abort_begins, attempt_sends, IsOpening, is_set}
-use Rattle.job_facts.proofs.Running.{At, Late, untouched_shows, left_still, reverted_shows}
-use Rattle.job_facts.proofs.EveryRun.{good, kept_now, late}
+use Rattle.job_facts.specs.Told.{Told, entry, driver_entry, strange_entry, nothing_told, tell, tell_all}
+use Rattle.job_facts.specs.Runs.{Stand, Runs, run_begins, actor_begins, driver_sends, attempt_sends, strays, IsOpening, is_set}
+use Rattle.job_facts.proofs.Running.{At, Late, Shows, untouched_shows, left_still, reverted_shows}
+use Rattle.job_facts.proofs.EveryRun.{good, shown, kept_now, late, own_front}
 
 -- ---- one more entry
 
@@ -66,55 +67,48 @@ module _ (g : Setting) (k : Option ℕ) (opening : Content) (j : IsLegal g.scrip
 
   -- ---- what a run sees and tells
 
+  sees_more : (y : Stand) (es : List Entry) → y.seen ≡ all es → (e : Entry) → see w k y.seen e ≡ all (es ++ e ∷ [])
+  sees_more y es is e = ap (λ s. see w k s e) is ∙ sym (see_more w k (nothing_seen opening) es e)
+
   pub sees : (es : List Entry) (x : Stand) → Runs g k opening es x → x.seen ≡ all es
   sees es x (run_begins) = refl
-  sees es x (setup_begins fs y run may) = sees fs y run
-  sees es x (commit_begins fs y missing run just) = sees fs y run
-  sees es x (clean_begins fs y run set) = sees fs y run
-  sees es x (driver_sends fs y op n r o run d asked timely few honest) = ap (λ s. see w k s (driver_entry n r o)) (sees fs y run) ∙ sym (see_more w k (nothing_seen opening) fs (driver_entry n r o))
-  sees es x (write_begins fs y a run set d none) = sees fs y run
-  sees es x (publish_begins fs y a spare repeated run set at) = sees fs y run
-  sees es x (abort_begins fs y a run set d) = sees fs y run
-  sees es x (attempt_sends fs y a op n r o run set at asked honest) = ap (λ s. see w k s (entry a n r o)) (sees fs y run) ∙ sym (see_more w k (nothing_seen opening) fs (entry a n r o))
+  sees es x (actor_begins fs y b run may) = sees fs y run
+  sees es x (driver_sends fs y op n r o run d asked timely few honest) = sees_more y fs (sees fs y run) (driver_entry n r o)
+  sees es x (attempt_sends fs y a op n r o run set at asked honest) = sees_more y fs (sees fs y run) (entry a n r o)
+  sees es x (strays fs y n r o run f) = sees_more y fs (sees fs y run) (strange_entry n r o)
 
   pub tells_so : (es : List Entry) (x : Stand) → Runs g k opening es x → x.told ≡ tell_all w nothing_told es
   tells_so es x (run_begins) = refl
-  tells_so es x (setup_begins fs y run may) = tells_so fs y run
-  tells_so es x (commit_begins fs y missing run just) = tells_so fs y run
-  tells_so es x (clean_begins fs y run set) = tells_so fs y run
+  tells_so es x (actor_begins fs y b run may) = tells_so fs y run
   tells_so es x (driver_sends fs y op n r o run d asked timely few honest) = ap (λ m. tell w m (driver_entry n r o)) (tells_so fs y run) ∙ sym (tell_more w nothing_told fs (driver_entry n r o))
-  tells_so es x (write_begins fs y a run set d none) = tells_so fs y run
-  tells_so es x (publish_begins fs y a spare repeated run set at) = tells_so fs y run
-  tells_so es x (abort_begins fs y a run set d) = tells_so fs y run
   tells_so es x (attempt_sends fs y a op n r o run set at asked honest) = ap (λ m. tell w m (entry a n r o)) (tells_so fs y run) ∙ sym (tell_more w nothing_told fs (entry a n r o))
+  tells_so es x (strays fs y n r o run f) = tells_so fs y run ∙ sym (tell_more w nothing_told fs (strange_entry n r o))
 
-  kept_all : (es : List Entry) (x : Stand) → Runs g k opening es x → Kept w opening (all es)
-  kept_all es x run = subst (Kept w opening) (sees es x run) (kept_now g k opening j is_opening x (good g k opening j is_opening es x run))
+  kept_all : (es : List Entry) (x : Stand) → Runs g k opening es x → AreOwn es → Kept w opening (all es)
+  kept_all es x run own = subst (Kept w opening) (sees es x run) (kept_now g k opening j is_opening x (good g k opening j is_opening es x run) (shown g k opening j is_opening es x run own))
 
-  pub always : (es : List Entry) (x : Stand) → Runs g k opening es x → Always w k opening es
-  always es x (run_begins) m l = subst (λ xs. Kept w opening (see_all w k (nothing_seen opening) xs)) (sym (take_all [] m (omega arith))) (kept_all es x run_begins)
-  always es x (setup_begins fs y run may) m l = always fs y run m l
-  always es x (commit_begins fs y missing run just) m l = always fs y run m l
-  always es x (clean_begins fs y run set) m l = always fs y run m l
-  always es x (driver_sends fs y op n r o run d asked timely few honest) m l = always_more fs (driver_entry n r o) (always fs y run) (kept_all es x (driver_sends fs y op n r o run d asked timely few honest)) m l
-  always es x (write_begins fs y a run set d none) m l = always fs y run m l
-  always es x (publish_begins fs y a spare repeated run set at) m l = always fs y run m l
-  always es x (abort_begins fs y a run set d) m l = always fs y run m l
-  always es x (attempt_sends fs y a op n r o run set at asked honest) m l = always_more fs (entry a n r o) (always fs y run) (kept_all es x (attempt_sends fs y a op n r o run set at asked honest)) m l
+  pub always : (es : List Entry) (x : Stand) → Runs g k opening es x → AreOwn es → Always w k opening es
+  always es x (run_begins) own m l = subst (λ xs. Kept w opening (see_all w k (nothing_seen opening) xs)) (sym (take_all [] m (omega arith))) (kept_all es x run_begins own)
+  always es x (actor_begins fs y b run may) own m l = always fs y run own m l
+  always es x (driver_sends fs y op n r o run d asked timely few honest) own m l = always_more fs (driver_entry n r o) (always fs y run (own_front fs _ own)) (kept_all es x (driver_sends fs y op n r o run d asked timely few honest) own) m l
+  always es x (attempt_sends fs y a op n r o run set at asked honest) own m l = always_more fs (entry a n r o) (always fs y run (own_front fs _ own)) (kept_all es x (attempt_sends fs y a op n r o run set at asked honest) own) m l
+  always es x (strays fs y n r o run f) own m l = always_more fs (strange_entry n r o) (always fs y run (own_front fs _ own)) (kept_all es x (strays fs y n r o run f) own) m l
 
   -- ---- what its stand says
 
   pub late_now : (es : List Entry) (x : Stand) → Runs g k opening es x → is_set x.driver ≡ true → Late g opening x
   late_now es x run set = late g k opening j is_opening x (good g k opening j is_opening es x run) set
 
-  pub untouched_now : (es : List Entry) (x : Stand) → Runs g k opening es x → (end : CommitEnd) → x.driver ≡ Some (TheCommit (CommitOver end)) → is_untouched end ≡ true → Same (view w.dest x.seen.scene.content) (view w.dest opening)
-  untouched_now es x run end d before =
+  pub untouched_now : (es : List Entry) (x : Stand) → Runs g k opening es x → AreOwn es → (end : CommitEnd) → x.driver ≡ Some (TheCommit (CommitOver end)) → is_untouched end ≡ true → Same (view w.dest x.seen.scene.content) (view w.dest opening)
+  untouched_now es x run own end d before =
       let l = late_now es x run (ap is_set d) in
-      let i = subst (λ v. At g opening v x.seen x.told x.commit) d l.driver in
-      untouched_shows g opening x.seen.scene.content (left_still g opening j x.seen x.told l.hold x.commit (CommitOver end) i end refl before)
+      let i = subst (λ v. At g opening v x.seen x.told) d l.driver in
+      let v = subst (λ v. Shows g opening v x.seen x.told x.commit) d (shown g k opening j is_opening es x run own) in
+      untouched_shows g opening x.seen.scene.content (left_still g opening j x.seen x.told l.hold x.commit (CommitOver end) i v end refl before)
 
-  pub reverted_now : (es : List Entry) (x : Stand) → Runs g k opening es x → x.driver ≡ Some (TheCommit (CommitOver (commits.StoreFault stages.Complete))) → NoDeletionWorn w.retries x.commit → OnlyOpening w opening x.seen.scene.content
-  reverted_now es x run d none =
+  pub reverted_now : (es : List Entry) (x : Stand) → Runs g k opening es x → AreOwn es → x.driver ≡ Some (TheCommit (CommitOver (commits.StoreFault stages.Complete))) → NoDeletionWorn w.retries x.commit → OnlyOpening w opening x.seen.scene.content
+  reverted_now es x run own d none =
       let l = late_now es x run (ap is_set d) in
-      let i = subst (λ v. At g opening v x.seen x.told x.commit) d l.driver in
-      reverted_shows g opening j x.seen x.told l.hold x.commit (CommitOver (commits.StoreFault stages.Complete)) i refl none
+      let i = subst (λ v. At g opening v x.seen x.told) d l.driver in
+      let v = subst (λ v. Shows g opening v x.seen x.told x.commit) d (shown g k opening j is_opening es x run own) in
+      reverted_shows g opening j x.seen x.told l.hold x.commit (CommitOver (commits.StoreFault stages.Complete)) i v refl none

@@ -36,7 +36,7 @@ use Rattle.job_facts.specs.Filed.{FileStands}
 use Rattle.job_facts.specs.Emptying.{OnlyThose, EmptiesBy}
 use Rattle.list_walk.specs.Walks.{Sweep, Listing, Deleting}
 use Rattle.job_facts.proofs.JobCommitting.{no_magic, replaced_under}
-use Rattle.job_facts.proofs.Replacing.{empty_fetching, others_fetching}
+use Rattle.job_facts.proofs.Replacing.{empty_fetching, others_fetching, start_replaces}
 use Rattle.job_facts.proofs.Whose.{who_other}
 use Rattle.job_facts.proofs.Legal.{some_dest}
 use Rattle.job_facts.proofs.Shows.{shown_key, HidesAll, hidden_shows}
@@ -45,7 +45,7 @@ use Rattle.job_facts.proofs.Turning.{turns_start}
 use Rattle.job_facts.proofs.Deciding.{d_start}
 use Rattle.job_facts.proofs.FilingLaws.{decides_beside, files_begin}
 use Rattle.job_facts.proofs.Agreeing.{Agrees, agrees_start}
-use Rattle.job_facts.proofs.Running.{first_at, now_at, Untouched, MarkSays, MarkLeft, Marks, Files, OtherStands, Empty, InCommit, Idle, At, false_marks, wants_of}
+use Rattle.job_facts.proofs.Running.{first_at, now_at, Untouched, MarkSays, MarkLeft, Marks, Files, OtherStands, Empty, InCommit, CommitShows, Idle, At, Shows, false_marks, wants_of}
 use Rattle.job_facts.proofs.Steps.{hidden_same}
 
 -- ---- what is quiet
@@ -99,7 +99,6 @@ module _ (g : Setting) (j : IsLegal g.script) (opening : Content) (s u : Seen) (
 
   pub idle_still : (m n : Told) → ((id : ℕ) → n.ended id ≡ m.ended id) → n.cleaned ≡ m.cleaned → Idle g opening s m → Idle g opening u n
   idle_still m n ended cleaned i = record {
-    untouched = untouched_still i.untouched;
     none = λ id. ended id ∙ i.none id;
     uncleaned = cleaned ∙ i.uncleaned;
     unmarked = q.mark ∙ i.unmarked;
@@ -170,21 +169,16 @@ module _ (g : Setting) (j : IsLegal g.script) (opening : Content) (k : Option �
   quiet : Quiet g.script s next
   quiet = attempt_quiet g.script k s a n r h.there hides o
 
-  commit_beside : (c : Commit) → InCommit g opening s.scene.content s.picks s.put_mark s.begun m es c → InCommit g opening next.scene.content next.picks next.put_mark next.begun told es c
-  commit_beside c i =
-      let at_picks = subst (λ p. InCommit g opening next.scene.content p next.put_mark next.begun told es c) (sym quiet.picks) in
-      at_picks (record {
-        fits = beside g m a op fits r asked o c i.fits;
-        tabled = i.tabled;
-        turns = turns_beside c i.turns;
-        decides = decides_beside g m a op fits r asked o c i.decides;
-        uncleaned = i.uncleaned;
-        agrees = i.agrees;
-        marks = subst (λ b. Marks g opening next.scene.content s.picks b c) (sym quiet.mark) (marks_still g j opening s next quiet s.picks s.put_mark c i.marks);
-        early = λ e. untouched_still g j opening s next quiet (i.early (sym quiet.begun ∙ e));
-        empty = empty_still g j opening s next quiet c i.empty;
-        files = files_still g j opening s next quiet m.ended es c i.files;
-      })
+  commit_beside : (c : Commit) → InCommit g opening s.picks m c → InCommit g opening next.picks told c
+  commit_beside c i = subst (λ p. InCommit g opening p told c) (sym quiet.picks) (record {
+    fits = beside g m a op fits r asked o c i.fits;
+    tabled = i.tabled;
+    turns = turns_beside c i.turns;
+    decides = decides_beside g m a op fits r asked o c i.decides;
+    uncleaned = i.uncleaned;
+    agrees = i.agrees;
+    replaces = i.replaces;
+  })
     where
       turns_beside : (c : Commit) → Turns m c → Turns told c
       turns_beside (Fetching sets y) t = t
@@ -194,23 +188,33 @@ module _ (g : Setting) (j : IsLegal g.script) (opening : Content) (k : Option �
       turns_beside (Reverting q qs y) t = t
       turns_beside (CommitOver end) t = tt
 
-  pub at_beside : (d : Option Operation) → At g opening d s m es → At g opening d next told es
-  at_beside None y = y
+  pub at_beside : (d : Option Operation) → At g opening d s m → At g opening d next told
   at_beside (Some (TheSetup t)) y = (y.0, idle_still g j opening s next quiet m told (λ id. refl) refl y.1)
-  at_beside (Some (TheWrite t)) y = y
-  at_beside (Some (TheTaskCommit t)) y = y
-  at_beside (Some (TheTaskAbort t)) y = y
   at_beside (Some (TheCommit c)) y = commit_beside c y
-  at_beside (Some (TheClean t)) y = (
-    y.0,
-    kept_next g opening s next (shows_by o) (success_same g j opening s next quiet) quiet.picks quiet.mark (λ e. quiet.begun ∙ e) y.1,
-  )
+  at_beside (Some (TheClean t)) y = y
+  at_beside _ y = absurd y
+
+  -- and so is what is shown
+  shown_beside : (c : Commit) → CommitShows g opening s m.ended es c → CommitShows g opening next told.ended es c
+  shown_beside c v = record {
+    marks = subst (λ b. Marks g opening next.scene.content next.picks b c) (sym quiet.mark) (subst (λ p. Marks g opening next.scene.content p s.put_mark c) (sym quiet.picks) (marks_still g j opening s next quiet s.picks s.put_mark c v.marks));
+    early = λ e. untouched_still g j opening s next quiet (v.early (sym quiet.begun ∙ e));
+    empty = empty_still g j opening s next quiet c v.empty;
+    files = subst (λ p. Files g opening next.scene.content p m.ended es c) (sym quiet.picks) (files_still g j opening s next quiet m.ended es c v.files);
+  }
+
+  pub shows_beside : (d : Option Operation) → Shows g opening d s m es → Shows g opening d next told es
+  shows_beside None v = untouched_still g j opening s next quiet v
+  shows_beside (Some (TheSetup t)) v = untouched_still g j opening s next quiet v
+  shows_beside (Some (TheCommit c)) v = shown_beside c v
+  shows_beside (Some (TheClean t)) v = kept_next g opening s next (shows_by o) (success_same g j opening s next quiet) quiet.picks quiet.mark (λ e. quiet.begun ∙ e) v
     where
       shows_by : (o : Outcome) → Same (view g.script.dest (see g.script k s (entry a n r o)).scene.content) (view g.script.dest s.scene.content)
       shows_by (Answered x) = hidden_shows j s.scene r (Answered x) h.there hides
       shows_by Slow = λ p. refl
       shows_by RequestLost = λ p. refl
       shows_by ReplyLost = hidden_shows j s.scene r ReplyLost h.there hides
+  shows_beside (Some _) v = absurd v
 
   -- other attempts know what they knew
   pub other_fits : (b : Who) → (b ≡ a → ⊥) → (mine : Operation) → Fits g.script g.minimum b m mine → Fits g.script g.minimum b told mine
@@ -243,33 +247,38 @@ module _ (g : Setting) (j : IsLegal g.script) (opening : Content) (k : Option �
 
 -- ---- the commit as it begins
 
-pub commit_starts : (g : Setting) → IsLegal g.script → (opening : Content) (s : Seen) (m : Told) → Hold g.script g.minimum s m → Idle g opening s m → (missing : Option ℕ)
-    → InCommit g opening s.scene.content s.picks s.put_mark s.begun m [] (commit_start g.script missing)
-commit_starts g j opening s m h i missing =
-    let agrees = agrees_start g.script s.picks missing in
-    record {
-      fits = job_commit_begins g.script g.minimum j m missing;
-      tabled = tabled_start g.script missing (some_lane j.one_lane);
-      turns = turns_start g.script m i.none missing;
-      decides = d_start g.script g.minimum m.publish_sent m.drawn missing;
-      uncleaned = i.uncleaned;
-      agrees = agrees;
-      marks = false_marks g opening s.scene.content s.picks s.put_mark i.unmarked (commit_start g.script missing);
-      early = λ e. i.untouched;
-      empty = empty_start missing;
-      files = record {
-        wanted = λ q p b e. files_begin g.script g.minimum j s m h i.none q b (first_at g opening q) (now_at g opening s.scene.content q) (i.untouched q p) missing (wants_of g opening s.picks q b e (commit_start g.script missing) agrees);
-        others = λ q p e. others_start q p missing agrees;
-      };
-    }
+pub commit_starts : (g : Setting) → IsLegal g.script → (opening : Content) (s : Seen) (m : Told) → Idle g opening s m → (missing : Option ℕ) → InCommit g opening s.picks m (commit_start g.script missing)
+commit_starts g j opening s m i missing = record {
+  fits = job_commit_begins g.script g.minimum j m missing;
+  tabled = tabled_start g.script missing (some_lane j.one_lane);
+  turns = turns_start g.script m i.none missing;
+  decides = d_start g.script g.minimum m.publish_sent m.drawn missing;
+  uncleaned = i.uncleaned;
+  agrees = agrees_start g.script s.picks missing;
+  replaces = start_replaces g j opening missing;
+}
   where
     some_lane : {a : ℕ} → 1 ≤ a → 0 < a
     some_lane y = omega arith
 
+pub commit_shows : (g : Setting) → IsLegal g.script → (opening : Content) (s : Seen) (m : Told) → Hold g.script g.minimum s m → Idle g opening s m → Untouched g opening s.scene.content → (missing : Option ℕ)
+    → CommitShows g opening s m.ended [] (commit_start g.script missing)
+commit_shows g j opening s m h i untouched missing =
+    let agrees = agrees_start g.script s.picks missing in
+    record {
+      marks = false_marks g opening s.scene.content s.picks s.put_mark i.unmarked (commit_start g.script missing);
+      early = λ e. untouched;
+      empty = empty_start missing;
+      files = record {
+        wanted = λ q p b e. files_begin g.script g.minimum j s m h i.none q b (first_at g opening q) (now_at g opening s.scene.content q) (untouched q p) missing (wants_of g opening s.picks q b e (commit_start g.script missing) agrees);
+        others = λ q p e. others_start q p missing agrees;
+      };
+    }
+  where
     empty_start : (missing : Option ℕ) → Empty g opening s.scene.content (commit_start g.script missing)
     empty_start None = empty_fetching g j opening s.scene.content [] (replaced_under j g.script.committer g.script.mode (picks_of []))
     empty_start (Some t) = tt
 
     others_start : (q : List ℕ) → is_file_path q ≡ true → (missing : Option ℕ) → Agrees g.script s.picks (commit_start g.script missing) → OtherStands g opening s.picks q (now_at g opening s.scene.content q) (commit_start g.script missing)
-    others_start q p None a = others_fetching g j opening s.picks q p s.scene.content (i.untouched q p) [] a
-    others_start q p (Some t) a = i.untouched q p
+    others_start q p None a = others_fetching g j opening s.picks q p s.scene.content (untouched q p) [] a
+    others_start q p (Some t) a = untouched q p

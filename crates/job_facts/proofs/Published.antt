@@ -1,5 +1,5 @@
 -- In a run, until the driver cleans up, an attempt's commit that is done has published its own set.
-use Rattle.std.proofs.Common.{◌≡◌, ℕ, ◌<◌, inl, inr, Bool, true, false, List, [], ◌∷◌, ◌++◌, length, slice_get, Option, Some, refl, sym, ap, subst, ◌∙◌, arith}
+use Rattle.std.proofs.Common.{◌≡◌, ℕ, ◌<◌, ◌⊎◌, inl, inr, Bool, true, false, List, [], ◌∷◌, ◌++◌, length, slice_get, Option, Some, refl, sym, ap, subst, ◌∙◌, arith}
 use Rattle.std.proofs.lemmas.Bool.{false≢true}
 use Rattle.std.proofs.lemmas.Option.{slice_get_within}
 use Rattle.s3_types.specs.Store.{Content}
@@ -24,16 +24,17 @@ use Rattle.job_operations.specs.Operations.{Setting, Operation, TheSetup, TheWri
 use Rattle.job_promise.specs.OperationEnds.{WasPublished}
 use Rattle.job_promise.specs.Seen.{Seen, see, is_publishing}
 use Rattle.request_frame.proofs.Members.{some_is, none_some, false_true}
-use Rattle.job_facts.specs.Told.{known, entry, driver_entry}
+use Rattle.job_facts.specs.Told.{known, entry, driver_entry, strange_entry}
 use Rattle.job_facts.specs.Fits.{Fits}
 use Rattle.job_facts.specs.Standing.{Closed, Reverts, WriteStands, CommitStandsBy}
-use Rattle.job_facts.specs.Runs.{Stand, Runs, run_begins, setup_begins, commit_begins, clean_begins, driver_sends, write_begins, publish_begins, abort_begins, attempt_sends, IsOpening, nothing_learnt, with_attempt, with_driver, with_commit, commit_with, saw}
+use Rattle.job_facts.specs.Foreign.{IsForeign}
+use Rattle.job_facts.specs.Runs.{Stand, Beginning, BeginSetup, BeginCommit, BeginClean, BeginWrite, BeginPublish, BeginAbort, begin, MayBegin, Runs, run_begins, actor_begins, driver_sends, attempt_sends, strays, IsOpening, nothing_learnt, with_attempt, with_driver, with_commit, commit_with, saw}
 use Rattle.job_facts.proofs.Whose.{same_or_another, who_here, who_other}
 use Rattle.job_facts.proofs.Closing.{reverts_start, driver_closes, commit_closes, clean_closes, clean_begun, attempt_closes, attempt_reverts}
 use Rattle.job_facts.proofs.JobCommitting.{commit_drives}
-use Rattle.job_facts.proofs.Remaining.{Stood, write_kept, commit_kept_by, other_stood, driver_stood, write_stands, commit_stands}
+use Rattle.job_facts.proofs.Remaining.{Stood, write_kept, commit_kept_by, other_stood, driver_stood, strange_stood, write_stands, commit_stands}
 use Rattle.job_facts.proofs.Remaining as remaining
-use Rattle.job_facts.proofs.Running.{At, Late}
+use Rattle.job_facts.proofs.Running.{At, Early, Late}
 use Rattle.job_facts.proofs.EveryRun.{good, late, setup_ends}
 use Rattle.job_facts.proofs.Changes.{earlier, slice_in, moment_scene}
 
@@ -118,7 +119,7 @@ module _ (g : Setting) (k : Option ℕ) (opening : Content) (j : IsLegal g.scrip
             stands = λ c a mine z. absurd (none_some (e.none a) z);
           }
     ]
-    | inr l ↦ by op l (subst (λ v. At g opening v x.seen x.told x.commit) d l.driver) d asked
+    | inr l ↦ by op l (subst (λ v. At g opening v x.seen x.told) d l.driver) d asked
   ]
     where
       no_setup : (t : Retried Setup) (op : Operation) (c : Commit) → TheSetup t ≡ op → Some (tells g (who Driver) op o) ≡ Some (TheCommit c) → ⊥
@@ -133,12 +134,9 @@ module _ (g : Setting) (k : Option ℕ) (opening : Content) (j : IsLegal g.scrip
       commit_is : {c d : Commit} → TheCommit c ≡ TheCommit d → c ≡ d
       commit_is e = cc
 
-      by : (op : Operation) → Late g opening x → At g opening (Some op) x.seen x.told x.commit → x.driver ≡ Some op → asks g (who Driver) nothing_learnt op ≡ Some r
+      by : (op : Operation) → Late g opening x → At g opening (Some op) x.seen x.told → x.driver ≡ Some op → asks g (who Driver) nothing_learnt op ≡ Some r
           → Standing (es ++ driver_entry n r o ∷ []) (with_commit (with_driver (saw g k x (driver_entry n r o)) (tells g (who Driver) op o)) (commit_with op x.commit (driver_entry n r o)))
       by (TheSetup t) l y d asked = absurd (none_some (ap (setup_asks w) y.0) asked)
-      by (TheWrite t) l y d asked = absurd y
-      by (TheTaskCommit t) l y d asked = absurd y
-      by (TheTaskAbort t) l y d asked = absurd y
       by (TheCommit c) l y d asked =
           let both = commit_closes g j x.seen x.told l.hold h.closed c y.fits y.tabled (h.reverts c d) r asked o in
           record {
@@ -147,10 +145,11 @@ module _ (g : Setting) (k : Option ℕ) (opening : Content) (j : IsLegal g.scrip
             stands = λ v a mine z. stands_on (driver_stood w j k x.seen a n l.hold.there r (commit_drives w g.minimum k x.seen x.told n j l.hold c y.fits r asked) o) (own_more es (driver_entry n r o) a) mine (h.stands y.uncleaned a mine z);
           }
       by (TheClean t) l y d asked = record {
-        closed = clean_closes w x.told t.operation y.0 r asked o;
+        closed = clean_closes w x.told t.operation y r asked o;
         reverts = λ v z. absurd (clean_not (some_is z));
-        stands = λ v a mine z. absurd (false_true v (clean_begun w x.told t.operation y.0 r asked o));
+        stands = λ v a mine z. absurd (false_true v (clean_begun w x.told t.operation y r asked o));
       }
+      by _ l y d asked = absurd y
 
   -- ---- an attempt
 
@@ -175,28 +174,37 @@ module _ (g : Setting) (k : Option ℕ) (opening : Content) (j : IsLegal g.scrip
     ];
   }
 
-  pub standing : (es : List Entry) (x : Stand) → Runs g k opening es x → Standing es x
-  standing es x (run_begins) = record { closed = λ c id e. absurd (false≢true e); reverts = λ c e. absurd (none_some refl e); stands = λ c a op e. absurd (none_some refl e) }
-  standing es x (setup_begins fs y run may) = let h = standing fs y run in record { closed = h.closed; reverts = λ c e. absurd (setup_no (some_is e)); stands = h.stands }
+  stands_begin : (es : List Entry) (x : Stand) → Standing es x → (b : Beginning) → MayBegin g x b → Standing es (begin g x b)
+  stands_begin es x h BeginSetup may = record { closed = h.closed; reverts = λ c e. absurd (setup_no (some_is e)); stands = h.stands }
     where
       setup_no : {t : Retried Setup} {c : Commit} → TheSetup t ≡ TheCommit c → ⊥
       setup_no e = absurd cc
-  standing es x (commit_begins fs y missing run just) =
-      let h = standing fs y run in
-      record { closed = h.closed; reverts = λ c e. subst (Reverts y.told.publish_sent y.told.drawn) (commit_one (some_is e)) (reverts_start w y.told.publish_sent y.told.drawn missing); stands = h.stands }
+  stands_begin es x h (BeginCommit missing) may = record { closed = h.closed; reverts = λ c e. subst (Reverts x.told.publish_sent x.told.drawn) (commit_one (some_is e)) (reverts_start w x.told.publish_sent x.told.drawn missing); stands = h.stands }
     where
       commit_one : {c d : Commit} → TheCommit c ≡ TheCommit d → c ≡ d
       commit_one e = cc
-  standing es x (clean_begins fs y run set) = let h = standing fs y run in record { closed = h.closed; reverts = λ c e. absurd (clean_no (some_is e)); stands = h.stands }
+  stands_begin es x h BeginClean may = record { closed = h.closed; reverts = λ c e. absurd (clean_no (some_is e)); stands = h.stands }
     where
       clean_no : {t : Retried Clean} {c : Commit} → TheClean t ≡ TheCommit c → ⊥
       clean_no e = absurd cc
+  stands_begin es x h (BeginWrite a) may = begins_stands es x h a (TheWrite (fresh w.retries (write_start w a))) (λ c. remaining.write_begins w x.seen a)
+  stands_begin es x h (BeginPublish a) may = begins_stands es x h a (TheTaskCommit (fresh w.retries (task_commit_start w a))) (λ c. remaining.commit_begins (Own es a) w j x.seen a (h.stands c a _ may.1.2))
+  stands_begin es x h (BeginAbort a) may = begins_stands es x h a (TheTaskAbort (fresh w.retries (task_abort_start w (known x.told a)))) (λ c. tt)
+
+  -- ---- a stranger
+
+  strays_stand : (es : List Entry) (x : Stand) → Runs g k opening es x → Standing es x → (n : ℕ) (r : Request) (o : Outcome) → IsForeign w x.told.drawn r → Standing (es ++ strange_entry n r o ∷ []) (saw g k x (strange_entry n r o))
+  strays_stand es x run h n r o f = record { closed = h.closed; reverts = h.reverts; stands = λ c a op e. by (good g k opening j is_opening es x run) c a op e }
+    where
+      by : Early g opening x ⊎ Late g opening x → x.told.cleaned ≡ false → (a : Who) (op : Operation) → x.attempts a ≡ Some op → StandsBy (Own (es ++ strange_entry n r o ∷ []) a) (see w k x.seen (strange_entry n r o)) a op
+      by (inl l) c a op e = absurd (none_some (l.none a) e)
+      by (inr l) c a op e = stands_on (strange_stood w j k x.seen a n l.hold.there r x.told.drawn f o) (own_more es (strange_entry n r o) a) op (h.stands c a op e)
+
+  pub standing : (es : List Entry) (x : Stand) → Runs g k opening es x → Standing es x
+  standing es x (run_begins) = record { closed = λ c id e. absurd (false≢true e); reverts = λ c e. absurd (none_some refl e); stands = λ c a op e. absurd (none_some refl e) }
+  standing es x (actor_begins fs y b run may) = stands_begin fs y (standing fs y run) b may
   standing es x (driver_sends fs y op n r o run d asked timely few honest) = driver_stands fs y run (standing fs y run) op d n r asked o
-  standing es x (write_begins fs y a run set d none) = begins_stands fs y (standing fs y run) a (TheWrite (fresh w.retries (write_start w a))) (λ c. remaining.write_begins w y.seen a)
-  standing es x (publish_begins fs y a spare repeated run set at) =
-      let h = standing fs y run in
-      begins_stands fs y h a (TheTaskCommit (fresh w.retries (task_commit_start w a))) (λ c. remaining.commit_begins (Own fs a) w j y.seen a (h.stands c a _ at))
-  standing es x (abort_begins fs y a run set d) = begins_stands fs y (standing fs y run) a (TheTaskAbort (fresh w.retries (task_abort_start w (known y.told a)))) (λ c. tt)
+  standing es x (strays fs y n r o run f) = strays_stand fs y run (standing fs y run) n r o f
   standing es x (attempt_sends fs y a op n r o run set at asked honest) =
       let h = standing fs y run in
       let l = late g k opening j is_opening y (good g k opening j is_opening fs y run) set in

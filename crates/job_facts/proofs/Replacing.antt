@@ -1,5 +1,5 @@
 -- How far a replace mode has come with what it does not keep, and what becomes of paths that are not wanted.
-use Rattle.std.proofs.Common.{◌≡◌, ℕ, ◌⊎◌, inl, inr, not, nat_lt, ◌&&◌, Bool, true, false, cond, List, [], ◌∷◌, ◌++◌, take, length, Option, Some, None, refl, sym, ap, subst, ◌∙◌, codes, append_assoc}
+use Rattle.std.proofs.Common.{◌≡◌, ℕ, ◌+◌, ◌⊎◌, inl, inr, not, nat_lt, ◌&&◌, Bool, true, false, cond, List, [], ◌∷◌, ◌++◌, take, length, Option, Some, None, refl, sym, ap, subst, ◌∙◌, codes, append_assoc}
 use Rattle.std.specs.Prelude.{bytes_eq}
 use Rattle.std.specs.Ordering.{is_lt}
 use Rattle.std.proofs.lemmas.Bool.{and_parts, false≢true}
@@ -11,6 +11,7 @@ use Rattle.s3_types.specs.Moment.{effect}
 use Rattle.s3_types.specs.declared.object.Object.{Object}
 use Rattle.s3_types.specs.declared.request.Request.{Request}
 use Rattle.s3_types.specs.declared.request.Request.TheVariants.{DeleteObjects}
+use Rattle.s3_types.specs.declared.reply.Reply.{Reply}
 use Rattle.s3_types.specs.declared.journal.Outcome.{Outcome}
 use Rattle.s3_types.specs.declared.journal.Outcome.TheVariants.{Answered, Slow, RequestLost, ReplyLost}
 use Rattle.path_keys.specs.Paths.{below}
@@ -23,9 +24,9 @@ use Rattle.job_operations.specs.Outputs.{Picks, paths_of, same_path}
 use Rattle.job_operations.specs.Conflicts.{partitions, keeps, keeps_of}
 use Rattle.job_operations.specs.Setup.{dest_prefix}
 use Rattle.job_operations.specs.View.{is_folder, is_file_path}
-use Rattle.list_walk.specs.Walks.{Sweep, Listing, Deleting, sweep_asks, page_after}
-use Rattle.job_operations.specs.Lanes.{Turn, dealt}
-use Rattle.job_operations.specs.JobCommits.{Sets, all_commits, picks_of, Commit, Fetching, CommitOver, completing, is_no_magic, replaced, replacing, decided, fetching, fetched}
+use Rattle.list_walk.specs.Walks.{Sweep, Listing, Deleting, sweep_asks, page_after, sweep_hears}
+use Rattle.job_operations.specs.Lanes.{Turn, dealt, again, follow, revert}
+use Rattle.job_operations.specs.JobCommits.{Sets, all_commits, picks_of, Commit, Fetching, CommitOver, completing, is_no_magic, replaced, replacing, decided, fetching, fetched, set_read, Replacing, Completing, Marking, Reverting, swept, reverting, commit_start, commit_hears, commit_misses, commit_tells}
 use Rattle.job_operations.specs.Operations.{Setting}
 use Rattle.job_operations.proofs.Shared.{shared_found}
 use Rattle.request_frame.specs.Members.{IsIn}
@@ -43,7 +44,7 @@ use Rattle.job_facts.proofs.JobCommitting.{begins_through}
 use Rattle.job_facts.proofs.Effects.{deleted_or_not}
 use Rattle.job_facts.proofs.Wanted.{same_wanted}
 use Rattle.job_facts.proofs.Agreeing.{AgreeBelow, Agrees, unkept_prefix}
-use Rattle.job_facts.proofs.Running.{first_at, now_at, Cleared, Clearing, OtherStands, Empty}
+use Rattle.job_facts.proofs.Running.{first_at, now_at, Cleared, Clearing, OtherStands, Empty, Replaces}
 
 -- a file's path is not below the magic directory
 pub path_no_magic : {w : Script} → IsLegal w → (q : List ℕ) → is_file_path q ≡ true → is_no_magic w (below w.dest.key q) ≡ true
@@ -155,6 +156,68 @@ module _ (g : Setting) (j : IsLegal g.script) (opening : Content) where
       by : (t : Bool) → Empty g opening c (cond t (Fetching sets 0) (decided w sets (same_path w (picks_of sets))))
       by true = tt
       by false = empty_decided c sets (same_path w (picks_of sets)) under
+
+  -- ---- which prefixes are left, by the sets alone
+
+  abbrev R : Commit → Type 0
+  R d = Replaces g opening d
+
+  either_replaces : (t : Bool) (c d : Commit) → R c → R d → R (cond t c d)
+  either_replaces true c d x y = x
+  either_replaces false c d x y = y
+
+  all_completed : (sets : Sets) (xs : List Turn) (finished : List ℕ) → R (completing sets xs finished)
+  all_completed sets [] finished = tt
+  all_completed sets (x ∷ xs) finished = tt
+
+  all_reverted : (rs : List Request) → R (reverting rs)
+  all_reverted [] = tt
+  all_reverted (r ∷ rs) = tt
+
+  left_replaces : (sets : Sets) (behind ps : List (List ℕ)) → behind ++ ps ≡ replaced w.committer w.mode w (picks_of sets) → R (replacing w sets ps)
+  left_replaces sets behind [] parts = all_completed sets (dealt w.lanes (length (all_commits sets))) []
+  left_replaces sets behind (p ∷ ps) parts = (behind, parts)
+
+  decided_replaces : (sets : Sets) (o : Option CommitEnd) → R (decided w sets o)
+  decided_replaces sets (Some end) = tt
+  decided_replaces sets None = left_replaces sets [] (replaced w.committer w.mode w (picks_of sets)) refl
+
+  fetching_replaces : (sets : Sets) → R (fetching w sets)
+  fetching_replaces sets = either_replaces (nat_lt (length sets) w.tasks) (Fetching sets 0) (decided w sets (same_path w (picks_of sets))) tt (decided_replaces sets (same_path w (picks_of sets)))
+
+  pub start_replaces : (missing : Option ℕ) → R (commit_start w missing)
+  start_replaces None = fetching_replaces []
+  start_replaces (Some t) = tt
+
+  missed_replaces : (d : Commit) → R d → (lost : Bool) → R (commit_misses w d lost)
+  missed_replaces (Fetching sets n) h lost = either_replaces (nat_lt n w.retries) _ _ tt tt
+  missed_replaces (Replacing sets p ps t n) h lost = either_replaces (nat_lt n w.retries) (Replacing sets p ps t (n + 1)) _ h tt
+  missed_replaces (Completing sets x xs finished) h lost = either_replaces (nat_lt x.missed w.retries) _ _ (all_completed sets (xs ++ again x lost ∷ []) finished) (all_reverted (revert (all_commits sets) x.number xs finished))
+  missed_replaces (Marking sets n) h lost = either_replaces (nat_lt n w.retries) _ _ tt tt
+  missed_replaces (Reverting r rs n) h lost = either_replaces (nat_lt n w.retries) _ _ tt (all_reverted rs)
+  missed_replaces (CommitOver end) h lost = tt
+
+  heard_replaces : (d : Commit) → R d → (x : Reply) → R (commit_hears w d x)
+  heard_replaces (Fetching sets n) h x = read (set_read x)
+    where
+      read : (o : Option PendingSet) → R (fetched w sets o)
+      read (Some y) = fetching_replaces (sets ++ y ∷ [])
+      read None = tt
+  heard_replaces (Replacing sets p ps t n) h x = by (sweep_hears (is_no_magic w) t x)
+    where
+      by : (o : Option Sweep) → R (swept w sets p ps o)
+      by (Some u) = h
+      by None = left_replaces sets (h.0 ++ p ∷ []) ps (append_assoc h.0 (p ∷ []) ps ∙ h.1)
+  heard_replaces (Completing sets x xs finished) h y = all_completed sets (xs ++ follow w.lanes (length (all_commits sets)) x.number) (x.number ∷ finished)
+  heard_replaces (Reverting r rs n) h x = all_reverted rs
+  heard_replaces (Marking sets n) h x = tt
+  heard_replaces (CommitOver end) h x = tt
+
+  pub replaces_tells : (d : Commit) → R d → (o : Outcome) → R (commit_tells w d o)
+  replaces_tells d h (Answered x) = heard_replaces d h x
+  replaces_tells d h Slow = missed_replaces d h false
+  replaces_tells d h RequestLost = missed_replaces d h true
+  replaces_tells d h ReplyLost = missed_replaces d h true
 
   -- ---- a request of a sweep
 

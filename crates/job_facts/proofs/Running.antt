@@ -1,6 +1,5 @@
--- What holds of a run's stand: before its set-up is done, while its commit goes on, and while it cleans up.
+-- What holds of a run's stand: before its set-up is done, while its commit goes on, and while it cleans up. How far the job has come no stranger can change; what a reader is shown is told of a run among no strangers.
 use Rattle.std.proofs.Common.{◌≡◌, ℕ, ◌<◌, ◌⊎◌, inl, inr, not, Bool, true, false, cond, List, [], ◌∷◌, ◌++◌, Option, Some, None, refl, sym, ap, subst, ◌∙◌}
-use Rattle.std.specs.FinMap as fin
 use Rattle.std.specs.Option.{option_map}
 use Rattle.std.specs.Map.{lookup}
 use Rattle.proof_base.specs.Order.{text_eq}
@@ -27,9 +26,10 @@ use Rattle.job_operations.specs.Setup.{Setup, SetupOver}
 use Rattle.job_operations.specs.View.{view, is_file_path}
 use Rattle.job_operations.specs.JobCommits.{Sets, picks_of, is_no_magic, replaced, Commit, Fetching, Replacing, Completing, Marking, Reverting, CommitOver}
 use Rattle.job_operations.specs.LaneTable.{Tabled}
-use Rattle.job_operations.specs.Operations.{Setting, Operation, TheSetup, TheWrite, TheTaskCommit, TheTaskAbort, TheCommit, TheClean}
+use Rattle.job_operations.specs.Operations.{Setting, Operation, TheSetup, TheCommit, TheClean}
 use Rattle.job_promise.specs.Headline.{Same, Between, Whole, Kept, or_else, done}
 use Rattle.job_promise.specs.OperationEnds.{is_untouched, NoDeletionWorn, OnlyOpening}
+use Rattle.job_promise.specs.Scope.{NoClusterFile}
 use Rattle.job_promise.specs.Seen.{Seen, is_marked}
 use Rattle.request_frame.proofs.Members.{none_some, false_true, true_or_false}
 use Rattle.job_facts.specs.Told.{Told, known, nothing_told}
@@ -149,49 +149,48 @@ module _ (g : Setting) (opening : Content) where
   Empty c (Reverting r rs n) = Unit {0}
   Empty c (CommitOver end) = Unit {0}
 
+  -- ---- how far a run has come, among strangers
+
+  -- where it replaces, the prefixes that are left are the last of those that its sets tell
+  abbrev pub Replaces : Commit → Type 0
+  Replaces (Replacing sets p ps t n) = (behind : List (List ℕ)) × (behind ++ (p ∷ ps) ≡ replaced w.committer w.mode w (picks_of sets))
+  Replaces _ = Unit {0}
+
   -- while the commit goes on, and where it is over
-  pub record InCommit (c : Content) (picks : Picks) (put begun : Bool) (m : Told) (es : List Entry) (op : Commit) : Type 0 where
+  pub record InCommit (picks : Picks) (m : Told) (op : Commit) : Type 0 where
     pub fits : FitsJobCommit w g.minimum m.publish_sent m.drawn op
     pub tabled : Tabled w op
     pub turns : Turns m op
     pub decides : Decides w g.minimum m.publish_sent m.drawn op
     pub uncleaned : m.cleaned ≡ false
     pub agrees : Agrees w picks op
-    pub marks : Marks c picks put op
-    pub early : begun ≡ false → Untouched c
-    pub empty : Empty c op
-    pub files : Files c picks m.ended es op
+    pub replaces : Replaces op
 
   -- before it begins
   pub record Idle (s : Seen) (m : Told) : Type 0 where
-    pub untouched : Untouched s.scene.content
     pub none : NoneEnded m
     pub uncleaned : m.cleaned ≡ false
     pub unmarked : s.put_mark ≡ false
     pub unbegun : s.begun ≡ false
     pub unpicked : (t : ℕ) → s.picks t ≡ None
 
-  abbrev pub At : Option Operation → Seen → Told → List Entry → Type 0
-  At None s m es = ⊥
-  At (Some (TheSetup t)) s m es = (t.operation ≡ SetupOver setups.Done) × Idle s m
-  At (Some (TheWrite t)) s m es = ⊥
-  At (Some (TheTaskCommit t)) s m es = ⊥
-  At (Some (TheTaskAbort t)) s m es = ⊥
-  At (Some (TheCommit op)) s m es = InCommit s.scene.content s.picks s.put_mark s.begun m es op
-  At (Some (TheClean t)) s m es = FitsClean w m.cleaned t.operation × Kept w opening s
+  abbrev pub At : Option Operation → Seen → Told → Type 0
+  At (Some (TheSetup t)) s m = (t.operation ≡ SetupOver setups.Done) × Idle s m
+  At (Some (TheCommit op)) s m = InCommit s.picks m op
+  At (Some (TheClean t)) s m = FitsClean w m.cleaned t.operation
+  At _ s m = ⊥
 
-  -- while nobody but the driver's set-up has sent anything
+  -- while nobody of the job but the driver's set-up has sent anything
   pub record Early (x : Stand) : Type 0 where
     pub told : x.told ≡ nothing_told
     pub last : (t : ℕ) → x.seen.last t ≡ None
-    pub untouched : Untouched x.seen.scene.content
     pub unmarked : x.seen.put_mark ≡ false
     pub unbegun : x.seen.begun ≡ false
     pub unpicked : (t : ℕ) → x.seen.picks t ≡ None
     pub fresh : (id : ℕ) (y : Upload) → at_id w x.seen.scene.content id ≡ Some y → id < x.seen.scene.content.next
     pub least : x.seen.scene.content.minimum ≡ g.minimum
     pub none : (a : Who) → x.attempts a ≡ None
-    pub files : x.seen.scene.files ≡ fin.empty
+    pub files : NoClusterFile w x.seen.scene
     pub setup : (x.driver ≡ None) ⊎ ((t : Retried Setup) × (x.driver ≡ Some (TheSetup t)) × SetsUp w x.seen.scene.content t.operation)
 
   -- once the set-up is done
@@ -201,7 +200,22 @@ module _ (g : Setting) (opening : Content) where
     pub gone : x.told.cleaned ≡ false → Gone w x.seen.scene.content x.told
     pub fine : (a : Who) (op : Operation) → x.attempts a ≡ Some op → IsAttempt w a × Fits w g.minimum a x.told op
     pub new : (a : Who) → x.attempts a ≡ None → (known x.told a ≡ record { drawn = []; put_sent = false; publish_sent = false }) × (x.told.undone a ≡ false)
-    pub driver : At x.driver x.seen x.told x.commit
+    pub driver : At x.driver x.seen x.told
+
+  -- ---- what is shown, among none
+
+  pub record CommitShows (s : Seen) (ended : ℕ → Bool) (es : List Entry) (op : Commit) : Type 0 where
+    pub marks : Marks s.scene.content s.picks s.put_mark op
+    pub early : s.begun ≡ false → Untouched s.scene.content
+    pub empty : Empty s.scene.content op
+    pub files : Files s.scene.content s.picks ended es op
+
+  abbrev pub Shows : Option Operation → Seen → Told → List Entry → Type 0
+  Shows None s m es = Untouched s.scene.content
+  Shows (Some (TheSetup t)) s m es = Untouched s.scene.content
+  Shows (Some (TheCommit op)) s m es = CommitShows s m.ended es op
+  Shows (Some (TheClean t)) s m es = Kept w opening s
+  Shows (Some _) s m es = ⊥
 
   -- ---- what a reader is shown
 
@@ -232,7 +246,7 @@ module _ (g : Setting) (opening : Content) where
 
   -- ---- the commit
 
-  module _ (j : IsLegal w) (s : Seen) (m : Told) (h : Hold w g.minimum s m) (es : List Entry) (op : Commit) (i : InCommit s.scene.content s.picks s.put_mark s.begun m es op) where
+  module _ (j : IsLegal w) (s : Seen) (m : Told) (h : Hold w g.minimum s m) (es : List Entry) (op : Commit) (i : InCommit s.picks m op) (shows : CommitShows s m.ended es op) where
     abbrev picks : Picks
     picks = s.picks
 
@@ -295,16 +309,16 @@ module _ (g : Setting) (opening : Content) where
         other commits.NoMemory y f = absurd (false_true refl y)
 
         by : (o : Option (List ℕ)) → wanted_at w picks q ≡ o → now_at c q ≡ first_at q
-        by None y = other end before (subst (OtherStands picks q (now_at c q)) (sym is) (i.files.others q p y))
-        by (Some b) y = same end b before (subst (FileStands w q b (first_at q) es (now_at c q) m.ended) (sym is) (i.files.wanted q p b y))
+        by None y = other end before (subst (OtherStands picks q (now_at c q)) (sym is) (shows.files.others q p y))
+        by (Some b) y = same end b before (subst (FileStands w q b (first_at q) es (now_at c q) m.ended) (sym is) (shows.files.wanted q p b y))
 
     -- before the first completion nothing has changed
     pub still : is_decided w picks ≡ false → (d : Commit) → d ≡ op → Untouched c
     still e (Fetching sets n) is = λ q p. by q p (wanted_at w picks q) refl
       where
         by : (q : List ℕ) → is_file_path q ≡ true → (o : Option (List ℕ)) → wanted_at w picks q ≡ o → now_at c q ≡ first_at q
-        by q p None y = subst (OtherStands picks q (now_at c q)) (sym is) (i.files.others q p y)
-        by q p (Some b) y = subst (FileStands w q b (first_at q) es (now_at c q) m.ended) (sym is) (i.files.wanted q p b y)
+        by q p None y = subst (OtherStands picks q (now_at c q)) (sym is) (shows.files.others q p y)
+        by q p (Some b) y = subst (FileStands w q b (first_at q) es (now_at c q) m.ended) (sym is) (shows.files.wanted q p b y)
     still e (Replacing sets p ps x n) is = absurd (false_true e (decided_so w picks sets (subst (Decides w g.minimum m.publish_sent m.drawn) (sym is) i.decides) (subst (Agrees w picks) (sym is) i.agrees)))
     still e (Completing sets x xs finished) is = absurd (false_true e (decided_so w picks sets (subst (Decides w g.minimum m.publish_sent m.drawn) (sym is) i.decides) (subst (Agrees w picks) (sym is) i.agrees)))
     still e (Marking sets n) is = absurd (false_true e (decided_so w picks sets (subst (Decides w g.minimum m.publish_sent m.drawn) (sym is) i.decides) (subst (Agrees w picks) (sym is) i.agrees)))
@@ -349,14 +363,14 @@ module _ (g : Setting) (opening : Content) where
     other_clearing q (CommitOver end) f = left_clearing q end f
 
     clearing : (q : List ℕ) → is_file_path q ≡ true → wanted_at w picks q ≡ None → Clearing picks q (now_at c q)
-    clearing q p e = other_clearing q op (i.files.others q p e)
+    clearing q p e = other_clearing q op (shows.files.others q p e)
 
     only_by : (q b : List ℕ) → is_file_path q ≡ true → bytes_at c q ≡ Some b → (o : Option (List ℕ)) → wanted_at w picks q ≡ o → (bytes_at opening q ≡ Some b) ⊎ (wanted_at w picks q ≡ Some b)
     only_by q b p y None e = elim (clearing q p e) [
       | inl same ↦ inl (ap (option_map (λ (o : Object). o.bytes)) (sym same) ∙ y)
       | inr none ↦ absurd (none_some (ap (option_map (λ (o : Object). o.bytes)) none.0) y)
     ]
-    only_by q b p y (Some v) e = elim (mixed q v e op i.fits i.agrees (i.files.wanted q p v e)) [
+    only_by q b p y (Some v) e = elim (mixed q v e op i.fits i.agrees (shows.files.wanted q p v e)) [
       | inl before ↦ elim before [
         | inl same ↦ inl (ap (option_map (λ (o : Object). o.bytes)) (sym same) ∙ y)
         | inr none ↦ absurd (none_some (ap (option_map (λ (o : Object). o.bytes)) none) y)
@@ -420,28 +434,28 @@ module _ (g : Setting) (opening : Content) where
         record { picked = d.0; apart = not-true (is_clash w picks) d.1; files = all_shown clear whole; mark = says (and_parts s.put_mark _ marked).0 }
 
     whole_left : (end : CommitEnd) → CommitOver end ≡ op → is_marked w s ≡ true → Whole w (view w.dest opening) picks c
-    whole_left commits.Committed is e = whole_now ((subst (Agrees w picks) (sym is) i.agrees) refl) (subst (Marks c picks s.put_mark) (sym is) i.marks) (λ q p y. subst (OtherStands picks q (now_at c q)) (sym is) (i.files.others q p y)) (λ q b y. subst (FileStands w q b (first_at q) es (now_at c q) m.ended) (sym is) (i.files.wanted q (shown_path q b y) b y)) e
+    whole_left commits.Committed is e = whole_now ((subst (Agrees w picks) (sym is) i.agrees) refl) (subst (Marks c picks s.put_mark) (sym is) shows.marks) (λ q p y. subst (OtherStands picks q (now_at c q)) (sym is) (shows.files.others q p y)) (λ q b y. subst (FileStands w q b (first_at q) es (now_at c q) m.ended) (sym is) (shows.files.wanted q (shown_path q b y) b y)) e
     whole_left (commits.StoreFault stages.Success) is e =
-        whole_now ((subst (Agrees w picks) (sym is) i.agrees) refl) (subst (Marks c picks s.put_mark) (sym is) i.marks) (λ q p y. subst (OtherStands picks q (now_at c q)) (sym is) (i.files.others q p y)) (λ q b y. subst (FileStands w q b (first_at q) es (now_at c q) m.ended) (sym is) (i.files.wanted q (shown_path q b y) b y)) e
-    whole_left (commits.StoreFault stages.Complete) is e = absurd (unmarked_not s (subst (Marks c picks s.put_mark) (sym is) i.marks) e)
-    whole_left (commits.StoreFault stages.Delete) is e = absurd (unmarked_not s (subst (Marks c picks s.put_mark) (sym is) i.marks) e)
-    whole_left (commits.StoreFault stages.Read) is e = absurd (unmarked_not s (subst (Marks c picks s.put_mark) (sym is) i.marks) e)
-    whole_left (commits.Missing t) is e = absurd (unmarked_not s (subst (Marks c picks s.put_mark) (sym is) i.marks) e)
-    whole_left (commits.SamePath p t u) is e = absurd (unmarked_not s (subst (Marks c picks s.put_mark) (sym is) i.marks) e)
-    whole_left commits.NoMemory is e = absurd (unmarked_not s (subst (Marks c picks s.put_mark) (sym is) i.marks) e)
+        whole_now ((subst (Agrees w picks) (sym is) i.agrees) refl) (subst (Marks c picks s.put_mark) (sym is) shows.marks) (λ q p y. subst (OtherStands picks q (now_at c q)) (sym is) (shows.files.others q p y)) (λ q b y. subst (FileStands w q b (first_at q) es (now_at c q) m.ended) (sym is) (shows.files.wanted q (shown_path q b y) b y)) e
+    whole_left (commits.StoreFault stages.Complete) is e = absurd (unmarked_not s (subst (Marks c picks s.put_mark) (sym is) shows.marks) e)
+    whole_left (commits.StoreFault stages.Delete) is e = absurd (unmarked_not s (subst (Marks c picks s.put_mark) (sym is) shows.marks) e)
+    whole_left (commits.StoreFault stages.Read) is e = absurd (unmarked_not s (subst (Marks c picks s.put_mark) (sym is) shows.marks) e)
+    whole_left (commits.Missing t) is e = absurd (unmarked_not s (subst (Marks c picks s.put_mark) (sym is) shows.marks) e)
+    whole_left (commits.SamePath p t u) is e = absurd (unmarked_not s (subst (Marks c picks s.put_mark) (sym is) shows.marks) e)
+    whole_left commits.NoMemory is e = absurd (unmarked_not s (subst (Marks c picks s.put_mark) (sym is) shows.marks) e)
 
     whole_by : (d : Commit) → d ≡ op → is_marked w s ≡ true → Whole w (view w.dest opening) picks c
-    whole_by (Fetching sets n) is e = absurd (unmarked_not s (subst (Marks c picks s.put_mark) (sym is) i.marks) e)
-    whole_by (Replacing sets p ps x n) is e = absurd (unmarked_not s (subst (Marks c picks s.put_mark) (sym is) i.marks) e)
-    whole_by (Completing sets x xs finished) is e = absurd (unmarked_not s (subst (Marks c picks s.put_mark) (sym is) i.marks) e)
-    whole_by (Reverting r rs n) is e = absurd (unmarked_not s (subst (Marks c picks s.put_mark) (sym is) i.marks) e)
+    whole_by (Fetching sets n) is e = absurd (unmarked_not s (subst (Marks c picks s.put_mark) (sym is) shows.marks) e)
+    whole_by (Replacing sets p ps x n) is e = absurd (unmarked_not s (subst (Marks c picks s.put_mark) (sym is) shows.marks) e)
+    whole_by (Completing sets x xs finished) is e = absurd (unmarked_not s (subst (Marks c picks s.put_mark) (sym is) shows.marks) e)
+    whole_by (Reverting r rs n) is e = absurd (unmarked_not s (subst (Marks c picks s.put_mark) (sym is) shows.marks) e)
     whole_by (Marking sets n) is e =
-        whole_now (decided_so w picks sets (subst (Decides w g.minimum m.publish_sent m.drawn) (sym is) i.decides) (subst (Agrees w picks) (sym is) i.agrees)) (subst (Marks c picks s.put_mark) (sym is) i.marks) (λ q p y. subst (OtherStands picks q (now_at c q)) (sym is) (i.files.others q p y))
-        (λ q b y. subst (FileStands w q b (first_at q) es (now_at c q) m.ended) (sym is) (i.files.wanted q (shown_path q b y) b y)) e
+        whole_now (decided_so w picks sets (subst (Decides w g.minimum m.publish_sent m.drawn) (sym is) i.decides) (subst (Agrees w picks) (sym is) i.agrees)) (subst (Marks c picks s.put_mark) (sym is) shows.marks) (λ q p y. subst (OtherStands picks q (now_at c q)) (sym is) (shows.files.others q p y))
+        (λ q b y. subst (FileStands w q b (first_at q) es (now_at c q) m.ended) (sym is) (shows.files.wanted q (shown_path q b y) b y)) e
     whole_by (CommitOver end) is e = whole_left end is e
 
     pub kept_commit : Kept w opening s
-    kept_commit = record { before = λ e. untouched_shows c (i.early e); between = λ e. between_now; whole = whole_by op refl }
+    kept_commit = record { before = λ e. untouched_shows c (shows.early e); between = λ e. between_now; whole = whole_by op refl }
 
     -- a revert that is over, of which no deletion wore out
     pub reverted_shows : CommitOver (commits.StoreFault stages.Complete) ≡ op → NoDeletionWorn w.retries es → OnlyOpening w opening c
@@ -455,7 +469,7 @@ module _ (g : Setting) (opening : Content) where
           | inl same ↦ shown_is opening q p ∙ ap (option_map (λ (o : Object). o.bytes)) (sym same) ∙ sym (shown_is c q p) ∙ y
           | inr gone ↦ absurd (none_some (shown_is c q p ∙ ap (option_map (λ (o : Object). o.bytes)) gone.0) y)
         ]
-        by p (Some v) e = elim (subst (FileStands w q v (first_at q) es (now_at c q) m.ended) (sym is) (i.files.wanted q p v e)) [
+        by p (Some v) e = elim (subst (FileStands w q v (first_at q) es (now_at c q) m.ended) (sym is) (shows.files.wanted q p v e)) [
           | inr worn ↦ absurd (none w.dest.bucket (below w.dest.key q) worn.1)
           | inl before ↦ elim before [
             | inl same ↦ shown_is opening q p ∙ ap (option_map (λ (o : Object). o.bytes)) (sym same) ∙ sym (shown_is c q p) ∙ y

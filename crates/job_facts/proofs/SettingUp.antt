@@ -5,16 +5,16 @@ use Rattle.std.specs.FinMap as fin
 use Rattle.std.specs.Option.{option_map}
 use Rattle.std.proofs.lemmas.Bool.{and_parts, not-true, false≢true}
 use Rattle.std.proofs.lemmas.List.{append_cancel_left}
-use Rattle.s3_types.specs.Store.{BucketContent, Content, Scene}
+use Rattle.s3_types.specs.Store.{BucketContent, Content, Files, Scene}
 use Rattle.s3_types.specs.Pages.{begins}
-use Rattle.s3_types.specs.Answer.{answer, apply, apply_store, apply_at, answer_at, head, with_objects}
+use Rattle.s3_types.specs.Answer.{answer, apply, apply_store, apply_at, answer_at, head, renamed, with_objects}
 use Rattle.path_keys.specs.Paths.{below}
 use Rattle.magic_paths.proofs.Tails.{below_is}
 use Rattle.s3_types.specs.Moment.{effect, IsHonestOutcome}
 use Rattle.s3_types.specs.Requests.{only_reads}
 use Rattle.s3_types.specs.declared.object.Object.{Object}
 use Rattle.s3_types.specs.declared.request.Request.{Request}
-use Rattle.s3_types.specs.declared.request.Request.TheVariants.{HeadObject, DeleteObject, DeleteObjects}
+use Rattle.s3_types.specs.declared.request.Request.TheVariants.{HeadObject, DeleteObject, DeleteObjects, ClusterPut, ClusterRename, ClusterDelete}
 use Rattle.s3_types.specs.declared.request.Committer.{Committer}
 use Rattle.s3_types.specs.declared.request.Committer.TheVariants.{Magic, Directory, Partitioned}
 use Rattle.s3_types.specs.declared.reply.Reply.{Reply}
@@ -38,8 +38,9 @@ use Rattle.job_promise.specs.Headline.{Same}
 use Rattle.job_promise.specs.Scope.{NoClusterFile}
 use Rattle.job_promise.specs.Seen.{is_magic, is_staging}
 use Rattle.request_frame.specs.Members.{IsIn}
+use Rattle.request_frame.specs.Frame.{changed_paths}
 use Rattle.request_frame.specs.Held.{HasBucket}
-use Rattle.request_frame.proofs.Members.{some_is, false_true, none_or_some, none_some, true_or_false}
+use Rattle.request_frame.proofs.Members.{some_is, false_true, none_or_some, none_some, true_or_false, text_other, text_left}
 use Rattle.request_frame.proofs.Framed.{with_bucket, frame}
 use Rattle.request_frame.proofs.Reading.{reads_nothing}
 use Rattle.job_facts.specs.Stores.{at_key, at_id}
@@ -248,14 +249,25 @@ files_same w s t e h p bytes y = h p bytes (ap (λ f. fin.get f p) (sym e) ∙ y
 pub setup_no_file : (w : Script) → IsLegal w → (s : Scene) (t : Setup) → SetsUp w s.content t → (r : Request) → setup_asks w t ≡ Some r → (o : Outcome) → NoClusterFile w s → NoClusterFile w (effect s r o)
 setup_no_file w j s t h r e o = files_same w s (effect s r o) (setup_alone w j s t h r e o).files
 
+-- a file stays where a request does not name its path, also where no bucket stands
+renamed_left : (m : Files) (source target : List ℕ) (o : Option (List ℕ)) (p : List ℕ) → (IsIn p (source ∷ target ∷ []) → ⊥) → fin.get (renamed m source target o) p ≡ fin.get m p
+renamed_left m source target None p free = refl
+renamed_left m source target (Some bytes) p free = text_other (fin.remove m source) target p bytes (λ e. free (inr (inl e))) ∙ text_left m source p (λ e. free (inl e))
+
+files_left : (s : Scene) (r : Request) (p : List ℕ) → (IsIn p (changed_paths r) → ⊥) → fin.get (apply s r).files p ≡ fin.get s.files p
+files_left s (ClusterPut path bytes) p free = text_other s.files path p bytes (λ e. free (inl e))
+files_left s (ClusterRename source target) p free = renamed_left s.files source target (fin.get s.files source) p free
+files_left s (ClusterDelete path) p free = text_left s.files path p (λ e. free (inl e))
+files_left s _ p free = refl
+
 -- a path of the job is none that a stranger changes
-pub strange_no_file : (w : Script) (drawn : Who → List Drawn) (s : Scene) → HasBucket s.content w.dest.bucket → (r : Request) → IsForeign w drawn r → (o : Outcome) → NoClusterFile w s → NoClusterFile w (effect s r o)
-strange_no_file w drawn s there r f o h = by o
+pub strange_no_file : (w : Script) (drawn : Who → List Drawn) (s : Scene) (r : Request) → IsForeign w drawn r → (o : Outcome) → NoClusterFile w s → NoClusterFile w (effect s r o)
+strange_no_file w drawn s r f o h = by o
   where
     acts : NoClusterFile w (apply s r)
     acts p bytes y = elim (true_or_false (begins (cluster_prefix w.job) p)) [
       | inr free ↦ free
-      | inl own ↦ h p bytes (sym ((frame s w.dest.bucket r there).files p (λ i. false_true (f.paths p i) own)) ∙ y)
+      | inl own ↦ h p bytes (sym (files_left s r p (λ i. false_true (f.paths p i) own)) ∙ y)
     ]
 
     by : (o : Outcome) → NoClusterFile w (effect s r o)

@@ -1,4 +1,4 @@
--- Runs of a job among no strangers, request by request, in any order of its actors. An operation may also stop at any time.
+-- Runs of a job among strangers that leave its own alone, request by request, in any order of its actors. An operation may also stop at any time.
 use Rattle.std.specs.Prelude.{◌≡◌, ℕ, ◌≤◌, ◌<◌, ◌^◌, ◌⊎◌, Bool, true, false, List, [], ◌∷◌, ◌++◌, Option, Some, None}
 use Rattle.s3_types.specs.Store.{Content, Upload}
 use Rattle.s3_types.specs.Answer.{answer}
@@ -20,9 +20,10 @@ use Rattle.job_operations.specs.JobCommits.{commit_start}
 use Rattle.job_operations.specs.Cleanups.{clean_start}
 use Rattle.job_operations.specs.Operations.{Setting, Operation, TheSetup, TheWrite, TheTaskCommit, TheTaskAbort, TheCommit, TheClean, who, asks, tells}
 use Rattle.job_promise.specs.Seen.{Seen, see, is_begun, nothing_seen}
-use Rattle.job_facts.specs.Told.{Told, known, put_who, nothing_told, tell, entry, driver_entry}
+use Rattle.job_facts.specs.Told.{Told, known, put_who, nothing_told, tell, entry, driver_entry, strange_entry}
 use Rattle.job_facts.specs.Stores.{at_id}
 use Rattle.job_facts.specs.Facts.{IsAttempt}
+use Rattle.job_facts.specs.Foreign.{IsForeign}
 
 -- where a run stands: what is seen and told, what each attempt and the driver began last and how far that has come, and what the driver's commit has sent
 pub record Stand : Type 0 where
@@ -46,10 +47,6 @@ with_driver x op = record { seen = x.seen; told = x.told; attempts = x.attempts;
 -- one more entry
 abbrev pub saw : Setting → Option ℕ → Stand → Entry → Stand
 saw g k x e = record { seen = see g.script k x.seen e; told = tell g.script x.told e; attempts = x.attempts; driver = x.driver; commit = x.commit }
-
--- the driver's commit begins
-abbrev pub committing : Setting → Stand → Option ℕ → Stand
-committing g x missing = record { seen = x.seen; told = x.told; attempts = x.attempts; driver = Some (TheCommit (commit_start g.script missing)); commit = [] }
 
 -- what its commit has sent, with this entry where it is of the commit
 abbrev pub commit_with : Operation → List Entry → Entry → List Entry
@@ -89,26 +86,69 @@ IsTimely k n _ = Unit {0}
 abbrev pub nothing_learnt : Known
 nothing_learnt = record { drawn = []; put_sent = false; publish_sent = false }
 
+-- ---- what an actor may begin
+
+-- what it begins
+pub data Beginning : Type 0 where
+  -- the driver a set-up; its commit, where this task is the least that none has reported; an abort or clean of the job
+  BeginSetup : Beginning
+  BeginCommit : (missing : Option ℕ) → Beginning
+  BeginClean : Beginning
+  -- an attempt its write, its commit, and an abort
+  BeginWrite : (attempt : Who) → Beginning
+  BeginPublish : (attempt : Who) → Beginning
+  BeginAbort : (attempt : Who) → Beginning
+
+-- what the driver is at then
+abbrev pub begun_driver : Setting → Stand → Beginning → Option Operation
+begun_driver g x BeginSetup = Some (TheSetup (fresh g.script.retries setup_start))
+begun_driver g x (BeginCommit missing) = Some (TheCommit (commit_start g.script missing))
+begun_driver g x BeginClean = Some (TheClean (fresh g.script.retries clean_start))
+begun_driver g x _ = x.driver
+
+-- what its commit has sent
+abbrev pub begun_commit : Stand → Beginning → List Entry
+begun_commit x (BeginCommit missing) = []
+begun_commit x _ = x.commit
+
+-- what each attempt is at
+abbrev pub begun_attempts : Setting → Stand → Beginning → Who → Option Operation
+begun_attempts g x (BeginWrite a) = put_who x.attempts a (Some (TheWrite (fresh g.script.retries (write_start g.script a))))
+begun_attempts g x (BeginPublish a) = put_who x.attempts a (Some (TheTaskCommit (fresh g.script.retries (task_commit_start g.script a))))
+begun_attempts g x (BeginAbort a) = put_who x.attempts a (Some (TheTaskAbort (fresh g.script.retries (task_abort_start g.script (known x.told a)))))
+begun_attempts g x _ = x.attempts
+
+-- and all of it
+abbrev pub begin : Setting → Stand → Beginning → Stand
+begin g x b = record { seen = x.seen; told = x.told; attempts = begun_attempts g x b; driver = begun_driver g x b; commit = begun_commit x b }
+
+-- an attempt's write is done
+abbrev pub WriteIsDone : Option Operation → Type 0
+WriteIsDone o = (spare : ℕ) × (repeated : Bool) × (o ≡ Some (TheWrite (record { operation = WriteOver tasks.Done; spare = spare; repeated = repeated })))
+
+-- a set-up where none has ended Done, or where nothing was begun behind one that its driver was not told of; the commit right after its set-up, and an abort or clean at any time after that;
+-- an attempt's write where it has begun nothing, its commit where its write has ended Done, and its abort at any time
+abbrev pub MayBegin : Setting → Stand → Beginning → Type 0
+MayBegin g x BeginSetup = MaySetUp x
+MayBegin g x (BeginCommit missing) = is_just_set x.driver ≡ true
+MayBegin g x BeginClean = is_set x.driver ≡ true
+MayBegin g x (BeginWrite a) = (is_set x.driver ≡ true) × IsAttempt g.script a × (x.attempts a ≡ None)
+MayBegin g x (BeginPublish a) = (is_set x.driver ≡ true) × WriteIsDone (x.attempts a)
+MayBegin g x (BeginAbort a) = (is_set x.driver ≡ true) × IsAttempt g.script a
+
 -- A run over this content, whose commit is event k if it is any: its entries so far, and where it stands. An actor that stops sends
 -- no more; what it was at is then as far as it had come.
 pub data Runs (g : Setting) (k : Option ℕ) (opening : Content) : List Entry → Stand → Type 0 where
   run_begins : Runs g k opening [] (first_stand opening)
-  -- the driver begins a set-up where none has ended Done, or where nothing was begun behind one that its driver was not told of
-  setup_begins : (es : List Entry) (x : Stand) → Runs g k opening es x → MaySetUp x → Runs g k opening es (with_driver x (TheSetup (fresh g.script.retries setup_start)))
-  -- its commit, right after its set-up
-  commit_begins : (es : List Entry) (x : Stand) (missing : Option ℕ) → Runs g k opening es x → is_just_set x.driver ≡ true → Runs g k opening es (committing g x missing)
-  -- an abort or clean of the job, at any time after that
-  clean_begins : (es : List Entry) (x : Stand) → Runs g k opening es x → is_set x.driver ≡ true → Runs g k opening es (with_driver x (TheClean (fresh g.script.retries clean_start)))
+  actor_begins : (es : List Entry) (x : Stand) (b : Beginning) → Runs g k opening es x → MayBegin g x b → Runs g k opening es (begin g x b)
   driver_sends : (es : List Entry) (x : Stand) (op : Operation) (n : ℕ) (r : Request) (o : Outcome) → Runs g k opening es x → x.driver ≡ Some op → asks g (who Driver) nothing_learnt op ≡ Some r
       → IsTimely k n op → x.seen.scene.content.next ≤ 2 ^ 64 → IsHonestOutcome o (answer x.seen.scene r)
       → Runs g k opening (es ++ driver_entry n r o ∷ []) (with_commit (with_driver (saw g k x (driver_entry n r o)) (tells g (who Driver) op o)) (commit_with op x.commit (driver_entry n r o)))
-  -- an attempt begins its write where it has begun nothing, its commit where its write has ended Done, and an abort at any time
-  write_begins : (es : List Entry) (x : Stand) (a : Who) → Runs g k opening es x → is_set x.driver ≡ true → IsAttempt g.script a → x.attempts a ≡ None → Runs g k opening es (with_attempt x a (TheWrite (fresh g.script.retries (write_start g.script a))))
-  publish_begins : (es : List Entry) (x : Stand) (a : Who) (spare : ℕ) (repeated : Bool) → Runs g k opening es x → is_set x.driver ≡ true → x.attempts a ≡ Some (TheWrite (record { operation = WriteOver tasks.Done; spare = spare; repeated = repeated }))
-      → Runs g k opening es (with_attempt x a (TheTaskCommit (fresh g.script.retries (task_commit_start g.script a))))
-  abort_begins : (es : List Entry) (x : Stand) (a : Who) → Runs g k opening es x → is_set x.driver ≡ true → IsAttempt g.script a → Runs g k opening es (with_attempt x a (TheTaskAbort (fresh g.script.retries (task_abort_start g.script (known x.told a)))))
   attempt_sends : (es : List Entry) (x : Stand) (a : Who) (op : Operation) (n : ℕ) (r : Request) (o : Outcome) → Runs g k opening es x → is_set x.driver ≡ true → x.attempts a ≡ Some op → asks g a (known x.told a) op ≡ Some r
       → IsHonestOutcome o (answer x.seen.scene r) → Runs g k opening (es ++ entry a n r o ∷ []) (with_attempt (saw g k x (entry a n r o)) a (tells g a op o))
+  -- a stranger sends what is foreign to the job, whatever becomes of it
+  strays : (es : List Entry) (x : Stand) (n : ℕ) (r : Request) (o : Outcome) → Runs g k opening es x → IsForeign g.script x.told.drawn r
+      → Runs g k opening (es ++ strange_entry n r o ∷ []) (saw g k x (strange_entry n r o))
 
 -- a content that a run may begin with
 pub record IsOpening (g : Setting) (c : Content) : Type 0 where

@@ -18,8 +18,9 @@
 //! has ended never comes back; what stands at a wanted path is what was there, nothing, or the whole
 //! file, by how far the commit has come, and after a revert the file only where its deletion wore out
 //! (`wanted_files`). An abort or clean that is done, while nobody else sends, leaves nothing. Each
-//! request of the job's actors leaves all that is outside the destination. Every run among no
-//! strangers, with its requests in any order, keeps the headline at each of its moments (`whole_runs`).
+//! request of the job's actors leaves all that is outside the destination. Every run, with its requests
+//! in any order, keeps the facts among strangers, and the headline at each of its moments where none of
+//! them sends (`whole_runs`).
 #![tactic(auto)]
 
 ghost use Rattle.job_facts.specs.Laws.{AnswersFit, AttemptBegins, AttemptGoes, AttemptNames, CleanGoes, CommitGoes, DrivingKeeps, FactsBegin, ForeignKeeps, MarkersLead, ReadsKeep, ToldIsSaid};

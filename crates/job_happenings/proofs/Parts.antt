@@ -1,20 +1,22 @@
 -- Parts of a journal to which one entry is added.
-use Rattle.std.proofs.Common.{◌≡◌, ℕ, zero, suc, ◌+◌, ◌<◌, ◌≤◌, ◌⊎◌, inl, inr, ◌&&◌, nat_eq, nat_le, nat_lt, Bool, true, false, cond, List, [], ◌∷◌, ◌++◌, length, take, slice_get, append-nil, Option, Some, refl, ap, subst, ◌∙◌, arith}
+use Rattle.std.proofs.Common.{◌≡◌, ℕ, zero, suc, ◌+◌, ◌<◌, ◌≤◌, ◌⊎◌, inl, inr, ◌&&◌, nat_eq, nat_le, nat_lt, Bool, true, false, cond, List, [], ◌∷◌, ◌++◌, length, take, slice_get, append-nil, Some, refl, sym, ap, subst, ◌∙◌, arith}
 use Rattle.std.specs.List.{filter}
 use Rattle.std.proofs.lemmas.Bool.Decides.{nat_tests}
 use Rattle.std.proofs.lemmas.List.{take-append-le, take_all}
 use Rattle.std.proofs.lemmas.List.Elements.{filter-append}
 use Rattle.proof_base.proofs.Numbers.{below_so, at_most_so, above_so}
-use Rattle.request_frame.proofs.Members.{some_is, none_some}
+use Rattle.request_frame.proofs.Members.{some_is, none_some, false_true}
 use Rattle.s3_types.specs.Store.{Scene}
 use Rattle.s3_types.specs.Answer.{answer}
 use Rattle.s3_types.specs.Moment.{effect, after_all, AreHonest, IsHonestOutcome}
-use Rattle.s3_types.specs.Foretold.{IsForetold, AreForetold}
-use Rattle.s3_types.specs.declared.fates.Fate.{Fate}
 use Rattle.s3_types.specs.declared.request.Actor.{Actor}
+use Rattle.s3_types.specs.declared.request.Actor.TheVariants.{Driver, Attempt, Shell}
+use Rattle.s3_types.specs.declared.request.Request.{Request}
+use Rattle.s3_types.specs.declared.journal.Outcome.{Outcome}
 use Rattle.s3_types.specs.declared.journal.Entry.{Entry}
+use Rattle.job_facts.specs.Told.{strange_entry}
 use Rattle.job_promise.specs.States.{same_actor}
-use Rattle.job_promise.specs.Turns.{is_own, of_event, until, before, since, by_actor, AllFrom, IsRising, AllUpTo}
+use Rattle.job_promise.specs.Turns.{is_own, own, of_event, until, before, since, by_actor, AllFrom, IsRising, AllUpTo}
 
 -- ---- any lists
 
@@ -69,6 +71,14 @@ from_part n p (e ∷ es) all = by (p e) (from_part n p es all.1)
     by true rest = (all.0, rest)
     by false rest = rest
 
+-- one more of the job's own
+pub from_own : (n : ℕ) (es : List Entry) (e : Entry) → AllFrom n (own es) → n ≤ e.event → AllFrom n (own (es ++ e ∷ []))
+from_own n es e h one = by (is_own e.actor) refl
+  where
+    by : (b : Bool) → is_own e.actor ≡ b → AllFrom n (own (es ++ e ∷ []))
+    by true is = subst (AllFrom n) (sym (kept (λ x. is_own x.actor) es e is)) (from_last n (own es) e h one)
+    by false is = subst (AllFrom n) (sym (left_out (λ x. is_own x.actor) es e is)) h
+
 pub rising_last : (n : ℕ) (es : List Entry) (e : Entry) → AllUpTo n es → n ≤ e.event → IsRising es → IsRising (es ++ e ∷ [])
 rising_last n [] e all late h = (tt, tt)
 rising_last n (x ∷ es) e all late h = let one : x.event ≤ n = all.0 in (from_last x.event es e h.0 (omega arith), rising_last n es e all.1 late h.1)
@@ -120,6 +130,14 @@ since_late k es e h = kept (λ x. nat_le k x.event) es e (at_most_so k e.event h
 pub until_late : (k : ℕ) (es : List Entry) (e : Entry) → k < e.event → until k (es ++ e ∷ []) ≡ until k es
 until_late k es e h = left_out (λ x. nat_le x.event k) es e (above_so e.event k h)
 
+-- one more is of them or not
+pub until_either : (k : ℕ) (es : List Entry) (e : Entry) → (until k (es ++ e ∷ []) ≡ until k es) ⊎ (until k (es ++ e ∷ []) ≡ until k es ++ e ∷ [])
+until_either k es e = by (nat_le e.event k) refl
+  where
+    by : (b : Bool) → nat_le e.event k ≡ b → (until k (es ++ e ∷ []) ≡ until k es) ⊎ (until k (es ++ e ∷ []) ≡ until k es ++ e ∷ [])
+    by true is = inr (kept (λ x. nat_le x.event k) es e is)
+    by false is = inl (left_out (λ x. nat_le x.event k) es e is)
+
 -- ---- parts by actors
 
 pub by_itself : (a : Actor) (es : List Entry) (e : Entry) → same_actor e.actor a ≡ true → by_actor a (es ++ e ∷ []) ≡ by_actor a es ++ e ∷ []
@@ -128,14 +146,20 @@ by_itself a es e h = kept (λ x. same_actor x.actor a) es e h
 pub by_another : (a : Actor) (es : List Entry) (e : Entry) → same_actor e.actor a ≡ false → by_actor a (es ++ e ∷ []) ≡ by_actor a es
 by_another a es e h = left_out (λ x. same_actor x.actor a) es e h
 
--- ---- answers and fates
+-- an actor of the job, and a stranger's entry
+pub by_own : (a : Actor) → is_own a ≡ true → (es : List Entry) (n : ℕ) (r : Request) (o : Outcome) → by_actor a (es ++ strange_entry n r o ∷ []) ≡ by_actor a es
+by_own Driver own es n r o = by_another Driver es (strange_entry n r o) refl
+by_own (Attempt t i) own es n r o = by_another (Attempt t i) es (strange_entry n r o) refl
+by_own Shell own es n r o = absurd (false_true refl own)
+
+pub event_own : (k : ℕ) (es : List Entry) (n : ℕ) (r : Request) (o : Outcome) → of_event k (es ++ strange_entry n r o ∷ []) ≡ of_event k es
+event_own k es n r o = left_out (λ e. is_own e.actor && nat_eq e.event k) es (strange_entry n r o) refl
+
+pub own_own : (es : List Entry) (n : ℕ) (r : Request) (o : Outcome) → own (es ++ strange_entry n r o ∷ []) ≡ own es
+own_own es n r o = left_out (λ e. is_own e.actor) es (strange_entry n r o) refl
+
+-- ---- answers
 
 pub honest_last : (s : Scene) (es : List Entry) (e : Entry) → AreHonest s es → IsHonestOutcome e.outcome (answer (after_all s es) e.request) → AreHonest s (es ++ e ∷ [])
 honest_last s [] e h one = (one, tt)
 honest_last s (x ∷ es) e h one = (h.0, honest_last (effect s x.request x.outcome) es e h.1 one)
-
-pub foretold_last : (told : ℕ → Option Fate) (n : ℕ) (es : List Entry) (e : Entry) → AreForetold told n es → IsForetold (told (n + length es)) e.outcome → AreForetold told n (es ++ e ∷ [])
-foretold_last told n [] e h one = let k : n + 0 ≡ n = omega arith in (subst (λ m. IsForetold (told m) e.outcome) k one, tt)
-foretold_last told n (x ∷ es) e h one =
-    let k : n + suc (length es) ≡ n + 1 + length es = omega arith in
-    (h.0, foretold_last told (n + 1) es e h.1 (subst (λ m. IsForetold (told m) e.outcome) k one))

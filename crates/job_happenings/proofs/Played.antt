@@ -6,11 +6,11 @@ use Rattle.job_model.specs.Legal.{IsLegal}
 use Rattle.job_model.specs.declared.events.Event.{Event}
 use Rattle.job_operations.specs.Operations.{Setting}
 use Rattle.job_promise.specs.States.{Past, Doing, open_event, past}
-use Rattle.job_promise.specs.Turns.{is_own, of_event, by_actor, OpenTurns, AllUpTo}
+use Rattle.job_promise.specs.Turns.{of_event, by_actor, OpenTurns, AllUpTo}
 use Rattle.job_promise.specs.Follows.{OpFollows, IsUnended}
 use Rattle.job_happenings.specs.Happenings.{Play, Happened, open_running}
 use Rattle.job_happenings.specs.Laws.{IsPlayed}
-use Rattle.job_happenings.proofs.Parts.{event_none, from_part}
+use Rattle.job_happenings.proofs.Parts.{event_none}
 use Rattle.job_happenings.proofs.PastMore.{turns_open, legal_begins, event_at}
 use Rattle.job_happenings.proofs.Told.{Told, AllRun, runs_follow, opened_run, told_all}
 
@@ -44,13 +44,13 @@ module _ (g : Setting) (opening : Content) (x : Play) (legal : IsLegal g.script)
     plays = record {
       obeyed = h.obeyed;
       unended = unended;
-      numbered = from_part 1 (λ e. is_own e.actor) x.journal h.numbered;
+      numbered = h.numbered;
       none = λ e. no_entry;
       rising = h.rising;
       past = h.up_to;
       within = h.within;
     };
-    sent = h.sent;
+    honest = h.honest;
     past = h.past_is;
     live = live_is;
   }

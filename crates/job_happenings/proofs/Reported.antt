@@ -1,5 +1,5 @@
 -- Until the driver cleans up each task that is reported has a last publisher.
-use Rattle.std.proofs.Common.{◌≡◌, ℕ, zero, suc, ◌+◌, ◌<◌, ◌≤◌, ◌⊎◌, inl, inr, nat_eq, ◌&&◌, ◌||◌, Bool, true, false, cond, List, [], ◌∷◌, ◌++◌, Option, Some, None, refl, sym, ap, subst, ◌∙◌, arith, take, slice_get}
+use Rattle.std.proofs.Common.{◌≡◌, ℕ, zero, suc, ◌+◌, ◌<◌, ◌≤◌, ◌⊎◌, inl, inr, nat_eq, ◌&&◌, ◌||◌, Bool, true, false, cond, List, [], ◌∷◌, ◌++◌, Option, Some, None, refl, sym, ap, subst, ◌∙◌, arith, take, slice_get, length}
 use Rattle.std.specs.Option.{option_map}
 use Rattle.std.proofs.lemmas.Bool.{and_parts, or_cases}
 use Rattle.s3_types.specs.Store.{Content}
@@ -32,12 +32,12 @@ use Rattle.job_promise.specs.Turns.{is_memory}
 use Rattle.request_frame.proofs.Members.{some_is, none_some, false_true, eq_nat, nat_true}
 use Rattle.job_facts.specs.Runs.{IsOpening, Stand, Runs}
 use Rattle.job_facts.specs.Standing.{HasPublished}
-use Rattle.job_facts.specs.Told.{Told, tell, tell_by, tell_all, nothing_told}
+use Rattle.job_facts.specs.Told.{Told, tell, tell_by, tell_all, nothing_told, strange_entry}
 use Rattle.job_facts.proofs.Entries.{see_more, sees, tells_so}
-use Rattle.job_happenings.specs.Happenings.{Play, Refuses, Opens, Sends, Finishes, Closes, happen, MayFinish, Happened, nothing_happened, happens}
+use Rattle.job_happenings.specs.Happenings.{Play, Refuses, Opens, Sends, Finishes, Closes, Strays, happen, MayFinish, Happened, nothing_happened, happens}
 use Rattle.job_happenings.specs.Running.{Ahead, IsRun, operation_of}
 use Rattle.job_happenings.proofs.RunningStages.{may_end}
-use Rattle.job_happenings.proofs.Running.{is_run, sent_ahead, finished_ahead, opened_ahead, refused_ahead, not_refused, closed_ahead}
+use Rattle.job_happenings.proofs.Running.{is_run, sent_ahead, strayed_ahead, finished_ahead, opened_ahead, refused_ahead, not_refused, closed_ahead}
 use Rattle.s3_types.specs.Moment.{is_effective}
 use Rattle.job_promise.proofs.Told.{scene_is, last_still}
 use Rattle.job_facts.proofs.Published.{has_published}
@@ -194,11 +194,11 @@ module _ (g : Setting) (opening : Content) (j : IsLegal g.script) (is_opening : 
   opened y (Recover a) old = old
 
   -- a task that has a last publisher has one ever after
-  pub later : (y : Play) (e : Entry) (t : ℕ) → HasPublished (seen_of y) t → HasPublished (seen_of (happen g y (Sends e))) t
+  pub later : (y : Play) (e : Entry) (t : ℕ) → HasPublished (seen_of y) t → HasPublished (see_all w k (nothing_seen opening) (y.journal ++ e ∷ [])) t
   later y e t h = subst (λ s. HasPublished s t) (sym (see_more w k (nothing_seen opening) y.journal e)) (last_still w k (seen_of y) e t h)
 
   -- what is told now was not told before
-  pub unclean_before : (y : Play) (e : Entry) → Unclean (happen g y (Sends e)) → Unclean y
+  pub unclean_before : (y : Play) (e : Entry) → (tell_all w nothing_told (y.journal ++ e ∷ [])).cleaned ≡ false → Unclean y
   unclean_before y e h = before (tell_all w nothing_told y.journal).cleaned _ (cleaned_more w nothing_told y.journal e) h
     where
       before : (a b : Bool) → (a ≡ true → b ≡ true) → b ≡ false → a ≡ false
@@ -237,6 +237,10 @@ module _ (g : Setting) (opening : Content) (j : IsLegal g.script) (is_opening : 
   reported x (happens y (Opens ev) past may) ahead clean = let old = reported y past (opened_ahead g y ev all_ends may.idle ahead) clean in record { live = opened y ev old.past; past = old.past }
   reported x (happens y (Sends e) past may) ahead clean =
       let old = reported y past (sent_ahead g y e all_ends ahead) (unclean_before y e clean) in
+      record { live = λ t h. later y e t (old.live t h); past = λ t h. later y e t (old.past t h) }
+  reported x (happens y (Strays r o) past may) ahead clean =
+      let e = strange_entry (length y.ends) r o in
+      let old = reported y past (strayed_ahead g y r o all_ends ahead) (unclean_before y e clean) in
       record { live = λ t h. later y e t (old.live t h); past = λ t h. later y e t (old.past t h) }
   reported x (happens y (Finishes v) past may) ahead clean = let before = finished_ahead g y v all_ends ahead in finishes y past before v may clean (reported y past before clean)
   reported x (happens y (Closes end) past may) ahead clean =

@@ -30,12 +30,12 @@ use Rattle.job_promise.specs.Turns.{is_memory, Turns}
 use Rattle.request_frame.proofs.Members.{none_some}
 use Rattle.job_facts.specs.Runs.{run_begins, IsOpening, first_stand}
 use Rattle.job_facts.proofs.Whose.{attempt}
-use Rattle.job_happenings.specs.Happenings.{Play, Refuses, Opens, Sends, Finishes, Closes, open_running, hear, happen, MayOpen, MaySend, MayFinish, MayClose, Happened, nothing_happened, happens, nothing_played}
+use Rattle.job_happenings.specs.Happenings.{Play, Refuses, Opens, Sends, Finishes, Closes, Strays, open_running, hear, happen, MayOpen, MaySend, MayFinish, MayClose, MayStray, Happened, nothing_happened, happens, nothing_played}
 use Rattle.job_happenings.specs.Running.{Ahead, IsRun, operation_of}
 use Rattle.job_happenings.proofs.RunningNumbers.{begun_next, unbegun, legal_event}
 use Rattle.job_happenings.proofs.RunningStages.{DriverAt, begins_so, memory_dies, may_end, driver_stops, driver_restarts, restarted_new, driver_ends}
 use Rattle.job_happenings.proofs.RunningTasks.{AttemptAt, attempt_dies, attempt_ends}
-use Rattle.job_happenings.proofs.RunningAlong.{Along, told_known, set_up, driver_state, attempt_state, shell_state, driver_sent, attempt_sent}
+use Rattle.job_happenings.proofs.RunningAlong.{Along, told_known, set_up, driver_state, attempt_state, shell_state, driver_sent, attempt_sent, strays_on}
 use Rattle.job_happenings.proofs.RunningSteps.{still, begins}
 
 -- the number of the event that goes on, or of the last one
@@ -63,6 +63,9 @@ opened_ahead g x ev ends idle h = record { rest = h.rest; is = h.is; going = λ 
 moved : (front : List EventEnd) (end : EventEnd) (rest : List EventEnd) → (front ++ end ∷ []) ++ rest ≡ front ++ end ∷ rest
 moved [] end rest = refl
 moved (f ∷ front) end rest = ap (λ xs. f ∷ xs) (moved front end rest)
+
+pub strayed_ahead : (g : Setting) (x : Play) (r : Request) (o : Outcome) (ends : List EventEnd) → Ahead (happen g x (Strays r o)) ends → Ahead x ends
+strayed_ahead g x r o ends h = record { rest = h.rest; is = h.is; going = h.going }
 
 pub refused_ahead : (g : Setting) (x : Play) (f : EventFault) (ends : List EventEnd) → x.now ≡ None → Ahead (happen g x (Refuses f)) ends → Ahead x ends
 refused_ahead g x f ends idle h = record { rest = Refused f ∷ h.rest; is = h.is ∙ moved x.ends (Refused f) h.rest; going = λ v e. absurd (none_some idle e) }
@@ -229,6 +232,11 @@ module _ (g : Setting) (opening : Content) (j : IsLegal g.script) (is_opening : 
     rest = λ e. absurd (none_some e may.during);
   }
 
+  -- ---- a stranger sends
+
+  strayed : (k : Option ℕ) (x : Play) (r : Request) (o : Outcome) → MayStray g opening x r o → Carried g opening k x → Carried g opening k (happen g x (Strays r o))
+  strayed k x r o may h = record { along = strays_on g opening k j is_opening (is_begun k (number x.now (length x.ends))) x.journal x.running x.live.state h.along (length x.ends) r o may.foreign; rest = h.rest }
+
   -- ---- all of them
 
   first : (k : Option ℕ) → is_begun k 0 ≡ false → Carried g opening k nothing_played
@@ -255,6 +263,7 @@ module _ (g : Setting) (opening : Content) (j : IsLegal g.script) (is_opening : 
   carried x (happens y (Sends e) past may) ends ahead = sends (commit_event w ends) y e may (carried y past ends (sent_ahead g y e ends ahead))
   carried x (happens y (Finishes z) past may) ends ahead = finishes (commit_event w ends) y z may (carried y past ends (finished_ahead g y z ends ahead))
   carried x (happens y (Closes end) past may) ends ahead = closes (commit_event w ends) y end may (carried y past ends (closed_ahead g y end ends (not_refused w y.past.state may.event end _ may.turns) ahead))
+  carried x (happens y (Strays r o) past may) ends ahead = strayed (commit_event w ends) y r o may (carried y past ends (strayed_ahead g y r o ends ahead))
 
   pub is_run : (x : Play) → Happened g opening x → (ends : List EventEnd) → Ahead x ends → IsRun g opening x (commit_event w ends)
   is_run x past ends ahead =

@@ -19,8 +19,9 @@ use Rattle.job_promise.specs.Seen.{is_begun}
 use Rattle.job_promise.specs.States.{put, is_new}
 use Rattle.job_promise.specs.Turns.{by_actor}
 use Rattle.request_frame.proofs.Members.{some_is, none_some, false_true, true_or_false}
-use Rattle.job_facts.specs.Told.{known, nothing_told, entry, driver_entry}
-use Rattle.job_facts.specs.Runs.{Stand, Runs, IsOpening, saw, with_attempt, with_driver, with_commit, commit_with, is_set, driver_sends, attempt_sends}
+use Rattle.job_facts.specs.Told.{known, nothing_told, entry, driver_entry, strange_entry}
+use Rattle.job_facts.specs.Foreign.{IsForeign}
+use Rattle.job_facts.specs.Runs.{Stand, Runs, IsOpening, saw, with_attempt, with_driver, with_commit, commit_with, is_set, driver_sends, attempt_sends, strays}
 use Rattle.job_facts.proofs.Whose.{who_is}
 use Rattle.job_facts.proofs.Learnt.{known_is}
 use Rattle.job_facts.proofs.Entries.{tells_so}
@@ -238,3 +239,22 @@ module _ (g : Setting) (opening : Content) (k : Option ℕ) (j : IsLegal g.scrip
       by : AttemptAt (st (actor_of a)).stage (st (actor_of a)).life (Some (tells g a m.operation o)) → (c : Who) (s : Bool) → (s ≡ true → c ≡ a) → AttemptAt (st (actor_of c)).stage (st (actor_of c)).life (operation_of (cond s (Some (advance g (actor_of a) m o)) (r (actor_of c))))
       by there c true same = subst (λ x. AttemptAt (st (actor_of x)).stage (st (actor_of x)).life (Some (tells g a m.operation o))) (sym (same refl)) there
       by there c false same = h.attempt_at c
+
+  -- a stranger sends what is foreign
+  pub strays_on : (b : Bool) (es : List Entry) (r : Actor → Option Running) (st : Actor → ActorState) (h : Along g opening k b es r st) (n : ℕ) (q : Request) (o : Outcome) → IsForeign g.script (λ a. (knows g.script a (by_actor (actor_of a) es)).drawn) q
+      → Along g opening k b (es ++ strange_entry n q o ∷ []) r st
+  strays_on b es r st h n q o foreign = record {
+    stand = saw g k h.stand (strange_entry n q o);
+    runs = strays es h.stand n q o h.runs (subst (λ v. IsForeign g.script v q) drawn_is foreign);
+    driver = h.driver;
+    attempts = h.attempts;
+    last = h.last;
+    nobody = h.nobody;
+    timed = h.timed;
+    driver_at = h.driver_at;
+    unset = h.unset;
+    attempt_at = h.attempt_at;
+  }
+    where
+      drawn_is : (λ (a : Who). (knows g.script a (by_actor (actor_of a) es)).drawn) ≡ h.stand.told.drawn
+      drawn_is = λ i a. (sym (told_known es h.stand h.runs a) i).drawn

@@ -33,8 +33,8 @@ use Rattle.job_operations.specs.TaskCommits.{TaskCommit, Looking, Reading, Publi
 use Rattle.job_operations.specs.Operations.{Setting, Operation, TheSetup, TheWrite, TheTaskCommit, TheTaskAbort, TheCommit, TheClean, Running, tells, start_of, over}
 use Rattle.job_promise.specs.States.{Past, put, missing, stage_begun, stage_done, dead, setup_ended, commit_ended, clean_ended, task_ended, ended, is_committing, open_event, commit_event}
 use Rattle.request_frame.proofs.Members.{some_is, none_some, true_or_false}
-use Rattle.job_facts.specs.Runs.{IsOpening, Stand, Runs, run_begins, setup_begins, commit_begins, clean_begins, driver_sends, write_begins, publish_begins, abort_begins, attempt_sends}
-use Rattle.job_happenings.specs.Happenings.{Play, Refuses, Opens, Sends, Finishes, Closes, knows_now, begun, begin_running, open_running, hear, happen, MayOpen, MaySend, MayFinish, Happened, nothing_happened, happens}
+use Rattle.job_facts.specs.Runs.{IsOpening, Stand, Runs, run_begins, actor_begins, driver_sends, attempt_sends, strays, Beginning, BeginWrite, BeginPublish, BeginAbort, begin}
+use Rattle.job_happenings.specs.Happenings.{Play, Refuses, Opens, Sends, Finishes, Closes, knows_now, begun, begin_running, open_running, hear, happen, MayOpen, MaySend, MayFinish, Happened, nothing_happened, happens, Strays}
 use Rattle.job_happenings.specs.Running.{Ahead, IsRun, operation_of}
 use Rattle.job_happenings.proofs.Actors.{same_or_not, put_here, put_other}
 use Rattle.job_happenings.proofs.Told.{told_all}
@@ -153,16 +153,18 @@ ended_tells g a (TheTaskAbort t) o h = tt
 ended_tells g a (TheCommit c) o h = tt
 ended_tells g a (TheClean t) o h = tt
 
+begin_ended : (g : Setting) (y : Stand) (b : Beginning) → ((a : Who) (op : Operation) → y.attempts a ≡ Some op → CommitEnded a op) → (a : Who) (op : Operation) → (begin g y b).attempts a ≡ Some op → CommitEnded a op
+begin_ended g y (BeginWrite b) old a op e = put_at CommitEnded y.attempts b (TheWrite (fresh g.script.retries (write_start g.script b))) tt old a op e
+begin_ended g y (BeginPublish b) old a op e = put_at CommitEnded y.attempts b (TheTaskCommit (fresh g.script.retries (task_commit_start g.script b))) (ended_begins g.script b) old a op e
+begin_ended g y (BeginAbort b) old a op e = put_at CommitEnded y.attempts b (TheTaskAbort (fresh g.script.retries (task_abort_start g.script (known y.told b)))) tt old a op e
+begin_ended g y _ old a op e = old a op e
+
 never_kept : (g : Setting) (k : Option ℕ) (opening : Content) (es : List Entry) (x : Stand) → Runs g k opening es x → (a : Who) (op : Operation) → x.attempts a ≡ Some op → CommitEnded a op
 never_kept g k opening es x (run_begins) a op e = absurd (none_some refl e)
-never_kept g k opening es x (setup_begins fs y run may) a op e = never_kept g k opening fs y run a op e
-never_kept g k opening es x (commit_begins fs y missing run just) a op e = never_kept g k opening fs y run a op e
-never_kept g k opening es x (clean_begins fs y run set) a op e = never_kept g k opening fs y run a op e
+never_kept g k opening es x (actor_begins fs y b run may) a op e = begin_ended g y b (never_kept g k opening fs y run) a op e
 never_kept g k opening es x (driver_sends fs y v n r o run d asked timely few honest) a op e = never_kept g k opening fs y run a op e
-never_kept g k opening es x (write_begins fs y b run set d none) a op e = put_at CommitEnded y.attempts b (TheWrite (fresh g.script.retries (write_start g.script b))) tt (never_kept g k opening fs y run) a op e
-never_kept g k opening es x (publish_begins fs y b spare repeated run set at) a op e = put_at CommitEnded y.attempts b (TheTaskCommit (fresh g.script.retries (task_commit_start g.script b))) (ended_begins g.script b) (never_kept g k opening fs y run) a op e
-never_kept g k opening es x (abort_begins fs y b run set d) a op e = put_at CommitEnded y.attempts b (TheTaskAbort (fresh g.script.retries (task_abort_start g.script (known y.told b)))) tt (never_kept g k opening fs y run) a op e
 never_kept g k opening es x (attempt_sends fs y b v n r o run set at asked honest) a op e = put_at CommitEnded y.attempts b (tells g b v o) (ended_tells g b v o (never_kept g k opening fs y run b v at)) (never_kept g k opening fs y run) a op e
+never_kept g k opening es x (strays fs y n r o run f) a op e = never_kept g k opening fs y run a op e
 
 -- ---- what it is at
 
@@ -374,3 +376,4 @@ module _ (g : Setting) (opening : Content) (j : IsLegal g.script) (is_opening : 
   commits_at x (happens y (Sends e) past may) = sends y e may (commits_at y past)
   commits_at x (happens y (Finishes v) past may) = finishes y past v may (commits_at y past)
   commits_at x (happens y (Closes end) past may) = commits_at y past
+  commits_at x (happens y (Strays r o) past may) = commits_at y past

@@ -29,7 +29,7 @@ use Rattle.job_promise.specs.Turns.{by_actor}
 use Rattle.request_frame.proofs.Members.{false_true}
 use Rattle.job_facts.specs.Told.{known}
 use Rattle.job_facts.specs.Facts.{IsAttempt}
-use Rattle.job_facts.specs.Runs.{Stand, Runs, setup_begins, commit_begins, clean_begins, write_begins, publish_begins, abort_begins, IsOpening, with_driver, with_attempt, committing, is_set, is_just_set, MaySetUp}
+use Rattle.job_facts.specs.Runs.{Stand, BeginSetup, BeginCommit, BeginClean, BeginWrite, BeginPublish, BeginAbort, begin, Runs, actor_begins, IsOpening, with_attempt, is_set, is_just_set, MaySetUp}
 use Rattle.job_facts.proofs.Whose.{attempt, or_false, or_true}
 use Rattle.job_facts.proofs.Entries.{late_now}
 use Rattle.job_happenings.specs.Happenings.{begun}
@@ -62,16 +62,16 @@ module _ (g : Setting) (opening : Content) (k : Option ℕ) (j : IsLegal g.scrip
       let op = TheSetup (fresh w.retries setup_start) in
       let may_set = setup_may h.stand (operation_of (r Driver)) h.driver m.2 (λ a. h.attempts a ∙ h.unset m.0 a) in
       let early : (b || false) ≡ false = or_false b ∙ timed_setting b (operation_of (r Driver)) h.timed m.1 in
-      driver_begins g opening k j is_opening b (b || false) es r st h (record { operation = op; known = kn }) (busy_at Driver Setup s) (with_driver h.stand op)
-      (setup_begins es h.stand h.runs may_set) refl refl refl early (new_at s Busy (fresh w.retries setup_start) m.0) (λ n. n)
+      driver_begins g opening k j is_opening b (b || false) es r st h (record { operation = op; known = kn }) (busy_at Driver Setup s) (begin g h.stand BeginSetup)
+      (actor_begins es h.stand BeginSetup h.runs may_set) refl refl refl early (new_at s Busy (fresh w.retries setup_start) m.0) (λ n. n)
 
   starts_job_commit : (b : Bool) (es : List Entry) (r : Actor → Option Running) (st : Actor → ActorState) (h : Along g opening k b es r st) (kn : Known) (missing : Option ℕ) → driver_may Commit (st Driver).stage ≡ true
       → Along g opening k (b || true) es (put r Driver (Some (record { operation = TheCommit (commit_start w missing); known = kn }))) (put st Driver (busy_at Driver Commit (st Driver).stage))
   starts_job_commit b es r st h kn missing may =
       let s = (st Driver).stage in
       let just : is_just_set h.stand.driver ≡ true = ap is_just_set h.driver ∙ may_commit_job s (st Driver).life (operation_of (r Driver)) h.driver_at may in
-      driver_begins g opening k j is_opening b (b || true) es r st h (record { operation = TheCommit (commit_start w missing); known = kn }) (busy_at Driver Commit s) (committing g h.stand missing)
-      (commit_begins es h.stand missing h.runs just) refl refl refl (or_true b) tt (λ n. absurd (false_true refl n))
+      driver_begins g opening k j is_opening b (b || true) es r st h (record { operation = TheCommit (commit_start w missing); known = kn }) (busy_at Driver Commit s) (begin g h.stand (BeginCommit missing))
+      (actor_begins es h.stand (BeginCommit missing) h.runs just) refl refl refl (or_true b) tt (λ n. absurd (false_true refl n))
 
   -- an abort or a clean of the job
   starts_clean : (b : Bool) (es : List Entry) (r : Actor → Option Running) (st : Actor → ActorState) (h : Along g opening k b es r st) (kn : Known) (v : ActorState) → is_new (st Driver).stage ≡ false
@@ -80,8 +80,8 @@ module _ (g : Setting) (opening : Content) (k : Option ℕ) (j : IsLegal g.scrip
   starts_clean b es r st h kn v new at =
       let op = TheClean (fresh w.retries clean_start) in
       let there = at op tt in
-      driver_begins g opening k j is_opening b (b || false) es r st h (record { operation = op; known = kn }) v (with_driver h.stand op)
-      (clean_begins es h.stand h.runs (set_up g opening k j is_opening b es r st h new)) refl refl refl tt there.0 (λ n. absurd (false_true there.1 n))
+      driver_begins g opening k j is_opening b (b || false) es r st h (record { operation = op; known = kn }) v (begin g h.stand BeginClean)
+      (actor_begins es h.stand BeginClean h.runs (set_up g opening k j is_opening b es r st h new)) refl refl refl tt there.0 (λ n. absurd (false_true there.1 n))
 
   driver_op : (b : Bool) (es : List Entry) (r : Actor → Option Running) (st : Actor → ActorState) (h : Along g opening k b es r st) (kn : Known) (missing : Option ℕ) (op : Op) → Begins (st Driver).stage Driver op (st Driver).life (st Driver).stage → HasOp Driver op
       → Along g opening k (b || begins_commit (Do Driver op)) es (put r Driver (begun (start_of g Driver op missing kn) kn)) (put st Driver (busy_at Driver op (st Driver).stage))
@@ -109,7 +109,7 @@ module _ (g : Setting) (opening : Content) (k : Option ℕ) (j : IsLegal g.scrip
   starts_write b es r st h a kn learnt is new at may =
       let none : h.stand.attempts a ≡ None = h.attempts a ∙ may_write (st (actor_of a)).stage (operation_of (r (actor_of a))) at may in
       attempt_begins g opening k j is_opening b es r st h a (record { operation = TheWrite (fresh w.retries (write_start w a)); known = kn }) (busy_at (actor_of a) Write (st (actor_of a)).stage)
-      (write_begins es h.stand a h.runs (set_up g opening k j is_opening b es r st h new) is none) new learnt (free_start w a)
+      (actor_begins es h.stand (BeginWrite a) h.runs (set_up g opening k j is_opening b es r st h new, is, none)) new learnt (free_start w a)
 
   starts_publish : (b : Bool) (es : List Entry) (r : Actor → Option Running) (st : Actor → ActorState) (h : Along g opening k b es r st) (a : Who) (kn : Known) → kn ≡ known h.stand.told a → is_new (st Driver).stage ≡ false
       → AttemptAt (st (actor_of a)).stage Idle (operation_of (r (actor_of a))) → attempt_may Commit (st (actor_of a)).stage ≡ true
@@ -117,7 +117,7 @@ module _ (g : Setting) (opening : Content) (k : Option ℕ) (j : IsLegal g.scrip
   starts_publish b es r st h a kn learnt new at may =
       let p = may_publish (st (actor_of a)).stage (operation_of (r (actor_of a))) at may in
       attempt_begins g opening k j is_opening b es r st h a (record { operation = TheTaskCommit (fresh w.retries (task_commit_start w a)); known = kn }) (busy_at (actor_of a) Commit (st (actor_of a)).stage)
-      (publish_begins es h.stand a p.0 p.1 h.runs (set_up g opening k j is_opening b es r st h new) (h.attempts a ∙ p.2)) new learnt tt
+      (actor_begins es h.stand (BeginPublish a) h.runs (set_up g opening k j is_opening b es r st h new, (p.0, p.1, h.attempts a ∙ p.2))) new learnt tt
 
   starts_abort : (b : Bool) (es : List Entry) (r : Actor → Option Running) (st : Actor → ActorState) (h : Along g opening k b es r st) (a : Who) (kn : Known) → kn ≡ known h.stand.told a → IsAttempt w a → is_new (st Driver).stage ≡ false
       → AttemptAt (st (actor_of a)).stage Idle (operation_of (r (actor_of a)))
@@ -126,7 +126,7 @@ module _ (g : Setting) (opening : Content) (k : Option ℕ) (j : IsLegal g.scrip
       let x = h.stand in
       let set = set_up g opening k j is_opening b es r st h new in
       let t : Retried TaskAbort = fresh w.retries (task_abort_start w kn) in
-      let run = subst (λ v. Runs g k opening es (with_attempt x a (TheTaskAbort (fresh w.retries (task_abort_start w v))))) (sym learnt) (abort_begins es x a h.runs set is) in
+      let run = subst (λ v. Runs g k opening es (with_attempt x a (TheTaskAbort (fresh w.retries (task_abort_start w v))))) (sym learnt) (actor_begins es x (BeginAbort a) h.runs (set, is)) in
       let unsent : (known x.told a).publish_sent ≡ false → FreeAbort (task_abort_start w kn) = λ e. free_abort w kn (ap (λ (v : Known). v.publish_sent) learnt ∙ e) in
       let free = may_abort (st (actor_of a)).stage (operation_of (r (actor_of a))) t at (λ e. unsent (none_sent es x h.runs set a (h.attempts a ∙ e))) (λ y. unsent (written_sent es x h.runs set a (operation_of (r (actor_of a))) (h.attempts a) y)) in
       attempt_begins g opening k j is_opening b es r st h a (record { operation = TheTaskAbort t; known = kn }) (busy_at (actor_of a) Abort (st (actor_of a)).stage) run new learnt free

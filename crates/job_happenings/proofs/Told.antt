@@ -7,11 +7,11 @@ use Rattle.sendings.proofs.Runs.{run_more, follows_more}
 use Rattle.s3_types.specs.Store as store
 use Rattle.s3_types.specs.Store.{Content}
 use Rattle.s3_types.specs.Answer.{answer}
-use Rattle.s3_types.specs.Moment.{after_all, IsHonestOutcome}
-use Rattle.s3_types.specs.Fates.{fate_at}
-use Rattle.s3_types.specs.Foretold.{IsForetold}
+use Rattle.s3_types.specs.Moment.{after_all, IsHonest, IsHonestOutcome}
 use Rattle.s3_types.specs.declared.request.Actor.{Actor}
-use Rattle.s3_types.specs.declared.request.Actor.TheVariants.{Driver}
+use Rattle.s3_types.specs.declared.request.Actor.TheVariants.{Driver, Shell}
+use Rattle.s3_types.specs.declared.request.Request.{Request}
+use Rattle.s3_types.specs.declared.journal.Outcome.{Outcome}
 use Rattle.s3_types.specs.declared.journal.Entry.{Entry}
 use Rattle.job_model.specs.JobScript.{Script}
 use Rattle.job_model.specs.Known.{Known}
@@ -27,11 +27,11 @@ use Rattle.job_model.specs.declared.states.ActorState.{ActorState}
 use Rattle.job_operations.specs.Knowledge.{knows}
 use Rattle.job_operations.specs.Operations.{Setting, Operation, Running, who, wants, advance, start_of, over}
 use Rattle.job_promise.specs.States.{Past, Doing, same_actor, put, idle, dead, restarted, missing, begin, count, end_op, end_ops, open_event, after_event, refusal, nothing_past, past}
-use Rattle.job_promise.specs.Turns.{of_event, until, before, since, by_actor, is_busy, is_wanting, Turns, AllFrom, IsRising, AllUpTo}
+use Rattle.job_promise.specs.Turns.{of_event, until, before, since, by_actor, is_busy, is_wanting, Turns, AllFrom, IsRising, AllUpTo, own}
+use Rattle.job_facts.specs.Told.{strange_entry}
 use Rattle.job_promise.specs.Follows.{known_then, FollowsFrom, OpFollows, over_from, op_over, Obeyed, AllObeyed}
-use Rattle.job_promise.specs.Promise.{Sent}
-use Rattle.job_happenings.specs.Happenings.{Play, nothing_played, knows_now, Happening, Refuses, Opens, Sends, Finishes, Closes, begun, begin_running, open_running, hear, happen, MayOpen, MaySend, MayFinish, MayClose, Allowed, Happened, nothing_happened, happens}
-use Rattle.job_happenings.proofs.Parts.{get_last, take_less, take_whole, take_but_last, up_to_more, up_to_last, up_to_part, from_last, rising_last, until_all, before_all, since_none, event_none, before_late, since_late, until_late, by_itself, by_another, honest_last, foretold_last}
+use Rattle.job_happenings.specs.Happenings.{Play, nothing_played, knows_now, Happening, Refuses, Opens, Sends, Finishes, Closes, Strays, begun, begin_running, open_running, hear, happen, MayOpen, MaySend, MayFinish, MayClose, MayStray, Allowed, Happened, nothing_happened, happens}
+use Rattle.job_happenings.proofs.Parts.{get_last, take_less, take_whole, take_but_last, up_to_more, up_to_last, up_to_part, from_own, rising_last, until_all, before_all, since_none, event_none, before_late, since_late, until_late, until_either, by_itself, by_another, by_own, event_own, own_own, honest_last}
 use Rattle.job_happenings.proofs.Actors.{same_true, same_false, same_or_not, put_here, put_other}
 use Rattle.job_happenings.proofs.PastMore.{past_more, after_is, ends_more, opening_counts, busy_is, busy_not, ended_idle, turns_refused, Starts, Begins, fine_begins}
 
@@ -115,16 +115,55 @@ pub record Told (g : Setting) (opening : Content) (x : Play) : Type 0 where
   pub opened : (ev : Event) → x.now ≡ Some ev → Opened g x ev
   pub up_to : AllUpTo (length x.ends + 1) x.journal
   pub runs : AllRun g x.live.doing x.journal x.running (length x.ends + 1)
+  -- between events all was begun in one that is over
+  pub over : x.now ≡ None → (a : Actor) (d : Doing) → x.live.doing a ≡ Some d → d.since ≤ length x.ends
   pub does : AllDo x.live
   pub finish : (i : ℕ) (y : ActorEnd) → slice_get x.finished i ≡ Some y → Finished x y
   pub going : x.now ≡ None → AllGo x.live x.running
   pub rising : IsRising x.journal
-  pub numbered : AllFrom 1 x.journal
+  pub numbered : AllFrom 1 (own x.journal)
   pub obeyed : AllObeyed g x.ends x.journal
-  pub sent : Sent g.script opening x.journal
+  pub honest : IsHonest opening x.journal
   pub within : length x.ends ≤ length g.script.events
 
--- ---- events that are over
+-- ---- events that are over, and a stranger's entry behind them
+
+module _ (g : Setting) (xs : List EventEnd) (journal : List Entry) (n : ℕ) (r : Request) (o : Outcome) where
+  abbrev more : List Entry
+  more = journal ++ strange_entry n r o ∷ []
+
+  shell_never : (d : Doing) (es : List Entry) → OpFollows g Shell d es → ⊥
+  shell_never d es f = by d.op f
+    where
+      by : (op : Op) → FollowsFrom g Shell d es (start_of g Shell op d.missing (known_then g Shell d es)) → ⊥
+      by _ f = f
+
+  follow_on : (a : Actor) (d : Doing) → OpFollows g a d (by_actor a journal) → OpFollows g a d (by_actor a more)
+  follow_on Shell d f = absurd (shell_never d (by_actor Shell journal) f)
+  follow_on a d f = subst (OpFollows g a d) (sym (by_own a refl journal n r o)) f
+
+  over_on : (a : Actor) (d : Doing) → OpFollows g a d (by_actor a journal) → op_over g a d (by_actor a more) ≡ op_over g a d (by_actor a journal)
+  over_on Shell d f = absurd (shell_never d (by_actor Shell journal) f)
+  over_on a d f = ap (op_over g a d) (by_own a refl journal n r o)
+
+  obeyed_on : (ev : Event) (end : EventEnd) → Obeyed g xs journal ev end → Obeyed g xs more ev end
+  obeyed_on ev end old = record {
+    refused = old.refused;
+    refuses = old.refuses;
+    silent = λ f e. event_own (length xs + 1) journal n r o ∙ old.silent f e;
+    turns = λ e. subst (Turns g.script (past g.script xs).state ev end) (sym (event_own (length xs + 1) journal n r o)) (old.turns e);
+    follow = λ a d e. follow_on a d (old.follow a d e);
+    goes_on = λ a d e b. over_on a d (old.follow a d e) ∙ old.goes_on a d e b;
+    over = λ i x e. let q = old.over i x e in (q.0, q.1, elim q.2 [ inl wanting ↦ inl wanting | inr is ↦ inr (over_on x.actor q.0 (old.follow x.actor q.0 q.1) ∙ is) ]);
+  }
+
+obeyed_strays : (g : Setting) (xs : List EventEnd) (journal : List Entry) (n : ℕ) (r : Request) (o : Outcome) → AllObeyed g xs journal → AllObeyed g xs (journal ++ strange_entry n r o ∷ [])
+obeyed_strays g xs journal n r o all k ev end at that = elim (until_either (k + 1) journal (strange_entry n r o)) [
+  | inl same ↦ subst (λ es. Obeyed g (take k xs) es ev end) (sym same) (all k ev end at that)
+  | inr more ↦ subst (λ es. Obeyed g (take k xs) es ev end) (sym more) (obeyed_on g (take k xs) (until (k + 1) journal) n r o ev end (all k ev end at that))
+]
+
+-- ---- events that are over, and one more entry of the next
 
 obeyed_later : (g : Setting) (xs : List EventEnd) (journal : List Entry) (e : Entry) → e.event ≡ length xs + 1 → AllObeyed g xs journal → AllObeyed g xs (journal ++ e ∷ [])
 obeyed_later g xs journal e now all k ev end at that =
@@ -232,13 +271,14 @@ module _ (g : Setting) (opening : Content) (x : Play) (h : Told g opening x) whe
         opened = λ ev e. absurd (none_some refl e);
         up_to = up_to_more (length (x.ends ++ end ∷ [])) (length (x.ends ++ end ∷ []) + 1) x.journal (omega arith) upto;
         runs = λ a d e. runs_later g a d (by_actor a x.journal) (length x.ends + 1) (x.running a) (length (x.ends ++ end ∷ []) + 1) below (h.runs a d e);
+        over = λ n a d e. let then : d.since ≤ length x.ends + 1 = (h.runs a d e).from_then in omega (arith, longer, then);
         does = h.does;
         finish = λ i y e. absurd (none_some refl e);
         going = λ e a m b. ok.going a m b;
         rising = h.rising;
         numbered = h.numbered;
         obeyed = obeyed_more g x.ends x.journal ok.event end o.next h.up_to h.obeyed one;
-        sent = h.sent;
+        honest = h.honest;
         within = omega (arith, longer, there);
       }
 
@@ -277,13 +317,14 @@ module _ (g : Setting) (opening : Content) (x : Play) (h : Told g opening x) whe
         opened = λ v e. absurd (none_some refl e);
         up_to = up_to_more (length (x.ends ++ end ∷ [])) (length (x.ends ++ end ∷ []) + 1) x.journal (omega arith) upto;
         runs = λ a d e. runs_later g a d (by_actor a x.journal) (length x.ends + 1) (x.running a) (length (x.ends ++ end ∷ []) + 1) below (h.runs a d (ap (λ (p : Past). p.doing a) c.0 ∙ e));
+        over = λ n a d e. let then : d.since ≤ length x.ends + 1 = (h.runs a d (ap (λ (p : Past). p.doing a) c.0 ∙ e)).from_then in omega (arith, longer, then);
         does = subst AllDo c.0 h.does;
         finish = λ i y e. absurd (none_some refl e);
         going = λ e. subst (λ p. AllGo p x.running) c.0 (h.going ok.idle);
         rising = h.rising;
         numbered = h.numbered;
         obeyed = obeyed_more g x.ends x.journal ev end ok.next h.up_to h.obeyed one;
-        sent = h.sent;
+        honest = h.honest;
         within = omega (arith, longer, there);
       }
 
@@ -343,13 +384,14 @@ module _ (g : Setting) (opening : Content) (x : Play) (h : Told g opening x) whe
         opened = λ v e. subst (λ u. Opened g (happen g x (Opens ev)) u) (some_is e) (record { next = ok.next; fine = ok.refusal_is; live_is = refl });
         up_to = h.up_to;
         runs = opened_run ev (fine_begins g x.past.state ev ok.refusal_is) c.1 (subst (λ (p : Past). AllRun g p.doing x.journal x.running (length x.ends + 1)) c.0 h.runs);
+        over = λ n. absurd (none_some n refl);
         does = opened_do g.script x.past ev (subst AllDo c.0 h.does);
         finish = λ i y e. absurd (none_some refl e);
         going = λ e. absurd (none_some e refl);
         rising = h.rising;
         numbered = h.numbered;
         obeyed = h.obeyed;
-        sent = h.sent;
+        honest = h.honest;
         within = h.within;
       }
 
@@ -367,6 +409,7 @@ module _ (g : Setting) (opening : Content) (x : Play) (h : Told g opening x) whe
         opened = λ v n. let p = h.opened v n in record { next = p.next; fine = p.fine; live_is = ap (λ p. end_op p y) p.live_is ∙ sym (ends_more (open_event g.script x.past v) x.finished y) };
         up_to = h.up_to;
         runs = h.runs;
+        over = λ n. absurd (none_some n ok.during);
         does = λ a b. elim (same_or_not a y.actor) [
           | inl s ↦ absurd (busy_not _ (ap (λ n. ((end_op x.live y).state n).life) (sym s) ∙ b) idle)
           | inr ne ↦ h.does a (ap (λ (v : ActorState). v.life) (sym (put_other x.live.state y.actor _ a ne)) ∙ b)
@@ -389,7 +432,7 @@ module _ (g : Setting) (opening : Content) (x : Play) (h : Told g opening x) whe
         rising = h.rising;
         numbered = h.numbered;
         obeyed = h.obeyed;
-        sent = h.sent;
+        honest = h.honest;
         within = h.within;
       }
 
@@ -435,14 +478,6 @@ module _ (g : Setting) (opening : Content) (x : Play) (h : Told g opening x) whe
           ];
         }
 
-    sent_more : Sent g.script opening (x.journal ++ e ∷ [])
-    sent_more =
-        let n : length x.journal + 1 ≡ 1 + length x.journal = omega arith in
-        record {
-          honest = honest_last (store.opening opening) x.journal e h.sent.honest (subst (λ es. IsHonestOutcome e.outcome (answer (after_all (store.opening opening) es) e.request)) (take_whole x.journal) ok.honest);
-          fated = foretold_last (λ m. Some (fate_at g.script.fates m)) 1 x.journal e h.sent.fated (subst (λ m. IsForetold (Some (fate_at g.script.fates m)) e.outcome) n ok.fated);
-        }
-
     sends : Told g opening (happen g x (Sends e))
     sends =
         let here : e.event ≤ length x.ends + 1 = omega (arith, ok.number) in
@@ -456,15 +491,50 @@ module _ (g : Setting) (opening : Content) (x : Play) (h : Told g opening x) whe
           opened = λ v n. let p = h.opened v n in record { next = p.next; fine = p.fine; live_is = p.live_is };
           up_to = up_to_last (length x.ends + 1) x.journal e h.up_to here;
           runs = sent_run;
+          over = λ n. absurd (none_some n ok.during);
           does = h.does;
           finish = sent_finish;
           going = λ n. absurd (none_some n ok.during);
           rising = rising_last (length x.ends + 1) x.journal e h.up_to late h.rising;
-          numbered = from_last 1 x.journal e h.numbered one;
+          numbered = from_own 1 x.journal e h.numbered one;
           obeyed = obeyed_later g x.ends x.journal e ok.number h.obeyed;
-          sent = sent_more;
+          honest = honest_last (store.opening opening) x.journal e h.honest (subst (λ es. IsHonestOutcome e.outcome (answer (after_all (store.opening opening) es) e.request)) (take_whole x.journal) ok.honest);
           within = h.within;
         }
+
+  -- ---- a stranger sends
+
+  strays_run : (r : Request) (o : Outcome) → AllRun g x.live.doing (x.journal ++ strange_entry (length x.ends) r o ∷ []) x.running (length x.ends + 1)
+  strays_run r o Shell d k = let l = (h.runs Shell d k).led in absurd (never_shell d.op d.missing (known_then g Shell d (by_actor Shell x.journal)) l.op l.begun_is)
+    where
+      never_shell : (op : Op) (m : Option ℕ) (v : Known) (y : Operation) → start_of g Shell op m v ≡ Some y → ⊥
+      never_shell _ m v y e = none_some refl e
+  strays_run r o a d k = subst (λ es. Runs g a d es (x.running a) (length x.ends + 1)) (sym (by_own a refl x.journal (length x.ends) r o)) (h.runs a d k)
+
+  strays : (r : Request) (o : Outcome) → MayStray g opening x r o → Told g opening (happen g x (Strays r o))
+  strays r o ok =
+      let c = h.closed ok.idle in
+      let e = strange_entry (length x.ends) r o in
+      let here : e.event ≤ length x.ends = omega arith in
+      let later : e.event ≤ length x.ends + 1 = omega arith in
+      record {
+        past_is = h.past_is;
+        counts = h.counts;
+        live_counts = h.live_counts;
+        closed = λ n. (c.0, up_to_last (length x.ends) x.journal e c.1 here);
+        opened = λ v n. absurd (none_some ok.idle n);
+        up_to = up_to_last (length x.ends + 1) x.journal e h.up_to later;
+        runs = strays_run r o;
+        over = h.over;
+        does = h.does;
+        finish = λ i y k. let f = h.finish i y k in record { idle = f.idle; doing = f.doing; does = f.does; end = f.end };
+        going = h.going;
+        rising = rising_last (length x.ends) x.journal e c.1 here h.rising;
+        numbered = subst (AllFrom 1) (sym (own_own x.journal (length x.ends) r o)) h.numbered;
+        obeyed = obeyed_strays g x.ends x.journal (length x.ends) r o h.obeyed;
+        honest = honest_last (store.opening opening) x.journal e h.honest (subst (λ es. IsHonestOutcome o (answer (after_all (store.opening opening) es) r)) (take_whole x.journal) ok.honest);
+        within = h.within;
+      }
 
   -- ---- whatever happens
 
@@ -474,6 +544,7 @@ module _ (g : Setting) (opening : Content) (x : Play) (h : Told g opening x) whe
   keeps (Sends e) ok = sends e ok
   keeps (Finishes y) ok = finishes y ok
   keeps (Closes end) ok = closes end ok
+  keeps (Strays r o) ok = strays r o ok
 
 pub nothing_told : (g : Setting) (opening : Content) → Told g opening nothing_played
 nothing_told g opening = record {
@@ -484,13 +555,14 @@ nothing_told g opening = record {
   opened = λ ev e. absurd (none_some refl e);
   up_to = tt;
   runs = λ a d e. absurd (none_some refl e);
+  over = λ n a d e. absurd (none_some refl e);
   does = λ a b. absurd (busy_not _ b refl);
   finish = λ i y e. absurd (none_some refl e);
   going = λ e a m b. absurd (busy_not _ b refl);
   rising = tt;
   numbered = tt;
   obeyed = λ k ev end at that. absurd (none_some refl that);
-  sent = record { honest = tt; fated = tt };
+  honest = tt;
   within = omega arith;
 }
 

@@ -1,12 +1,13 @@
--- What happens in a run of a job among no strangers, one thing after another, and where it leads.
+-- What happens in a run of a job, one thing after another, and where it leads. Between events strangers may send what leaves the job's own alone.
 use Rattle.std.specs.Prelude.{◌≡◌, ◌+◌, ◌≤◌, ◌^◌, ◌⊎◌, true, List, [], ◌∷◌, ◌++◌, length, slice_get, Option, Some, None}
 use Rattle.s3_types.specs.Store.{Content, Scene}
 use Rattle.s3_types.specs.Answer.{answer}
 use Rattle.s3_types.specs.Moment.{moment, IsHonestOutcome}
-use Rattle.s3_types.specs.Fates.{fate_at}
-use Rattle.s3_types.specs.Foretold.{IsForetold}
 use Rattle.s3_types.specs.declared.request.Actor.{Actor}
+use Rattle.s3_types.specs.declared.request.Request.{Request}
+use Rattle.s3_types.specs.declared.journal.Outcome.{Outcome}
 use Rattle.s3_types.specs.declared.journal.Entry.{Entry}
+use Rattle.job_model.specs.Attempts.{actor_of}
 use Rattle.job_model.specs.Known.{Known}
 use Rattle.job_model.specs.declared.events.Op.{Op}
 use Rattle.job_model.specs.declared.events.Event.{Event}
@@ -20,6 +21,8 @@ use Rattle.job_operations.specs.Knowledge.{knows}
 use Rattle.job_operations.specs.Operations.{Setting, Operation, Running, who, wants, advance, start_of, over}
 use Rattle.job_promise.specs.States.{Past, Doing, put, missing, refusal, open_event, end_op, count, told, nothing_past}
 use Rattle.job_promise.specs.Turns.{of_event, by_actor, is_wanting, Turns}
+use Rattle.job_facts.specs.Told.{strange_entry}
+use Rattle.job_facts.specs.Foreign.{IsForeign}
 
 -- ---- how far a run has come
 
@@ -60,6 +63,8 @@ pub data Happening : Type 0 where
   Finishes : (ended : ActorEnd) → Happening
   -- the event is over
   Closes : (end : EventEnd) → Happening
+  -- a stranger sends a request
+  Strays : (request : Request) (outcome : Outcome) → Happening
 
 -- ---- where it leads
 
@@ -92,6 +97,7 @@ happen g x (Opens ev) = record { journal = x.journal; ends = x.ends; now = Some 
 happen g x (Sends e) = record { journal = x.journal ++ e ∷ []; ends = x.ends; now = x.now; past = x.past; live = x.live; finished = x.finished; running = put x.running e.actor (hear g e.actor (x.running e.actor) e) }
 happen g x (Finishes y) = record { journal = x.journal; ends = x.ends; now = x.now; past = x.past; live = end_op x.live y; finished = x.finished ++ y ∷ []; running = x.running }
 happen g x (Closes end) = record { journal = x.journal; ends = x.ends ++ end ∷ []; now = None; past = count x.live; live = count x.live; finished = []; running = x.running }
+happen g x (Strays r o) = record { journal = x.journal ++ strange_entry (length x.ends) r o ∷ []; ends = x.ends; now = x.now; past = x.past; live = x.live; finished = x.finished; running = x.running }
 
 -- ---- when it may happen
 
@@ -101,7 +107,7 @@ pub record MayOpen (g : Setting) (x : Play) (ev : Event) (fault : Option EventFa
   pub next : slice_get g.script.events (length x.ends) ≡ Some ev
   pub refusal_is : refusal x.past.state ev ≡ fault
 
--- a busy actor sends what it asks, during an event, and the outcome is the one that is due and foretold
+-- a busy actor sends what it asks, during an event, and the outcome is one that is due
 pub record MaySend (g : Setting) (opening : Content) (x : Play) (e : Entry) : Type 0 where
   pub event : Event
   pub during : x.now ≡ Some event
@@ -111,7 +117,6 @@ pub record MaySend (g : Setting) (opening : Content) (x : Play) (e : Entry) : Ty
   pub is_at : x.running e.actor ≡ Some at
   pub asked : wants g e.actor at ≡ Some e.request
   pub honest : IsHonestOutcome e.outcome (answer (scene_of opening x) e.request)
-  pub fated : IsForetold (Some (fate_at g.script.fates (length x.journal + 1))) e.outcome
   -- the store has drawn fewer ids than there are
   pub few : (scene_of opening x).content.next ≤ 2 ^ 64
 
@@ -132,12 +137,19 @@ pub record MayClose (g : Setting) (x : Play) (end : EventEnd) : Type 0 where
   pub turns : Turns g.script x.past.state event end (of_event (length x.ends + 1) x.journal)
   pub going : (a : Actor) (m : Running) → (x.live.state a).life ≡ Busy → x.running a ≡ Some m → over m.operation ≡ None
 
+-- between events a stranger sends what is foreign to the job, by what its attempts know then, and the outcome is one that is due
+pub record MayStray (g : Setting) (opening : Content) (x : Play) (r : Request) (o : Outcome) : Type 0 where
+  pub idle : x.now ≡ None
+  pub foreign : IsForeign g.script (λ a. (knows_now g x (actor_of a)).drawn) r
+  pub honest : IsHonestOutcome o (answer (scene_of opening x) r)
+
 abbrev pub Allowed : Setting → Content → Play → Happening → Type 0
 Allowed g opening x (Refuses f) = (ev : Event) × MayOpen g x ev (Some f)
 Allowed g opening x (Opens ev) = MayOpen g x ev None
 Allowed g opening x (Sends e) = MaySend g opening x e
 Allowed g opening x (Finishes y) = MayFinish x y
 Allowed g opening x (Closes end) = MayClose g x end
+Allowed g opening x (Strays r o) = MayStray g opening x r o
 
 -- all that happened was allowed when it happened
 pub data Happened (g : Setting) (opening : Content) : Play → Type 0 where

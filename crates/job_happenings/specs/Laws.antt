@@ -1,17 +1,17 @@
 -- The laws of this crate.
 use Rattle.std.specs.Prelude.{◌≡◌, None}
 use Rattle.s3_types.specs.Store.{Content}
+use Rattle.s3_types.specs.Moment.{IsHonest}
 use Rattle.job_model.specs.Legal.{IsLegal}
 use Rattle.job_operations.specs.Operations.{Setting}
 use Rattle.job_promise.specs.States.{past}
 use Rattle.job_promise.specs.Follows.{Plays}
-use Rattle.job_promise.specs.Promise.{Sent}
 use Rattle.job_happenings.specs.Happenings.{Play, Happened}
 
 -- between events a run has done what its events say, by its journal and its ends alone
 pub record IsPlayed (g : Setting) (opening : Content) (x : Play) : Type 0 where
   pub plays : Plays g x.ends x.journal
-  pub sent : Sent g.script opening x.journal
+  pub honest : IsHonest opening x.journal
   pub past : x.past ≡ past g.script x.ends
   pub live : x.live ≡ x.past
 

@@ -3,10 +3,10 @@
 //!
 //! # What is proved
 //!
-//! What may happen in a run among no strangers: an event is refused or begins, a request is sent, an
-//! operation ends, an event is over. Wherever no event goes on, the run is as its script says, by its
-//! journal and the ends of its events alone (`plays`), and is one of the runs of `job_facts`, request
-//! by request (`runs`).
+//! What may happen in a run: an event is refused or begins, a request is sent, an operation ends, an
+//! event is over, and between events a stranger sends what is foreign to the job. Wherever no event
+//! goes on, the run is as its script says, by its journal and the ends of its events alone (`plays`),
+//! and is one of the runs of `job_facts`, request by request (`runs`).
 #![tactic(auto)]
 
 ghost use Rattle.job_happenings.specs.Laws.{HappeningsPlay};

@@ -1,5 +1,5 @@
 -- Once the job's commit is over, its driver does no more than abort and clean, and reads no set.
-use Rattle.std.proofs.Common.{◌≡◌, ℕ, inl, inr, true, false, List, [], ◌∷◌, ◌++◌, append_assoc, append-nil, Option, Some, None, refl, sym, ap, subst, ◌∙◌}
+use Rattle.std.proofs.Common.{◌≡◌, ℕ, inl, inr, true, false, List, [], ◌∷◌, ◌++◌, length, append_assoc, append-nil, Option, Some, None, refl, sym, ap, subst, ◌∙◌}
 use Rattle.s3_types.specs.Store.{Content}
 use Rattle.s3_types.specs.declared.request.Actor.TheVariants.{Driver, Attempt, Shell}
 use Rattle.s3_types.specs.declared.request.Request.{Request}
@@ -15,8 +15,9 @@ use Rattle.job_operations.specs.Operations.{Setting, Operation, TheSetup, TheWri
 use Rattle.job_promise.specs.Seen.{is_reading}
 use Rattle.job_promise.specs.States.{Past, put}
 use Rattle.request_frame.proofs.Members.{none_some, false_true}
+use Rattle.job_facts.specs.Told.{strange_entry}
 use Rattle.job_facts.specs.Runs.{IsOpening, is_just_set}
-use Rattle.job_happenings.specs.Happenings.{Play, Happening, Refuses, Opens, Sends, Finishes, Closes, open_running, hear, happen, MayOpen, MaySend, Happened}
+use Rattle.job_happenings.specs.Happenings.{Play, Happening, Refuses, Opens, Sends, Finishes, Closes, Strays, open_running, hear, happen, MayOpen, MaySend, Happened}
 use Rattle.job_happenings.specs.Running.{operation_of}
 use Rattle.job_happenings.proofs.Actors.{same_or_not, put_here, put_other}
 use Rattle.job_happenings.proofs.Told.{told_all}
@@ -164,3 +165,10 @@ module _ (g : Setting) (opening : Content) (j : IsLegal g.script) (is_opening : 
       record { more = old.more ++ e ∷ []; all = ap (λ v. v ++ e ∷ []) old.all ∙ append_assoc y.journal old.more (e ∷ []); none = none_last g.script old.more e old.none (sent_reads z e may old.at); at = sent_after z e may old.at }
   after_commit y x (later z (Finishes v) past l may) h = let old = after_commit y z l h in still_after y z (Finishes v) refl old old.at
   after_commit y x (later z (Closes end) past l may) h = let old = after_commit y z l h in still_after y z (Closes end) refl old old.at
+  after_commit y x (later z (Strays r o) past l may) h =
+      let old = after_commit y z l h in
+      let e = strange_entry (length z.ends) r o in
+      record { more = old.more ++ e ∷ []; all = ap (λ v. v ++ e ∷ []) old.all ∙ append_assoc y.journal old.more (e ∷ []); none = none_last g.script old.more e old.none (λ s. absurd (not_driver s)); at = old.at }
+    where
+      not_driver : Shell ≡ Driver → ⊥
+      not_driver s = cc

@@ -1,5 +1,6 @@
 -- How the driver's abort or clean of the job ends in a run.
-use Rattle.std.proofs.Common.{◌≡◌, ℕ, ◌+◌, inl, inr, List, length, Option, Some, None, sym, ap, subst, ◌∙◌}
+use Rattle.std.proofs.Common.{◌≡◌, ℕ, ◌+◌, inl, inr, nat_le, List, [], ◌++◌, length, append-nil, Option, Some, None, refl, sym, ap, subst, ◌∙◌}
+use Rattle.std.proofs.lemmas.List.Elements.{filter-append}
 use Rattle.s3_types.specs.Store.{Content, Scene}
 use Rattle.s3_types.specs.Store as store
 use Rattle.s3_types.specs.Moment.{moment, after_all, AreHonest}
@@ -23,11 +24,13 @@ use Rattle.job_promise.specs.OperationEnds.{CleanIs, Cleaned}
 use Rattle.job_promise.specs.Promise.{CleansEnd}
 use Rattle.request_frame.proofs.Members.{false_true}
 use Rattle.job_happenings.specs.Happenings.{Play, Happened}
+use Rattle.job_happenings.proofs.Parts.{from_part}
 use Rattle.job_ends.proofs.CleanEnds.{cleans_end}
-use Rattle.job_kept.proofs.Cuts.{by_all, moment_cut}
+use Rattle.job_kept.proofs.Cuts.{by_all, moment_cut, all_by_back, since_later}
+use Rattle.job_kept.proofs.Strange.{driver_none}
 use Rattle.job_kept.proofs.Sorts.{over_kind, kind_run, driver_clean, memory_clean}
-use Rattle.job_kept.proofs.Ending.{Ending, ending, journal_until}
-use Rattle.job_kept.proofs.Spans.{start, scene_is, since_is, mine, honest, after_is}
+use Rattle.job_kept.proofs.Ending.{Ending, ending, journal_until, until_strange}
+use Rattle.job_kept.proofs.Spans.{start, late, scene_is, since_is, mine, honest, after_is}
 
 module _ (g : Setting) (opening : Content) (j : IsLegal g.script) (x : Play) (run_x : Happened g opening x) (idle : x.now ≡ None) where
   module _ (i : ℕ) (d : Doing) (e : CleanEnd) (es : List Entry) (n : Ending g opening x i Driver d (ends.Clean e) es) where
@@ -58,7 +61,12 @@ module _ (g : Setting) (opening : Content) (j : IsLegal g.script) (x : Play) (ru
         let s = start g opening x i Driver d (ends.Clean e) es n in
         let o = ended_done is in
         let b = begun o in
-        let until_is : until (i + 1) x.journal ≡ n.closed.at.journal = journal_until g opening x run_x idle i n.event_end n.closed in
+        let strays = until (i + 1) n.closed.entries in
+        let parts : since d.since (until (i + 1) x.journal) ≡ since d.since n.closed.at.journal ++ since d.since strays = ap (since d.since) (journal_until g opening x run_x idle i n.event_end n.closed) ∙ filter-append (λ e. nat_le d.since e.event) n.closed.at.journal strays in
+        let back : AllBy Driver strays = subst (AllBy Driver) (since_later d.since strays (from_part d.since (λ e. nat_le e.event (i + 1)) n.closed.entries (late g opening x i Driver d (ends.Clean e) es n)))
+        (all_by_back Driver (since d.since n.closed.at.journal) (since d.since strays) (subst (AllBy Driver) parts only)) in
+        let none : strays ≡ [] = driver_none strays back (until_strange g opening x run_x idle i n.event_end n.closed) in
+        let until_is : until (i + 1) x.journal ≡ n.closed.at.journal = journal_until g opening x run_x idle i n.event_end n.closed ∙ ap (λ l. n.closed.at.journal ++ l) none ∙ append-nil n.closed.at.journal in
         let all : AllBy Driver s.entries = subst (AllBy Driver) (ap (since d.since) until_is ∙ since_is g opening x i Driver d (ends.Clean e) es n) only in
         let own : es ≡ s.entries = mine g opening x i Driver d (ends.Clean e) es n ∙ by_all Driver s.entries all in
         let scene : Scene = after_all (store.opening opening) s.at.journal in
@@ -73,5 +81,5 @@ module _ (g : Setting) (opening : Content) (j : IsLegal g.script) (x : Play) (ru
 
   pub cleans_kept : CleansEnd g.script opening x.journal x.ends
   cleans_kept i d e es h =
-      let n = ending g opening x run_x idle i Driver d (ends.Clean e) es h in
+      let n = ending g opening x run_x idle i Driver refl d (ends.Clean e) es h in
       (elim n.ended [ inl memory ↦ inl (memory_clean e memory) | inr o ↦ inr (clean_so i d e es n o) ], cleaned_so i d e es n)

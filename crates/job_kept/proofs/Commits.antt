@@ -27,12 +27,13 @@ use Rattle.job_operations.specs.View.{view}
 use Rattle.job_operations.specs.JobCommits.{Commit, Fetching, Replacing, Completing, Marking, Reverting, CommitOver, commit_start, commit_asks, commit_tells, commit_over, set_request, set_read}
 use Rattle.job_operations.specs.Operations.{Setting, Operation, Running, start_of, TheSetup, TheWrite, TheTaskCommit, TheTaskAbort, TheCommit, TheClean, advance, over}
 use Rattle.job_promise.specs.Headline.{Same, Always}
-use Rattle.job_promise.specs.Seen.{see_all, nothing_seen, is_begun, is_marked}
+use Rattle.job_promise.specs.Seen.{see_all, nothing_seen, is_begun, is_marked, Seen}
 use Rattle.job_promise.specs.States.{same_actor, refusal, Doing, missing, first_not, driver_may, commit_event}
-use Rattle.job_promise.specs.Turns.{until, by_actor, is_wanting}
+use Rattle.job_promise.specs.Turns.{until, by_actor, is_wanting, since}
 use Rattle.job_promise.specs.Follows.{known_then}
-use Rattle.job_promise.specs.Ends.{CommitEnded}
+use Rattle.job_promise.specs.Ends.{EndedIn, CommitEnded, commit_due}
 use Rattle.job_promise.specs.OperationEnds.{is_untouched, NoDeletionWorn, OnlyOpening, CommitServed}
+use Rattle.job_promise.specs.Entries.{AreOwn}
 use Rattle.job_promise.specs.Promise.{seen_until, CommitEnds, CommitsEnd}
 use Rattle.request_frame.specs.Members.{IsIn}
 use Rattle.request_frame.proofs.Members.{some_is, none_some, false_true, in_back, in_filter}
@@ -54,11 +55,15 @@ use Rattle.job_ends.proofs.CommitRuns.{no_entry, commit_runs}
 use Rattle.job_ends.proofs.CommitMoments.{see_parts, commit_moments}
 use Rattle.job_ends.proofs.Served.{in_commit, commit_answers}
 use Rattle.job_ends.proofs.RunEntries.{run_entries}
+use Rattle.job_ends.proofs.EventRows.{event_rows}
+use Rattle.job_facts.proofs.EveryRun.{own_front}
+use Rattle.job_kept.specs.Laws.{CommitsEndAmong}
 use Rattle.job_kept.proofs.Cuts.{take_cut, moment_cut}
 use Rattle.job_kept.proofs.Sorts.{end_of, over_kind, kind_run, driver_commit, memory_commit}
 use Rattle.job_kept.proofs.History.{Began, IsBegin}
-use Rattle.job_kept.proofs.Ending.{Ending, ahead_none, ending, journal_until}
+use Rattle.job_kept.proofs.Ending.{Ending, ahead_none, ending, journal_until, until_strange, until_own}
 use Rattle.job_kept.proofs.Spans.{start, mine}
+use Rattle.job_kept.proofs.Strange.{strange_picks}
 use Rattle.job_kept.proofs.After.{IsAfter, After, after_commit, driver_past}
 
 -- ---- plain facts
@@ -292,31 +297,59 @@ module _ (g : Setting) (opening : Content) (j : IsLegal g.script) (is_opening : 
 
       -- ---- what is seen then
 
-      until_is : until (i + 1) x.journal ≡ z.journal
+      -- up to the end of the event strangers may have sent behind it
+      abbrev strays : List Entry
+      strays = until (i + 1) n.closed.entries
+
+      until_is : until (i + 1) x.journal ≡ z.journal ++ strays
       until_is = journal_until g opening x run_x idle i n.event_end n.closed
 
-      seen_then : then.stand.seen ≡ seen_until w opening x.journal x.ends (i + 1)
-      seen_then =
-          sees g k opening j is_opening z.journal then.stand then.runs
-          ∙ ap (see_all w k (nothing_seen opening)) (sym (ap (λ l. take (length l) x.journal) until_is ∙ ap (take (length z.journal)) n.closed.all ∙ take_cut z.journal n.closed.entries))
+      taken : take (length (until (i + 1) x.journal)) x.journal ≡ until (i + 1) x.journal
+      taken =
+          let parts = event_rows.front (i + 1) x.journal (told_all g opening x run_x).rising in
+          ap (take (length (until (i + 1) x.journal))) (sym parts) ∙ take_cut (until (i + 1) x.journal) (since (i + 1 + 1) x.journal)
+
+      picks_then : then.stand.seen.picks ≡ (seen_until w opening x.journal x.ends (i + 1)).picks
+      picks_then =
+          ap (λ (v : Seen). v.picks) (sees g k opening j is_opening z.journal then.stand then.runs)
+          ∙ sym (strange_picks w k (see_all w k (nothing_seen opening) z.journal) strays (until_strange g opening x run_x idle i n.event_end n.closed))
+          ∙ ap (λ (v : Seen). v.picks) (sym (see_parts w k (nothing_seen opening) z.journal strays))
+          ∙ ap (λ l. (see_all w k (nothing_seen opening) l).picks) (sym (taken ∙ until_is))
 
       due_so : CommitEnded w (seen_until w opening x.journal x.ends (i + 1)) d.missing es e
       due_so =
-          subst (λ v. CommitEnded w v d.missing es e) seen_then
-          (subst (λ l. CommitEnded w then.stand.seen d.missing l e) commit_is_es (commit_runs.ended g j k opening is_opening z.journal then.stand then.runs e at_end d.missing (commit_leads d.missing ∙ leads)))
+          let o : CommitEnded w then.stand.seen d.missing es e = subst (λ l. CommitEnded w then.stand.seen d.missing l e) commit_is_es (commit_runs.ended g j k opening is_opening z.journal then.stand then.runs e at_end d.missing (commit_leads d.missing ∙ leads)) in
+          record {
+            worn = o.worn;
+            first = o.first;
+            due = elim o.due [ inl memory ↦ inl memory | inr is ↦ inr (is ∙ ap (λ p. commit_due w p d.missing o.worn) picks_then) ];
+            answered = o.answered;
+          }
 
-      marked_so : e ≡ commits.Committed → is_marked w (seen_until w opening x.journal x.ends (i + 1)) ≡ true
-      marked_so is = ap (is_marked w) (sym seen_then) ∙ (commit_runs.marked g then.stand e stands is).1
+      -- ---- where no stranger sends
 
-      scene_then : moment opening x.journal (length (until (i + 1) x.journal)) ≡ then.stand.seen.scene
-      scene_then =
-          ap (λ l. moment opening x.journal (length l)) until_is ∙ ap (λ l. moment opening l (length z.journal)) n.closed.all ∙ moment_cut opening z.journal n.closed.entries
-          ∙ sym (whole z.journal) ∙ moment_scene g k opening j is_opening z.journal then.stand then.runs
+      module _ (alone : AreOwn x.journal) where
+        alone_then : AreOwn z.journal
+        alone_then = own_front z.journal n.closed.entries (subst AreOwn n.closed.all alone)
 
-      reverted_so : e ≡ commits.StoreFault stages.Complete → NoDeletionWorn w.retries es → OnlyOpening w opening (moment opening x.journal (length (until (i + 1) x.journal))).content
-      reverted_so is none =
-          let d : then.stand.driver ≡ Some (TheCommit (CommitOver (commits.StoreFault stages.Complete))) = at_end ∙ ap (λ v. Some (TheCommit (CommitOver v))) is in
-          subst (λ (v : Scene). OnlyOpening w opening v.content) (sym scene_then) (reverted_now g k opening j is_opening z.journal then.stand then.runs d (subst (NoDeletionWorn w.retries) (sym commit_is_es) none))
+        own_until : until (i + 1) x.journal ≡ z.journal
+        own_until = until_own g opening x run_x idle alone i n.event_end n.closed
+
+        seen_then : then.stand.seen ≡ seen_until w opening x.journal x.ends (i + 1)
+        seen_then = sees g k opening j is_opening z.journal then.stand then.runs ∙ ap (see_all w k (nothing_seen opening)) (sym (taken ∙ own_until))
+
+        marked_so : e ≡ commits.Committed → is_marked w (seen_until w opening x.journal x.ends (i + 1)) ≡ true
+        marked_so is = ap (is_marked w) (sym seen_then) ∙ commit_runs.marked g j k opening is_opening z.journal then.stand then.runs alone_then (at_end ∙ ap (λ v. Some (TheCommit (CommitOver v))) is)
+
+        scene_then : moment opening x.journal (length (until (i + 1) x.journal)) ≡ then.stand.seen.scene
+        scene_then =
+            ap (λ l. moment opening x.journal (length l)) own_until ∙ ap (λ l. moment opening l (length z.journal)) n.closed.all ∙ moment_cut opening z.journal n.closed.entries
+            ∙ sym (whole z.journal) ∙ moment_scene g k opening j is_opening z.journal then.stand then.runs
+
+        reverted_so : e ≡ commits.StoreFault stages.Complete → NoDeletionWorn w.retries es → OnlyOpening w opening (moment opening x.journal (length (until (i + 1) x.journal))).content
+        reverted_so is none =
+            let d : then.stand.driver ≡ Some (TheCommit (CommitOver (commits.StoreFault stages.Complete))) = at_end ∙ ap (λ v. Some (TheCommit (CommitOver v))) is in
+            subst (λ (v : Scene). OnlyOpening w opening v.content) (sym scene_then) (reverted_now g k opening j is_opening z.journal then.stand then.runs alone_then d (subst (NoDeletionWorn w.retries) (sym commit_is_es) none))
 
       -- ---- where it ended before its first completion
 
@@ -329,40 +362,48 @@ module _ (g : Setting) (opening : Content) (j : IsLegal g.script) (is_opening : 
       behind : After g opening j is_opening (happen g z (Closes n.event_end)) x
       behind = after_commit g opening j is_opening (happen g z (Closes n.event_end)) x n.closed.since_then (subst IsAfter (sym (driver_is ∙ ap (λ c. Some (TheCommit c)) leads)) tt)
 
-      untouched_so : is_untouched e ≡ true → (m : ℕ) → m ≤ length x.journal → Same (view w.dest (moment opening x.journal m).content) (view w.dest opening)
-      untouched_so u m l =
+      untouched_so : AreOwn x.journal → is_untouched e ≡ true → (m : ℕ) → m ≤ length x.journal → Same (view w.dest (moment opening x.journal m).content) (view w.dest opening)
+      untouched_so alone u m l =
           let now = is_run g opening j is_opening x run_x x.ends (ahead_none x idle) in
-          let all : Always w k opening (z.journal ++ behind.more) = subst (Always w k opening) behind.all (always g k opening j is_opening x.journal now.stand now.runs) in
+          let all : Always w k opening (z.journal ++ behind.more) = subst (Always w k opening) behind.all (always g k opening j is_opening x.journal now.stand now.runs alone) in
           subst (λ v. m ≤ length v → Same (view w.dest (moment opening v m).content) (view w.dest opening)) (sym behind.all)
           (commit_moments.untouched g j k opening is_opening z.journal then.stand then.runs e at_end u missed_below behind.more behind.none all m) l
 
   -- ---- any end
 
   -- for want of memory
-  memory_ends : (i : ℕ) (d : Doing) (e : CommitEnd) (es : List Entry) → CommitServed w es → e ≡ commits.NoMemory → CommitEnds w opening x.journal x.ends i d e es
-  memory_ends i d e es served is = record {
-    due = λ own. record {
-      worn = first_worn w.retries es;
-      first = computed w.retries [] es (none_sent w.retries);
-      due = inl is;
-      answered = λ c. let no : commits.NoMemory ≡ commits.Committed = sym is ∙ c in absurd cc;
-    };
+  memory_due : (i : ℕ) (d : Doing) (e : CommitEnd) (es : List Entry) → e ≡ commits.NoMemory → CommitEnded w (seen_until w opening x.journal x.ends (i + 1)) d.missing es e
+  memory_due i d e es is = record {
+    worn = first_worn w.retries es;
+    first = computed w.retries [] es (none_sent w.retries);
+    due = inl is;
+    answered = λ c. let no : commits.NoMemory ≡ commits.Committed = sym is ∙ c in absurd cc;
+  }
+
+  pub commits_among : CommitsEndAmong w opening x.journal x.ends
+  commits_among i d e es h =
+      let n = ending g opening x run_x idle i Driver refl d (ends.Commit e) es h in
+      (elim n.ended [ inl memory ↦ memory_due i d e es (memory_commit e memory) | inr o ↦ due_so i d e es n o ], served_so i d e es n)
+
+  memory_ends : (i : ℕ) (d : Doing) (e : CommitEnd) (es : List Entry) → EndedIn w x.ends x.journal i Driver d (ends.Commit e) es → e ≡ commits.NoMemory → CommitEnds w opening x.journal x.ends i d e es
+  memory_ends i d e es h is = record {
+    due = λ own. (commits_among i d e es h).0;
     marked = λ c own. let no : commits.NoMemory ≡ commits.Committed = sym is ∙ c in absurd cc;
     untouched = λ u own. absurd (false_true (ap is_untouched is) u);
     reverted = λ c none own. let no : commits.NoMemory ≡ commits.StoreFault stages.Complete = sym is ∙ c in absurd cc;
-    served = λ own. served;
+    served = λ own. (commits_among i d e es h).1;
   }
 
   pub commits_kept : CommitsEnd w opening x.journal x.ends
   commits_kept i d e es h =
-      let n = ending g opening x run_x idle i Driver d (ends.Commit e) es h in
+      let n = ending g opening x run_x idle i Driver refl d (ends.Commit e) es h in
       elim n.ended [
-        | inl memory ↦ memory_ends i d e es (served_so i d e es n) (memory_commit e memory)
+        | inl memory ↦ memory_ends i d e es h (memory_commit e memory)
         | inr o ↦ record {
-          due = λ own. due_so i d e es n o;
-          marked = λ is own. marked_so i d e es n o is;
-          untouched = λ u own. untouched_so i d e es n o u;
-          reverted = λ is none own. reverted_so i d e es n o is none;
-          served = λ own. served_so i d e es n;
+          due = λ own. (commits_among i d e es h).0;
+          marked = λ is own. marked_so i d e es n o own is;
+          untouched = λ u own. untouched_so i d e es n o own u;
+          reverted = λ is none own. reverted_so i d e es n o own is none;
+          served = λ own. (commits_among i d e es h).1;
         }
       ]

@@ -1,17 +1,17 @@
 -- A journal that is cut in two where an event begins or ends: its parts by events and actors, and its moments.
-use Rattle.std.proofs.Common.{◌≡◌, ℕ, ◌+◌, ◌<◌, ◌≤◌, nat_le, nat_lt, false, cond, List, [], ◌∷◌, ◌++◌, length, take, append-nil, refl, ap, ◌∙◌, arith}
+use Rattle.std.proofs.Common.{◌≡◌, ℕ, ◌+◌, ◌≤◌, nat_le, nat_lt, false, cond, List, [], ◌∷◌, ◌++◌, length, take, append-nil, refl, ap, ◌∙◌, arith}
 use Rattle.std.proofs.lemmas.Bool.Decides.{nat_tests}
 use Rattle.std.proofs.lemmas.List.Elements.{filter-append}
-use Rattle.proof_base.proofs.Numbers.{at_most_so, above_so}
+use Rattle.proof_base.proofs.Numbers.{at_most_so}
 use Rattle.s3_types.specs.Store.{Content, Scene}
 use Rattle.s3_types.specs.Store as store
 use Rattle.s3_types.specs.Moment.{effect, after_all, moment, AreHonest}
 use Rattle.s3_types.specs.declared.request.Actor.{Actor}
 use Rattle.s3_types.specs.declared.journal.Entry.{Entry}
 use Rattle.job_promise.specs.States.{same_actor}
-use Rattle.job_promise.specs.Turns.{until, before, since, by_actor, AllBy, AllFrom, AllUpTo}
+use Rattle.job_promise.specs.Turns.{before, since, by_actor, AllBy, AllFrom, AllUpTo}
 use Rattle.job_facts.proofs.Entries.{take_front, take_all}
-use Rattle.job_happenings.proofs.Parts.{until_all, before_all, since_none, up_to_part, from_part}
+use Rattle.job_happenings.proofs.Parts.{before_all, since_none, up_to_part, from_part}
 use Rattle.job_happenings.proofs.Actors.{same_true}
 
 -- ---- entries of later events
@@ -19,18 +19,11 @@ use Rattle.job_happenings.proofs.Actors.{same_true}
 below_no : (m n : ℕ) → n ≤ m → nat_lt m n ≡ false
 below_no m n h = grind (arith, nat_tests)
 
-until_later : (n : ℕ) (es : List Entry) → AllFrom (n + 1) es → until n es ≡ []
-until_later n [] all = refl
-until_later n (e ∷ es) all =
-    let one : n + 1 ≤ e.event = all.0 in
-    let late : n < e.event = omega arith in
-    ap (λ b. cond b (e ∷ until n es) (until n es)) (above_so e.event n late) ∙ until_later n es all.1
-
 before_later : (n : ℕ) (es : List Entry) → AllFrom n es → before n es ≡ []
 before_later n [] all = refl
 before_later n (e ∷ es) all = ap (λ b. cond b (e ∷ before n es) (before n es)) (below_no e.event n all.0) ∙ before_later n es all.1
 
-since_later : (n : ℕ) (es : List Entry) → AllFrom n es → since n es ≡ es
+pub since_later : (n : ℕ) (es : List Entry) → AllFrom n es → since n es ≡ es
 since_later n [] all = refl
 since_later n (e ∷ es) all = ap (λ b. cond b (e ∷ since n es) (since n es)) (at_most_so n e.event all.0) ∙ ap (λ l. e ∷ l) (since_later n es all.1)
 
@@ -39,9 +32,6 @@ from_more n m [] h all = tt
 from_more n m (e ∷ es) h all = let one : n ≤ e.event = all.0 in (omega arith, from_more n m es h all.1)
 
 -- ---- a cut behind event n, and one before event n + 1
-
-pub until_cut : (n : ℕ) (es fs : List Entry) → AllUpTo n es → AllFrom (n + 1) fs → until n (es ++ fs) ≡ es
-until_cut n es fs early late = filter-append (λ e. nat_le e.event n) es fs ∙ ap (λ l. l ++ until n fs) (until_all n es early) ∙ ap (λ l. es ++ l) (until_later n fs late) ∙ append-nil es
 
 -- of later entries nothing is before
 pub before_front : (n : ℕ) (es fs : List Entry) → AllFrom n fs → before n (es ++ fs) ≡ before n es

@@ -1,5 +1,6 @@
--- Until the driver's set-up is over all entries are the driver's: no attempt has begun before.
-use Rattle.std.proofs.Common.{◌≡◌, ℕ, ◌⊎◌, inl, inr, ◌&&◌, true, false, [], ◌∷◌, ◌++◌, slice_get, Option, Some, None, refl, sym, ap, subst, ◌∙◌}
+-- Until the driver's set-up is over all of the job's entries are the driver's: no attempt has begun before.
+use Rattle.std.proofs.Common.{◌≡◌, ℕ, ◌⊎◌, inl, inr, ◌&&◌, true, false, cond, List, [], ◌∷◌, ◌++◌, length, slice_get, Option, Some, None, refl, sym, ap, subst, ◌∙◌}
+use Rattle.std.proofs.lemmas.List.Elements.{filter-append}
 use Rattle.s3_types.specs.Store.{Content}
 use Rattle.s3_types.specs.declared.request.Actor.{Actor}
 use Rattle.s3_types.specs.declared.request.Actor.TheVariants.{Driver, Attempt, Shell}
@@ -21,12 +22,12 @@ use Rattle.job_model.specs.declared.states.ActorStage.TheVariants as stage
 use Rattle.job_model.specs.declared.states.ActorState.{ActorState}
 use Rattle.job_operations.specs.Operations.{Setting, Operation, TheSetup, TheWrite, TheTaskCommit, TheTaskAbort, TheCommit, TheClean, Running, over}
 use Rattle.job_promise.specs.States.{Past, put, ended, is_new, needs_set, stage_begun, refusal, open_event}
-use Rattle.job_promise.specs.Turns.{is_memory, AllBy}
+use Rattle.job_promise.specs.Turns.{is_own, own, is_memory, AllBy}
 use Rattle.request_frame.proofs.Members.{none_some, false_true}
 use Rattle.job_facts.specs.Runs.{IsOpening}
-use Rattle.job_happenings.specs.Happenings.{Play, Refuses, Opens, Sends, Finishes, Closes, open_running, happen, MayOpen, MaySend, MayFinish, Happened, nothing_happened, happens}
+use Rattle.job_happenings.specs.Happenings.{Play, Refuses, Opens, Sends, Finishes, Closes, Strays, open_running, happen, MayOpen, MaySend, MayFinish, Happened, nothing_happened, happens}
 use Rattle.job_happenings.specs.Running.{Ahead, operation_of}
-use Rattle.job_happenings.proofs.Parts.{get_last}
+use Rattle.job_happenings.proofs.Parts.{get_last, own_own}
 use Rattle.job_happenings.proofs.Actors.{same_or_not, put_here, put_other}
 use Rattle.job_happenings.proofs.RunningStages.{DriverAt, IsBehind, begins_so, memory_dies, may_end, restarted_new, driver_ends}
 use Rattle.job_happenings.proofs.Running.{carried}
@@ -90,13 +91,17 @@ needs_other Shell ops.Commit ne = refl
 needs_other Shell ops.Abort ne = refl
 needs_other Shell ops.Clean ne = refl
 
+-- one more of the driver's
+own_by_driver : (es : List Entry) (e : Entry) → AllBy Driver (own es) → e.actor ≡ Driver → AllBy Driver (own (es ++ e ∷ []))
+own_by_driver es e h is = subst (AllBy Driver) (sym (filter-append (λ x. is_own x.actor) es (e ∷ []) ∙ ap (λ b. own es ++ cond b (e ∷ []) []) (ap is_own is))) (all_by_last Driver (own es) e h is)
+
 -- ---- what is kept
 
 pub record Early (x : Play) : Type 0 where
   -- the first stage is never come back to
   pub kept : is_new (x.live.state Driver).stage ≡ true → is_new (x.past.state Driver).stage ≡ true
   -- in an event that began at it all is the driver's
-  pub alone : is_new (x.past.state Driver).stage ≡ true → AllBy Driver x.journal
+  pub alone : is_new (x.past.state Driver).stage ≡ true → AllBy Driver (own x.journal)
   pub nobody : is_new (x.past.state Driver).stage ≡ true → (a : Actor) → (a ≡ Driver → ⊥) → x.running a ≡ None
   -- and in such an event alone a set-up ends
   pub set : (i : ℕ) (e : SetupEnd) → slice_get x.finished i ≡ Some (record { actor = Driver; end = ends.Setup e }) → (is_memory (ends.Setup e) ≡ true) ⊎ (is_new (x.past.state Driver).stage ≡ true)
@@ -150,7 +155,7 @@ module _ (g : Setting) (opening : Content) (j : IsLegal g.script) (is_opening : 
   sends : (y : Play) (e : Entry) → Early y → MaySend g opening y e → Early (happen g y (Sends e))
   sends y e old may = record {
     kept = old.kept;
-    alone = λ n. all_by_last Driver y.journal e (old.alone n) (sender y e old may n);
+    alone = λ n. own_by_driver y.journal e (old.alone n) (sender y e old may n);
     nobody = λ n a ne. put_other y.running e.actor _ a (λ s. ne (s ∙ sender y e old may n)) ∙ old.nobody n a ne;
     set = old.set;
   }
@@ -198,3 +203,4 @@ module _ (g : Setting) (opening : Content) (j : IsLegal g.script) (is_opening : 
   early x (happens y (Sends e) past may) = sends y e (early y past) may
   early x (happens y (Finishes v) past may) = finishes y past v (early y past) may
   early x (happens y (Closes end) past may) = let old = early y past in record { kept = λ n. n; alone = λ n. old.alone (old.kept n); nobody = λ n. old.nobody (old.kept n); set = λ i e h. absurd (none_some refl h) }
+  early x (happens y (Strays r o) past may) = let old = early y past in record { kept = old.kept; alone = λ n. subst (AllBy Driver) (sym (own_own y.journal (length y.ends) r o)) (old.alone n); nobody = old.nobody; set = old.set }

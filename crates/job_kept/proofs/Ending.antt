@@ -1,6 +1,7 @@
 -- An operation that ended in an event of a run, at the moment right before that event was over.
-use Rattle.std.proofs.Common.{◌≡◌, ℕ, ◌+◌, ◌≤◌, ◌⊎◌, inl, inr, true, false, List, [], ◌∷◌, ◌++◌, length, take, slice_get, append_assoc, append-nil, Option, Some, None, refl, sym, ap, subst, ◌∙◌, arith}
+use Rattle.std.proofs.Common.{◌≡◌, ℕ, ◌+◌, ◌≤◌, ◌⊎◌, inl, inr, true, false, List, [], ◌∷◌, ◌++◌, length, take, slice_get, append_assoc, append-nil, Option, Some, None, refl, sym, ap, subst, ◌∙◌, arith, nat_le}
 use Rattle.std.proofs.lemmas.List.{take-append-le}
+use Rattle.std.proofs.lemmas.List.Elements.{filter-append}
 use Rattle.s3_types.specs.Store.{Content}
 use Rattle.s3_types.specs.declared.request.Actor.{Actor}
 use Rattle.s3_types.specs.declared.journal.Entry.{Entry}
@@ -13,17 +14,19 @@ use Rattle.job_model.specs.declared.ends.EventEnd.{EventEnd}
 use Rattle.job_model.specs.declared.ends.EventEnd.TheVariants.{Done, Ended, Mixed, Refused}
 use Rattle.job_operations.specs.Operations.{Setting, Operation, Running, wants, advance, start_of, over}
 use Rattle.job_promise.specs.States.{Past, Doing, past, count, end_ops, open_event, after_event, told, is_refused}
-use Rattle.job_promise.specs.Turns.{until, since, by_actor, is_memory, AllFrom, AllUpTo}
+use Rattle.job_promise.specs.Entries.{AreOwn}
+use Rattle.job_promise.specs.Turns.{is_own, own, until, since, by_actor, is_memory, AllFrom, AllUpTo}
 use Rattle.job_promise.specs.Follows.{known_then}
 use Rattle.job_promise.specs.Ends.{EndedIn}
 use Rattle.request_frame.proofs.Members.{some_is, none_some}
 use Rattle.job_happenings.specs.Happenings.{Play, Happened}
 use Rattle.job_happenings.specs.Running.{Ahead}
-use Rattle.job_happenings.proofs.Parts.{take_whole}
+use Rattle.job_happenings.proofs.Parts.{take_whole, until_all}
 use Rattle.job_happenings.proofs.PastMore.{after_is, turns_refused}
 use Rattle.job_happenings.proofs.RunningStages.{memory_or}
 use Rattle.job_happenings.proofs.Told.{told_all}
-use Rattle.job_kept.proofs.Cuts.{until_cut}
+use Rattle.job_kept.proofs.Cuts.{by_cut}
+use Rattle.job_kept.proofs.Strange.{AreStrange, strange_until, strange_by, strange_none, own_back, own_part}
 use Rattle.job_kept.proofs.History.{Closed, closed_at}
 
 -- Of an operation that ended so: the event that closed over it, and how its own entries led to its end.
@@ -82,17 +85,32 @@ module _ (g : Setting) (opening : Content) (x : Play) (run_x : Happened g openin
         after_is w z.past c.may.event end (λ f q. turns_refused w z.past.state c.may.event end _ f c.may.turns q) ∙ ap (λ ys. count (end_ops (open_event w z.past c.may.event) ys)) c.may.told_is ∙ ap count (sym o.live_is) in
         ap (λ (p : Past). p.doing a) (sym (ap (λ p. after_event w p ev end) before ∙ ap (λ v. after_event w z.past v end) (sym same) ∙ after)) ∙ e
 
-    journal_is : until (j + 1) x.journal ≡ z.journal
+    -- up to the end of the event nothing of the job's has come behind it
+    journal_is : until (j + 1) x.journal ≡ z.journal ++ until (j + 1) c.entries
     journal_is =
         let up : AllUpTo (j + 1) z.journal = subst (λ n. AllUpTo (n + 1) z.journal) c.count (told_all g opening z c.happened).up_to in
-        let late : AllFrom (j + 1 + 1) c.entries = let two : j + 2 ≡ j + 1 + 1 = omega arith in subst (λ n. AllFrom n c.entries) two c.after in
-        ap (until (j + 1)) c.all ∙ until_cut (j + 1) z.journal c.entries up late
+        ap (until (j + 1)) c.all ∙ filter-append (λ e. nat_le e.event (j + 1)) z.journal c.entries ∙ ap (λ l. l ++ until (j + 1) c.entries) (until_all (j + 1) z.journal up)
 
-  pub journal_until : (j : ℕ) (end : EventEnd) (c : Closed g opening x j end) → until (j + 1) x.journal ≡ c.at.journal
+    strangers : AreStrange (until (j + 1) c.entries)
+    strangers = let two : j + 2 ≡ j + 1 + 1 = omega arith in strange_until (j + 1) c.entries (subst (λ n. AllFrom n (own c.entries)) two c.own_after)
+
+    by_is : (a : Actor) → is_own a ≡ true → by_actor a (until (j + 1) x.journal) ≡ by_actor a z.journal
+    by_is a mine = ap (by_actor a) journal_is ∙ by_cut a z.journal (until (j + 1) c.entries) ∙ ap (λ l. by_actor a z.journal ++ l) (strange_by a mine (until (j + 1) c.entries) strangers) ∙ append-nil (by_actor a z.journal)
+
+  pub journal_until : (j : ℕ) (end : EventEnd) (c : Closed g opening x j end) → until (j + 1) x.journal ≡ c.at.journal ++ until (j + 1) c.entries
   journal_until j end c = journal_is j end c
 
-  pub ending : (j : ℕ) (a : Actor) (d : Doing) (end : OpEnd) (es : List Entry) → EndedIn w x.ends x.journal j a d end es → Ending g opening x j a d end es
-  ending j a d end es h =
+  pub until_strange : (j : ℕ) (end : EventEnd) (c : Closed g opening x j end) → AreStrange (until (j + 1) c.entries)
+  until_strange j end c = strangers j end c
+
+  -- among none it is the journal then
+  pub until_own : AreOwn x.journal → (j : ℕ) (end : EventEnd) (c : Closed g opening x j end) → until (j + 1) x.journal ≡ c.at.journal
+  until_own mine j end c =
+      let none = strange_none (until (j + 1) c.entries) (own_part (λ e. nat_le e.event (j + 1)) c.entries (own_back c.at.journal c.entries (subst AreOwn c.all mine))) (strangers j end c) in
+      journal_is j end c ∙ ap (λ l. c.at.journal ++ l) none ∙ append-nil c.at.journal
+
+  pub ending : (j : ℕ) (a : Actor) → is_own a ≡ true → (d : Doing) (end : OpEnd) (es : List Entry) → EndedIn w x.ends x.journal j a d end es → Ending g opening x j a d end es
+  ending j a mine d end es h =
       let c = closed_at g opening x run_x j h.event_end h.has_ended (told_fine h.event h.event_end h.place _ h.told_there) in
       let z = c.at in
       let t = told_all g opening z c.happened in
@@ -102,7 +120,7 @@ module _ (g : Setting) (opening : Content) (x : Play) (run_x : Happened g openin
       let doing = doing_is j h.event_end c a h.event d same h.doing in
       let runs = t.runs a d doing in
       let f = t.finish h.place (record { actor = a; end = end }) finished in
-      let parts : es ≡ since d.since (by_actor a z.journal) = h.entries_are ∙ ap (λ l. since d.since (by_actor a l)) (journal_is j h.event_end c) in
+      let parts : es ≡ since d.since (by_actor a z.journal) = h.entries_are ∙ ap (since d.since) (by_is j h.event_end c a mine) in
       let first : Running = record { operation = runs.led.op; known = known_then g a d (by_actor a z.journal) } in
       let at : z.running a ≡ Some (run (advance g a) first es) = runs.led.at ∙ ap (λ l. Some (run (advance g a) first l)) (sym parts) in
       record {

@@ -3,6 +3,8 @@ use Rattle.std.proofs.Common.{◌≡◌, ℕ, ◌+◌, ◌<◌, ◌≤◌, ◌�
 use Rattle.std.proofs.lemmas.Option.{slice_get_within}
 use Rattle.s3_types.specs.Store.{Content}
 use Rattle.s3_types.specs.declared.request.Actor.{Actor}
+use Rattle.s3_types.specs.declared.request.Request.{Request}
+use Rattle.s3_types.specs.declared.journal.Outcome.{Outcome}
 use Rattle.s3_types.specs.declared.journal.Entry.{Entry}
 use Rattle.request_frame.proofs.Members.{some_is, none_some, false_true}
 use Rattle.job_model.specs.declared.events.Op.{Op}
@@ -12,13 +14,14 @@ use Rattle.job_model.specs.declared.ends.EventEnd.{EventEnd}
 use Rattle.job_model.specs.declared.ends.EventEnd.TheVariants.{Refused}
 use Rattle.job_operations.specs.Operations.{Setting}
 use Rattle.job_promise.specs.States.{Past, Doing, put, missing, is_refused, open_event}
-use Rattle.job_promise.specs.Turns.{AllFrom}
-use Rattle.job_happenings.specs.Happenings.{Play, Happening, Refuses, Opens, Sends, Finishes, Closes, happen, MayOpen, MaySend, MayClose, Allowed, Happened, nothing_happened, happens}
+use Rattle.job_promise.specs.Turns.{own, AllFrom}
+use Rattle.job_facts.specs.Told.{strange_entry}
+use Rattle.job_happenings.specs.Happenings.{Play, Happening, Refuses, Opens, Sends, Finishes, Closes, Strays, happen, MayOpen, MaySend, MayClose, MayStray, Allowed, Happened, nothing_happened, happens}
 use Rattle.job_happenings.specs.Running.{Ahead}
-use Rattle.job_happenings.proofs.Parts.{get_last, from_last}
+use Rattle.job_happenings.proofs.Parts.{get_last, from_last, from_own, own_own}
 use Rattle.job_happenings.proofs.Actors.{same_or_not, put_here, put_other}
 use Rattle.job_happenings.proofs.Told.{told_all}
-use Rattle.job_happenings.proofs.Running.{sent_ahead, finished_ahead, opened_ahead, refused_ahead, not_refused, closed_ahead}
+use Rattle.job_happenings.proofs.Running.{sent_ahead, finished_ahead, opened_ahead, refused_ahead, not_refused, closed_ahead, strayed_ahead}
 
 -- what happened since then
 pub data Later (g : Setting) (opening : Content) (y : Play) : Play → Type 0 where
@@ -32,10 +35,11 @@ pub record Closed (g : Setting) (opening : Content) (x : Play) (j : ℕ) (end : 
   pub may : MayClose g at end
   pub count : length at.ends ≡ j
   pub since_then : Later g opening (happen g at (Closes end)) x
-  -- the entries since then, which are of later events
+  -- the entries since then: the job's own are of later events
   pub entries : List Entry
   pub all : x.journal ≡ at.journal ++ entries
-  pub after : AllFrom (j + 2) entries
+  pub after : AllFrom (j + 1) entries
+  pub own_after : AllFrom (j + 2) (own entries)
   pub ahead : (ends : List EventEnd) → Ahead x ends → Ahead (happen g at (Closes end)) ends
 
 -- the event begins this
@@ -70,6 +74,7 @@ module _ (g : Setting) (opening : Content) where
       entries = c.entries;
       all = same ∙ c.all;
       after = c.after;
+      own_after = c.own_after;
       ahead = λ ends a. c.ahead ends (back ends a);
     }
 
@@ -77,6 +82,7 @@ module _ (g : Setting) (opening : Content) where
     sent_closed y e past may is c =
         let below : j < length y.ends = slice_get_within y.ends j end is in
         let late : j + 2 ≤ e.event = omega (arith, may.number) in
+        let behind : j + 1 ≤ e.event = omega arith in
         record {
           at = c.at;
           happened = c.happened;
@@ -85,8 +91,27 @@ module _ (g : Setting) (opening : Content) where
           since_then = later y (Sends e) past c.since_then may;
           entries = c.entries ++ e ∷ [];
           all = ap (λ l. l ++ e ∷ []) c.all ∙ append_assoc c.at.journal c.entries (e ∷ []);
-          after = from_last (j + 2) c.entries e c.after late;
+          after = from_last (j + 1) c.entries e c.after behind;
+          own_after = from_own (j + 2) c.entries e c.own_after late;
           ahead = λ ends a. c.ahead ends (sent_ahead g y e ends a);
+        }
+
+    strayed_closed : (y : Play) (r : Request) (o : Outcome) → Happened g opening y → MayStray g opening y r o → slice_get y.ends j ≡ Some end → Closed g opening y j end → Closed g opening (happen g y (Strays r o)) j end
+    strayed_closed y r o past may is c =
+        let below : j < length y.ends = slice_get_within y.ends j end is in
+        let e = strange_entry (length y.ends) r o in
+        let behind : j + 1 ≤ e.event = omega arith in
+        record {
+          at = c.at;
+          happened = c.happened;
+          may = c.may;
+          count = c.count;
+          since_then = later y (Strays r o) past c.since_then may;
+          entries = c.entries ++ e ∷ [];
+          all = ap (λ l. l ++ e ∷ []) c.all ∙ append_assoc c.at.journal c.entries (e ∷ []);
+          after = from_last (j + 1) c.entries e c.after behind;
+          own_after = subst (AllFrom (j + 2)) (sym (own_own c.entries (length y.ends) r o)) c.own_after;
+          ahead = λ ends a. c.ahead ends (strayed_ahead g y r o ends a);
         }
 
   closed_now : (y : Play) (end : EventEnd) (j : ℕ) → Happened g opening y → MayClose g y end → j ≡ length y.ends → Closed g opening (happen g y (Closes end)) j end
@@ -99,6 +124,7 @@ module _ (g : Setting) (opening : Content) where
     entries = [];
     all = sym (append-nil y.journal);
     after = tt;
+    own_after = tt;
     ahead = λ ends a. a;
   }
 
@@ -115,6 +141,7 @@ module _ (g : Setting) (opening : Content) where
     | inl h ↦ still_closed j end y (Closes v) past may refl (λ ends a. closed_ahead g y v ends (not_refused g.script y.past.state may.event v _ may.turns) a) (closed_at y past j end h fine)
     | inr q ↦ subst (λ u. Closed g opening (happen g y (Closes v)) j u) q.1 (closed_now y v j past may q.0)
   ]
+  closed_at x (happens y (Strays r o) past may) j end e fine = strayed_closed j end y r o past may e (closed_at y past j end e fine)
 
   -- ---- an operation that began
 
@@ -148,6 +175,23 @@ module _ (g : Setting) (opening : Content) where
         all = ap (λ l. l ++ e ∷ []) b.all ∙ append_assoc b.at.journal b.entries (e ∷ []);
         after = from_last d.since b.entries e b.after late;
         ahead = λ ends v. b.ahead ends (sent_ahead g y e ends v);
+      }
+
+  strayed_began : (y : Play) (r : Request) (o : Outcome) (a : Actor) (d : Doing) → d.since ≤ length y.ends → Began g opening y a d → Began g opening (happen g y (Strays r o)) a d
+  strayed_began y r o a d then b =
+      let e = strange_entry (length y.ends) r o in
+      record {
+        at = b.at;
+        happened = b.happened;
+        event = b.event;
+        may = b.may;
+        begins = b.begins;
+        since_is = b.since_is;
+        missing_is = b.missing_is;
+        entries = b.entries ++ e ∷ [];
+        all = ap (λ l. l ++ e ∷ []) b.all ∙ append_assoc b.at.journal b.entries (e ∷ []);
+        after = from_last d.since b.entries e b.after then;
+        ahead = λ ends v. b.ahead ends (strayed_ahead g y r o ends v);
       }
 
   abbrev doing_now : Play → Op → Doing
@@ -200,3 +244,4 @@ module _ (g : Setting) (opening : Content) where
   began x (happens y (Sends v) past may) a d e = sent_began y v a d may ((told_all g opening y past).runs a d e).from_then (began y past a d e)
   began x (happens y (Finishes z) past may) a d e = still_began y (Finishes z) a d refl (λ ends v. finished_ahead g y z ends v) (began y past a d e)
   began x (happens y (Closes end) past may) a d e = still_began y (Closes end) a d refl (λ ends v. closed_ahead g y end ends (not_refused g.script y.past.state may.event end _ may.turns) v) (began y past a d e)
+  began x (happens y (Strays r o) past may) a d e = strayed_began y r o a d ((told_all g opening y past).over may.idle a d e) (began y past a d e)

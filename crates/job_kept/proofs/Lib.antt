@@ -1,4 +1,5 @@
 pub mod Cuts
+pub mod Strange
 pub mod History
 pub mod Ending
 pub mod Sorts
@@ -9,6 +10,5 @@ pub mod Cleans
 pub mod Tasks
 pub mod After
 pub mod Commits
-pub mod Owned
 pub mod Facts
 pub mod Kept

@@ -1,5 +1,5 @@
 -- The journal of a run where an operation began and ended: what was before, what was between, and what the actor itself sent.
-use Rattle.std.proofs.Common.{◌≡◌, ℕ, ◌+◌, ◌≤◌, List, ◌++◌, length, append_assoc, sym, ap, subst, ◌∙◌, arith}
+use Rattle.std.proofs.Common.{◌≡◌, ℕ, ◌+◌, ◌≤◌, List, ◌++◌, length, append_assoc, sym, ap, subst, ◌∙◌}
 use Rattle.s3_types.specs.Store.{Content}
 use Rattle.s3_types.specs.Store as store
 use Rattle.s3_types.specs.Moment.{moment, after_all, AreHonest}
@@ -31,7 +31,7 @@ module _ (g : Setting) (opening : Content) (x : Play) (j : ℕ) (a : Actor) (d :
 
   -- all that came after the event it ended in is of later events than that it began in
   pub late : AllFrom d.since n.closed.entries
-  late = let then : d.since ≤ j + 1 = n.from_then in from_more (j + 2) d.since n.closed.entries (omega arith) n.closed.after
+  late = let then : d.since ≤ j + 1 = n.from_then in from_more (j + 1) d.since n.closed.entries then n.closed.after
 
   whole : x.journal ≡ s.journal ++ (start.entries ++ n.closed.entries)
   whole = n.closed.all ∙ ap (λ l. l ++ n.closed.entries) start.all ∙ append_assoc s.journal start.entries n.closed.entries
@@ -56,7 +56,7 @@ module _ (g : Setting) (opening : Content) (x : Play) (j : ℕ) (a : Actor) (d :
       ∙ subst (λ k. AllFrom k start.entries → since k (by_actor a (s.journal ++ start.entries)) ≡ by_actor a start.entries) (sym start.since_is) (since_by_cut (length s.ends) a s.journal start.entries early) start.after
 
   pub honest : AreHonest (after_all (store.opening opening) s.journal) start.entries
-  honest = honest_back (store.opening opening) s.journal start.entries (subst (AreHonest (store.opening opening)) start.all (told_all g opening z n.closed.happened).sent.honest)
+  honest = honest_back (store.opening opening) s.journal start.entries (subst (AreHonest (store.opening opening)) start.all (told_all g opening z n.closed.happened).honest)
 
   pub after_is : after_all (store.opening opening) z.journal ≡ after_all (after_all (store.opening opening) s.journal) start.entries
   after_is = ap (after_all (store.opening opening)) start.all ∙ after_cut (store.opening opening) s.journal start.entries

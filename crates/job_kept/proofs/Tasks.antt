@@ -24,7 +24,8 @@ use Rattle.job_promise.specs.States.{Doing, commit_event}
 use Rattle.job_promise.specs.Turns.{until, by_actor, until_last}
 use Rattle.job_promise.specs.Follows.{known_then}
 use Rattle.job_promise.specs.OperationEnds.{TaskIs, WasPublished}
-use Rattle.job_promise.specs.Promise.{TasksEnd, Publishes, setting}
+use Rattle.job_promise.specs.Promise.{setting}
+use Rattle.job_kept.specs.Laws.{TasksEndAmong, PublishesAmong}
 use Rattle.request_frame.proofs.Members.{some_is, none_some, false_true}
 use Rattle.job_facts.specs.Runs.{IsOpening}
 use Rattle.job_facts.proofs.Whose.{attempt}
@@ -36,7 +37,8 @@ use Rattle.job_ends.proofs.TaskEnds.{task_ends, task_joined}
 use Rattle.job_ends.proofs.Gone.{gone_cleaned, done_published}
 use Rattle.job_ends.proofs.RunEntries.{run_entries}
 use Rattle.job_kept.proofs.Sorts.{memory_task}
-use Rattle.job_kept.proofs.Ending.{Ending, ahead_none, ending, journal_until}
+use Rattle.job_kept.proofs.Ending.{Ending, ahead_none, ending, journal_until, until_strange}
+use Rattle.job_kept.proofs.Strange.{strange_last}
 use Rattle.job_kept.proofs.Spans.{known_is}
 
 -- ---- of which operation
@@ -119,15 +121,14 @@ module _ (g : Setting) (opening : Content) (j : IsLegal g.script) (is_opening : 
     is_at : then.stand.attempts (attempt t a) ≡ Some at
     is_at = then.attempts (attempt t a) ∙ ap operation_of n.running
 
-    journal_then : until (i + 1) x.journal ≡ z.journal
-    journal_then = journal_until g opening x run_x idle i n.event_end n.closed
-
     -- whether the driver's abort or clean had begun at its last entry
     abbrev cleaned : Bool
     cleaned = has_cleaned (until_last (Attempt t a) (until (i + 1) x.journal))
 
     cleaned_then : cleaned ≡ has_cleaned (until_last (Attempt t a) z.journal)
-    cleaned_then = ap (λ l. has_cleaned (until_last (Attempt t a) l)) journal_then
+    cleaned_then =
+        ap (λ l. has_cleaned (until_last (Attempt t a) l)) (journal_until g opening x run_x idle i n.event_end n.closed)
+        ∙ ap has_cleaned (strange_last (Attempt t a) refl z.journal (until (i + 1) n.closed.entries) (until_strange g opening x run_x idle i n.event_end n.closed))
 
     gone_so : over at ≡ Some (ends.Task e) → (d.op ≡ ops.Abort → ⊥) → (name : List ℕ) → e ≡ tasks.Gone name → cleaned ≡ true
     gone_so o not_abort name is =
@@ -143,9 +144,9 @@ module _ (g : Setting) (opening : Content) (j : IsLegal g.script) (is_opening : 
         let r = task_ends g t a d.op d.missing k n.op n.begun_is es n.follows e o in
         (r.0, r.1, subst (λ (v : Known). TaskIs d.op g.script (attempt t a) es v.publish_sent cleaned r.0 e) known_so (task_joined d.op g.script (attempt t a) es k.publish_sent cleaned r.0 e r.2 (gone_so o)))
 
-  pub tasks_kept : TasksEnd g.script opening x.journal x.ends
-  tasks_kept own i t a d e es h =
-      let n = ending g opening x run_x idle i (Attempt t a) d (ends.Task e) es h in
+  pub tasks_kept : TasksEndAmong g.script opening x.journal x.ends
+  tasks_kept i t a d e es h =
+      let n = ending g opening x run_x idle i (Attempt t a) refl d (ends.Task e) es h in
       elim n.ended [ inl memory ↦ inl (memory_task e memory) | inr o ↦ inr (task_so i t a d e es n o) ]
 
   -- ---- a commit that is done
@@ -164,7 +165,7 @@ module _ (g : Setting) (opening : Content) (j : IsLegal g.script) (is_opening : 
         let p = done_published g (commit_event g.script x.ends) opening j is_opening u.journal r.stand r.runs (attempt t a) c.0 c.1 (is_at i t a d tasks.Done es n ∙ ap (λ v. Some v) c.2) (sym (cleaned_then i t a d tasks.Done es n) ∙ clean) in
         subst (λ l. WasPublished g.script opening l t a (i + 1)) (sym n.closed.all) (run_entries.published g.script opening u.journal n.closed.entries t a p.0 (i + 1) p.1 n.up_to)
 
-  pub publishes_kept : Publishes g.script opening x.journal x.ends
-  publishes_kept own i t a d es h is clean =
-      let n = ending g opening x run_x idle i (Attempt t a) d (ends.Task tasks.Done) es h in
+  pub publishes_kept : PublishesAmong g.script opening x.journal x.ends
+  publishes_kept i t a d es h is clean =
+      let n = ending g opening x run_x idle i (Attempt t a) refl d (ends.Task tasks.Done) es h in
       elim n.ended [ inl memory ↦ absurd (false_true refl memory) | inr o ↦ publishes_so i t a d es n is clean o ]

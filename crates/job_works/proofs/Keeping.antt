@@ -141,7 +141,7 @@ module _ (g : Setting) (opening : Content) (j : IsLegal g.script) (is_opening : 
       let m = h.stand.told in
       let driver : h.stand.driver ≡ Some (TheCommit c) = h.driver ∙ ap operation_of at in
       let l = late_now g k opening j is_opening x.journal h.stand h.runs (ap is_set driver) in
-      let i : InCommit g opening s.scene.content s.picks s.put_mark s.begun m h.stand.commit c = subst (λ v. At g opening v s m h.stand.commit) driver l.driver in
+      let i : InCommit g opening s.picks m c = subst (λ v. At g opening v s m) driver l.driver in
       let free : Free w s.picks c = subst (FreeAt w s.picks) driver (unread g k opening j is_opening x.journal h.stand h.runs) in
       let seen_is = sees g k opening j is_opening x.journal h.stand h.runs in
       let scene = moment_scene g k opening j is_opening x.journal h.stand h.runs in

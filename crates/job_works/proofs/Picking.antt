@@ -1,5 +1,5 @@
 -- That the driver's commit is at work exactly where it was begun last, and that nothing is picked before it.
-use Rattle.std.proofs.Common.{◌≡◌, ℕ, zero, suc, ◌+◌, true, List, [], ◌++◌, length, Option, Some, None, refl, sym, ap, subst, ◌∙◌, arith}
+use Rattle.std.proofs.Common.{◌≡◌, ℕ, zero, suc, ◌+◌, true, [], ◌++◌, length, Option, Some, None, refl, sym, ap, subst, ◌∙◌, arith}
 use Rattle.std.proofs.lemmas.Bool.{false≢true}
 use Rattle.s3_types.specs.Store.{Content}
 use Rattle.s3_types.specs.declared.request.Actor.{Actor}
@@ -20,11 +20,11 @@ use Rattle.job_promise.specs.States.{put, missing, open_event, refusal, driver_m
 use Rattle.job_promise.specs.Promise.{picked, picks_below}
 use Rattle.request_frame.proofs.Members.{none_some}
 use Rattle.job_facts.specs.Told.{Told}
-use Rattle.job_facts.specs.Runs.{IsOpening, is_set, is_just_set}
+use Rattle.job_facts.specs.Runs.{IsOpening, is_just_set}
 use Rattle.job_facts.proofs.Running.{At}
 use Rattle.job_facts.proofs.Entries.{take_all, sees, late_now}
 use Rattle.job_facts.proofs.EveryRun.{just_set}
-use Rattle.job_happenings.specs.Happenings.{Play, Refuses, Opens, Sends, Finishes, Closes, begun, knows_now, open_running, hear, MayOpen, Happened, nothing_happened, happens}
+use Rattle.job_happenings.specs.Happenings.{Play, Refuses, Opens, Sends, Finishes, Closes, Strays, begun, knows_now, open_running, hear, MayOpen, Happened, nothing_happened, happens}
 use Rattle.job_happenings.specs.Running.{operation_of}
 use Rattle.job_happenings.proofs.RunningStages.{DriverAt, begins_so, may_commit_job}
 use Rattle.job_happenings.proofs.Running.{carried}
@@ -87,6 +87,7 @@ module _ (g : Setting) (opening : Content) where
   doing_so x (happens y (Sends e) past may) = let h = doing_so y past in record { same = sent g e.actor y.running e ∙ h.same; rest = h.rest }
   doing_so x (happens y (Finishes z) past may) = let h = doing_so y past in record { same = h.same; rest = λ e. absurd (none_some e may.during) }
   doing_so x (happens y (Closes end) past may) = let h = doing_so y past in record { same = h.same; rest = λ e. refl }
+  doing_so x (happens y (Strays r o) past may) = let h = doing_so y past in record { same = h.same; rest = h.rest }
 
 -- ---- before the commit
 
@@ -119,14 +120,10 @@ none_below p h (suc n) = ap (λ l. l ++ picked n (p n)) (none_below p h n) ∙ a
 
 module _ (g : Setting) (opening : Content) (j : IsLegal g.script) (is_opening : IsOpening g opening) where
   -- right after its set-up nothing is picked
-  pub unpicked : (d : Option Operation) (s : Seen) (m : Told) (es : List Entry) → is_just_set d ≡ true → At g opening d s m es → (t : ℕ) → s.picks t ≡ None
-  unpicked None s m es e h t = absurd (false≢true e)
-  unpicked (Some (TheSetup v)) s m es e h t = h.1.unpicked t
-  unpicked (Some (TheWrite v)) s m es e h t = absurd (false≢true e)
-  unpicked (Some (TheTaskCommit v)) s m es e h t = absurd (false≢true e)
-  unpicked (Some (TheTaskAbort v)) s m es e h t = absurd (false≢true e)
-  unpicked (Some (TheCommit v)) s m es e h t = absurd (false≢true e)
-  unpicked (Some (TheClean v)) s m es e h t = absurd (false≢true e)
+  pub unpicked : (d : Option Operation) (s : Seen) (m : Told) → is_just_set d ≡ true → At g opening d s m → (t : ℕ) → s.picks t ≡ None
+  unpicked (Some (TheSetup v)) s m e h t = h.1.unpicked t
+  unpicked None s m e h t = absurd (false≢true e)
+  unpicked (Some _) s m e h t = absurd (false≢true e)
 
   none_picked : (x : Play) → Happened g opening x → (ev : Event) → begins_commit ev ≡ true → MayOpen g x ev None → ArePicksOf g opening x []
   none_picked x past ev begins may xs ahead =
@@ -137,7 +134,7 @@ module _ (g : Setting) (opening : Content) (j : IsLegal g.script) (is_opening : 
       let set = may_commit_job (x.past.state Driver).stage (x.past.state Driver).life (operation_of (x.running Driver)) at (may_commit x.past.state ev begins may.refusal_is) in
       let just : is_just_set h.stand.driver ≡ true = ap is_just_set h.driver ∙ set in
       let l = late_now g k opening j is_opening x.journal h.stand h.runs (just_set h.stand.driver just) in
-      let none : picks_below h.stand.seen.picks g.script.tasks ≡ [] = none_below h.stand.seen.picks (unpicked h.stand.driver h.stand.seen h.stand.told h.stand.commit just l.driver) g.script.tasks in
+      let none : picks_below h.stand.seen.picks g.script.tasks ≡ [] = none_below h.stand.seen.picks (unpicked h.stand.driver h.stand.seen h.stand.told just l.driver) g.script.tasks in
       let seen_is = sees g k opening j is_opening x.journal h.stand h.runs in
       let all = take_all x.journal (length x.journal) (omega arith) in
       sym none ∙ ap (λ (s : Seen). picks_below s.picks g.script.tasks) (seen_is ∙ ap (see_all g.script k (nothing_seen opening)) (sym all))

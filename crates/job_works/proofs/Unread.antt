@@ -27,7 +27,7 @@ use Rattle.job_facts.specs.Stores.{sets_at}
 use Rattle.job_facts.specs.Facts.{Hold, knowing}
 use Rattle.job_facts.specs.Laws.{IsSetAnswer}
 use Rattle.job_facts.specs.Filed.{Decides}
-use Rattle.job_facts.specs.Runs.{Stand, Runs, run_begins, setup_begins, commit_begins, clean_begins, driver_sends, write_begins, publish_begins, abort_begins, attempt_sends, IsOpening, IsTimely, nothing_learnt, is_set}
+use Rattle.job_facts.specs.Runs.{Stand, Beginning, BeginSetup, BeginCommit, BeginClean, begin, MayBegin, Runs, run_begins, actor_begins, driver_sends, attempt_sends, strays, IsOpening, IsTimely, nothing_learnt, is_set}
 use Rattle.job_facts.proofs.Whose.{or_true}
 use Rattle.job_facts.proofs.Reading.{reads_it, reads_other}
 use Rattle.job_facts.proofs.Replies.{set_reply, bytes_read}
@@ -208,18 +208,20 @@ module _ (g : Setting) (k : Option ℕ) (opening : Content) (j : IsLegal g.scrip
   sent fs y (TheClean t) n r o run d asked timely few honest free = tt
   sent fs y (TheCommit c) n r o run d asked timely few honest free =
       let l = late_now g k opening j is_opening fs y run (ap is_set d) in
-      let i : InCommit g opening y.seen.scene.content y.seen.picks y.seen.put_mark y.seen.begun y.told y.commit c = subst (λ v. At g opening v y.seen y.told y.commit) d l.driver in
+      let i : InCommit g opening y.seen.picks y.told c = subst (λ v. At g opening v y.seen y.told) d l.driver in
       free_next w g.minimum j k y.seen y.told n l.hold i.uncleaned few (begun_now y.seen n timely) c i.decides (subst (FreeAt w y.seen.picks) d free) r asked o honest
+
+  begin_unread : (fs : List Entry) (y : Stand) (b : Beginning) → Runs g k opening fs y → MayBegin g y b → FreeAt w y.seen.picks y.driver → FreeAt w y.seen.picks (begin g y b).driver
+  begin_unread fs y (BeginCommit missing) run may free =
+      let l = late_now g k opening j is_opening fs y run (just_set y.driver may) in
+      free_start w y.seen.picks (unpicked g opening j is_opening y.driver y.seen y.told may l.driver) missing
+  begin_unread fs y BeginSetup run may free = tt
+  begin_unread fs y BeginClean run may free = tt
+  begin_unread fs y _ run may free = free
 
   pub unread : (es : List Entry) (x : Stand) → Runs g k opening es x → FreeAt w x.seen.picks x.driver
   unread es x (run_begins) = tt
-  unread es x (setup_begins fs y run may) = tt
-  unread es x (commit_begins fs y missing run just) =
-      let l = late_now g k opening j is_opening fs y run (just_set y.driver just) in
-      free_start w y.seen.picks (unpicked g opening j is_opening y.driver y.seen y.told y.commit just l.driver) missing
-  unread es x (clean_begins fs y run set) = tt
+  unread es x (actor_begins fs y b run may) = begin_unread fs y b run may (unread fs y run)
   unread es x (driver_sends fs y op n r o run d asked timely few honest) = sent fs y op n r o run d asked timely few honest (unread fs y run)
-  unread es x (write_begins fs y a run set d none) = unread fs y run
-  unread es x (publish_begins fs y a spare repeated run set at) = unread fs y run
-  unread es x (abort_begins fs y a run set d) = unread fs y run
   unread es x (attempt_sends fs y a op n r o run set at asked honest) = subst (λ p. FreeAt w p y.driver) (sym (attempt_picks w k y.seen a n r o)) (unread fs y run)
+  unread es x (strays fs y n r o run f) = unread fs y run

@@ -5,6 +5,8 @@ use Rattle.s3_types.specs.Store.{Content}
 use Rattle.s3_types.specs.declared.request.Actor.{Actor}
 use Rattle.s3_types.specs.declared.request.Actor.TheVariants.{Driver, Attempt, Shell}
 use Rattle.s3_types.specs.declared.journal.Outcome.{Outcome}
+use Rattle.s3_types.specs.declared.request.Request.{Request}
+use Rattle.s3_types.specs.declared.journal.Outcome.{Outcome}
 use Rattle.s3_types.specs.declared.journal.Entry.{Entry}
 use Rattle.job_model.specs.Attempts.{Who}
 use Rattle.job_model.specs.Known.{Known}
@@ -17,9 +19,9 @@ use Rattle.job_operations.specs.Knowledge.{learn, knows, knows_from}
 use Rattle.job_operations.specs.Operations.{Setting, Operation, Running, TheSetup, TheWrite, TheTaskCommit, TheTaskAbort, TheCommit, TheClean, who, tells, learn_of, advance, start_of}
 use Rattle.job_promise.specs.States.{put, missing}
 use Rattle.job_promise.specs.Turns.{by_actor}
-use Rattle.job_happenings.specs.Happenings.{Play, Refuses, Opens, Sends, Finishes, Closes, begun, open_running, hear, happen, MayOpen, MaySend, Happened, nothing_happened, happens, nothing_played, knows_now}
+use Rattle.job_happenings.specs.Happenings.{Play, Refuses, Opens, Sends, Finishes, Closes, Strays, begun, open_running, hear, happen, MayOpen, MaySend, Happened, nothing_happened, happens, nothing_played, knows_now}
 use Rattle.job_happenings.proofs.Actors.{same_true, same_or_not, put_here, put_other, same_false}
-use Rattle.job_happenings.proofs.Parts.{by_itself, by_another}
+use Rattle.job_happenings.proofs.Parts.{by_itself, by_another, by_own}
 use Rattle.job_works.specs.Picks.{is_job_commit, is_committing}
 use Rattle.job_world.proofs.Places.{within}
 
@@ -27,6 +29,7 @@ use Rattle.job_world.proofs.Places.{within}
 pub record Carried (g : Setting) (x : Play) : Type 0 where
   -- what an actor knew as it last sent is what it knows now
   pub known : (a : Actor) (m : Running) → x.running a ≡ Some m → m.known ≡ knows_now g x a
+  pub nobody : x.running Shell ≡ None
   -- the driver alone is at the job's commit
   pub whose : (a : Actor) → (a ≡ Driver → ⊥) → is_committing (x.running a) ≡ false
   -- an event goes on that has no end yet
@@ -62,6 +65,7 @@ module _ (g : Setting) (opening : Content) where
   first : Carried g nothing_played
   first = record {
     known = λ a m e. absurd (none_some refl e);
+    nobody = refl;
     whose = λ a ne. refl;
     few = λ ev e. absurd (none_some refl e);
   }
@@ -105,9 +109,23 @@ module _ (g : Setting) (opening : Content) where
   open_whose x c Restart q ne = c.whose q ne
   open_whose x c (Recover a) q ne = c.whose q ne
 
+  begin_nobody : (x : Play) → Carried g x → (a : Actor) (op : Op) → put x.running a (begun (start_of g a op (missing g.script x.past.reported) (knows_now g x a)) (knows_now g x a)) Shell ≡ None
+  begin_nobody x c Shell op = refl
+  begin_nobody x c _ op = c.nobody
+
+  open_nobody : (x : Play) → Carried g x → (ev : Event) → open_running g x ev Shell ≡ None
+  open_nobody x c (Do a op) = begin_nobody x c a op
+  open_nobody x c (Start a op) = begin_nobody x c a op
+  open_nobody x c _ = c.nobody
+
+  sent_nobody : (r : Actor → Option Running) → r Shell ≡ None → (a : Actor) (e : Entry) → put r a (hear g a (r a) e) Shell ≡ None
+  sent_nobody r none Shell e = ap (λ m. hear g Shell m e) none
+  sent_nobody r none _ e = none
+
   opens : (x : Play) (ev : Event) → MayOpen g x ev None → Carried g x → Carried g (happen g x (Opens ev))
   opens x ev may c = record {
     known = open_known x c ev;
+    nobody = open_nobody x c ev;
     whose = open_whose x c ev;
     few = λ v e. within g.script.events (length x.ends) ev may.next;
   }
@@ -135,6 +153,7 @@ module _ (g : Setting) (opening : Content) where
           | inl is ↦ ap (λ (r : Running). r.known) (some_is (sym h ∙ put_here x.running e.actor v q is ∙ heard x e may)) ∙ own_known x e may c ∙ ap (knows_now g (happen g x (Sends e))) (sym is)
           | inr ne ↦ c.known q m (sym (put_other x.running e.actor v q ne) ∙ h) ∙ sym (others_know x e q ne)
         ];
+        nobody = sent_nobody x.running c.nobody e.actor e;
         whose = λ q ne. elim (same_or_not q e.actor) [
           | inl is ↦ ap is_committing (put_here x.running e.actor v q is ∙ heard x e may) ∙ commit_stays g (who e.actor) may.at.operation e.outcome ∙ sym (ap is_committing may.is_at) ∙ ap (λ b. is_committing (x.running b)) (sym is) ∙ c.whose q ne
           | inr other ↦ ap is_committing (put_other x.running e.actor v q other) ∙ c.whose q ne
@@ -142,12 +161,23 @@ module _ (g : Setting) (opening : Content) where
         few = c.few;
       }
 
+  -- ---- a stranger sends
+
+  -- it tells no actor anything
+  strayed : (x : Play) (r : Request) (o : Outcome) → Carried g x → Carried g (happen g x (Strays r o))
+  strayed x r o c = record { known = λ a m e. by a m e (c.known a m e); nobody = c.nobody; whose = c.whose; few = c.few }
+    where
+      by : (a : Actor) (m : Running) → x.running a ≡ Some m → m.known ≡ knows_now g x a → m.known ≡ knows_now g (happen g x (Strays r o)) a
+      by Shell m e h = absurd (none_some c.nobody e)
+      by a m e h = h ∙ ap (knows g.script (who a)) (sym (by_own a refl x.journal (length x.ends) r o))
+
   -- ---- all of it
 
   pub carried : (x : Play) → Happened g opening x → Carried g x
   carried x (nothing_happened) = first
-  carried x (happens y (Refuses f) past may) = let c = carried y past in record { known = c.known; whose = c.whose; few = λ ev e. absurd (none_some refl e) }
+  carried x (happens y (Refuses f) past may) = let c = carried y past in record { known = c.known; nobody = c.nobody; whose = c.whose; few = λ ev e. absurd (none_some refl e) }
   carried x (happens y (Opens ev) past may) = opens y ev may (carried y past)
   carried x (happens y (Sends e) past may) = sends y e may (carried y past)
-  carried x (happens y (Finishes z) past may) = let c = carried y past in record { known = c.known; whose = c.whose; few = c.few }
-  carried x (happens y (Closes end) past may) = let c = carried y past in record { known = c.known; whose = c.whose; few = λ ev e. absurd (none_some refl e) }
+  carried x (happens y (Finishes z) past may) = let c = carried y past in record { known = c.known; nobody = c.nobody; whose = c.whose; few = c.few }
+  carried x (happens y (Closes end) past may) = let c = carried y past in record { known = c.known; nobody = c.nobody; whose = c.whose; few = λ ev e. absurd (none_some refl e) }
+  carried x (happens y (Strays r o) past may) = strayed y r o (carried y past)

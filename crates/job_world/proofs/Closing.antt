@@ -59,6 +59,7 @@ module _ {W : Type 0} (wants : W → Option Request) (is_of : Setting → Actor 
       opens = q.holds.opens;
       play = refused_play;
       happened = happens q.holds.play (Refuses fault) q.holds.happened (ev, may_open is_of running picks_of all_sound b q.holds ev (Some fault) q.idle next refused);
+      alone = q.holds.alone;
       journal = q.holds.journal;
       ends = ends ∙ ap (λ xs. xs ++ Refused fault ∷ []) q.holds.ends;
       now = q.idle;
@@ -143,6 +144,7 @@ module _ {W : Type 0} (wants : W → Option Request) (is_of : Setting → Actor 
       opens = q.holds.opens;
       play = closed_play;
       happened = happens q.holds.play (Closes (end_of ev b.finished.items)) q.holds.happened closes;
+      alone = q.holds.alone;
       journal = q.holds.journal;
       ends = ends ∙ ap (λ xs. xs ++ end_of ev b.finished.items ∷ []) q.holds.ends;
       now = refl;

@@ -105,6 +105,7 @@ sound_but is_of running picks_of place b h = record {
   opens = h.opens;
   play = h.play;
   happened = h.happened;
+  alone = h.alone;
   journal = h.journal;
   ends = h.ends;
   now = h.now;
@@ -190,6 +191,7 @@ module _ {W : Type 0} (is_of : Setting → Actor → W → Type 0) (running : Kn
           opens = h.opens;
           play = happen g x (Finishes y);
           happened = happens x (Finishes y) h.happened may;
+          alone = h.alone;
           journal = h.journal;
           ends = h.ends;
           now = h.now;

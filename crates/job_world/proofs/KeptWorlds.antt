@@ -21,7 +21,6 @@ use Rattle.job_kept.specs.Laws.{FactsHold}
 use Rattle.job_kept.proofs.Ending.{ahead_none}
 use Rattle.job_kept.proofs.Facts.{runs_hold_facts}
 use Rattle.job_kept.proofs.Kept.{runs_are_kept}
-use Rattle.job_kept.proofs.Owned.{runs_are_own}
 use Rattle.job_works.specs.Picks.{HasPicked, is_committing, is_job_commit}
 use Rattle.job_world.specs.Holds.{HandIs, PutBy, Quiet, setting_of}
 use Rattle.job_world.specs.Events.{Grown, IsAsBefore}
@@ -117,10 +116,10 @@ module _ {W : Type 0} (wants : W → Option Request) (is_of : Setting → Actor 
         (runs_are_kept (setting_of b) b.opening play q.holds.legal q.holds.opens q.holds.happened idle ps told.first))
 
     sent : Sent b.script b.opening b.journal.entries
-    sent = subst (Sent b.script b.opening) (sym q.holds.journal) played.sent
+    sent = subst (Sent b.script b.opening) (sym q.holds.journal) (record { honest = played.honest; fated = q.holds.alone.fated })
 
     own : AreOwn b.journal.entries
-    own = subst AreOwn (sym q.holds.journal) (runs_are_own (setting_of b) b.opening play q.holds.legal q.holds.opens q.holds.happened idle)
+    own = subst AreOwn (sym q.holds.journal) q.holds.alone.own
 
     facts : FactsHold b.script b.opening b.journal.entries b.ends.items
     facts =

@@ -4,6 +4,7 @@ pub mod Weights
 pub mod Along
 pub mod PicksStay
 pub mod Finishes
+pub mod Alone
 pub mod Sends
 pub mod Postings
 pub mod Turns

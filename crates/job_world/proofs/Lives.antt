@@ -30,7 +30,7 @@ use Rattle.job_model.specs.declared.states.ActorState.{ActorState}
 use Rattle.job_operations.specs.Operations.{Setting, Running, over}
 use Rattle.job_promise.specs.States.{Past, put, dead, idle, restarted, end_op, open_event, ended}
 use Rattle.job_promise.specs.Turns.{is_busy, is_memory}
-use Rattle.job_happenings.specs.Happenings.{Play, Happening, Refuses, Opens, Sends, Finishes, Closes, open_running, hear, happen, Allowed, Happened, nothing_happened, happens}
+use Rattle.job_happenings.specs.Happenings.{Play, Happening, Refuses, Opens, Sends, Finishes, Closes, Strays, open_running, hear, happen, Allowed, Happened, nothing_happened, happens}
 use Rattle.job_happenings.proofs.Actors.{same_or_not, put_here, put_other}
 use Rattle.job_happenings.proofs.PastMore.{event_at, ended_idle}
 use Rattle.job_happenings.proofs.RunningStages.{may_end}
@@ -219,6 +219,7 @@ module _ (g : Setting) (opening : Content) (legal : IsLegal g.script) (x : Play)
         past_few = omega (arith, few, n);
         live_few = omega (arith, few, n);
       }
+  lives_more (Strays r o) ok = record { known = old.known; over = old.over; past_few = old.past_few; live_few = old.live_few }
 
 pub lives : (g : Setting) (opening : Content) (x : Play) → IsLegal g.script → Happened g opening x → Lives g x
 lives g opening x legal nothing_happened = record {

@@ -167,6 +167,7 @@ module _ {W : Type 0} (wants : W → Option Request) (is_of : Setting → Actor 
     opens = opens;
     play = nothing_played;
     happened = nothing_happened;
+    alone = record { own = tt; fated = tt };
     journal = h.journal;
     ends = h.ends;
     now = h.event;

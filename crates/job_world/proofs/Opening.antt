@@ -91,6 +91,7 @@ module _ {W : Type 0} (wants : W → Option Request) (is_of : Setting → Actor 
       opens = h.opens;
       play = y;
       happened = happens x (Opens ev) h.happened (may_open is_of running picks_of all_sound b h ev None q.idle next fine);
+      alone = h.alone;
       journal = h.journal;
       ends = h.ends;
       now = refl;

@@ -83,6 +83,7 @@ module _ {W : Type 0} (wants : W → Option Request) (tells : W → Outcome → 
           opens = holds.opens;
           play = holds.play;
           happened = holds.happened;
+          alone = holds.alone;
           journal = entries ∙ holds.journal;
           ends = holds.ends;
           now = holds.now;

@@ -23,6 +23,7 @@ module _ {W : Type 0} (wants : W → Option Request) (is_of : Setting → Actor 
       opens = q.holds.opens;
       play = q.holds.play;
       happened = q.holds.happened;
+      alone = q.holds.alone;
       journal = q.holds.journal;
       ends = ends ∙ q.holds.ends;
       now = q.holds.now;

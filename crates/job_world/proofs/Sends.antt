@@ -29,12 +29,13 @@ use Rattle.job_happenings.proofs.Actors.{same_or_not, put_here, put_other}
 use Rattle.job_happenings.proofs.Parts.{take_whole}
 use Rattle.job_works.specs.Picks.{HasPicked, is_job_commit, is_committing}
 use Rattle.job_works.specs.Works.{WorkLaws, IsAt, rise_for}
-use Rattle.job_world.specs.Holds.{Holds, HandIs, HandsAre, all_sound, is_busy_at, setting_of, hand_left}
+use Rattle.job_world.specs.Holds.{Holds, HandIs, HandsAre, IsAlone, all_sound, is_busy_at, setting_of, hand_left}
 use Rattle.job_world.specs.Posts.{RaisedBy, raised}
 use Rattle.job_world.specs.declared.hands.Hand.{Hand}
 use Rattle.job_world.specs.declared.hands.Hand.TheVariants.{Plan, At, Empty}
 use Rattle.job_world.specs.declared.body.Body.{Body}
-use Rattle.job_world.proofs.Places.{apart, driver_first, attempt_at, within, there}
+use Rattle.job_world.proofs.Places.{apart, driver_first, attempt_at, own_at, within, there}
+use Rattle.job_world.proofs.Alone.{alone_more}
 use Rattle.job_world.proofs.Along.{carried, others_know}
 use Rattle.job_world.proofs.PicksStay.{LeavesPicks, same_picked, put_by_sent}
 use Rattle.job_world.proofs.Finishes.{is_something, busy_is, busy_there}
@@ -148,7 +149,6 @@ module _ {W : Type 0} (wants : W → Option Request) (tells : W → Outcome → 
       pub may : MaySend (setting_of b) b.opening h.play (record { event = event; actor = actor; request = r; outcome = o })
       may =
           let ev = is_something b.event during in
-          let n : b.store.requests + 1 ≡ length x.journal + 1 = ap (λ v. v + 1) h.requests in
           record {
             event = ev.0;
             during = sym h.now ∙ ev.1;
@@ -158,9 +158,14 @@ module _ {W : Type 0} (wants : W → Option Request) (tells : W → Outcome → 
             is_at = at.at;
             asked = sym (works.asks g b.opening x actor m at) ∙ asked;
             honest = subst (λ (s : Scene). IsHonestOutcome o (answer s r)) h.scene honest;
-            fated = subst (λ f. IsForetold (Some f) o) (h.fates (b.store.requests + 1) ∙ ap (fate_at b.script.fates) n) fated;
             few = at.few;
           }
+
+      -- the job's own, with the outcome that is foretold
+      alone_now : IsAlone b.script (x.journal ++ e ∷ [])
+      alone_now =
+          let n : b.store.requests + 1 ≡ length x.journal + 1 = ap (λ v. v + 1) h.requests in
+          alone_more b.script x.journal e h.alone (own_at b.script place actor here) (subst (λ f. IsForetold (Some f) o) (h.fates (b.store.requests + 1) ∙ ap (fate_at b.script.fates) n) fated)
 
       own_running : (happen (setting_of b) h.play (Sends (record { event = event; actor = actor; request = r; outcome = o }))).running actor ≡ Some (advance (setting_of b) actor (running (knows_now (setting_of b) h.play actor) m) o)
       own_running = put_here x.running actor (hear g actor (x.running actor) e) actor refl ∙ ap (λ v. hear g actor v e) at.at
@@ -212,6 +217,7 @@ module _ {W : Type 0} (wants : W → Option Request) (tells : W → Outcome → 
               opens = h.opens;
               play = y;
               happened = happens x (Sends e) h.happened may;
+              alone = alone_now;
               journal = appended ∙ ap (λ es. es ++ e ∷ []) h.journal;
               ends = h.ends;
               now = h.now;

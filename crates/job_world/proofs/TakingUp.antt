@@ -55,6 +55,7 @@ module _ {W : Type 0} (wants : W → Option Request) (end_of : W → Option OpEn
           opens = begun.holds.opens;
           play = begun.holds.play;
           happened = begun.holds.happened;
+          alone = begun.holds.alone;
           journal = begun.holds.journal;
           ends = begun.holds.ends;
           now = begun.holds.now;

@@ -4,6 +4,7 @@ use Rattle.std.specs.List.{AllByRecursion}
 use Rattle.std.proofs.Common.{Vec, Global, ◌∙◌, sym, ap, subst, append-nil, append_assoc}
 use Rattle.s3_types.specs.Store.{Content, Scene}
 use Rattle.s3_types.specs.Fates.{fate_at}
+use Rattle.s3_types.specs.Foretold.{AreForetold}
 use Rattle.s3_types.specs.declared.request.Request.{Request}
 use Rattle.s3_types.specs.declared.request.Actor.{Actor}
 use Rattle.s3_types.specs.declared.request.Actor.TheVariants.{Driver, Shell}
@@ -17,6 +18,7 @@ use Rattle.job_model.specs.declared.ends.Pick.{Pick}
 use Rattle.job_model.specs.declared.states.Life.TheVariants.{Dead}
 use Rattle.job_operations.specs.Operations.{Setting, Running}
 use Rattle.job_promise.specs.States.{actors}
+use Rattle.job_promise.specs.Entries.{AreOwn}
 use Rattle.job_promise.specs.Turns.{is_busy, of_event}
 use Rattle.job_promise.specs.Promise.{ArePicked, all_picks, lacked_memory}
 use Rattle.job_facts.specs.Runs.{IsOpening}
@@ -65,6 +67,11 @@ pub record PutBy (g : Setting) (opening : Content) (x : Play) (ps : List Pick) :
   pub first : is_committing (x.running Driver) ≡ false → (xs : List EventEnd) → Ahead x xs → ArePicked ps (all_picks g.script opening x.journal xs)
   pub all : is_committing (x.running Driver) ≡ false → lacked_memory x.live.commit ≡ false → ArePicksOf g opening x ps
 
+-- all entries are of the job's own actors, and each sending had the outcome that the script names for its number
+pub record IsAlone (w : Script) (journal : List Entry) : Type 0 where
+  pub own : AreOwn journal
+  pub fated : AreForetold (λ n. Some (fate_at w.fates n)) 1 journal
+
 -- What holds of a world while an event goes on, and between events: all that happened was allowed, and gives what it keeps. At the
 -- places that are left out the hand may be anything.
 pub record Holds {W : Type 0} (is_of : Setting → Actor → W → Type 0) (running : Known → W → Running) (picks_of : W → Option (List Pick)) (sound : ℕ → Bool) (b : Body W) : Type 0 where
@@ -72,6 +79,7 @@ pub record Holds {W : Type 0} (is_of : Setting → Actor → W → Type 0) (runn
   pub opens : IsOpening (setting_of b) b.opening
   pub play : Play
   pub happened : Happened (setting_of b) b.opening play
+  pub alone : IsAlone b.script play.journal
   pub journal : b.journal.entries ≡ play.journal
   pub ends : b.ends.items ≡ play.ends
   pub now : b.event ≡ play.now

@@ -10,7 +10,7 @@ returns c = record {
     beside = setup_beside;
     empty = empty_none;
     no_file = setup_no_file;
-    no_file_beside = strange_no_file;
+    no_file_beside = λ w drawn s there. strange_no_file w drawn s;
     done = setup_done;
   };
 }
