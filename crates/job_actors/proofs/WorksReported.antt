@@ -19,12 +19,12 @@ use Rattle.list_walk.specs.Walks.{Sweep, sweep_hears}
 use Rattle.job_operations.specs.Lanes.{Turn, again, follow, dealt, revert}
 use Rattle.job_operations.specs.JobCommits.{Sets, all_commits, set_read, is_no_magic, Commit, Fetching, Replacing, Completing, Marking, Reverting, CommitOver, completing, replacing, fetching, fetched, swept, reverting, worn_completion, commit_misses, commit_tells, commit_start}
 use Rattle.job_operations.specs.Operations.{Setting, Operation, TheSetup, TheWrite, TheTaskCommit, TheTaskAbort, TheCommit, TheClean, who, tells, start_of}
-use Rattle.job_promise.specs.Seen.{Seen, see_all, nothing_seen}
-use Rattle.job_promise.specs.States.{missing, commit_event}
+use Rattle.job_promise.specs.Seen.{Seen, see_all, nothing_seen, is_begun}
+use Rattle.job_promise.specs.States.{missing, commit_event, clean_event}
 use Rattle.job_facts.specs.Runs.{IsOpening}
 use Rattle.job_facts.specs.Standing.{HasPublished}
 use Rattle.job_happenings.specs.Happenings.{Play, Refuses, Opens, Sends, Finishes, Closes, knows_now, begun, open_running, hear, happen, MaySend, Happened, nothing_happened, happens, Strays}
-use Rattle.job_happenings.specs.Running.{Ahead, operation_of}
+use Rattle.job_happenings.specs.Running.{Ahead, operation_of, times}
 use Rattle.job_facts.specs.Told.{strange_entry}
 use Rattle.job_happenings.proofs.Actors.{same_or_not, put_here, put_other}
 use Rattle.job_happenings.proofs.Running.{sent_ahead, finished_ahead, opened_ahead, refused_ahead, not_refused, closed_ahead, strayed_ahead}

@@ -17,7 +17,7 @@ use Rattle.job_operations.specs.Operations.{Setting, Operation, TheSetup, TheCom
 use Rattle.job_promise.specs.Seen.{Seen}
 use Rattle.job_promise.specs.States.{commit_event}
 use Rattle.request_frame.proofs.Members.{none_some}
-use Rattle.job_facts.specs.Told.{Told}
+use Rattle.job_facts.specs.Told.{Told, tell_all, nothing_told}
 use Rattle.job_facts.specs.Emptying.{SetsUp}
 use Rattle.job_facts.specs.FiledLaws.{Commits}
 use Rattle.job_facts.specs.Runs.{Stand, IsOpening, is_set}
@@ -26,7 +26,7 @@ use Rattle.job_facts.proofs.EveryRun.{good}
 use Rattle.job_facts.proofs.Entries.{sees, tells_so, late_now}
 use Rattle.job_facts.proofs.Changes.{moment_scene}
 use Rattle.job_happenings.specs.Happenings.{Play, Happened, scene_of}
-use Rattle.job_happenings.specs.Running.{IsRun, operation_of}
+use Rattle.job_happenings.specs.Running.{times, IsRun, operation_of}
 use Rattle.job_happenings.proofs.Running.{is_run}
 use Rattle.job_happenings.proofs.RunningCommits.{goes_on}
 use Rattle.job_answers.specs.Due.{SetStands}
@@ -51,7 +51,7 @@ module _ (g : Setting) (opening : Content) (x : Play) (j : IsLegal g.script) (is
   event = commit_event w (x.ends ++ Done ∷ [])
 
   -- the same run, request by request
-  pub run : IsRun g opening x event
+  pub run : IsRun g opening x (times w (x.ends ++ Done ∷ []))
   run = is_run g opening j is_opening x past (x.ends ++ Done ∷ []) (goes_on x)
 
   abbrev pub stand : Stand
@@ -111,7 +111,7 @@ module _ (g : Setting) (opening : Content) (x : Play) (j : IsLegal g.script) (is
 
     reads : AllRead w stand.seen c
     reads =
-        let clean = sym (ap (λ (z : Told). z.cleaned) (tells_so g event opening j is_opening x.journal stand run.runs)) ∙ in_commit.uncleaned in
+        let clean = sym (ap (λ (z : Told). z.cleaned) (tells_so g event opening j is_opening x.journal stand run.runs) ∙ ap (λ c. (tell_all w (nothing_told c) x.journal).cleaned) run.cleans) ∙ in_commit.uncleaned in
         let h = driver_reads g opening j is_opening (x.ends ++ Done ∷ []) x past (goes_on x) clean in
         subst (λ v. DriverReads w stand.seen v) (sym run.driver ∙ d) (subst (λ s. DriverReads w s (operation_of (x.running Driver))) (sym (sees g event opening j is_opening x.journal stand run.runs)) h)
 

@@ -47,7 +47,7 @@ module _ (g : Setting) (k : Option ℕ) (opening : Content) (j : IsLegal g.scrip
   own_begin y _ old a op e = old a op e
 
   pub own_task : (es : List Entry) (x : Stand) → Runs g k opening es x → (a : Who) (op : Operation) → x.attempts a ≡ Some op → OwnTask w a op
-  own_task es x (run_begins) a op e = absurd (none_some refl e)
+  own_task es x (run_begins c) a op e = absurd (none_some refl e)
   own_task es x (actor_begins fs y b run may) a op e = own_begin y b (own_task fs y run) a op e
   own_task es x (driver_sends fs y v n r o run d asked timely few honest) a op e = own_task fs y run a op e
   own_task es x (attempt_sends fs y b v n r o run set at asked honest) a op e = put_at (OwnTask w) y.attempts b (tells g b v o) (own_tells g b v o (own_task fs y run b v at)) (own_task fs y run) a op e

@@ -1,5 +1,5 @@
 -- How far the driver's commit has come is kept, whoever sends.
-use Rattle.std.proofs.Common.{◌≡◌, ℕ, ◌<◌, ◌≤◌, ◌^◌, ◌⊎◌, inl, inr, nat_lt, ◌||◌, Bool, true, false, cond, List, [], ◌∷◌, length, Option, Some, None, refl, sym, ap, subst, ◌∙◌, arith}
+use Rattle.std.proofs.Common.{◌≡◌, ℕ, ◌<◌, ◌≤◌, ◌^◌, ◌⊎◌, inl, inr, nat_lt, ◌||◌, Bool, true, false, cond, List, [], ◌∷◌, Option, Some, None, refl, sym, ap, subst, ◌∙◌, arith}
 use Rattle.std.proofs.lemmas.Bool.Decides.{nat_tests}
 use Rattle.s3_types.specs.Store.{Scene}
 use Rattle.s3_types.specs.Answer.{answer}
@@ -10,19 +10,17 @@ use Rattle.s3_types.specs.declared.request.Mode.{Mode}
 use Rattle.s3_types.specs.declared.request.Request.{Request}
 use Rattle.s3_types.specs.declared.journal.Outcome.{Outcome}
 use Rattle.s3_types.specs.declared.journal.Outcome.TheVariants.{Answered, Slow, RequestLost, ReplyLost}
-use Rattle.request_frame.proofs.Members.{some_is, none_some, false_true}
+use Rattle.request_frame.proofs.Members.{false_true}
 use Rattle.job_model.specs.Attempts.{Who}
 use Rattle.job_model.specs.Legal.{IsLegal}
 use Rattle.job_model.specs.JobScript.{Script}
 use Rattle.job_model.specs.declared.ends.CommitEnd.{CommitEnd}
 use Rattle.job_operations.specs.Outputs.{same_path}
-use Rattle.list_walk.specs.Walks.{Listing, Deleting}
 use Rattle.job_operations.specs.Lanes.{Turn, dealt}
-use Rattle.job_operations.specs.JobCommits.{Commit, Fetching, Replacing, Completing, Marking, Reverting, CommitOver, picks_of, set_request, completing, replaced, replacing, decided, commit_start, commit_asks, commit_tells}
+use Rattle.job_operations.specs.JobCommits.{Commit, Fetching, Replacing, Completing, Marking, Reverting, CommitOver, picks_of, completing, replaced, replacing, decided, commit_start, commit_asks, commit_tells}
 use Rattle.job_operations.specs.Operations.{Setting, Operation, asks}
 use Rattle.job_operations.proofs.LaneTables.{tabled_start, tabled_tells}
-use Rattle.job_promise.specs.Ends.{lists_uploads}
-use Rattle.job_promise.specs.Seen.{Seen, see, is_magic}
+use Rattle.job_promise.specs.Seen.{Seen, see, is_begun, is_magic}
 use Rattle.job_facts.specs.Told.{Told, known, tell, entry, driver_entry, strange_entry}
 use Rattle.job_facts.specs.Foreign.{IsForeign}
 use Rattle.job_facts.specs.Facts.{IsAttempt, Hold}
@@ -98,24 +96,8 @@ commits_go g j k s m n c v few r e o honest = record {
   decides = decides_goes j v.hold c v.fits v.tabled v.decides o;
 }
 
--- it lists no uploads
-read_lists : (c : Committer) (w : Script) (t : ℕ) → lists_uploads (set_request c w t) ≡ false
-read_lists Magic w t = refl
-read_lists Directory w t = refl
-read_lists Partitioned w t = refl
-
-module _ (w : Script) (minimum : ℕ) (s : Seen) (m : Told) where
-  lists_none : (c : Commit) → Commits w minimum s m c → (r : Request) → commit_asks w c ≡ Some r → lists_uploads r ≡ false
-  lists_none (Fetching sets n) v r e = ap lists_uploads (sym (some_is e)) ∙ read_lists w.committer w (length sets)
-  lists_none (Replacing sets p ps (Listing keys) n) v r e = ap lists_uploads (sym (some_is e))
-  lists_none (Replacing sets p ps (Deleting q qs) n) v r e = ap lists_uploads (sym (some_is e))
-  lists_none (Completing sets x xs finished) v r e = ap lists_uploads (sym (some_is e))
-  lists_none (Marking sets n) v r e = ap lists_uploads (sym (some_is e))
-  lists_none (Reverting q qs n) v r e = ap lists_uploads (sym (some_is e)) ∙ elim (v.decides q (inl refl)).2 [ inl is ↦ ap lists_uploads is | inr is ↦ ap lists_uploads is ]
-  lists_none (CommitOver end) v r e = absurd (none_some refl e)
-
-pub still_unclean : (w : Script) (minimum : ℕ) (s : Seen) (m : Told) (n : ℕ) (c : Commit) → Commits w minimum s m c → (r : Request) → commit_asks w c ≡ Some r → (o : Outcome) → m.cleaned ≡ false → (tell w m (driver_entry n r o)).cleaned ≡ false
-still_unclean w minimum s m n c v r e o h = ap (λ b. b || lists_uploads r) h ∙ lists_none w minimum s m c v r e
+pub still_unclean : (w : Script) (minimum : ℕ) (s : Seen) (m : Told) (n : ℕ) (c : Commit) → Commits w minimum s m c → (r : Request) → commit_asks w c ≡ Some r → (o : Outcome) → m.cleaned ≡ false → is_begun m.cleans_at n ≡ false → (tell w m (driver_entry n r o)).cleaned ≡ false
+still_unclean w minimum s m n c v r e o h late = ap (λ b. b || is_begun m.cleans_at n) h ∙ late
 
 -- ---- others'
 

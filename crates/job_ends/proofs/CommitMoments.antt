@@ -157,10 +157,10 @@ module _ (g : Setting) (j : IsLegal g.script) (k : Option ℕ) (opening : Conten
     | inr late ↦ none (late_driver x.driver x.seen x.told late.driver op d)
   ]
 
-  driver_on : (es : List Entry) (x : Stand) → Runs g k opening es x → (op : Operation) → x.driver ≡ Some op → (n : ℕ) (r : Request) (o : Outcome) → asks g (who Driver) nothing_learnt op ≡ Some r → IsTimely k n op → x.seen.scene.content.next ≤ 2 ^ 64 → IsHonestOutcome o (answer x.seen.scene r)
+  driver_on : (es : List Entry) (x : Stand) → Runs g k opening es x → (op : Operation) → x.driver ≡ Some op → (n : ℕ) (r : Request) (o : Outcome) → asks g (who Driver) nothing_learnt op ≡ Some r → IsTimely k x.told.cleans_at n op → x.seen.scene.content.next ≤ 2 ^ 64 → IsHonestOutcome o (answer x.seen.scene r)
       → (t : ℕ) → t < w.tasks → ((see w k x.seen (driver_entry n r o)).picks t ≡ x.seen.picks t) ⊎ (x.seen.picks t ≡ None)
   driver_on es x run (TheCommit c) d n r o asked timely few honest t l =
-      grown x.seen.picks (see w k x.seen (driver_entry n r o)).picks c (commit_tells w c o) (picks_on g j k opening is_opening es x run c d (stood g j k opening is_opening es x run c d) n r o asked timely few honest) t l
+      grown x.seen.picks (see w k x.seen (driver_entry n r o)).picks c (commit_tells w c o) (picks_on g j k opening is_opening es x run c d (stood g j k opening is_opening es x run c d) n r o asked timely.0 few honest) t l
   driver_on es x run (TheSetup c) d n r o asked timely few honest t l = inl (driver_leaves w k x.seen n r o (setup_reads w c.operation r asked) t)
   driver_on es x run (TheClean c) d n r o asked timely few honest t l = inl (driver_leaves w k x.seen n r o (clean_reads w c.operation r asked) t)
   driver_on es x run (TheWrite c) d n r o asked timely few honest t l = absurd (no_driver es x run (TheWrite c) d (λ y. y))
@@ -192,7 +192,7 @@ module _ (g : Setting) (j : IsLegal g.script) (k : Option ℕ) (opening : Conten
   ]
 
   pub earlier : (es : List Entry) (x : Stand) → Runs g k opening es x → Earlier es x
-  earlier es x (run_begins) = λ m l t low. inr (ap (λ (p : Picks). p t) (whole [] x run_begins m (omega arith)))
+  earlier es x (run_begins c) = λ m l t low. inr (ap (λ (p : Picks). p t) (whole [] x (run_begins c) m (omega arith)))
   earlier es x (actor_begins fs y b run may) = earlier fs y run
   earlier es x (driver_sends fs y op n r o run d asked timely few honest) = earlier_more fs y (driver_entry n r o) x (driver_sends fs y op n r o run d asked timely few honest) (earlier fs y run) (driver_on fs y run op d n r o asked timely few honest)
   earlier es x (attempt_sends fs y a op n r o run set at asked honest) = earlier_more fs y (entry a n r o) x (attempt_sends fs y a op n r o run set at asked honest) (earlier fs y run) (λ t l. inl (ap (λ (p : Picks). p t) (attempts_leave w k y.seen a n r o)))

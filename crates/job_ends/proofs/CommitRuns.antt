@@ -115,9 +115,9 @@ module _ (g : Setting) (j : IsLegal g.script) (k : Option ℕ) (opening : Conten
     pub picks_on : PicksGrow w x.seen.picks (see w k x.seen (driver_entry n r o)).picks c (commit_tells w c o)
     picks_on = let l = late_at es x runs c d in (after_entry g j k x.seen x.told l.0 l.1.uncleaned few n timely old.missing old.sets c l.1.decides old.at old.picks r asked o honest).grows
 
-  driver_on : (es : List Entry) (x : Stand) → Runs g k opening es x → Stood x → (op : Operation) (n : ℕ) (r : Request) (o : Outcome) → x.driver ≡ Some op → asks g (who Driver) nothing_learnt op ≡ Some r → IsTimely k n op → x.seen.scene.content.next ≤ 2 ^ 64 → IsHonestOutcome o (answer x.seen.scene r)
+  driver_on : (es : List Entry) (x : Stand) → Runs g k opening es x → Stood x → (op : Operation) (n : ℕ) (r : Request) (o : Outcome) → x.driver ≡ Some op → asks g (who Driver) nothing_learnt op ≡ Some r → IsTimely k x.told.cleans_at n op → x.seen.scene.content.next ≤ 2 ^ 64 → IsHonestOutcome o (answer x.seen.scene r)
       → Stood (with_commit (with_driver (saw g k x (driver_entry n r o)) (tells g (who Driver) op o)) (commit_with op x.commit (driver_entry n r o)))
-  driver_on es x runs old (TheCommit c) n r o d asked timely few honest v e = subst (CommitStands g _) (commit_is e) (sends_on es x runs c d (old c d) n r o asked timely few honest)
+  driver_on es x runs old (TheCommit c) n r o d asked timely few honest v e = subst (CommitStands g _) (commit_is e) (sends_on es x runs c d (old c d) n r o asked timely.0 few honest)
   driver_on es x runs old _ n r o d asked timely few honest v e = absurd cc
 
   -- ---- entries of others, and what begins beside it
@@ -145,7 +145,7 @@ module _ (g : Setting) (j : IsLegal g.script) (k : Option ℕ) (opening : Conten
   -- ---- every run
 
   pub stood : (es : List Entry) (x : Stand) → Runs g k opening es x → Stood x
-  stood es x (run_begins) c e = absurd (none_some refl e)
+  stood es x (run_begins v) c e = absurd (none_some refl e)
   stood es x (actor_begins fs y b runs may) c e = begins_on fs y runs (stood fs y runs) b may c e
   stood es x (driver_sends fs y op n r o runs d asked timely few honest) c e = driver_on fs y runs (stood fs y runs) op n r o d asked timely few honest c e
   stood es x (attempt_sends fs y a op n r o runs set at asked honest) c e = same_stand y x (λ t. ap (λ (p : Picks). p t) (attempts_leave w k y.seen a n r o)) refl c (stood fs y runs c e)
@@ -174,7 +174,7 @@ module _ (g : Setting) (j : IsLegal g.script) (k : Option ℕ) (opening : Conten
   mark_driver es x runs _ d n r o asked c e = absurd cc
 
   pub marks : (es : List Entry) (x : Stand) → Runs g k opening es x → AreOwn es → Marked x
-  marks es x (run_begins) own c e = absurd (none_some refl e)
+  marks es x (run_begins v) own c e = absurd (none_some refl e)
   marks es x (actor_begins fs y b runs may) own c e = mark_begins y (marks fs y runs own) b c e
   marks es x (driver_sends fs y op n r o runs d asked timely few honest) own c e = mark_driver fs y runs op d n r o asked c e
   marks es x (attempt_sends fs y a op n r o runs set at asked honest) own c e =

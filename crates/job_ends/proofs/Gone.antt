@@ -75,8 +75,8 @@ module _ (g : Setting) (k : Option ℕ) (opening : Content) (j : IsLegal g.scrip
     | inr h ↦ absurd (never (Own g k opening j is_opening es a) x.seen a op name ((standing g k opening j is_opening es x run).stands h a op at) not_abort e)
   ]
 
-  cleaned_so : (es : List Entry) (x : Stand) → Runs g k opening es x → x.told.cleaned ≡ has_cleaned es
-  cleaned_so es x run = ap (λ (m : Told). m.cleaned) (tells_so g k opening j is_opening es x run) ∙ cleaned_is g.script es nothing_told
+  cleaned_so : (c : Option ℕ) (es : List Entry) (x : Stand) → Runs g k opening es x → x.told.cleans_at ≡ c → x.told.cleaned ≡ has_cleaned c es
+  cleaned_so c es x run at = ap (λ (m : Told). m.cleaned) (tells_so g k opening j is_opening es x run) ∙ cleaned_is g.script es (nothing_told x.told.cleans_at) ∙ ap (λ v. has_cleaned v es) at
 
   -- ---- no operation is so as it begins
 
@@ -121,15 +121,16 @@ module _ (g : Setting) (k : Option ℕ) (opening : Content) (j : IsLegal g.scrip
 
   -- ---- so is it at the attempt's last entry
 
-  pub gone_cleaned : (es : List Entry) (x : Stand) → Runs g k opening es x → (a : Who) (op : Operation) (name : List ℕ) → x.attempts a ≡ Some op → is_abort op ≡ false → over op ≡ Some (ends.Task (tasks.Gone name)) → has_cleaned (until_last (actor_of a) es) ≡ true
+  pub gone_cleaned : (es : List Entry) (x : Stand) → Runs g k opening es x → (a : Who) (op : Operation) (name : List ℕ) → x.attempts a ≡ Some op → is_abort op ≡ false → over op ≡ Some (ends.Task (tasks.Gone name)) → has_cleaned x.told.cleans_at (until_last (actor_of a) es) ≡ true
   gone_cleaned es x run a op name at not_abort e =
       let then = at_last g k opening a op (gone_late op name not_abort e) es x run at in
-      sym (cleaned_so (until_last (actor_of a) es) then.0 then.1) ∙ gone_now (until_last (actor_of a) es) then.0 then.1 a op name then.2 not_abort e
+      let front = until_last (actor_of a) es in
+      sym (cleaned_so x.told.cleans_at front then.0 then.1 then.2) ∙ gone_now front then.0 then.1 a op name then.3 not_abort e
 
-  pub done_published : (es : List Entry) (x : Stand) → Runs g k opening es x → (a : Who) (spare : ℕ) (repeated : Bool) → x.attempts a ≡ Some (done spare repeated) → has_cleaned (until_last (actor_of a) es) ≡ false → (n : ℕ) × WasPublished g.script opening es a.task a.attempt n
+  pub done_published : (es : List Entry) (x : Stand) → Runs g k opening es x → (a : Who) (spare : ℕ) (repeated : Bool) → x.attempts a ≡ Some (done spare repeated) → has_cleaned x.told.cleans_at (until_last (actor_of a) es) ≡ false → (n : ℕ) × WasPublished g.script opening es a.task a.attempt n
   done_published es x run a spare repeated at clean =
       let then = at_last g k opening a (done spare repeated) (done_late spare repeated) es x run at in
       let front = until_last (actor_of a) es in
-      let p = has_published g k opening j is_opening front then.0 then.1 (cleaned_so front then.0 then.1 ∙ clean) a spare repeated then.2 in
+      let p = has_published g k opening j is_opening front then.0 then.1 (cleaned_so x.told.cleans_at front then.0 then.1 then.2 ∙ clean) a spare repeated then.3 in
       let more = behind_last (actor_of a) es in
       (p.0, subst (λ l. WasPublished g.script opening l a.task a.attempt p.0) more.1 (longer_published g.script opening front more.0 a.task a.attempt p.0 p.0 p.1 p.1.until))

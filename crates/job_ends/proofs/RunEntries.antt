@@ -105,11 +105,11 @@ module _ (g : Setting) (k : Option ℕ) (opening : Content) where
   other_stood (Some (TheClean t)) es commit e other h = tt
   other_stood (Some _) es commit e other h = absurd h
 
-  driver_stood : (op : Operation) (es commit : List Entry) (n : ℕ) (r : Request) (o : Outcome) → IsTimely k n op → Stood (Some op) es commit → Stood (Some (tells g (who Driver) op o)) (es ++ driver_entry n r o ∷ []) (commit_with op commit (driver_entry n r o))
-  driver_stood (TheSetup t) es commit n r o timely h = driver_more es n r o ∙ ap (λ b. since_commit es ++ cond b (driver_entry n r o ∷ []) []) timely ∙ ap (λ l. l ++ []) h
-  driver_stood (TheCommit c) es commit n r o timely h = ap (λ l. l ++ driver_entry n r o ∷ []) h ∙ sym (driver_more es n r o ∙ ap (λ b. since_commit es ++ cond b (driver_entry n r o ∷ []) []) timely)
-  driver_stood (TheClean t) es commit n r o timely h = tt
-  driver_stood _ es commit n r o timely h = absurd h
+  driver_stood : (op : Operation) (es commit : List Entry) (c : Option ℕ) (n : ℕ) (r : Request) (o : Outcome) → IsTimely k c n op → Stood (Some op) es commit → Stood (Some (tells g (who Driver) op o)) (es ++ driver_entry n r o ∷ []) (commit_with op commit (driver_entry n r o))
+  driver_stood (TheSetup t) es commit v n r o timely h = driver_more es n r o ∙ ap (λ b. since_commit es ++ cond b (driver_entry n r o ∷ []) []) timely.0 ∙ ap (λ l. l ++ []) h
+  driver_stood (TheCommit c) es commit v n r o timely h = ap (λ l. l ++ driver_entry n r o ∷ []) h ∙ sym (driver_more es n r o ∙ ap (λ b. since_commit es ++ cond b (driver_entry n r o ∷ []) []) timely.0)
+  driver_stood (TheClean t) es commit v n r o timely h = tt
+  driver_stood _ es commit v n r o timely h = absurd h
 
   begin_stood : (es : List Entry) (x : Stand) (b : Beginning) → MayBegin g x b → Stood x.driver es x.commit → Stood (begin g x b).driver es (begin g x b).commit
   begin_stood es x BeginSetup may h = may_so x es may h
@@ -118,9 +118,9 @@ module _ (g : Setting) (k : Option ℕ) (opening : Content) where
   begin_stood es x _ may h = h
 
   stood : (es : List Entry) (x : Stand) → Runs g k opening es x → Stood x.driver es x.commit
-  stood es x (run_begins) = refl
+  stood es x (run_begins v) = refl
   stood es x (actor_begins fs y b run may) = begin_stood fs y b may (stood fs y run)
-  stood es x (driver_sends fs y op n r o run d asked timely few honest) = driver_stood op fs y.commit n r o timely (subst (λ v. Stood v fs y.commit) d (stood fs y run))
+  stood es x (driver_sends fs y op n r o run d asked timely few honest) = driver_stood op fs y.commit y.told.cleans_at n r o timely (subst (λ v. Stood v fs y.commit) d (stood fs y run))
   stood es x (attempt_sends fs y a op n r o run set at asked honest) = other_stood y.driver fs y.commit (entry a n r o) refl (stood fs y run)
   stood es x (strays fs y n r o run f) = other_stood y.driver fs y.commit (strange_entry n r o) refl (stood fs y run)
 
@@ -151,7 +151,7 @@ module _ (g : Setting) (k : Option ℕ) (opening : Content) where
   begin_alone es x _ h = h
 
   alone : (es : List Entry) (x : Stand) → Runs g k opening es x → Alone es x
-  alone es x (run_begins) = inl tt
+  alone es x (run_begins v) = inl tt
   alone es x (actor_begins fs y b run may) = begin_alone fs y b (alone fs y run)
   alone es x (driver_sends fs y op n r o run d asked timely few honest) = driver_alone fs y n r o (alone fs y run)
   alone es x (attempt_sends fs y a op n r o run set at asked honest) = inr (a, _, who_here y.attempts a (Some _) a refl)
@@ -191,7 +191,7 @@ module _ (g : Setting) (k : Option ℕ) (opening : Content) where
   none_begin x (BeginAbort a) may old e = absurd (false_true e may.0)
 
   none_begun : (es : List Entry) (x : Stand) → Runs g k opening es x → is_set x.driver ≡ false → (a : Who) → x.attempts a ≡ None
-  none_begun es x (run_begins) e b = refl
+  none_begun es x (run_begins v) e b = refl
   none_begun es x (actor_begins fs y v run may) e b = none_begin y v may (none_begun fs y run) e b
   none_begun es x (driver_sends fs y op n r o run d asked timely few honest) e b = none_begun fs y run (ap is_set d ∙ was_unset op r o asked e) b
   none_begun es x (attempt_sends fs y a op n r o run set at asked honest) e b = absurd (false_true e set)
@@ -199,8 +199,8 @@ module _ (g : Setting) (k : Option ℕ) (opening : Content) where
 
   -- ---- up to an attempt's last entry
 
-  abbrev At : Who → Operation → List Entry → Type 0
-  At a op es = (y : Stand) × Runs g k opening es y × (y.attempts a ≡ Some op)
+  abbrev At : Who → Operation → Option ℕ → List Entry → Type 0
+  At a op c es = (y : Stand) × Runs g k opening es y × (y.told.cleans_at ≡ c) × (y.attempts a ≡ Some op)
 
   module _ (a : Who) (op : Operation) (late : (b : Who) (o : Op) (m : Known) → start_of g (actor_of b) o None m ≡ Some op → ⊥) where
     begun : (y : Stand) (b : Who) (o : Op) (m : Known) (s : Operation) → start_of g (actor_of b) o None m ≡ Some s → put_who y.attempts b (Some s) a ≡ Some op → y.attempts a ≡ Some op
@@ -215,15 +215,15 @@ module _ (g : Setting) (k : Option ℕ) (opening : Content) where
     begun_at y (BeginAbort b) at = begun y b ops.Abort (known y.told b) _ refl at
     begun_at y _ at = at
 
-    pub at_last : (es : List Entry) (x : Stand) → Runs g k opening es x → x.attempts a ≡ Some op → At a op (until_last (actor_of a) es)
-    at_last es x (run_begins) at = absurd (none_some refl at)
+    pub at_last : (es : List Entry) (x : Stand) → Runs g k opening es x → x.attempts a ≡ Some op → At a op x.told.cleans_at (until_last (actor_of a) es)
+    at_last es x (run_begins c) at = absurd (none_some refl at)
     at_last es x (actor_begins fs y b run may) at = at_last fs y run (begun_at y b at)
-    at_last es x (driver_sends fs y d n r o run is asked timely few honest) at = subst (At a op) (sym (last_other (actor_of a) fs (driver_entry n r o) refl)) (at_last fs y run at)
+    at_last es x (driver_sends fs y d n r o run is asked timely few honest) at = subst (At a op y.told.cleans_at) (sym (last_other (actor_of a) fs (driver_entry n r o) refl)) (at_last fs y run at)
     at_last es x (attempt_sends fs y b m n r o run set is asked honest) at = elim (same_or_another b a) [
-      | inl same ↦ subst (At a op) (sym (last_own (actor_of a) fs (entry b n r o) (who_true b a same))) (x, attempt_sends fs y b m n r o run set is asked honest, at)
-      | inr ne ↦ subst (At a op) (sym (last_other (actor_of a) fs (entry b n r o) (who_false b a ne))) (at_last fs y run (sym (who_other y.attempts b _ a (λ e. ne (sym e))) ∙ at))
+      | inl same ↦ subst (At a op y.told.cleans_at) (sym (last_own (actor_of a) fs (entry b n r o) (who_true b a same))) (x, attempt_sends fs y b m n r o run set is asked honest, refl, at)
+      | inr ne ↦ subst (At a op y.told.cleans_at) (sym (last_other (actor_of a) fs (entry b n r o) (who_false b a ne))) (at_last fs y run (sym (who_other y.attempts b _ a (λ e. ne (sym e))) ∙ at))
     ]
-    at_last es x (strays fs y n r o run f) at = subst (At a op) (sym (last_other (actor_of a) fs (strange_entry n r o) refl)) (at_last fs y run at)
+    at_last es x (strays fs y n r o run f) at = subst (At a op y.told.cleans_at) (sym (last_other (actor_of a) fs (strange_entry n r o) refl)) (at_last fs y run at)
 
 -- ---- what was published
 

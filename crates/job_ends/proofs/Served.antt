@@ -271,7 +271,7 @@ module _ (g : Setting) (k : Option ℕ) (opening : Content) (j : IsLegal g.scrip
   begin_answers x _ old c e = old c e
 
   pub answers : (es : List Entry) (x : Stand) → Runs g k opening es x → Answers x
-  answers es x (run_begins) c e = absurd (none_some refl e)
+  answers es x (run_begins v) c e = absurd (none_some refl e)
   answers es x (actor_begins fs y b run may) c e = begin_answers y b (answers fs y run) c e
   answers es x (driver_sends fs y op n r o run d asked timely few honest) c e = driver_answers fs y run (answers fs y run) op n r o d asked honest c e
   answers es x (attempt_sends fs y a op n r o run set at asked honest) c e = answers fs y run c e
@@ -295,8 +295,8 @@ module _ (g : Setting) (k : Option ℕ) (opening : Content) (j : IsLegal g.scrip
       let v = in_commit fs x run c d in
       absurd (false_true (other_unread g j k x.seen x.told v.0 v.2.uncleaned few n timely c refl v.2.decides r asked t) (ap (is_reading w t) is ∙ reads_it j t))
 
-  driver_there : (fs : List Entry) (x : Stand) → Runs g k opening fs x → (op : Operation) (n : ℕ) (r : Request) (o : Outcome) → x.driver ≡ Some op → asks g (who Driver) nothing_learnt op ≡ Some r → IsTimely k n op → x.seen.scene.content.next ≤ 2 ^ 64 → IsHonestOutcome o (answer x.seen.scene r) → IsThere fs (driver_entry n r o)
-  driver_there fs x run (TheCommit c) n r o d asked timely few honest by t y is got = commit_there fs x run c n r o d asked timely few honest by t y is got
+  driver_there : (fs : List Entry) (x : Stand) → Runs g k opening fs x → (op : Operation) (n : ℕ) (r : Request) (o : Outcome) → x.driver ≡ Some op → asks g (who Driver) nothing_learnt op ≡ Some r → IsTimely k x.told.cleans_at n op → x.seen.scene.content.next ≤ 2 ^ 64 → IsHonestOutcome o (answer x.seen.scene r) → IsThere fs (driver_entry n r o)
+  driver_there fs x run (TheCommit c) n r o d asked timely few honest by t y is got = commit_there fs x run c n r o d asked timely.0 few honest by t y is got
   driver_there fs x run (TheSetup c) n r o d asked timely few honest by t y is got = absurd (false_true (setup_reads w c.operation r asked t) (ap (is_reading w t) is ∙ reads_it j t))
   driver_there fs x run (TheClean c) n r o d asked timely few honest by t y is got = absurd (false_true (clean_reads w c.operation r asked t) (ap (is_reading w t) is ∙ reads_it j t))
   driver_there fs x run (TheWrite c) n r o d asked timely few honest by t y is got = absurd (no_driver g j k opening is_opening fs x run (TheWrite c) d (λ z. z))
@@ -310,7 +310,7 @@ module _ (g : Setting) (k : Option ℕ) (opening : Content) (j : IsLegal g.scrip
   no_shell e = cc
 
   pub there : (es : List Entry) (x : Stand) → Runs g k opening es x → Each IsThere es
-  there es x (run_begins) = λ before z later q. absurd (no_member before z later q)
+  there es x (run_begins v) = λ before z later q. absurd (no_member before z later q)
   there es x (actor_begins fs y b run may) = there fs y run
   there es x (driver_sends fs y op n r o run d asked timely few honest) = each_more IsThere fs (driver_entry n r o) (there fs y run) (driver_there fs y run op n r o d asked timely few honest)
   there es x (attempt_sends fs y a op n r o run set at asked honest) = each_more IsThere fs (entry a n r o) (there fs y run) (λ by t v is got. absurd (not_driver a by))

@@ -31,9 +31,9 @@ use Rattle.job_promise.specs.OperationEnds.{was_lost}
 use Rattle.job_promise.specs.Entries.{AreOwn}
 use Rattle.job_promise.specs.Ends.{commit_due, is_mark_answered, CommitEnded}
 use Rattle.job_promise.specs.Promise.{picks_below, picked}
-use Rattle.job_promise.specs.Seen.{Seen, see, see_all, nothing_seen, is_marked}
+use Rattle.job_promise.specs.Seen.{Seen, see, see_all, nothing_seen, is_marked, is_begun}
 use Rattle.job_facts.specs.Told.{entry, driver_entry}
-use Rattle.job_facts.specs.Runs.{Stand, Runs, IsOpening, IsTimely}
+use Rattle.job_facts.specs.Runs.{Stand, Runs, IsOpening}
 
 -- the end that is due with these sets, where no request wore out; of a read that wore out that not all were read
 abbrev pub IsDue : Script → Option ℕ → Sets → CommitEnd → Type 0
@@ -113,7 +113,7 @@ pub record CommitRuns : Type 0 where
       → (missing : Option ℕ) → run (commit_tells g.script) (commit_start g.script missing) x.commit ≡ CommitOver end → CommitEnded g.script x.seen missing x.commit end
   -- how the picks grow with its entries, and that those of other operations leave them
   pub grows : (g : Setting) → IsLegal g.script → (k : Option ℕ) (opening : Content) → IsOpening g opening → (es : List Entry) (x : Stand) → Runs g k opening es x → (c : Commit) → x.driver ≡ Some (TheCommit c)
-      → (n : ℕ) (r : Request) (o : Outcome) → commit_asks g.script c ≡ Some r → IsTimely k n (TheCommit c) → x.seen.scene.content.next ≤ 2 ^ 64 → IsHonestOutcome o (answer x.seen.scene r)
+      → (n : ℕ) (r : Request) (o : Outcome) → commit_asks g.script c ≡ Some r → is_begun k n ≡ true → x.seen.scene.content.next ≤ 2 ^ 64 → IsHonestOutcome o (answer x.seen.scene r)
       → PicksGrow g.script x.seen.picks (see g.script k x.seen (driver_entry n r o)).picks c (commit_tells g.script c o)
   -- so does their list
   pub list : (w : Script) (before now : Picks) (c d : Commit) → (m : PicksOneMore w before now c d) → picks_below now w.tasks ≡ picks_below before w.tasks ++ picked (length m.sets) (Some m.set.attempt)

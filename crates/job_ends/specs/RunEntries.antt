@@ -26,6 +26,6 @@ pub record RunEntries : Type 0 where
   pub setup : (g : Setting) (k : Option ℕ) (opening : Content) (es : List Entry) (x : Stand) → Runs g k opening es x → (t : Retried Setup) → x.driver ≡ Some (TheSetup t) → is_done t.operation ≡ false → (a : Who) → x.attempts a ≡ None
   -- an attempt's operation that is none that begins was the same in the run up to its attempt's last entry
   pub last : (g : Setting) (k : Option ℕ) (opening : Content) (es : List Entry) (x : Stand) → Runs g k opening es x → (a : Who) (op : Operation) → x.attempts a ≡ Some op
-      → ((b : Who) (o : Op) (m : Known) → start_of g (actor_of b) o None m ≡ Some op → ⊥) → (y : Stand) × Runs g k opening (until_last (actor_of a) es) y × (y.attempts a ≡ Some op)
+      → ((b : Who) (o : Op) (m : Known) → start_of g (actor_of b) o None m ≡ Some op → ⊥) → (y : Stand) × Runs g k opening (until_last (actor_of a) es) y × (y.told.cleans_at ≡ x.told.cleans_at) × (y.attempts a ≡ Some op)
   -- what was published is so in a longer journal, at the latest in the last event of these entries
   pub published : (w : Script) (opening : Content) (es more : List Entry) (t a n i : ℕ) → WasPublished w opening es t a n → AllUpTo i es → WasPublished w opening (es ++ more) t a i

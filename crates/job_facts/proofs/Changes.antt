@@ -163,7 +163,7 @@ module _ (g : Setting) (k : Option ℕ) (opening : Content) (j : IsLegal g.scrip
   attempt_content x a n r ReplyLost = refl
 
   after_is : (es : List Entry) (x : Stand) → Runs g k opening es x → x.seen.scene ≡ after_all (opening_scene opening) es
-  after_is es x (run_begins) = refl
+  after_is es x (run_begins c) = refl
   after_is es x (actor_begins fs y b run may) = after_is fs y run
   after_is es x (driver_sends fs y op n r o run d asked timely few honest) = driver_content y n r o ∙ ap (λ s. effect s r o) (after_is fs y run) ∙ sym (after_more (opening_scene opening) fs (driver_entry n r o))
   after_is es x (attempt_sends fs y a op n r o run set at asked honest) = attempt_content y a n r o ∙ ap (λ s. effect s r o) (after_is fs y run) ∙ sym (after_more (opening_scene opening) fs (entry a n r o))
@@ -232,7 +232,7 @@ module _ (g : Setting) (k : Option ℕ) (opening : Content) (j : IsLegal g.scrip
       now_leaves own = leaves_on w opening now next (h.whole (own_front es (e ∷ []) own)) (changes_leave w e now next (c (own_last es e own)))
 
   moments : (es : List Entry) (x : Stand) → Runs g k opening es x → Moments es x.seen.scene.content
-  moments es x (run_begins) = record { entries = λ m e is own. absurd (none_some refl is); outside = λ own m l. subst (λ xs. Leaves w opening (after_all (opening_scene opening) xs).content) (sym (take_all [] m (omega arith))) (leaves_same w opening); whole = λ own. leaves_same w opening }
+  moments es x (run_begins c) = record { entries = λ m e is own. absurd (none_some refl is); outside = λ own m l. subst (λ xs. Leaves w opening (after_all (opening_scene opening) xs).content) (sym (take_all [] m (omega arith))) (leaves_same w opening); whole = λ own. leaves_same w opening }
   moments es x (actor_begins fs y b run may) = moments fs y run
   moments es x (driver_sends fs y op n r o run d asked timely few honest) =
       one_more fs (driver_entry n r o) y.seen.scene.content x.seen.scene.content (moment_is fs y run) (moment_is es x (driver_sends fs y op n r o run d asked timely few honest))

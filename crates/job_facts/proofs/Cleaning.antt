@@ -25,8 +25,7 @@ use Rattle.list_walk.specs.Walks.{Listing, Deleting, walked, walked_by, walked_u
 use Rattle.job_operations.specs.Cleanups.{Clean, Walking, Aborting, Sweeping, Naming, Removing, CleanOver, clean_asks, clean_after, clean_hears, aborted, aborting, walking, sweeping, removing, naming}
 use Rattle.job_promise.specs.Headline.{Same}
 use Rattle.job_operations.specs.View.{view}
-use Rattle.job_promise.specs.Seen.{Seen, see}
-use Rattle.job_promise.specs.Ends.{lists_uploads}
+use Rattle.job_promise.specs.Seen.{Seen, see, is_begun}
 use Rattle.request_frame.specs.Members.{IsIn}
 use Rattle.request_frame.proofs.Members.{some_is, nat_true, in_append, in_filter}
 use Rattle.request_frame.proofs.Flat.{page_begins}
@@ -118,17 +117,19 @@ module _ (w : Script) (minimum : ℕ) (k : Option ℕ) (s : Seen) (m : Told) (n 
   clean_shows t fits r e o = hidden_shows j s.scene r o h.there (clean_hides t fits r e)
 
   -- it goes on as it should
-  module _ (retries : ℕ) (spare : ℕ) (repeated : Bool) where
+  module _ (timely : is_begun m.cleans_at n ≡ true) (retries : ℕ) (spare : ℕ) (repeated : Bool) where
+    now : (m.cleaned || is_begun m.cleans_at n) ≡ true
+    now = ap (λ b. m.cleaned || b) timely ∙ or_true m.cleaned
+
     abbrev at : Clean → Retried Clean
     at op = record { operation = op; spare = spare; repeated = repeated }
 
     abbrev FitsAfter : Clean → Outcome → Request → Type 0
-    FitsAfter op o q = IsHonestOutcome o (answer s.scene q) → FitsClean w (m.cleaned || lists_uploads q) (step retries (clean_after w) (at op) o).operation
+    FitsAfter op o q = IsHonestOutcome o (answer s.scene q) → FitsClean w (m.cleaned || is_begun m.cleans_at n) (step retries (clean_after w) (at op) o).operation
 
     -- once it has begun it goes on where it goes on from an answer
-    stays : (op : Clean) (q : Request) (o : Outcome) → m.cleaned ≡ true → ((x : Reply) → x ≡ answer s.scene q → FitsClean w true (clean_hears w op x)) → (FitsClean w true op) → FitsAfter op o q
-    stays op q o begun heard still honest =
-        let now : (m.cleaned || lists_uploads q) ≡ true = ap (λ b. b || lists_uploads q) begun in
+    stays : (op : Clean) (q : Request) (o : Outcome) → ((x : Reply) → x ≡ answer s.scene q → FitsClean w true (clean_hears w op x)) → (FitsClean w true op) → FitsAfter op o q
+    stays op q o heard still honest =
         subst (λ b. FitsClean w b (step retries (clean_after w) (at op) o).operation) (sym now)
         (step_so retries (clean_after w) (at op) o (FitsClean w true) (λ x e. heard x (subst (λ v. IsHonestOutcome v (answer s.scene q)) e honest)) (λ none. still) (λ none. tt))
 
@@ -138,7 +139,7 @@ module _ (w : Script) (minimum : ℕ) (k : Option ℕ) (s : Seen) (m : Told) (n 
         let q = uploads_after w.dest.bucket (dest_prefix w) found in
         let rs = multipart.listed (dest_prefix w) (last_ref None found) h.there.0.uploads in
         let due : answer s.scene q ≡ UploadsPage (take 1000 rs) (nat_lt 1000 (length rs)) = answer_is w s.scene h.there.0 h.there.1 q refl in
-        subst (λ b. FitsClean w b (step retries (clean_after w) (at (Walking found)) o).operation) (sym (or_true m.cleaned))
+        subst (λ b. FitsClean w b (step retries (clean_after w) (at (Walking found)) o).operation) (sym now)
         (step_so retries (clean_after w) (at (Walking found)) o (FitsClean w true)
         (λ x e. subst (λ y. FitsClean w true (walking w.committer (walked_uploads found y))) (sym (subst (λ v. IsHonestOutcome v (answer s.scene q)) e honest ∙ due))
         (fits_walking w w.committer (nat_lt 1000 (length rs)) (found ++ take 1000 rs) (refs_below w found h.there.0.uploads below)))
@@ -161,12 +162,12 @@ module _ (w : Script) (minimum : ℕ) (k : Option ℕ) (s : Seen) (m : Told) (n 
     pub clean_goes : (op : Clean) → FitsClean w m.cleaned op → (r : Request) → clean_asks w op ≡ Some r → (o : Outcome) → FitsAfter op o r
     clean_goes (Walking found) fits r e o = subst (FitsAfter (Walking found) o) (some_is e) (goes_walking found fits o)
     clean_goes (Aborting u us) fits r e o =
-        subst (FitsAfter (Aborting u us) o) (some_is e) (stays (Aborting u us) (AbortUpload w.dest.bucket u.key u.upload) o fits.0 (λ x y. fits_aborting w w.committer us (λ v i. fits.1 v (inr i))) (refl, fits.1))
+        subst (FitsAfter (Aborting u us) o) (some_is e) (stays (Aborting u us) (AbortUpload w.dest.bucket u.key u.upload) o (λ x y. fits_aborting w w.committer us (λ v i. fits.1 v (inr i))) (refl, fits.1))
     clean_goes (Sweeping (Listing keys)) fits r e o =
-        subst (FitsAfter (Sweeping (Listing keys)) o) (some_is e) (stays (Sweeping (Listing keys)) (page_after w.dest.bucket (magic_prefix w.dest.key w.job) keys) o fits.0 (heard_listing keys fits.1) (refl, fits.1))
+        subst (FitsAfter (Sweeping (Listing keys)) o) (some_is e) (stays (Sweeping (Listing keys)) (page_after w.dest.bucket (magic_prefix w.dest.key w.job) keys) o (heard_listing keys fits.1) (refl, fits.1))
     clean_goes (Sweeping (Deleting q qs)) fits r e o =
         subst (FitsAfter (Sweeping (Deleting q qs)) o) (some_is e)
-        (stays (Sweeping (Deleting q qs)) (DeleteObjects w.dest.bucket (take 1000 (q ∷ qs))) o fits.0 (λ x y. fits_deleting w (drop 1000 (q ∷ qs)) (λ v i. fits.1 v (dropped_in 1000 (q ∷ qs) v i))) (refl, fits.1))
-    clean_goes Naming fits r e o = subst (FitsAfter Naming o) (some_is e) (stays Naming (ClusterList (cluster_prefix w.job)) o fits heard_names refl)
-    clean_goes (Removing p ps) fits r e o = subst (FitsAfter (Removing p ps) o) (some_is e) (stays (Removing p ps) (ClusterDelete p) o fits.0 (λ x y. fits_removing w ps (λ v i. fits.1 v (inr i))) (refl, fits.1))
+        (stays (Sweeping (Deleting q qs)) (DeleteObjects w.dest.bucket (take 1000 (q ∷ qs))) o (λ x y. fits_deleting w (drop 1000 (q ∷ qs)) (λ v i. fits.1 v (dropped_in 1000 (q ∷ qs) v i))) (refl, fits.1))
+    clean_goes Naming fits r e o = subst (FitsAfter Naming o) (some_is e) (stays Naming (ClusterList (cluster_prefix w.job)) o heard_names refl)
+    clean_goes (Removing p ps) fits r e o = subst (FitsAfter (Removing p ps) o) (some_is e) (stays (Removing p ps) (ClusterDelete p) o (λ x y. fits_removing w ps (λ v i. fits.1 v (inr i))) (refl, fits.1))
     clean_goes (CleanOver end) fits r e o = absurd cc

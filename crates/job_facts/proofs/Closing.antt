@@ -24,14 +24,13 @@ use Rattle.list_walk.specs.Walks.{Sweep, Listing, Deleting, sweep_asks, sweep_he
 use Rattle.job_operations.specs.Lanes.{Turn, nth, abort, deletion, again, follow, dealt, chosen, undo, in_turn, is_tried, is_unsent, revert}
 use Rattle.job_operations.specs.JobCommits.{Sets, all_commits, picks_of, Commit, Fetching, Replacing, Completing, Marking, Reverting, CommitOver, set_request, set_read, commit_asks, commit_hears, commit_misses, commit_tells, commit_start, completing, is_no_magic, replaced, replacing, decided, fetching, fetched, swept, reverting, worn_completion}
 use Rattle.job_operations.specs.Cleanups.{Clean, Walking, Aborting, Sweeping, Naming, Removing, CleanOver, clean_asks}
-use Rattle.job_promise.specs.Ends.{lists_uploads}
-use Rattle.job_promise.specs.Seen.{Seen}
+use Rattle.job_promise.specs.Seen.{Seen, is_begun}
 use Rattle.job_operations.specs.LaneTable.{Tabled}
 use Rattle.job_operations.specs.Operations.{Setting, Operation, asks}
 use Rattle.request_frame.specs.Members.{IsIn}
 use Rattle.request_frame.proofs.Members.{some_is, false_true, eq_nat, in_map}
 use Rattle.s3_types.specs.Store.{Scene}
-use Rattle.job_facts.specs.Told.{Told, known, ends, tell_driver, tell_attempt}
+use Rattle.job_facts.specs.Told.{Told, known, ends, tell_driver, tell_attempt, at_event}
 use Rattle.job_facts.specs.Facts.{Facts, Hold, knowing}
 use Rattle.job_facts.specs.Fits.{Fits}
 use Rattle.job_facts.specs.Driver.{Reads, FitsClean, FitsJobCommit}
@@ -197,8 +196,8 @@ module _ {w : Script} {minimum : ℕ} {s : Scene} {last : ℕ → Option ℕ} {m
 -- ---- entries
 
 -- of the driver
-pub driver_closes : (m : Told) (r : Request) (o : Outcome) → Closed m → ((id : ℕ) → ends r id ≡ true → IsSent m.publish_sent m.drawn id) → Closed (tell_driver m r o)
-driver_closes m r o h only c id e = by (m.ended id) refl
+pub driver_closes : (m : Told) (n : ℕ) (r : Request) (o : Outcome) → Closed m → ((id : ℕ) → ends r id ≡ true → IsSent m.publish_sent m.drawn id) → Closed (at_event n (tell_driver m r o))
+driver_closes m n r o h only c id e = by (m.ended id) refl
   where
     by : (b : Bool) → m.ended id ≡ b → IsSent m.publish_sent m.drawn id
     by true g = h (or_parts m.cleaned _ c).0 id g
@@ -229,20 +228,15 @@ module _ (g : Setting) (m : Told) (a : Who) (op : Operation) (fits : Fits g.scri
 
 -- of the driver's commit
 pub commit_closes : (g : Setting) → IsLegal g.script → (s : Seen) (m : Told) → Hold g.script g.minimum s m → Closed m → (c : Commit) → FitsJobCommit g.script g.minimum m.publish_sent m.drawn c → Tabled g.script c → Reverts m.publish_sent m.drawn c
-    → (r : Request) → commit_asks g.script c ≡ Some r → (o : Outcome) → Closed (tell_driver m r o) × Reverts m.publish_sent m.drawn (commit_tells g.script c o)
-commit_closes g j s m h closed c f t v r e o = (
-  driver_closes m r o closed (commit_ends g.script m.publish_sent m.drawn c v t (commit_holds j h c f) r e),
+    → (r : Request) → commit_asks g.script c ≡ Some r → (n : ℕ) (o : Outcome) → Closed (at_event n (tell_driver m r o)) × Reverts m.publish_sent m.drawn (commit_tells g.script c o)
+commit_closes g j s m h closed c f t v r e n o = (
+  driver_closes m n r o closed (commit_ends g.script m.publish_sent m.drawn c v t (commit_holds j h c f) r e),
   reverts_tells g.script m.publish_sent m.drawn j c v t (commit_holds j h c f) o,
 )
 
 -- and of its abort or clean, which has begun then
-pub clean_begun : (w : Script) (m : Told) (t : Clean) → FitsClean w m.cleaned t → (r : Request) → clean_asks w t ≡ Some r → (o : Outcome) → (tell_driver m r o).cleaned ≡ true
-clean_begun w m (Walking found) h r e o = ap (λ q. m.cleaned || lists_uploads q) (sym (some_is e)) ∙ or_true m.cleaned
-clean_begun w m (Aborting u us) h r e o = ap (λ b. b || lists_uploads r) h.0
-clean_begun w m (Sweeping s) h r e o = ap (λ b. b || lists_uploads r) h.0
-clean_begun w m Naming h r e o = ap (λ b. b || lists_uploads r) h
-clean_begun w m (Removing p ps) h r e o = ap (λ b. b || lists_uploads r) h.0
-clean_begun w m (CleanOver end) h r e o = absurd cc
+pub clean_begun : (m : Told) (n : ℕ) → is_begun m.cleans_at n ≡ true → (r : Request) (o : Outcome) → (at_event n (tell_driver m r o)).cleaned ≡ true
+clean_begun m n timely r o = ap (λ b. m.cleaned || b) timely ∙ or_true m.cleaned
 
-pub clean_closes : (w : Script) (m : Told) (t : Clean) → FitsClean w m.cleaned t → (r : Request) → clean_asks w t ≡ Some r → (o : Outcome) → Closed (tell_driver m r o)
-clean_closes w m t h r e o c id x = absurd (false_true c (clean_begun w m t h r e o))
+pub clean_closes : (m : Told) (n : ℕ) → is_begun m.cleans_at n ≡ true → (r : Request) (o : Outcome) → Closed (at_event n (tell_driver m r o))
+clean_closes m n timely r o c id x = absurd (false_true c (clean_begun m n timely r o))

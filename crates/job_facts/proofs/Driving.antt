@@ -14,7 +14,7 @@ use Rattle.job_model.specs.JobScript.{Script}
 use Rattle.job_promise.specs.Seen.{Seen, see}
 use Rattle.request_frame.proofs.Members.{none_some, false_true}
 use Rattle.request_frame.proofs.Framed.{frame}
-use Rattle.job_facts.specs.Told.{Told, ends, tell, tell_driver, driver_entry}
+use Rattle.job_facts.specs.Told.{Told, ends, tell, tell_driver, at_event, driver_entry}
 use Rattle.job_facts.specs.Stores.{Leaves}
 use Rattle.job_facts.specs.Foreign.{IsDriving}
 use Rattle.job_facts.specs.Facts.{Facts, Hold}
@@ -25,7 +25,7 @@ use Rattle.job_facts.proofs.Undone.{deletes_drop}
 
 -- ---- more is told of the driver
 
--- uploads are ended that were not, and it has begun to clean up
+-- uploads are ended that were not
 pub told_more : {w : Script} {minimum : ℕ} {s : Scene} {last : ℕ → Option ℕ} {m : Told} (r : Request) (o : Outcome) → Facts w minimum s last m → Facts w minimum s last (tell_driver m r o)
 told_more {m = m} r o f =
     record {
@@ -36,10 +36,25 @@ told_more {m = m} r o f =
       below = f.below;
       records = f.records;
       sets = f.sets;
-      standing = λ c. f.standing (or_parts m.cleaned _ c).0;
+      standing = f.standing;
       temporaries = f.temporaries;
       kept = f.kept;
     }
+
+-- it has begun to clean up
+pub told_at : {w : Script} {minimum : ℕ} {s : Scene} {last : ℕ → Option ℕ} {m : Told} (n : ℕ) → Facts w minimum s last m → Facts w minimum s last (at_event n m)
+told_at {m = m} n f = record {
+  there = f.there;
+  least = f.least;
+  ids = f.ids;
+  owned = f.owned;
+  below = f.below;
+  records = f.records;
+  sets = f.sets;
+  standing = λ c. f.standing (or_parts m.cleaned _ c).0;
+  temporaries = f.temporaries;
+  kept = f.kept;
+}
 
 -- ---- requests of a commit, and reads
 
@@ -70,10 +85,10 @@ module _ {w : Script} {minimum : ℕ} {last : ℕ → Option ℕ} {m : Told} (j 
 
 -- what is seen after an entry of the driver
 driver_sees : {w : Script} {minimum : ℕ} (k : Option ℕ) (s : Seen) (m : Told) (n : ℕ) (r : Request) (o : Outcome) → Facts w minimum (effect s.scene r o) s.last (tell_driver m r o) → Hold w minimum (see w k s (driver_entry n r o)) (tell w m (driver_entry n r o))
-driver_sees k s m n r (Answered x) f = f
-driver_sees k s m n r Slow f = f
-driver_sees k s m n r RequestLost f = f
-driver_sees k s m n r ReplyLost f = f
+driver_sees k s m n r (Answered x) f = told_at n f
+driver_sees k s m n r Slow f = told_at n f
+driver_sees k s m n r RequestLost f = told_at n f
+driver_sees k s m n r ReplyLost f = told_at n f
 
 pub driving_keeps : (w : Script) (minimum : ℕ) (k : Option ℕ) (s : Seen) (m : Told) (n : ℕ) (r : Request) (o : Outcome) → IsLegal w → IsDriving w r → Hold w minimum s m → Hold w minimum (see w k s (driver_entry n r o)) (tell w m (driver_entry n r o))
 driving_keeps w minimum k s m n r o j d f = driver_sees k s m n r o (driving_effect j s.scene r d f o)

@@ -97,8 +97,8 @@ module _ {w : Script} {minimum : ℕ} {s : Scene} {last : ℕ → Option ℕ} {m
           let both = and_parts (is_effective o) (ends r id) (sym (ap (λ b. b || (is_effective o && ends r id)) g) ∙ h) in
           subst (Out w s f.there id) (sym (effective_is s r o both.0)) (ends_now r (commit_kind c fits t d r e) id both.1)
 
-pub first_gone : (w : Script) (s : Scene) → Gone w s.content nothing_told
-first_gone w s id e = absurd (false≢true e)
+pub first_gone : (w : Script) (s : Scene) (c : Option ℕ) → Gone w s.content (nothing_told c)
+first_gone w s c id e = absurd (false≢true e)
 
 -- a request that ends nothing leaves it so
 pub others_gone : (w : Script) (s : Scene) → HasBucket s.content w.dest.bucket → (ended : ℕ → Bool) → ((id : ℕ) → ended id ≡ true → (id < s.content.next) × (at_id w s.content id ≡ None)) → (r : Request) (o : Outcome)

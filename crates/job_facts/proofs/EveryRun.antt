@@ -33,7 +33,6 @@ use Rattle.job_operations.specs.TaskAborts.{task_abort_start}
 use Rattle.job_operations.specs.Cleanups.{Clean, Walking, Aborting, Removing, Naming, CleanOver, clean_start, clean_asks, clean_after}
 use Rattle.job_operations.specs.Cleanups as cleanups
 use Rattle.job_operations.specs.Operations.{Setting, Operation, TheSetup, TheWrite, TheTaskCommit, TheTaskAbort, TheCommit, TheClean, who, asks, tells}
-use Rattle.job_promise.specs.Ends.{lists_uploads}
 use Rattle.job_promise.specs.Entries.{AreOwn}
 use Rattle.job_promise.specs.Headline.{Kept}
 use Rattle.job_promise.specs.Scope.{NoClusterFile}
@@ -44,7 +43,7 @@ use Rattle.request_frame.proofs.Members.{some_is, none_some, none_or_some, false
 use Rattle.request_frame.proofs.Framed.{frame}
 use Rattle.request_frame.proofs.Reading.{reads_nothing}
 use Rattle.job_facts.specs.SetupLaws.{ClearsAlone}
-use Rattle.job_facts.specs.Told.{Told, known, put_who, entry, driver_entry, strange_entry, ends, nothing_told, tell_driver, tell_attempt}
+use Rattle.job_facts.specs.Told.{Told, known, put_who, entry, driver_entry, strange_entry, ends, nothing_told, tell_driver, tell_attempt, at_event}
 use Rattle.job_facts.specs.Stores.{at_id}
 use Rattle.job_facts.specs.Facts.{IsAttempt, Facts, Hold}
 use Rattle.job_facts.specs.Fits.{Fits}
@@ -160,8 +159,8 @@ module _ (g : Setting) (k : Option ℕ) (opening : Content) (j : IsLegal g.scrip
       let over = done_so t.operation done in
       let b = setup_done w x.seen.scene (subst (SetsUp w x.seen.scene.content) over sets) (λ c. e.files) in
       record {
-        hold = subst (λ m. Facts w g.minimum x.seen.scene x.seen.last m) (sym e.told) (facts_begin w g.minimum x.seen.scene x.seen.last j b.0 e.least e.fresh b.1 e.last);
-        gone = λ c. subst (Gone w x.seen.scene.content) (sym e.told) (first_gone w x.seen.scene);
+        hold = subst (λ m. Facts w g.minimum x.seen.scene x.seen.last m) (sym e.told) (facts_begin w g.minimum x.seen.scene x.seen.last j b.0 e.least e.fresh b.1 e.last x.told.cleans_at);
+        gone = λ c. subst (Gone w x.seen.scene.content) (sym e.told) (first_gone w x.seen.scene x.told.cleans_at);
         fine = λ a op y. absurd (none_some (e.none a) y);
         new = λ a y. (ap (λ m. known m a) e.told, ap (λ (m : Told). m.undone a) e.told);
         driver = subst (λ d. At g opening d x.seen x.told) (sym is) (over, early_idle x e);
@@ -184,20 +183,18 @@ module _ (g : Setting) (k : Option ℕ) (opening : Content) (j : IsLegal g.scrip
   setup_ends (Sweeping (Deleting q qs)) r e u = ap (λ r. ends r u) (sym (some_is e))
   setup_ends (SetupOver end) r e u = absurd cc
 
-  setup_plain : (op : Setup) (r : Request) → setup_asks w op ≡ Some r → (lists_uploads r ≡ false) × (is_marking w r ≡ false)
-  setup_plain Heading r e = (ap lists_uploads (sym (some_is e)), ap (is_marking w) (sym (some_is e)))
-  setup_plain (Checking keys) r e = (ap lists_uploads (sym (some_is e)), ap (is_marking w) (sym (some_is e)))
-  setup_plain Clearing r e = (ap lists_uploads (sym (some_is e)), ap (is_marking w) (sym (some_is e)))
-  setup_plain (Sweeping (Listing keys)) r e = (ap lists_uploads (sym (some_is e)), ap (is_marking w) (sym (some_is e)))
-  setup_plain (Sweeping (Deleting q qs)) r e = (ap lists_uploads (sym (some_is e)), ap (is_marking w) (sym (some_is e)))
+  setup_plain : (op : Setup) (r : Request) → setup_asks w op ≡ Some r → is_marking w r ≡ false
+  setup_plain (Sweeping (Listing keys)) r e = ap (is_marking w) (sym (some_is e))
+  setup_plain (Sweeping (Deleting q qs)) r e = ap (is_marking w) (sym (some_is e))
   setup_plain (SetupOver end) r e = absurd cc
+  setup_plain _ r e = ap (is_marking w) (sym (some_is e))
 
   and_false : (b : Bool) → (b && false) ≡ false
   and_false true = refl
   and_false false = refl
 
-  still_nothing : (r : Request) (o : Outcome) → ((u : ℕ) → ends r u ≡ false) → lists_uploads r ≡ false → tell_driver nothing_told r o ≡ nothing_told
-  still_nothing r o h c = λ i. record { drawn = λ a. []; put_sent = λ a. false; publish_sent = λ a. false; undone = λ a. false; ended = λ u. at u i; cleaned = c i }
+  still_nothing : (c : Option ℕ) (n : ℕ) (r : Request) (o : Outcome) → ((u : ℕ) → ends r u ≡ false) → is_begun c n ≡ false → at_event n (tell_driver (nothing_told c) r o) ≡ nothing_told c
+  still_nothing c n r o h late = λ i. record { drawn = λ a. []; put_sent = λ a. false; publish_sent = λ a. false; undone = λ a. false; ended = λ u. at u i; cleaned = late i; cleans_at = c }
     where
       at : (u : ℕ) → (false || (is_effective o && ends r u)) ≡ false
       at u = ap (λ b. is_effective o && b) (h u) ∙ and_false (is_effective o)
@@ -226,21 +223,21 @@ module _ (g : Setting) (k : Option ℕ) (opening : Content) (j : IsLegal g.scrip
   setup_numbers s (Sweeping t) r o h e n = numbers s r o h.0 n
   setup_numbers s (SetupOver end) r o h e n = absurd cc
 
-  early_sends : (x : Stand) → Early g opening x → (t : Retried Setup) → SetsUp w x.seen.scene.content t.operation → (n : ℕ) (r : Request) → setup_asks w t.operation ≡ Some r → is_begun k n ≡ false → (o : Outcome) → IsHonestOutcome o (answer x.seen.scene r)
+  early_sends : (x : Stand) → Early g opening x → (t : Retried Setup) → SetsUp w x.seen.scene.content t.operation → (n : ℕ) (r : Request) → setup_asks w t.operation ≡ Some r → (is_begun k n ≡ false) × (is_begun x.told.cleans_at n ≡ false) → (o : Outcome) → IsHonestOutcome o (answer x.seen.scene r)
       → Early g opening (with_commit (with_driver (saw g k x (driver_entry n r o)) (TheSetup (step w.retries (setup_after w) t o))) x.commit)
   early_sends x e t sets n r asked timely o honest = by o honest (setup_goes w x.seen.scene w.retries t.spare t.repeated t.operation sets r asked o honest) (setup_no_file w j x.seen.scene t.operation sets r asked o e.files) (setup_numbers x.seen.scene t.operation r o sets asked (record { fresh = e.fresh; least = e.least }))
     where
-      told_now : (o : Outcome) → tell_driver x.told r o ≡ nothing_told
-      told_now o = ap (λ m. tell_driver m r o) e.told ∙ still_nothing r o (setup_ends t.operation r asked) (setup_plain t.operation r asked).0
+      told_now : (o : Outcome) → at_event n (tell_driver x.told r o) ≡ nothing_told x.told.cleans_at
+      told_now o = ap (λ m. at_event n (tell_driver m r o)) e.told ∙ still_nothing x.told.cleans_at n r o (setup_ends t.operation r asked) timely.1
 
       begun_now : (x.seen.begun || is_begun k n) ≡ false
-      begun_now = ap (λ b. b || is_begun k n) e.unbegun ∙ timely
+      begun_now = ap (λ b. b || is_begun k n) e.unbegun ∙ timely.0
 
       picks_now : (t : ℕ) → picks_by w (x.seen.begun || is_begun k n) x.seen.last x.seen.picks r t ≡ None
       picks_now t = ap (λ b. cond (b && is_reading w t r) (x.seen.last t) (x.seen.picks t)) begun_now ∙ e.unpicked t
 
       mark_now : (x.seen.put_mark || is_marking w r) ≡ false
-      mark_now = ap (λ b. x.seen.put_mark || b) (setup_plain t.operation r asked).1 ∙ or_false x.seen.put_mark ∙ e.unmarked
+      mark_now = ap (λ b. x.seen.put_mark || b) (setup_plain t.operation r asked) ∙ or_false x.seen.put_mark ∙ e.unmarked
 
       -- what is seen and told then
       stand_of : Scene → Picks → Bool → Told → Retried Setup → Stand
@@ -253,7 +250,7 @@ module _ (g : Setting) (k : Option ℕ) (opening : Content) (j : IsLegal g.scrip
       }
 
       -- where it took effect
-      acted : (picks : Picks) (m : Told) (u : Retried Setup) → ((t : ℕ) → picks t ≡ None) → m ≡ nothing_told → SetsUp w (apply x.seen.scene r).content u.operation → NoClusterFile w (apply x.seen.scene r) → Numbers (apply x.seen.scene r).content
+      acted : (picks : Picks) (m : Told) (u : Retried Setup) → ((t : ℕ) → picks t ≡ None) → m ≡ nothing_told m.cleans_at → SetsUp w (apply x.seen.scene r).content u.operation → NoClusterFile w (apply x.seen.scene r) → Numbers (apply x.seen.scene r).content
           → Early g opening (stand_of (apply x.seen.scene r) picks (x.seen.put_mark || is_marking w r) m u)
       acted picks m u none is goes clear num = record {
         told = is;
@@ -269,7 +266,7 @@ module _ (g : Setting) (k : Option ℕ) (opening : Content) (j : IsLegal g.scrip
       }
 
       -- where it did not
-      unsent : (m : Told) (u : Retried Setup) → m ≡ nothing_told → SetsUp w x.seen.scene.content u.operation → Early g opening (stand_of x.seen.scene x.seen.picks x.seen.put_mark m u)
+      unsent : (m : Told) (u : Retried Setup) → m ≡ nothing_told m.cleans_at → SetsUp w x.seen.scene.content u.operation → Early g opening (stand_of x.seen.scene x.seen.picks x.seen.put_mark m u)
       unsent m u is goes = record {
         told = is;
         last = e.last;
@@ -338,7 +335,7 @@ module _ (g : Setting) (k : Option ℕ) (opening : Content) (j : IsLegal g.scrip
 
   -- ---- the driver
 
-  driver_late : (x : Stand) → Late g opening x → (op : Operation) → At g opening (Some op) x.seen x.told → (n : ℕ) (r : Request) → asks g (who Driver) nothing_learnt op ≡ Some r → IsTimely k n op → x.seen.scene.content.next ≤ 2 ^ 64 → (o : Outcome) → IsHonestOutcome o (answer x.seen.scene r)
+  driver_late : (x : Stand) → Late g opening x → (op : Operation) → At g opening (Some op) x.seen x.told → (n : ℕ) (r : Request) → asks g (who Driver) nothing_learnt op ≡ Some r → IsTimely k x.told.cleans_at n op → x.seen.scene.content.next ≤ 2 ^ 64 → (o : Outcome) → IsHonestOutcome o (answer x.seen.scene r)
       → Late g opening (with_commit (with_driver (saw g k x (driver_entry n r o)) (tells g (who Driver) op o)) (commit_with op x.commit (driver_entry n r o)))
   driver_late x l (TheSetup t) y n r asked timely few o honest = absurd (none_some (ap (setup_asks w) y.0) asked)
   driver_late x l (TheCommit c) y n r asked timely few o honest = record {
@@ -346,7 +343,7 @@ module _ (g : Setting) (k : Option ℕ) (opening : Content) (j : IsLegal g.scrip
     gone = λ c. gone_by o (l.gone y.uncleaned);
     fine = l.fine;
     new = l.new;
-    driver = commit_next g j opening k x.seen x.told n timely few l.hold c y r asked o honest;
+    driver = commit_next g j opening k x.seen x.told n timely.0 timely.1 few l.hold c y r asked o honest;
   }
     where
       gone_by : (o : Outcome) → Gone w x.seen.scene.content x.told → Gone w (see w k x.seen (driver_entry n r o)).scene.content (tell_driver x.told r o)
@@ -356,20 +353,20 @@ module _ (g : Setting) (k : Option ℕ) (opening : Content) (j : IsLegal g.scrip
       gone_by ReplyLost gone = commit_gone j l.hold gone c y.fits y.tabled y.decides r asked ReplyLost
   driver_late x l (TheClean t) y n r asked timely few o honest = record {
     hold = clean_keeps w g.minimum k x.seen x.told n j l.hold t.operation y r asked o;
-    gone = λ c. absurd (false_true c (clean_begun w x.told t.operation y r asked o));
+    gone = λ c. absurd (false_true c (clean_begun x.told n timely r o));
     fine = l.fine;
     new = l.new;
-    driver = clean_goes w g.minimum k x.seen x.told n j l.hold w.retries t.spare t.repeated t.operation y r asked o honest;
+    driver = clean_goes w g.minimum k x.seen x.told n j l.hold timely w.retries t.spare t.repeated t.operation y r asked o honest;
   }
   driver_late x l _ y n r asked timely few o honest = absurd y
 
-  driver_early : (x : Stand) → Early g opening x → (op : Operation) → x.driver ≡ Some op → (n : ℕ) (r : Request) → asks g (who Driver) nothing_learnt op ≡ Some r → IsTimely k n op → (o : Outcome) → IsHonestOutcome o (answer x.seen.scene r)
+  driver_early : (x : Stand) → Early g opening x → (op : Operation) → x.driver ≡ Some op → (n : ℕ) (r : Request) → asks g (who Driver) nothing_learnt op ≡ Some r → IsTimely k x.told.cleans_at n op → (o : Outcome) → IsHonestOutcome o (answer x.seen.scene r)
       → Early g opening (with_commit (with_driver (saw g k x (driver_entry n r o)) (tells g (who Driver) op o)) (commit_with op x.commit (driver_entry n r o)))
   driver_early x e op d n r asked timely o honest = elim e.setup [
     | inl none ↦ absurd (none_some none d)
     | inr y ↦
         let is : TheSetup y.0 ≡ op = some_is (sym y.1 ∙ d) in
-        let P : Operation → Type 0 = λ v. asks g (who Driver) nothing_learnt v ≡ Some r → IsTimely k n v → Early g opening (with_commit (with_driver (saw g k x (driver_entry n r o)) (tells g (who Driver) v o)) (commit_with v x.commit (driver_entry n r o))) in
+        let P : Operation → Type 0 = λ v. asks g (who Driver) nothing_learnt v ≡ Some r → IsTimely k x.told.cleans_at n v → Early g opening (with_commit (with_driver (saw g k x (driver_entry n r o)) (tells g (who Driver) v o)) (commit_with v x.commit (driver_entry n r o))) in
         subst P is (λ a b. early_sends x e y.0 y.2 n r a b o honest) asked timely
   ]
 
@@ -423,8 +420,8 @@ module _ (g : Setting) (k : Option ℕ) (opening : Content) (j : IsLegal g.scrip
 
   -- ---- every run
 
-  early_first : Early g opening (first_stand opening)
-  early_first = record {
+  early_first : (c : Option ℕ) → Early g opening (first_stand opening c)
+  early_first c = record {
     told = refl;
     last = λ t. refl;
     unmarked = refl;
@@ -470,7 +467,7 @@ module _ (g : Setting) (k : Option ℕ) (opening : Content) (j : IsLegal g.scrip
   moved : (x : Stand) (a : Who) (op : Operation) → NotMoved (with_attempt x a op)
   moved x a op just none = absurd (none_some (none a) (who_here x.attempts a (Some op) a refl))
 
-  driver_moved : (x : Stand) → Good x → (op : Operation) → x.driver ≡ Some op → (n : ℕ) (r : Request) → asks g (who Driver) nothing_learnt op ≡ Some r → IsTimely k n op → (o : Outcome) → IsHonestOutcome o (answer x.seen.scene r)
+  driver_moved : (x : Stand) → Good x → (op : Operation) → x.driver ≡ Some op → (n : ℕ) (r : Request) → asks g (who Driver) nothing_learnt op ≡ Some r → IsTimely k x.told.cleans_at n op → (o : Outcome) → IsHonestOutcome o (answer x.seen.scene r)
       → NotMoved (with_commit (with_driver (saw g k x (driver_entry n r o)) (tells g (who Driver) op o)) (commit_with op x.commit (driver_entry n r o)))
   driver_moved x (inl e) op d n r asked timely o honest just none = driver_early x e op d n r asked timely o honest
   driver_moved x (inr l) op d n r asked timely o honest just none = absurd (by op (subst (λ v. At g opening v x.seen x.told) d l.driver) asked just)
@@ -516,13 +513,13 @@ module _ (g : Setting) (k : Option ℕ) (opening : Content) (j : IsLegal g.scrip
   well_strays x (inl e) n r o f = inl (early_strays x e n r o f)
   well_strays x (inr l) n r o f = inr (late_strays x l n r o f)
 
-  driver_goes : (x : Stand) → Good x → (op : Operation) → x.driver ≡ Some op → (n : ℕ) (r : Request) → asks g (who Driver) nothing_learnt op ≡ Some r → IsTimely k n op → x.seen.scene.content.next ≤ 2 ^ 64 → (o : Outcome) → IsHonestOutcome o (answer x.seen.scene r)
+  driver_goes : (x : Stand) → Good x → (op : Operation) → x.driver ≡ Some op → (n : ℕ) (r : Request) → asks g (who Driver) nothing_learnt op ≡ Some r → IsTimely k x.told.cleans_at n op → x.seen.scene.content.next ≤ 2 ^ 64 → (o : Outcome) → IsHonestOutcome o (answer x.seen.scene r)
       → Good (with_commit (with_driver (saw g k x (driver_entry n r o)) (tells g (who Driver) op o)) (commit_with op x.commit (driver_entry n r o)))
   driver_goes x (inr l) op d n r asked timely few o honest = inr (driver_late x l op (subst (λ v. At g opening v x.seen x.told) d l.driver) n r asked timely few o honest)
   driver_goes x (inl e) op d n r asked timely few o honest = inl (driver_early x e op d n r asked timely o honest)
 
   well : (es : List Entry) (x : Stand) → Runs g k opening es x → Well x
-  well es x (run_begins) = (inl early_first, λ just none. early_first)
+  well es x (run_begins c) = (inl (early_first c), λ just none. early_first c)
   well es x (actor_begins fs y b run may) = well_begins y (well fs y run) b may
   well es x (driver_sends fs y op n r o run d asked timely few honest) =
       let h = (well fs y run).0 in
@@ -623,13 +620,13 @@ module _ (g : Setting) (k : Option ℕ) (opening : Content) (j : IsLegal g.scrip
       by RequestLost c = v
       by ReplyLost c = at (apply x.seen.scene r) (c ReplyLost)
 
-  driver_shown : (x : Stand) → Good x → (op : Operation) → x.driver ≡ Some op → (n : ℕ) (r : Request) → asks g (who Driver) nothing_learnt op ≡ Some r → IsTimely k n op → x.seen.scene.content.next ≤ 2 ^ 64 → (o : Outcome) → IsHonestOutcome o (answer x.seen.scene r)
+  driver_shown : (x : Stand) → Good x → (op : Operation) → x.driver ≡ Some op → (n : ℕ) (r : Request) → asks g (who Driver) nothing_learnt op ≡ Some r → IsTimely k x.told.cleans_at n op → x.seen.scene.content.next ≤ 2 ^ 64 → (o : Outcome) → IsHonestOutcome o (answer x.seen.scene r)
       → Shows g opening (Some op) x.seen x.told x.commit → Shown (with_commit (with_driver (saw g k x (driver_entry n r o)) (tells g (who Driver) op o)) (commit_with op x.commit (driver_entry n r o)))
   driver_shown x h (TheSetup t) d n r asked timely few o honest v = setup_shown x t d h n r asked o v
   driver_shown x h (TheCommit c) d n r asked timely few o honest v =
       let l = late x h (ap is_set d) in
       let i = subst (λ v. At g opening v x.seen x.told) d l.driver in
-      commit_shown g j opening k x.seen x.told n timely few l.hold c i r asked (l.gone i.uncleaned) x.commit v o honest
+      commit_shown g j opening k x.seen x.told n timely.0 timely.1 few l.hold c i r asked (l.gone i.uncleaned) x.commit v o honest
   driver_shown x h (TheClean t) d n r asked timely few o honest v =
       let l = late x h (ap is_set d) in
       let plain_one = clean_plain t.operation r asked in
@@ -637,7 +634,7 @@ module _ (g : Setting) (k : Option ℕ) (opening : Content) (j : IsLegal g.scrip
   driver_shown x h _ d n r asked timely few o honest v = absurd v
 
   pub shown : (es : List Entry) (x : Stand) → Runs g k opening es x → AreOwn es → Shown x
-  shown es x (run_begins) own = λ q p. refl
+  shown es x (run_begins c) own = λ q p. refl
   shown es x (actor_begins fs y b run may) own = shown_begins y (well fs y run) b may (shown fs y run own)
   shown es x (driver_sends fs y op n r o run d asked timely few honest) own =
       driver_shown y (good fs y run) op d n r asked timely few o honest (subst (λ v. Shows g opening v y.seen y.told y.commit) d (shown fs y run (own_front fs _ own)))

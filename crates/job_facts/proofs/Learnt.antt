@@ -11,10 +11,11 @@ use Rattle.job_model.specs.JobScript.{Script}
 use Rattle.job_operations.specs.Knowledge.{learn, knows_from}
 use Rattle.job_promise.specs.States.{same_actor}
 use Rattle.job_promise.specs.Turns.{by_actor}
-use Rattle.job_promise.specs.Ends.{lists_uploads, has_cleaned}
+use Rattle.job_promise.specs.Ends.{has_cleaned}
+use Rattle.job_promise.specs.Seen.{is_begun}
 use Rattle.job_promise.specs.Ends.{is_driver}
 use Rattle.request_frame.proofs.Members.{nat_true, eq_nat, true_or_false}
-use Rattle.job_facts.specs.Told.{Told, known, tell, tell_by, tell_all}
+use Rattle.job_facts.specs.Told.{Told, known, tell, tell_by, tell_driver, tell_attempt, at_event, tell_all}
 use Rattle.job_facts.proofs.Whose.{attempt, same_or_another, who_here, who_other}
 
 module _ (w : Script) (a : Who) where
@@ -23,14 +24,14 @@ module _ (w : Script) (a : Who) where
       let p = and_parts (nat_eq t a.task) (nat_eq n a.attempt) h in
       ap (λ (x : ℕ). attempt x a.attempt) (sym (eq_nat t a.task p.0)) ∙ ap (λ (x : ℕ). attempt t x) (sym (eq_nat n a.attempt p.1))
 
-  learnt : (m : Told) (x : Actor) (r : Request) (o : Outcome) → known (tell_by w m r o x) a ≡ cond (same_actor x (actor_of a)) (learn w a (known m a) r o) (known m a)
-  learnt m Driver r o = refl
-  learnt m Shell r o = refl
-  learnt m (Attempt t n) r o = elim (same_or_another a (attempt t n)) [
+  learnt : (m : Told) (x : Actor) (n : ℕ) (r : Request) (o : Outcome) → known (tell_by w m n r o x) a ≡ cond (same_actor x (actor_of a)) (learn w a (known m a) r o) (known m a)
+  learnt m Driver v r o = refl
+  learnt m Shell v r o = refl
+  learnt m (Attempt t n) v r o = elim (same_or_another a (attempt t n)) [
     | inl is ↦
         let now = learn w (attempt t n) (known m (attempt t n)) r o in
         let both : same_actor (Attempt t n) (actor_of a) ≡ true = rw (nat_true t a.task (ap (λ (x : Who). x.task) (sym is)), nat_true n a.attempt (ap (λ (x : Who). x.attempt) (sym is))) refl in
-        let here : known (tell_by w m r o (Attempt t n)) a ≡ now = λ i. record {
+        let here : known (tell_by w m v r o (Attempt t n)) a ≡ now = λ i. record {
           drawn = who_here m.drawn (attempt t n) now.drawn a is i;
           put_sent = who_here m.put_sent (attempt t n) now.put_sent a is i;
           publish_sent = who_here m.publish_sent (attempt t n) now.publish_sent a is i;
@@ -39,7 +40,7 @@ module _ (w : Script) (a : Who) where
     | inr ne ↦
         let now = learn w (attempt t n) (known m (attempt t n)) r o in
         let other : same_actor (Attempt t n) (actor_of a) ≡ false = elim (true_or_false (same_actor (Attempt t n) (actor_of a))) [ inl h ↦ absurd (ne (same_one t n h)) | inr h ↦ h ] in
-        let here : known (tell_by w m r o (Attempt t n)) a ≡ known m a = λ i. record {
+        let here : known (tell_by w m v r o (Attempt t n)) a ≡ known m a = λ i. record {
           drawn = who_other m.drawn (attempt t n) now.drawn a ne i;
           put_sent = who_other m.put_sent (attempt t n) now.put_sent a ne i;
           publish_sent = who_other m.publish_sent (attempt t n) now.publish_sent a ne i;
@@ -49,7 +50,7 @@ module _ (w : Script) (a : Who) where
 
   pub known_is : (es : List Entry) (m : Told) → known (tell_all w m es) a ≡ knows_from w a (known m a) (by_actor (actor_of a) es)
   known_is [] m = refl
-  known_is (e ∷ es) m = known_is es (tell w m e) ∙ ap (λ k. knows_from w a k (by_actor (actor_of a) es)) (learnt m e.actor e.request e.outcome) ∙ by (same_actor e.actor (actor_of a))
+  known_is (e ∷ es) m = known_is es (tell w m e) ∙ ap (λ k. knows_from w a k (by_actor (actor_of a) es)) (learnt m e.actor e.event e.request e.outcome) ∙ by (same_actor e.actor (actor_of a))
     where
       by : (b : Bool) → knows_from w a (cond b (learn w a (known m a) e.request e.outcome) (known m a)) (by_actor (actor_of a) es) ≡ knows_from w a (known m a) (cond b (e ∷ by_actor (actor_of a) es) (by_actor (actor_of a) es))
       by true = refl
@@ -65,11 +66,11 @@ or_none : (a : Bool) → (a || false) ≡ a
 or_none true = refl
 or_none false = refl
 
-pub cleaned_is : (w : Script) (es : List Entry) (m : Told) → (tell_all w m es).cleaned ≡ (m.cleaned || has_cleaned es)
+pub cleaned_is : (w : Script) (es : List Entry) (m : Told) → (tell_all w m es).cleaned ≡ (m.cleaned || has_cleaned m.cleans_at es)
 cleaned_is w [] m = sym (or_none m.cleaned)
-cleaned_is w (e ∷ es) m = cleaned_is w es (tell w m e) ∙ by e.actor
+cleaned_is w (e ∷ es) m = by e.actor (λ v. cleaned_is w es v)
   where
-    by : (x : Actor) → ((tell_by w m e.request e.outcome x).cleaned || has_cleaned es) ≡ (m.cleaned || ((is_driver x && lists_uploads e.request) || has_cleaned es))
-    by Driver = or_moved m.cleaned (lists_uploads e.request) (has_cleaned es)
-    by (Attempt t n) = refl
-    by Shell = refl
+    by : (x : Actor) → ((v : Told) → (tell_all w v es).cleaned ≡ (v.cleaned || has_cleaned v.cleans_at es)) → (tell_all w (tell_by w m e.event e.request e.outcome x) es).cleaned ≡ (m.cleaned || ((is_driver x && is_begun m.cleans_at e.event) || has_cleaned m.cleans_at es))
+    by Driver old = old (at_event e.event (tell_driver m e.request e.outcome)) ∙ or_moved m.cleaned (is_begun m.cleans_at e.event) (has_cleaned m.cleans_at es)
+    by (Attempt t n) old = old (tell_attempt w m (attempt t n) e.request e.outcome)
+    by Shell old = old m

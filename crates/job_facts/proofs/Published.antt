@@ -28,7 +28,7 @@ use Rattle.job_facts.specs.Told.{known, entry, driver_entry, strange_entry}
 use Rattle.job_facts.specs.Fits.{Fits}
 use Rattle.job_facts.specs.Standing.{Closed, Reverts, WriteStands, CommitStandsBy}
 use Rattle.job_facts.specs.Foreign.{IsForeign}
-use Rattle.job_facts.specs.Runs.{Stand, Beginning, BeginSetup, BeginCommit, BeginClean, BeginWrite, BeginPublish, BeginAbort, begin, MayBegin, Runs, run_begins, actor_begins, driver_sends, attempt_sends, strays, IsOpening, nothing_learnt, with_attempt, with_driver, with_commit, commit_with, saw}
+use Rattle.job_facts.specs.Runs.{Stand, Beginning, BeginSetup, BeginCommit, BeginClean, BeginWrite, BeginPublish, BeginAbort, begin, MayBegin, Runs, run_begins, actor_begins, driver_sends, attempt_sends, strays, IsOpening, IsTimely, nothing_learnt, with_attempt, with_driver, with_commit, commit_with, saw}
 use Rattle.job_facts.proofs.Whose.{same_or_another, who_here, who_other}
 use Rattle.job_facts.proofs.Closing.{reverts_start, driver_closes, commit_closes, clean_closes, clean_begun, attempt_closes, attempt_reverts}
 use Rattle.job_facts.proofs.JobCommitting.{commit_drives}
@@ -106,20 +106,20 @@ module _ (g : Setting) (k : Option ℕ) (opening : Content) (j : IsLegal g.scrip
   no_commit : {X : Type 0} {op : Operation} {c : Commit} → (op ≡ TheCommit c → X) → Some op ≡ Some (TheCommit c) → X
   no_commit h e = h (some_is e)
 
-  driver_stands : (es : List Entry) (x : Stand) → Runs g k opening es x → Standing es x → (op : Operation) → x.driver ≡ Some op → (n : ℕ) (r : Request) → asks g (who Driver) nothing_learnt op ≡ Some r → (o : Outcome)
+  driver_stands : (es : List Entry) (x : Stand) → Runs g k opening es x → Standing es x → (op : Operation) → x.driver ≡ Some op → (n : ℕ) (r : Request) → asks g (who Driver) nothing_learnt op ≡ Some r → IsTimely k x.told.cleans_at n op → (o : Outcome)
       → Standing (es ++ driver_entry n r o ∷ []) (with_commit (with_driver (saw g k x (driver_entry n r o)) (tells g (who Driver) op o)) (commit_with op x.commit (driver_entry n r o)))
-  driver_stands es x run h op d n r asked o = elim (good g k opening j is_opening es x run) [
+  driver_stands es x run h op d n r asked timely o = elim (good g k opening j is_opening es x run) [
     | inl e ↦ elim e.setup [
       | inl none ↦ absurd (none_some none d)
       | inr y ↦
           let is : TheSetup y.0 ≡ op = some_is (sym y.1 ∙ d) in
           record {
-            closed = driver_closes x.told r o h.closed (λ id z. absurd (false_true (setup_ends g k opening j is_opening y.0.operation r (ap (asks g (who Driver) nothing_learnt) is ∙ asked) id) z));
+            closed = driver_closes x.told n r o h.closed (λ id z. absurd (false_true (setup_ends g k opening j is_opening y.0.operation r (ap (asks g (who Driver) nothing_learnt) is ∙ asked) id) z));
             reverts = λ c z. absurd (no_setup y.0 op c is z);
             stands = λ c a mine z. absurd (none_some (e.none a) z);
           }
     ]
-    | inr l ↦ by op l (subst (λ v. At g opening v x.seen x.told) d l.driver) d asked
+    | inr l ↦ by op l (subst (λ v. At g opening v x.seen x.told) d l.driver) d asked timely
   ]
     where
       no_setup : (t : Retried Setup) (op : Operation) (c : Commit) → TheSetup t ≡ op → Some (tells g (who Driver) op o) ≡ Some (TheCommit c) → ⊥
@@ -134,22 +134,22 @@ module _ (g : Setting) (k : Option ℕ) (opening : Content) (j : IsLegal g.scrip
       commit_is : {c d : Commit} → TheCommit c ≡ TheCommit d → c ≡ d
       commit_is e = cc
 
-      by : (op : Operation) → Late g opening x → At g opening (Some op) x.seen x.told → x.driver ≡ Some op → asks g (who Driver) nothing_learnt op ≡ Some r
+      by : (op : Operation) → Late g opening x → At g opening (Some op) x.seen x.told → x.driver ≡ Some op → asks g (who Driver) nothing_learnt op ≡ Some r → IsTimely k x.told.cleans_at n op
           → Standing (es ++ driver_entry n r o ∷ []) (with_commit (with_driver (saw g k x (driver_entry n r o)) (tells g (who Driver) op o)) (commit_with op x.commit (driver_entry n r o)))
-      by (TheSetup t) l y d asked = absurd (none_some (ap (setup_asks w) y.0) asked)
-      by (TheCommit c) l y d asked =
-          let both = commit_closes g j x.seen x.told l.hold h.closed c y.fits y.tabled (h.reverts c d) r asked o in
+      by (TheSetup t) l y d asked timely = absurd (none_some (ap (setup_asks w) y.0) asked)
+      by (TheCommit c) l y d asked timely =
+          let both = commit_closes g j x.seen x.told l.hold h.closed c y.fits y.tabled (h.reverts c d) r asked n o in
           record {
             closed = both.0;
             reverts = λ v z. subst (Reverts x.told.publish_sent x.told.drawn) (commit_is (some_is z)) both.1;
             stands = λ v a mine z. stands_on (driver_stood w j k x.seen a n l.hold.there r (commit_drives w g.minimum k x.seen x.told n j l.hold c y.fits r asked) o) (own_more es (driver_entry n r o) a) mine (h.stands y.uncleaned a mine z);
           }
-      by (TheClean t) l y d asked = record {
-        closed = clean_closes w x.told t.operation y r asked o;
+      by (TheClean t) l y d asked timely = record {
+        closed = clean_closes x.told n timely r o;
         reverts = λ v z. absurd (clean_not (some_is z));
-        stands = λ v a mine z. absurd (false_true v (clean_begun w x.told t.operation y r asked o));
+        stands = λ v a mine z. absurd (false_true v (clean_begun x.told n timely r o));
       }
-      by _ l y d asked = absurd y
+      by _ l y d asked timely = absurd y
 
   -- ---- an attempt
 
@@ -201,9 +201,9 @@ module _ (g : Setting) (k : Option ℕ) (opening : Content) (j : IsLegal g.scrip
       by (inr l) c a op e = stands_on (strange_stood w j k x.seen a n l.hold.there r x.told.drawn f o) (own_more es (strange_entry n r o) a) op (h.stands c a op e)
 
   pub standing : (es : List Entry) (x : Stand) → Runs g k opening es x → Standing es x
-  standing es x (run_begins) = record { closed = λ c id e. absurd (false≢true e); reverts = λ c e. absurd (none_some refl e); stands = λ c a op e. absurd (none_some refl e) }
+  standing es x (run_begins v) = record { closed = λ c id e. absurd (false≢true e); reverts = λ c e. absurd (none_some refl e); stands = λ c a op e. absurd (none_some refl e) }
   standing es x (actor_begins fs y b run may) = stands_begin fs y (standing fs y run) b may
-  standing es x (driver_sends fs y op n r o run d asked timely few honest) = driver_stands fs y run (standing fs y run) op d n r asked o
+  standing es x (driver_sends fs y op n r o run d asked timely few honest) = driver_stands fs y run (standing fs y run) op d n r asked timely o
   standing es x (strays fs y n r o run f) = strays_stand fs y run (standing fs y run) n r o f
   standing es x (attempt_sends fs y a op n r o run set at asked honest) =
       let h = standing fs y run in

@@ -66,6 +66,7 @@ module _ (w : Script) (minimum : ℕ) (k : Option ℕ) (s : Seen) (m : Told) (a 
       undone = who_same m.undone a (m.undone a || false) (or_false (m.undone a)) i;
       ended = m.ended;
       cleaned = m.cleaned;
+      cleans_at = m.cleans_at;
     }
 
     publishing : (is_magic w.committer && is_set_key w a.task w.dest.bucket (layout.set_key w.dest.key w.job a.task)) ≡ true
@@ -106,6 +107,7 @@ module _ (w : Script) (minimum : ℕ) (k : Option ℕ) (s : Seen) (m : Told) (a 
       undone = who_same m.undone a (m.undone a || false) (or_false (m.undone a)) i;
       ended = m.ended;
       cleaned = m.cleaned;
+      cleans_at = m.cleans_at;
     }
 
     no_publish : last_by w s.scene s.last a.task a.attempt stage_put ≡ s.last
@@ -147,6 +149,7 @@ module _ (w : Script) (minimum : ℕ) (k : Option ℕ) (s : Seen) (m : Told) (a 
       undone = who_same m.undone a (m.undone a || false) (or_false (m.undone a)) i;
       ended = m.ended;
       cleaned = m.cleaned;
+      cleans_at = m.cleans_at;
     }
 
     -- the request publishes where the temporary file stands

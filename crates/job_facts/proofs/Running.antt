@@ -182,7 +182,7 @@ module _ (g : Setting) (opening : Content) where
 
   -- while nobody of the job but the driver's set-up has sent anything
   pub record Early (x : Stand) : Type 0 where
-    pub told : x.told ≡ nothing_told
+    pub told : x.told ≡ nothing_told x.told.cleans_at
     pub last : (t : ℕ) → x.seen.last t ≡ None
     pub unmarked : x.seen.put_mark ≡ false
     pub unbegun : x.seen.begun ≡ false

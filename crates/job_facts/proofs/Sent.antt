@@ -58,7 +58,7 @@ module _ (w : Script) (minimum : ℕ) (k : Option ℕ) (s : Seen) (m : Told) (a 
   learning ds = record m { drawn = put_who m.drawn a ds }
 
   pub no_news : (ds : List Drawn) → ds ≡ m.drawn a → learning ds ≡ m
-  no_news ds e = λ i. record { drawn = who_same m.drawn a ds e i; put_sent = m.put_sent; publish_sent = m.publish_sent; undone = m.undone; ended = m.ended; cleaned = m.cleaned }
+  no_news ds e = λ i. record { drawn = who_same m.drawn a ds e i; put_sent = m.put_sent; publish_sent = m.publish_sent; undone = m.undone; ended = m.ended; cleaned = m.cleaned; cleans_at = m.cleans_at }
 
   module _ (p : IsPlain w s.scene a (known m a) r) where
     plain_told : (o : Outcome) → tell_attempt w m a r o ≡ learning (learn w a (known m a) r o).drawn
@@ -69,6 +69,7 @@ module _ (w : Script) (minimum : ℕ) (k : Option ℕ) (s : Seen) (m : Told) (a 
       undone = who_same m.undone a _ (ap (λ b. m.undone a || b) p.undo ∙ or_false (m.undone a)) i;
       ended = m.ended;
       cleaned = m.cleaned;
+      cleans_at = m.cleans_at;
     }
 
     plain_last : last_by w s.scene s.last a.task a.attempt r ≡ s.last

@@ -36,8 +36,8 @@ no_set Directory w s t b h g e = none_some (g refl) e
 no_set Partitioned w s t b h g e = none_some (g refl) e
 
 pub facts_begin : (w : Script) (minimum : ℕ) (s : Scene) (last : ℕ → Option ℕ) → IsLegal w → HasBucket s.content w.dest.bucket → s.content.minimum ≡ minimum → ((id : ℕ) (x : Upload) → at_id w s.content id ≡ Some x → id < s.content.next) → IsBare w s → ((t : ℕ) → last t ≡ None)
-    → Facts w minimum s last nothing_told
-facts_begin w minimum s last j there least fresh bare none = record {
+    → (v : Option ℕ) → Facts w minimum s last (nothing_told v)
+facts_begin w minimum s last j there least fresh bare none v = record {
   there = there;
   least = least;
   ids = record { fresh = fresh; below = λ a d i. absurd i; apart = λ a b d e i k. absurd i; once = λ a d e i k. absurd i };

@@ -27,13 +27,12 @@ use Rattle.job_operations.specs.JobCommits.{Sets, all_commits, picks_of, Commit,
 use Rattle.job_operations.specs.LaneTable.{Table, Tabled}
 use Rattle.job_operations.specs.Operations.{Setting}
 use Rattle.job_operations.proofs.LaneTables.{tabled_tells}
-use Rattle.job_promise.specs.Ends.{lists_uploads}
 use Rattle.job_promise.specs.Seen.{Seen, see, is_begun, is_reading, is_marking, picks_by}
 use Rattle.request_frame.specs.Members.{IsIn}
 use Rattle.request_frame.specs.Frame.{changed_keys}
 use Rattle.request_frame.specs.Held.{HasBucket}
 use Rattle.request_frame.proofs.Members.{some_is, none_some, false_true, in_append, in_back}
-use Rattle.job_facts.specs.Told.{Told, tell_driver, driver_entry}
+use Rattle.job_facts.specs.Told.{Told, tell_driver, at_event, driver_entry}
 use Rattle.job_facts.specs.Stores.{at_key}
 use Rattle.job_facts.specs.Facts.{Hold}
 use Rattle.job_facts.specs.Driver.{FitsJobCommit}
@@ -66,7 +65,7 @@ use Rattle.job_facts.proofs.Replacing.{keeps_same, replaces_tells, cleared_so, o
 pub hidden_same : (w : Script) (s : Scene) → HasBucket s.content w.dest.bucket → (r : Request) → HidesAll w r → (o : Outcome) → (k : List ℕ) → begins (magic_prefix w.dest.key w.job) k ≡ false → at_key w (effect s r o).content k ≡ at_key w s.content k
 hidden_same w s there r h o k free = stranger_same w s there r o k (λ b i. false_true free (h b k i))
 
-module _ (g : Setting) (j : IsLegal g.script) (opening : Content) (k : Option ℕ) (s : Seen) (m : Told) (n : ℕ) (begins_it : is_begun k n ≡ true) (few : s.scene.content.next ≤ 2 ^ 64) (h : Hold g.script g.minimum s m) (c : Commit)
+module _ (g : Setting) (j : IsLegal g.script) (opening : Content) (k : Option ℕ) (s : Seen) (m : Told) (n : ℕ) (begins_it : is_begun k n ≡ true) (unclean : is_begun m.cleans_at n ≡ false) (few : s.scene.content.next ≤ 2 ^ 64) (h : Hold g.script g.minimum s m) (c : Commit)
     (i : InCommit g opening s.picks m c) (r : Request) (asked : commit_asks g.script c ≡ Some r) where
   abbrev w : Script
   w = g.script
@@ -79,26 +78,17 @@ module _ (g : Setting) (j : IsLegal g.script) (opening : Content) (k : Option �
 
   -- ---- what the request is
 
-  read_plain : (x : Committer) (t : ℕ) → (is_marking w (set_request x w t) ≡ false) × (lists_uploads (set_request x w t) ≡ false) × (changed_keys (set_request x w t) ≡ [])
-  read_plain Magic t = (refl, refl, refl)
-  read_plain Directory t = (refl, refl, refl)
-  read_plain Partitioned t = (refl, refl, refl)
+  read_plain : (x : Committer) (t : ℕ) → (is_marking w (set_request x w t) ≡ false) × (changed_keys (set_request x w t) ≡ [])
+  read_plain Magic t = (refl, refl)
+  read_plain Directory t = (refl, refl)
+  read_plain Partitioned t = (refl, refl)
 
-  sweep_plain : (p : List ℕ) (x : Sweep) → (is_marking w (sweep_asks w.dest.bucket p x) ≡ false) × (lists_uploads (sweep_asks w.dest.bucket p x) ≡ false) × ((t : ℕ) → is_reading w t (sweep_asks w.dest.bucket p x) ≡ false)
-  sweep_plain p (Listing keys) = (refl, refl, (λ t. refl))
-  sweep_plain p (Deleting q qs) = (refl, refl, (λ t. refl))
+  sweep_plain : (p : List ℕ) (x : Sweep) → (is_marking w (sweep_asks w.dest.bucket p x) ≡ false) × ((t : ℕ) → is_reading w t (sweep_asks w.dest.bucket p x) ≡ false)
+  sweep_plain p (Listing keys) = (refl, (λ t. refl))
+  sweep_plain p (Deleting q qs) = (refl, (λ t. refl))
 
   abbrev no_keys : (y : Request) → changed_keys y ≡ [] → (q : List ℕ) → IsIn q (changed_keys y) → ⊥
   no_keys y e q x = subst (λ l. IsIn q l) e x
-
-  -- it lists no uploads
-  no_list_by : (d : Commit) → Agrees w s.picks d → Decides w g.minimum m.publish_sent m.drawn d → commit_asks w d ≡ Some r → lists_uploads r ≡ false
-  no_list_by (Fetching sets x) a d e = ap lists_uploads (sym (some_is e)) ∙ (read_plain w.committer (length sets)).1
-  no_list_by (Replacing sets p ps x y) a d e = ap lists_uploads (sym (some_is e)) ∙ (sweep_plain p x).1
-  no_list_by (Completing sets x xs finished) a d e = ap lists_uploads (sym (some_is e))
-  no_list_by (Marking sets x) a d e = ap lists_uploads (sym (some_is e))
-  no_list_by (Reverting q qs x) a d e = ap lists_uploads (sym (some_is e)) ∙ elim (d q (inl refl)).2 [ inl y ↦ ap lists_uploads y | inr y ↦ ap lists_uploads y ]
-  no_list_by (CommitOver end) a d e = absurd cc
 
   -- but in the marker's stage it is no put of the marker
   abbrev is_mark_stage : Commit → Bool
@@ -120,7 +110,7 @@ module _ (g : Setting) (j : IsLegal g.script) (opening : Content) (k : Option �
 
   no_read_by : (d : Commit) → is_read_stage d ≡ false → Agrees w s.picks d → Decides w g.minimum m.publish_sent m.drawn d → commit_asks w d ≡ Some r → (t : ℕ) → is_reading w t r ≡ false
   no_read_by (Fetching sets x) z a d e t = absurd (false_true z refl)
-  no_read_by (Replacing sets p ps x y) z a d e t = ap (is_reading w t) (sym (some_is e)) ∙ (sweep_plain p x).2 t
+  no_read_by (Replacing sets p ps x y) z a d e t = ap (is_reading w t) (sym (some_is e)) ∙ (sweep_plain p x).1 t
   no_read_by (Completing sets x xs finished) z a d e t = ap (is_reading w t) (sym (some_is e))
   no_read_by (Marking sets x) z a d e t = ap (is_reading w t) (sym (some_is e))
   no_read_by (Reverting q qs x) z a d e t = ap (is_reading w t) (sym (some_is e)) ∙ elim (d q (inl refl)).2 [ inl y ↦ ap (is_reading w t) y | inr y ↦ ap (is_reading w t) y ]
@@ -136,7 +126,7 @@ module _ (g : Setting) (j : IsLegal g.script) (opening : Content) (k : Option �
   is_replace_stage _ = false
 
   unwanted_by : (d : Commit) → is_replace_stage d ≡ false → FitsJobCommit w g.minimum m.publish_sent m.drawn d → (v : d ≡ c) → Agrees w s.picks d → Decides w g.minimum m.publish_sent m.drawn d → commit_asks w d ≡ Some r → (q : List ℕ) → is_file_path q ≡ true → wanted_at w s.picks q ≡ None → IsIn (below w.dest.key q) (changed_keys r) → ⊥
-  unwanted_by (Fetching sets x) keeps fits v a d e q p none y = no_keys r (ap changed_keys (sym (some_is e)) ∙ (read_plain w.committer (length sets)).2) (below w.dest.key q) y
+  unwanted_by (Fetching sets x) keeps fits v a d e q p none y = no_keys r (ap changed_keys (sym (some_is e)) ∙ (read_plain w.committer (length sets)).1) (below w.dest.key q) y
   unwanted_by (Replacing sets o os x z) keeps fits v a d e q p none y = false_true keeps refl
   unwanted_by (Completing sets x xs finished) keeps fits v a d e q p none y =
       let t : Table w.lanes w.retries (length (all_commits sets)) (x ∷ xs) finished = subst (Tabled w) (sym v) i.tabled in
@@ -218,13 +208,13 @@ module _ (g : Setting) (j : IsLegal g.script) (opening : Content) (k : Option �
 
   -- ---- all of it, as far as no stranger can change it
 
-  pub commit_next : (o : Outcome) → IsHonestOutcome o (answer s.scene r) → InCommit g opening (u o).picks (tell_driver m r o) (commit_tells w c o)
+  pub commit_next : (o : Outcome) → IsHonestOutcome o (answer s.scene r) → InCommit g opening (u o).picks (at_event n (tell_driver m r o)) (commit_tells w c o)
   commit_next o honest = record {
     fits = commit_fits w g.minimum k s m n j h c i.fits few r asked o honest;
     tabled = tabled_tells w c o (some_lane j.one_lane) i.tabled;
     turns = commit_turns g j s m h c i.fits i.tabled i.turns r asked o;
     decides = decides_goes j h c i.fits i.tabled i.decides o;
-    uncleaned = ap (λ b. b || lists_uploads r) i.uncleaned ∙ no_list_by c i.agrees i.decides asked;
+    uncleaned = ap (λ b. b || is_begun m.cleans_at n) i.uncleaned ∙ unclean;
     agrees = agrees_at c refl o honest;
     replaces = replaces_tells g j opening c i.replaces o;
   }
@@ -451,7 +441,7 @@ module _ (g : Setting) (j : IsLegal g.script) (opening : Content) (k : Option �
       first_after : (o : Outcome) (q : List ℕ) → is_file_path q ≡ true → after o q ≡ first_at g opening q
       first_after o q p =
           let is : r ≡ set_request w.committer w (length sets) = sym (some_is (ap (commit_asks w) v ∙ asked)) in
-          stranger_same w s.scene h.there r o (below w.dest.key q) (λ b y. no_keys r (ap changed_keys is ∙ (read_plain w.committer (length sets)).2) (below w.dest.key q) y) ∙ first_same sets x v q p
+          stranger_same w s.scene h.there r o (below w.dest.key q) (λ b y. no_keys r (ap changed_keys is ∙ (read_plain w.committer (length sets)).1) (below w.dest.key q) y) ∙ first_same sets x v q p
 
       others_read : (o : Outcome) → Agrees w (u o).picks (commit_tells w (Fetching sets x) o) → (q : List ℕ) → is_file_path q ≡ true → Others o q (commit_tells w (Fetching sets x) o)
       others_read (Answered y) a q p = others_fetched g j opening (u (Answered y)).picks q p (apply s.scene r).content (first_after (Answered y) q p) sets (set_read y) a

@@ -50,6 +50,7 @@ module _ (w : Script) (minimum : ℕ) (k : Option ℕ) (s : Seen) (m : Told) (a 
       undone = put_who m.undone a ((ap (λ b. m.undone a || b) undo ∙ or_true (m.undone a)) i);
       ended = m.ended;
       cleaned = m.cleaned;
+      cleans_at = m.cleans_at;
     }
 
     undo_last : last_by w s.scene s.last a.task a.attempt r ≡ s.last

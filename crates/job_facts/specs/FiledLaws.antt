@@ -49,7 +49,7 @@ NeverBack = (w : Script) (s : Scene) → HasBucket s.content w.dest.bucket → (
 
 -- each upload that the driver has ended is gone: its completions and aborts end what they name, and nobody brings it back
 pub record EndedAreGone : Type 0 where
-  pub begins : (w : Script) (s : Scene) → Gone w s.content nothing_told
+  pub begins : (w : Script) (s : Scene) (c : Option ℕ) → Gone w s.content (nothing_told c)
   pub commit : (g : Setting) → IsLegal g.script → (s : Seen) (m : Told) (c : Commit) → Commits g.script g.minimum s m c → (r : Request) → commit_asks g.script c ≡ Some r → (n : ℕ) (o : Outcome)
       → Gone g.script (effect s.scene r o).content (tell g.script m (driver_entry n r o))
   -- of what ends nothing

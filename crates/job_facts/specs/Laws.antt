@@ -43,7 +43,7 @@ use Rattle.job_operations.specs.Operations.{Setting, Operation, asks, tells}
 use Rattle.job_promise.specs.Ends.{has_cleaned}
 use Rattle.job_promise.specs.Turns.{by_actor}
 use Rattle.job_promise.specs.Headline.{Same}
-use Rattle.job_promise.specs.Seen.{Seen, see, is_magic, is_staging}
+use Rattle.job_promise.specs.Seen.{Seen, see, is_begun, is_magic, is_staging}
 use Rattle.job_facts.specs.Told.{Told, known, undoes, nothing_told, tell, tell_all, entry, driver_entry, strange_entry}
 use Rattle.job_facts.specs.Stores.{at_key, at_id, sets_at}
 use Rattle.job_facts.specs.Foreign.{IsForeign, IsDriving, IsOwn}
@@ -53,10 +53,10 @@ use Rattle.job_facts.specs.Driver.{FitsClean, FitsJobCommit}
 
 -- ---- what is told
 
--- of an attempt it is what the attempt knows by its own entries, and of a clean that the driver has listed live uploads
+-- of an attempt it is what the attempt knows by its own entries, and of a clean that its event has begun
 pub record ToldIsSaid : Type 0 where
-  pub known : (w : Script) (a : Who) (es : List Entry) → known (tell_all w nothing_told es) a ≡ knows w a (by_actor (actor_of a) es)
-  pub cleaned : (w : Script) (es : List Entry) → (tell_all w nothing_told es).cleaned ≡ has_cleaned es
+  pub known : (w : Script) (c : Option ℕ) (a : Who) (es : List Entry) → known (tell_all w (nothing_told c) es) a ≡ knows w a (by_actor (actor_of a) es)
+  pub cleaned : (w : Script) (c : Option ℕ) (es : List Entry) → (tell_all w (nothing_told c) es).cleaned ≡ has_cleaned c es
 
 -- ---- the beginning, and what changes nothing
 
@@ -68,7 +68,7 @@ pub record IsBare (w : Script) (s : Scene) : Type 0 where
 -- the facts begin where the set-up is done, before any attempt has sent anything
 abbrev pub FactsBegin : Type 0
 FactsBegin = (w : Script) (minimum : ℕ) (s : Scene) (last : ℕ → Option ℕ) → IsLegal w → HasBucket s.content w.dest.bucket → s.content.minimum ≡ minimum → ((id : ℕ) (x : Upload) → at_id w s.content id ≡ Some x → id < s.content.next)
-    → IsBare w s → ((t : ℕ) → last t ≡ None) → Facts w minimum s last nothing_told
+    → IsBare w s → ((t : ℕ) → last t ≡ None) → (c : Option ℕ) → Facts w minimum s last (nothing_told c)
 
 -- a request that only reads keeps them, whoever sends it
 abbrev pub ReadsKeep : Type 0
@@ -135,7 +135,7 @@ pub record Cleans (g : Setting) (k : Option ℕ) (s : Seen) (m : Told) (n : ℕ)
 
 abbrev pub CleanGoes : Type 0
 CleanGoes = (g : Setting) → IsLegal g.script → (k : Option ℕ) (s : Seen) (m : Told) (n : ℕ) → Hold g.script g.minimum s m
-    → (t : Retried Clean) → FitsClean g.script m.cleaned t.operation → (r : Request) → clean_asks g.script t.operation ≡ Some r → (o : Outcome) → IsHonestOutcome o (answer s.scene r)
+    → is_begun m.cleans_at n ≡ true → (t : Retried Clean) → FitsClean g.script m.cleaned t.operation → (r : Request) → clean_asks g.script t.operation ≡ Some r → (o : Outcome) → IsHonestOutcome o (answer s.scene r)
     → Cleans g k s m n r o (step g.script.retries (clean_after g.script) t o)
 
 -- after an entry of its commit the facts hold, and it holds the sets as it read them and has come as far as it says

@@ -26,7 +26,7 @@ use Rattle.job_facts.specs.Runs.{Stand, Runs, IsOpening, is_set}
 pub record RunsKeep (g : Setting) (k : Option ℕ) (opening : Content) (es : List Entry) (x : Stand) : Type 0 where
   -- what it says of its stand is what its entries say
   pub seen : x.seen ≡ see_all g.script k (nothing_seen opening) es
-  pub told : x.told ≡ tell_all g.script nothing_told es
+  pub told : x.told ≡ tell_all g.script (nothing_told x.told.cleans_at) es
   -- from the end of the set-up on the facts hold
   pub hold : is_set x.driver ≡ true → Hold g.script g.minimum x.seen x.told
   -- at each moment a reader of the destination is shown what the headline says

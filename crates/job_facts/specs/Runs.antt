@@ -33,8 +33,9 @@ pub record Stand : Type 0 where
   pub driver : Option Operation
   pub commit : List Entry
 
-abbrev pub first_stand : Content → Stand
-first_stand opening = record { seen = nothing_seen opening; told = nothing_told; attempts = λ a. None; driver = None; commit = [] }
+-- its first abort or clean is event c if it is any
+abbrev pub first_stand : Content → Option ℕ → Stand
+first_stand opening c = record { seen = nothing_seen opening; told = nothing_told c; attempts = λ a. None; driver = None; commit = [] }
 
 -- an attempt is at this now
 abbrev pub with_attempt : Stand → Who → Operation → Stand
@@ -77,11 +78,12 @@ is_just_set _ = false
 abbrev pub MaySetUp : Stand → Type 0
 MaySetUp x = (is_set x.driver ≡ false) ⊎ ((is_just_set x.driver ≡ true) × ((a : Who) → x.attempts a ≡ None))
 
--- the entries of a set-up are of events before that of the commit, and those of the commit of it or of later ones
-abbrev pub IsTimely : Option ℕ → ℕ → Operation → Type 0
-IsTimely k n (TheSetup t) = is_begun k n ≡ false
-IsTimely k n (TheCommit c) = is_begun k n ≡ true
-IsTimely k n _ = Unit {0}
+-- the entries of a set-up are of events before that of the commit and that of the first abort or clean, those of the commit of it or of later ones before that, and those of an abort or clean of that or later ones
+abbrev pub IsTimely : Option ℕ → Option ℕ → ℕ → Operation → Type 0
+IsTimely k c n (TheSetup t) = (is_begun k n ≡ false) × (is_begun c n ≡ false)
+IsTimely k c n (TheCommit v) = (is_begun k n ≡ true) × (is_begun c n ≡ false)
+IsTimely k c n (TheClean t) = is_begun c n ≡ true
+IsTimely k c n _ = Unit {0}
 
 abbrev pub nothing_learnt : Known
 nothing_learnt = record { drawn = []; put_sent = false; publish_sent = false }
@@ -139,10 +141,10 @@ MayBegin g x (BeginAbort a) = (is_set x.driver ≡ true) × IsAttempt g.script a
 -- A run over this content, whose commit is event k if it is any: its entries so far, and where it stands. An actor that stops sends
 -- no more; what it was at is then as far as it had come.
 pub data Runs (g : Setting) (k : Option ℕ) (opening : Content) : List Entry → Stand → Type 0 where
-  run_begins : Runs g k opening [] (first_stand opening)
+  run_begins : (c : Option ℕ) → Runs g k opening [] (first_stand opening c)
   actor_begins : (es : List Entry) (x : Stand) (b : Beginning) → Runs g k opening es x → MayBegin g x b → Runs g k opening es (begin g x b)
   driver_sends : (es : List Entry) (x : Stand) (op : Operation) (n : ℕ) (r : Request) (o : Outcome) → Runs g k opening es x → x.driver ≡ Some op → asks g (who Driver) nothing_learnt op ≡ Some r
-      → IsTimely k n op → x.seen.scene.content.next ≤ 2 ^ 64 → IsHonestOutcome o (answer x.seen.scene r)
+      → IsTimely k x.told.cleans_at n op → x.seen.scene.content.next ≤ 2 ^ 64 → IsHonestOutcome o (answer x.seen.scene r)
       → Runs g k opening (es ++ driver_entry n r o ∷ []) (with_commit (with_driver (saw g k x (driver_entry n r o)) (tells g (who Driver) op o)) (commit_with op x.commit (driver_entry n r o)))
   attempt_sends : (es : List Entry) (x : Stand) (a : Who) (op : Operation) (n : ℕ) (r : Request) (o : Outcome) → Runs g k opening es x → is_set x.driver ≡ true → x.attempts a ≡ Some op → asks g a (known x.told a) op ≡ Some r
       → IsHonestOutcome o (answer x.seen.scene r) → Runs g k opening (es ++ entry a n r o ∷ []) (with_attempt (saw g k x (entry a n r o)) a (tells g a op o))

@@ -1,5 +1,5 @@
 -- The laws of what stands until the driver's abort or clean of the job begins.
-use Rattle.std.specs.Prelude.{◌≡◌, ℕ, Bool, false, List, Option, Some}
+use Rattle.std.specs.Prelude.{◌≡◌, ℕ, Bool, true, false, List, Option, Some}
 use Rattle.s3_types.specs.Answer.{answer}
 use Rattle.s3_types.specs.Moment.{IsHonestOutcome}
 use Rattle.s3_types.specs.declared.request.Request.{Request}
@@ -14,7 +14,7 @@ use Rattle.job_operations.specs.JobCommits.{Commit, commit_start, commit_asks, c
 use Rattle.job_operations.specs.Cleanups.{Clean, clean_asks}
 use Rattle.job_operations.specs.LaneTable.{Tabled}
 use Rattle.job_operations.specs.Operations.{Setting, Operation, asks, tells}
-use Rattle.job_promise.specs.Seen.{Seen, see}
+use Rattle.job_promise.specs.Seen.{Seen, see, is_begun}
 use Rattle.job_facts.specs.Told.{Told, known, nothing_told, tell, entry, driver_entry, strange_entry}
 use Rattle.job_facts.specs.Stores.{sets_at}
 use Rattle.job_facts.specs.Foreign.{IsForeign}
@@ -25,11 +25,11 @@ use Rattle.job_facts.specs.Standing.{Closed, Reverts, WriteStands, CommitStands,
 
 -- Until it cleans up, the driver ends only uploads of attempts that have sent their publishing requests. Of a commit's lanes it takes that their numbers are those of uploads (`Tabled`, which `job_operations` keeps); of a stranger's entry nothing is told.
 pub record DriverCloses : Type 0 where
-  pub begins : Closed nothing_told
+  pub begins : (c : Option ℕ) → Closed (nothing_told c)
   pub starts : (w : Script) (m : Told) (missing : Option ℕ) → Reverts m.publish_sent m.drawn (commit_start w missing)
   pub commit : (g : Setting) → IsLegal g.script → (s : Seen) (m : Told) → Hold g.script g.minimum s m → Closed m → (c : Commit) → FitsJobCommit g.script g.minimum m.publish_sent m.drawn c → Tabled g.script c → Reverts m.publish_sent m.drawn c
       → (r : Request) → commit_asks g.script c ≡ Some r → (n : ℕ) (o : Outcome) → let now = tell g.script m (driver_entry n r o) in Closed now × Reverts now.publish_sent now.drawn (commit_tells g.script c o)
-  pub clean : (w : Script) (m : Told) (t : Clean) → FitsClean w m.cleaned t → (r : Request) → clean_asks w t ≡ Some r → (n : ℕ) (o : Outcome) → Closed (tell w m (driver_entry n r o))
+  pub clean : (w : Script) (m : Told) (t : Clean) → FitsClean w m.cleaned t → (r : Request) → clean_asks w t ≡ Some r → (n : ℕ) → is_begun m.cleans_at n ≡ true → (o : Outcome) → Closed (tell w m (driver_entry n r o))
   pub attempt : (g : Setting) (m : Told) (a : Who) (op : Operation) → Fits g.script g.minimum a m op → (r : Request) → asks g a (known m a) op ≡ Some r → (n : ℕ) (o : Outcome)
       → let now = tell g.script m (entry a n r o) in (Closed m → Closed now) × ((c : Commit) → Reverts m.publish_sent m.drawn c → Reverts now.publish_sent now.drawn c)
 

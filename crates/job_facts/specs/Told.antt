@@ -1,5 +1,5 @@
 -- What a journal tells beside what is seen: of each attempt what it knows and has undone, and which uploads the driver has ended.
-use Rattle.std.specs.Prelude.{ℕ, ◌&&◌, ◌||◌, nat_eq, Bool, true, false, cond, List, [], ◌∷◌}
+use Rattle.std.specs.Prelude.{ℕ, ◌&&◌, ◌||◌, nat_eq, Bool, true, false, cond, List, [], ◌∷◌, Option}
 use Rattle.s3_types.specs.Moment.{is_effective}
 use Rattle.s3_types.specs.declared.request.Actor.{Actor}
 use Rattle.s3_types.specs.declared.request.Actor.TheVariants.{Driver, Attempt, Shell}
@@ -11,7 +11,7 @@ use Rattle.job_model.specs.Attempts.{Who, same_name, actor_of}
 use Rattle.job_model.specs.JobScript.{Script}
 use Rattle.job_model.specs.Known.{Drawn, Known}
 use Rattle.job_operations.specs.Knowledge.{learn}
-use Rattle.job_promise.specs.Ends.{lists_uploads}
+use Rattle.job_promise.specs.Seen.{is_begun}
 
 pub record Told : Type 0 where
   -- the uploads that each attempt knows, the last one first
@@ -23,8 +23,9 @@ pub record Told : Type 0 where
   pub undone : Who → Bool
   -- a completion or an abort of the upload, sent by the driver, took effect
   pub ended : ℕ → Bool
-  -- the driver's abort or clean has begun: it has listed live uploads
+  -- the driver's abort or clean has begun, which is this event if it is any
   pub cleaned : Bool
+  pub cleans_at : Option ℕ
 
 -- what an attempt knows
 abbrev pub known : Told → Who → Known
@@ -56,6 +57,7 @@ with_known m a k undone = record {
   undone = put_who m.undone a undone;
   ended = m.ended;
   cleaned = m.cleaned;
+  cleans_at = m.cleans_at;
 }
 
 abbrev pub tell_attempt : Script → Told → Who → Request → Outcome → Told
@@ -68,20 +70,25 @@ tell_driver m r o = record {
   publish_sent = m.publish_sent;
   undone = m.undone;
   ended = λ u. m.ended u || (is_effective o && ends r u);
-  cleaned = m.cleaned || lists_uploads r;
+  cleaned = m.cleaned;
+  cleans_at = m.cleans_at;
 }
 
+-- its abort or clean has begun with an entry in the event of that or in a later one
+abbrev pub at_event : ℕ → Told → Told
+at_event n m = record m { cleaned = m.cleaned || is_begun m.cleans_at n }
+
 -- what is told after one more sending; of a stranger's nothing
-abbrev pub tell_by : Script → Told → Request → Outcome → Actor → Told
-tell_by w m r o Driver = tell_driver m r o
-tell_by w m r o (Attempt task attempt) = tell_attempt w m (record { task = task; attempt = attempt }) r o
-tell_by w m r o Shell = m
+abbrev pub tell_by : Script → Told → ℕ → Request → Outcome → Actor → Told
+tell_by w m n r o Driver = at_event n (tell_driver m r o)
+tell_by w m n r o (Attempt task attempt) = tell_attempt w m (record { task = task; attempt = attempt }) r o
+tell_by w m n r o Shell = m
 
 abbrev pub tell : Script → Told → Entry → Told
-tell w m e = tell_by w m e.request e.outcome e.actor
+tell w m e = tell_by w m e.event e.request e.outcome e.actor
 
-abbrev pub nothing_told : Told
-nothing_told = record { drawn = λ a. []; put_sent = λ a. false; publish_sent = λ a. false; undone = λ a. false; ended = λ u. false; cleaned = false }
+abbrev pub nothing_told : Option ℕ → Told
+nothing_told c = record { drawn = λ a. []; put_sent = λ a. false; publish_sent = λ a. false; undone = λ a. false; ended = λ u. false; cleaned = false; cleans_at = c }
 
 abbrev pub tell_all : Script → Told → List Entry → Told
 tell_all w m [] = m

@@ -43,7 +43,7 @@ pub record CommitTurns : Type 0 where
   pub apart : (w : Script) (minimum : ℕ) (s : Seen) (m : Told) → IsLegal w → Hold w minimum s m → (sets : Sets) → Reads w minimum m.publish_sent m.drawn sets
       → (i n : ℕ) → i < length (all_commits sets) → n < length (all_commits sets) → (nth (all_commits sets) i).upload ≡ (nth (all_commits sets) n).upload → i ≡ n
   -- before the commit the driver ends none, and nobody else does: so none is ended as it begins, where no abort or clean of the job came before it
-  pub first : NoneEnded nothing_told
+  pub first : (c : Option ℕ) → NoneEnded (nothing_told c)
   pub others : (w : Script) (m : Told) → NoneEnded m → (a : Who) (n : ℕ) (r : Request) (o : Outcome) → NoneEnded (tell w m (entry a n r o)) × NoneEnded (tell w m (strange_entry n r o))
   pub begins : (w : Script) (m : Told) (missing : Option ℕ) → NoneEnded m → Turns m (commit_start w missing)
   pub goes : (g : Setting) → IsLegal g.script → (s : Seen) (m : Told) → Hold g.script g.minimum s m → (c : Commit) → FitsJobCommit g.script g.minimum m.publish_sent m.drawn c → Tabled g.script c → Turns m c

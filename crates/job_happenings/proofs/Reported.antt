@@ -25,9 +25,8 @@ use Rattle.job_model.specs.declared.states.ActorStage.{ActorStage}
 use Rattle.sendings.specs.Retries.{Retried}
 use Rattle.job_operations.specs.TaskCommits.{TaskCommit, TaskCommitOver, task_commit_over}
 use Rattle.job_operations.specs.Operations.{Setting, Operation, TheSetup, TheWrite, TheTaskCommit, TheTaskAbort, TheCommit, TheClean, Running, over}
-use Rattle.job_promise.specs.Seen.{Seen, see, see_all, nothing_seen, see_by, seen, is_publishing}
-use Rattle.job_promise.specs.Ends.{lists_uploads}
-use Rattle.job_promise.specs.States.{first_not, report, is_done, is_committing, open_event, commit_event}
+use Rattle.job_promise.specs.Seen.{Seen, see, see_all, nothing_seen, see_by, seen, is_begun, is_publishing}
+use Rattle.job_promise.specs.States.{first_not, report, is_done, is_committing, open_event, commit_event, clean_event}
 use Rattle.job_promise.specs.Turns.{is_memory}
 use Rattle.request_frame.proofs.Members.{some_is, none_some, false_true, eq_nat, nat_true}
 use Rattle.job_facts.specs.Runs.{IsOpening, Stand, Runs}
@@ -35,7 +34,7 @@ use Rattle.job_facts.specs.Standing.{HasPublished}
 use Rattle.job_facts.specs.Told.{Told, tell, tell_by, tell_all, nothing_told, strange_entry}
 use Rattle.job_facts.proofs.Entries.{see_more, sees, tells_so}
 use Rattle.job_happenings.specs.Happenings.{Play, Refuses, Opens, Sends, Finishes, Closes, Strays, happen, MayFinish, Happened, nothing_happened, happens}
-use Rattle.job_happenings.specs.Running.{Ahead, IsRun, operation_of}
+use Rattle.job_happenings.specs.Running.{times, Ahead, IsRun, operation_of}
 use Rattle.job_happenings.proofs.RunningStages.{may_end}
 use Rattle.job_happenings.proofs.Running.{is_run, sent_ahead, strayed_ahead, finished_ahead, opened_ahead, refused_ahead, not_refused, closed_ahead}
 use Rattle.s3_types.specs.Moment.{is_effective}
@@ -51,8 +50,8 @@ or_more false b h = absurd (false_true refl h)
 tell_keeps : (w : Script) (m : Told) (e : Entry) → m.cleaned ≡ true → (tell w m e).cleaned ≡ true
 tell_keeps w m e h = by e.actor
   where
-    by : (a : Actor) → (tell_by w m e.request e.outcome a).cleaned ≡ true
-    by Driver = or_more m.cleaned (lists_uploads e.request) h
+    by : (a : Actor) → (tell_by w m e.event e.request e.outcome a).cleaned ≡ true
+    by Driver = or_more m.cleaned (is_begun m.cleans_at e.event) h
     by (Attempt t n) = h
     by Shell = h
 
@@ -177,7 +176,7 @@ module _ (g : Setting) (opening : Content) (j : IsLegal g.script) (is_opening : 
 
   -- the driver has not begun to clean up
   abbrev pub Unclean : Play → Type 0
-  Unclean x = (tell_all w nothing_told x.journal).cleaned ≡ false
+  Unclean x = (tell_all w (nothing_told (clean_event w all_ends)) x.journal).cleaned ≡ false
 
   pub record Reported (x : Play) : Type 0 where
     pub live : AllReported x.live.reported (seen_of x)
@@ -198,8 +197,8 @@ module _ (g : Setting) (opening : Content) (j : IsLegal g.script) (is_opening : 
   later y e t h = subst (λ s. HasPublished s t) (sym (see_more w k (nothing_seen opening) y.journal e)) (last_still w k (seen_of y) e t h)
 
   -- what is told now was not told before
-  pub unclean_before : (y : Play) (e : Entry) → (tell_all w nothing_told (y.journal ++ e ∷ [])).cleaned ≡ false → Unclean y
-  unclean_before y e h = before (tell_all w nothing_told y.journal).cleaned _ (cleaned_more w nothing_told y.journal e) h
+  pub unclean_before : (y : Play) (e : Entry) → (tell_all w (nothing_told (clean_event w all_ends)) (y.journal ++ e ∷ [])).cleaned ≡ false → Unclean y
+  unclean_before y e h = before (tell_all w (nothing_told (clean_event w all_ends)) y.journal).cleaned _ (cleaned_more w (nothing_told (clean_event w all_ends)) y.journal e) h
     where
       before : (a b : Bool) → (a ≡ true → b ≡ true) → b ≡ false → a ≡ false
       before true b h e = absurd (false_true e (h refl))
@@ -211,7 +210,7 @@ module _ (g : Setting) (opening : Content) (j : IsLegal g.script) (is_opening : 
     past = old.past;
   }
     where
-      run : IsRun g opening y k
+      run : IsRun g opening y (times w all_ends)
       run = is_run g opening j is_opening y past all_ends ahead
 
       published : (t : ℕ) → Reports v.actor (y.live.state v.actor).stage v.end t → ((is_memory v.end ≡ true) ⊎ ((m : Running) × (y.running v.actor ≡ Some m) × (over m.operation ≡ Some v.end))) → HasPublished (seen_of y) t
@@ -226,7 +225,7 @@ module _ (g : Setting) (opening : Content) (j : IsLegal g.script) (is_opening : 
           let is_task : IsTaskCommit (Some m.operation) =
           subst (λ l. StageBy true l (Some m.operation)) busy (subst (λ c. StageBy c (y.live.state (actor_of b)).life (Some m.operation)) staged (subst (λ o. CommitAt (y.live.state (actor_of b)) (operation_of o)) here at)) in
           let d = done_commit m.operation is_task (q.2 ∙ ap (λ v. Some v) r.done) in
-          let told : run.stand.told.cleaned ≡ false = ap (λ (z : Told). z.cleaned) (tells_so g k opening j is_opening y.journal run.stand run.runs) ∙ clean in
+          let told : run.stand.told.cleaned ≡ false = ap (λ (z : Told). z.cleaned) (tells_so g k opening j is_opening y.journal run.stand run.runs) ∙ ap (λ c. (tell_all w (nothing_told c) y.journal).cleaned) run.cleans ∙ clean in
           let here_at : run.stand.attempts b ≡ Some (TheTaskCommit d.commit) = run.attempts b ∙ ap operation_of here ∙ ap (λ v. Some v) d.is in
           let has = done_published g k opening j is_opening y.journal run.stand run.runs told b d.commit here_at d.over in
           subst (λ u. HasPublished (seen_of y) u) r.task (subst (λ s. HasPublished s b.task) (sees g k opening j is_opening y.journal run.stand run.runs) has)

@@ -35,7 +35,7 @@ use Rattle.job_promise.specs.States.{Past, put, missing, stage_begun, stage_done
 use Rattle.request_frame.proofs.Members.{some_is, none_some, true_or_false}
 use Rattle.job_facts.specs.Runs.{IsOpening, Stand, Runs, run_begins, actor_begins, driver_sends, attempt_sends, strays, Beginning, BeginWrite, BeginPublish, BeginAbort, begin}
 use Rattle.job_happenings.specs.Happenings.{Play, Refuses, Opens, Sends, Finishes, Closes, knows_now, begun, begin_running, open_running, hear, happen, MayOpen, MaySend, MayFinish, Happened, nothing_happened, happens, Strays}
-use Rattle.job_happenings.specs.Running.{Ahead, IsRun, operation_of}
+use Rattle.job_happenings.specs.Running.{Ahead, IsRun, operation_of, times}
 use Rattle.job_happenings.proofs.Actors.{same_or_not, put_here, put_other}
 use Rattle.job_happenings.proofs.Told.{told_all}
 use Rattle.job_happenings.proofs.RunningStages.{begins_so, memory_dies, may_end, mapped}
@@ -160,7 +160,7 @@ begin_ended g y (BeginAbort b) old a op e = put_at CommitEnded y.attempts b (The
 begin_ended g y _ old a op e = old a op e
 
 never_kept : (g : Setting) (k : Option ℕ) (opening : Content) (es : List Entry) (x : Stand) → Runs g k opening es x → (a : Who) (op : Operation) → x.attempts a ≡ Some op → CommitEnded a op
-never_kept g k opening es x (run_begins) a op e = absurd (none_some refl e)
+never_kept g k opening es x (run_begins c) a op e = absurd (none_some refl e)
 never_kept g k opening es x (actor_begins fs y b run may) a op e = begin_ended g y b (never_kept g k opening fs y run) a op e
 never_kept g k opening es x (driver_sends fs y v n r o run d asked timely few honest) a op e = never_kept g k opening fs y run a op e
 never_kept g k opening es x (attempt_sends fs y b v n r o run set at asked honest) a op e = put_at CommitEnded y.attempts b (tells g b v o) (ended_tells g b v o (never_kept g k opening fs y run b v at)) (never_kept g k opening fs y run) a op e
@@ -350,7 +350,7 @@ module _ (g : Setting) (opening : Content) (j : IsLegal g.script) (is_opening : 
   finishes : (y : Play) → Happened g opening y → (v : ActorEnd) → MayFinish y v → AllCommitAt y.live.state y.running → AllCommitAt (happen g y (Finishes v)).live.state y.running
   finishes y past v may old b = one_put (λ s. At s (y.running (actor_of b))) y.live.state v.actor (ended v.end (y.live.state v.actor).stage) (actor_of b) (λ s. over_at s) (old b)
     where
-      run : IsRun g opening y (commit_event g.script (y.ends ++ Done ∷ []))
+      run : IsRun g opening y (times g.script (y.ends ++ Done ∷ []))
       run = is_run g opening j is_opening y past (y.ends ++ Done ∷ []) (goes_on y)
 
       over_at : actor_of b ≡ v.actor → At (ended v.end (y.live.state v.actor).stage) (y.running (actor_of b))

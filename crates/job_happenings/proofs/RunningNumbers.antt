@@ -10,63 +10,73 @@ use Rattle.job_model.specs.JobScript.{Script}
 use Rattle.job_model.specs.declared.events.Event.{Event}
 use Rattle.job_model.specs.declared.ends.EventEnd.{EventEnd}
 use Rattle.job_promise.specs.Seen.{is_begun}
-use Rattle.job_promise.specs.States.{begins_commit, is_refused, commit_from, commit_event}
+use Rattle.job_promise.specs.States.{begins_commit, begins_clean, is_refused, event_from, commit_event, clean_event}
+use Rattle.job_happenings.specs.Running.{Times, times}
+use Rattle.job_happenings.proofs.RunningStages.{Begun, with_event}
 use Rattle.request_frame.proofs.Members.{some_is, none_some, eq_nat}
 use Rattle.job_facts.specs.Facts.{IsAttempt}
 use Rattle.job_facts.proofs.Whose.{attempt}
 
--- ---- the event of the commit
+-- ---- the first event that passes a test
 
--- it is none of those before the first that is looked at
-later : (n : ℕ) (evs : List Event) (xs : List EventEnd) (p : ℕ) → p < n → is_begun (commit_from n evs xs) p ≡ false
-later n [] xs p l = refl
-later n (v ∷ evs) [] p l = by (begins_commit v) (let m : p < n + 1 = omega arith in later (n + 1) evs [] p m)
-  where
-    by : (b : Bool) → is_begun (commit_from (n + 1) evs []) p ≡ false → is_begun (cond b (Some n) (commit_from (n + 1) evs [])) p ≡ false
-    by true old = above_so n p l
-    by false old = old
-later n (v ∷ evs) (x ∷ xs) p l = by (begins_commit v && not (is_refused x)) (let m : p < n + 1 = omega arith in later (n + 1) evs xs p m)
-  where
-    by : (b : Bool) → is_begun (commit_from (n + 1) evs xs) p ≡ false → is_begun (cond b (Some n) (commit_from (n + 1) evs xs)) p ≡ false
-    by true old = above_so n p l
-    by false old = old
+module _ (f : Event → Bool) where
+  -- it is none of those before the first that is looked at
+  pub later : (n : ℕ) (evs : List Event) (xs : List EventEnd) (p : ℕ) → p < n → is_begun (event_from f n evs xs) p ≡ false
+  later n [] xs p l = refl
+  later n (v ∷ evs) [] p l = by (f v) (let m : p < n + 1 = omega arith in later (n + 1) evs [] p m)
+    where
+      by : (b : Bool) → is_begun (event_from f (n + 1) evs []) p ≡ false → is_begun (cond b (Some n) (event_from f (n + 1) evs [])) p ≡ false
+      by true old = above_so n p l
+      by false old = old
+  later n (v ∷ evs) (x ∷ xs) p l = by (f v && not (is_refused x)) (let m : p < n + 1 = omega arith in later (n + 1) evs xs p m)
+    where
+      by : (b : Bool) → is_begun (event_from f (n + 1) evs xs) p ≡ false → is_begun (cond b (Some n) (event_from f (n + 1) evs xs)) p ≡ false
+      by true old = above_so n p l
+      by false old = old
 
--- with one more event it has begun where it had, or where that event begins the commit and is not refused
-here : (n p : ℕ) (next : Option ℕ) → n ≡ p + 1 → is_begun next (p + 1) ≡ false → is_begun next p ≡ false → (b : Bool) → is_begun (cond b (Some n) next) (p + 1) ≡ (is_begun (cond b (Some n) next) p || b)
-here n p next e after before true =
-    let l : n ≤ p + 1 = omega arith in
-    let m : p < n = omega arith in
-    at_most_so n (p + 1) l ∙ sym (ap (λ c. c || true) (above_so n p m))
-here n p next e after before false = after ∙ sym (ap (λ c. c || false) before)
+  -- with one more event it has begun where it had, or where that event passes it and is not refused
+  here : (n p : ℕ) (next : Option ℕ) → n ≡ p + 1 → is_begun next (p + 1) ≡ false → is_begun next p ≡ false → (b : Bool) → is_begun (cond b (Some n) next) (p + 1) ≡ (is_begun (cond b (Some n) next) p || b)
+  here n p next e after before true =
+      let l : n ≤ p + 1 = omega arith in
+      let m : p < n = omega arith in
+      at_most_so n (p + 1) l ∙ sym (ap (λ c. c || true) (above_so n p m))
+  here n p next e after before false = after ∙ sym (ap (λ c. c || false) before)
 
-there : (n p : ℕ) (next : Option ℕ) (now : Bool) → n ≤ p → is_begun next (p + 1) ≡ (is_begun next p || now) → (b : Bool) → is_begun (cond b (Some n) next) (p + 1) ≡ (is_begun (cond b (Some n) next) p || now)
-there n p next now m old true =
-    let l : n ≤ p + 1 = omega arith in
-    at_most_so n (p + 1) l ∙ sym (ap (λ c. c || now) (at_most_so n p m))
-there n p next now m old false = old
+  there : (n p : ℕ) (next : Option ℕ) (now : Bool) → n ≤ p → is_begun next (p + 1) ≡ (is_begun next p || now) → (b : Bool) → is_begun (cond b (Some n) next) (p + 1) ≡ (is_begun (cond b (Some n) next) p || now)
+  there n p next now m old true =
+      let l : n ≤ p + 1 = omega arith in
+      at_most_so n (p + 1) l ∙ sym (ap (λ c. c || now) (at_most_so n p m))
+  there n p next now m old false = old
 
-begun_from : (n : ℕ) (evs : List Event) (front : List EventEnd) (end : EventEnd) (more : List EventEnd) (ev : Event) (p : ℕ) → p + 1 ≡ n + length front → slice_get evs (length front) ≡ Some ev
-    → is_begun (commit_from n evs (front ++ end ∷ more)) (p + 1) ≡ (is_begun (commit_from n evs (front ++ end ∷ more)) p || (begins_commit ev && not (is_refused end)))
-begun_from n [] front end more ev p l e = absurd (none_some refl e)
-begun_from n (v ∷ evs) [] end more ev p l e =
-    let now : n ≡ p + 1 = omega arith in
-    let next : p + 1 < n + 1 = omega arith in
-    let before : p < n + 1 = omega arith in
-    here n p (commit_from (n + 1) evs more) now (later (n + 1) evs more (p + 1) next) (later (n + 1) evs more p before) (begins_commit v && not (is_refused end))
-    ∙ ap (λ u. is_begun (commit_from n (v ∷ evs) (end ∷ more)) p || (begins_commit u && not (is_refused end))) (some_is e)
-begun_from n (v ∷ evs) (f ∷ front) end more ev p l e =
-    let m : n ≤ p = omega arith in
-    let moved : p + 1 ≡ (n + 1) + length front = omega arith in
-    there n p (commit_from (n + 1) evs (front ++ end ∷ more)) (begins_commit ev && not (is_refused end)) m (begun_from (n + 1) evs front end more ev p moved e) (begins_commit v && not (is_refused f))
+  pub begun_from : (n : ℕ) (evs : List Event) (front : List EventEnd) (end : EventEnd) (more : List EventEnd) (ev : Event) (p : ℕ) → p + 1 ≡ n + length front → slice_get evs (length front) ≡ Some ev
+      → is_begun (event_from f n evs (front ++ end ∷ more)) (p + 1) ≡ (is_begun (event_from f n evs (front ++ end ∷ more)) p || (f ev && not (is_refused end)))
+  begun_from n [] front end more ev p l e = absurd (none_some refl e)
+  begun_from n (v ∷ evs) [] end more ev p l e =
+      let now : n ≡ p + 1 = omega arith in
+      let next : p + 1 < n + 1 = omega arith in
+      let before : p < n + 1 = omega arith in
+      here n p (event_from f (n + 1) evs more) now (later (n + 1) evs more (p + 1) next) (later (n + 1) evs more p before) (f v && not (is_refused end))
+      ∙ ap (λ u. is_begun (event_from f n (v ∷ evs) (end ∷ more)) p || (f u && not (is_refused end))) (some_is e)
+  begun_from n (v ∷ evs) (x ∷ front) end more ev p l e =
+      let m : n ≤ p = omega arith in
+      let moved : p + 1 ≡ (n + 1) + length front = omega arith in
+      there n p (event_from f (n + 1) evs (front ++ end ∷ more)) (f ev && not (is_refused end)) m (begun_from (n + 1) evs front end more ev p moved e) (f v && not (is_refused x))
 
 -- in a run, with one more event
-pub begun_next : (w : Script) (front : List EventEnd) (end : EventEnd) (more : List EventEnd) (ev : Event) → slice_get w.events (length front) ≡ Some ev
-    → is_begun (commit_event w (front ++ end ∷ more)) (length front + 1) ≡ (is_begun (commit_event w (front ++ end ∷ more)) (length front) || (begins_commit ev && not (is_refused end)))
-begun_next w front end more ev e = let l : length front + 1 ≡ 1 + length front = omega arith in begun_from 1 w.events front end more ev (length front) l e
+abbrev pub begun_at : Times → ℕ → Begun
+begun_at k n = record { commit = is_begun k.commit n; clean = is_begun k.clean n }
 
--- before the first event it has not
-pub unbegun : (w : Script) (xs : List EventEnd) → is_begun (commit_event w xs) 0 ≡ false
-unbegun w xs = let l : 0 < 1 = omega arith in later 1 w.events xs 0 l
+pub begun_next : (w : Script) (front : List EventEnd) (end : EventEnd) (more : List EventEnd) (ev : Event) → slice_get w.events (length front) ≡ Some ev → (b : Bool) → not (is_refused end) ≡ b
+    → begun_at (times w (front ++ end ∷ more)) (length front + 1) ≡ with_event b (begun_at (times w (front ++ end ∷ more)) (length front)) ev
+begun_next w front end more ev e b fine =
+    let l : length front + 1 ≡ 1 + length front = omega arith in
+    let c = begun_from begins_commit 1 w.events front end more ev (length front) l e ∙ ap (λ v. is_begun (commit_event w (front ++ end ∷ more)) (length front) || (begins_commit ev && v)) fine in
+    let d = begun_from begins_clean 1 w.events front end more ev (length front) l e ∙ ap (λ v. is_begun (clean_event w (front ++ end ∷ more)) (length front) || (begins_clean ev && v)) fine in
+    λ i. record { commit = c i; clean = d i }
+
+-- before the first event neither has
+pub unbegun : (w : Script) (xs : List EventEnd) → (is_begun (commit_event w xs) 0 ≡ false) × (is_begun (clean_event w xs) 0 ≡ false)
+unbegun w xs = let l : 0 < 1 = omega arith in (later begins_commit 1 w.events xs 0 l, later begins_clean 1 w.events xs 0 l)
 
 -- ---- what the bounds of a script say
 

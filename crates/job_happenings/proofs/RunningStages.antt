@@ -8,6 +8,7 @@ use Rattle.s3_types.specs.declared.request.Request.{Request}
 use Rattle.s3_types.specs.declared.journal.Outcome.{Outcome}
 use Rattle.sendings.specs.Retries.{Retried}
 use Rattle.job_model.specs.Known.{Known}
+use Rattle.job_model.specs.declared.events.Event.{Event}
 use Rattle.job_model.specs.declared.events.Op.{Op}
 use Rattle.job_model.specs.declared.events.Op.TheVariants.{Setup, Commit, Abort, Clean}
 use Rattle.job_model.specs.declared.ends.SetupEnd.{SetupEnd}
@@ -33,7 +34,7 @@ use Rattle.job_operations.specs.JobCommits.{commit_over}
 use Rattle.job_operations.specs.Cleanups.{clean_over}
 use Rattle.job_operations.specs.Operations.{Setting, Operation, TheSetup, TheWrite, TheTaskCommit, TheTaskAbort, TheCommit, TheClean, Running, who, asks, tells, over}
 use Rattle.job_promise.specs.Seen.{is_begun}
-use Rattle.job_promise.specs.States.{ended, setup_ended, commit_ended, clean_ended, dead, restarted, is_new, needs_set, may, driver_may, refuse_op, refuse_begin}
+use Rattle.job_promise.specs.States.{ended, setup_ended, commit_ended, clean_ended, dead, restarted, is_new, needs_set, may, driver_may, refuse_op, refuse_begin, begins_commit, begins_clean}
 use Rattle.job_promise.specs.Turns.{is_busy, is_memory, is_wanting}
 use Rattle.request_frame.proofs.Members.{some_is, none_some, false_true, true_or_false}
 use Rattle.job_facts.specs.Runs.{is_set, is_just_set, is_done, IsTimely, nothing_learnt}
@@ -387,38 +388,45 @@ driver_hears g s (TheTaskAbort t) o h = absurd (no_task (TheTaskAbort t) (driver
 
 -- ---- whether its commit has begun
 
--- it has where the driver is at its commit, and has not where it is at its set-up
-abbrev pub IsTimed : Bool → Option Operation → Type 0
-IsTimed b None = b ≡ false
-IsTimed b (Some (TheSetup t)) = b ≡ false
-IsTimed b (Some (TheCommit c)) = b ≡ true
+-- whether they have begun
+pub record Begun : Type 0 where
+  pub commit : Bool
+  pub clean : Bool
+
+-- with an event that is refused or not, and with one that begins neither
+abbrev pub with_event : Bool → Begun → Event → Begun
+with_event fine b ev = record { commit = b.commit || (begins_commit ev && fine); clean = b.clean || (begins_clean ev && fine) }
+
+abbrev pub still_begun : Begun → Begun
+still_begun b = record { commit = b.commit || false; clean = b.clean || false }
+
+-- where the driver is at its commit that has begun, and no abort or clean; where it is at an abort or clean that has; and neither has where it is at its set-up
+abbrev pub IsTimed : Begun → Option Operation → Type 0
+IsTimed b None = (b.commit ≡ false) × (b.clean ≡ false)
+IsTimed b (Some (TheSetup t)) = (b.commit ≡ false) × (b.clean ≡ false)
+IsTimed b (Some (TheCommit c)) = (b.commit ≡ true) × (b.clean ≡ false)
+IsTimed b (Some (TheClean t)) = b.clean ≡ true
 IsTimed b (Some _) = Unit {0}
 
-pub timed_setting : (b : Bool) (d : Option Operation) → IsTimed b d → IsSettingUp d → b ≡ false
+pub timed_setting : (b : Begun) (d : Option Operation) → IsTimed b d → IsSettingUp d → (b.commit ≡ false) × (b.clean ≡ false)
 timed_setting b None h s = h
 timed_setting b (Some (TheSetup t)) h s = h
-timed_setting b (Some (TheWrite t)) h s = absurd s
-timed_setting b (Some (TheTaskCommit t)) h s = absurd s
-timed_setting b (Some (TheTaskAbort t)) h s = absurd s
-timed_setting b (Some (TheCommit c)) h s = absurd s
-timed_setting b (Some (TheClean t)) h s = absurd s
+timed_setting b (Some _) h s = absurd s
 
-pub timed_sends : (k : Option ℕ) (n : ℕ) (op : Operation) → IsTimed (is_begun k n) (Some op) → IsTimely k n op
-timed_sends k n (TheSetup t) h = h
-timed_sends k n (TheWrite t) h = tt
-timed_sends k n (TheTaskCommit t) h = tt
-timed_sends k n (TheTaskAbort t) h = tt
-timed_sends k n (TheCommit c) h = h
-timed_sends k n (TheClean t) h = tt
+pub timed_sends : (k c : Option ℕ) (n : ℕ) (op : Operation) → IsTimed (record { commit = is_begun k n; clean = is_begun c n }) (Some op) → IsTimely k c n op
+timed_sends k c n (TheSetup t) h = h
+timed_sends k c n (TheCommit v) h = h
+timed_sends k c n (TheClean t) h = h
+timed_sends k c n _ h = tt
 
-pub timed_tells : (g : Setting) (b : Bool) (op : Operation) (o : Outcome) → IsTimed b (Some op) → IsTimed b (Some (tells g (who Driver) op o))
+pub timed_tells : (g : Setting) (b : Begun) (op : Operation) (o : Outcome) → IsTimed b (Some op) → IsTimed b (Some (tells g (who Driver) op o))
 timed_tells g b (TheSetup t) o h = h
+timed_tells g b (TheCommit c) o h = h
+timed_tells g b (TheClean t) o h = h
 timed_tells g b (TheWrite t) o h = tt
 timed_tells g b (TheTaskCommit t) o h = tt
 timed_tells g b (TheTaskAbort t) o h = tt
-timed_tells g b (TheCommit c) o h = h
-timed_tells g b (TheClean t) o h = tt
 
--- a later event that does not begin the commit
-pub timed_on : (b : Bool) (d : Option Operation) → IsTimed b d → IsTimed (b || false) d
-timed_on b d h = subst (λ c. IsTimed c d) (sym (or_false b)) h
+-- a later event that begins neither
+pub timed_on : (b : Begun) (d : Option Operation) → IsTimed b d → IsTimed (still_begun b) d
+timed_on b d h = subst (λ c. IsTimed c d) (λ i. record { commit = sym (or_false b.commit) i; clean = sym (or_false b.clean) i }) h

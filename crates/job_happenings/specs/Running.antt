@@ -3,11 +3,12 @@ use Rattle.std.specs.Prelude.{◌≡◌, ℕ, true, false, List, ◌∷◌, ◌+
 use Rattle.s3_types.specs.Store.{Content}
 use Rattle.s3_types.specs.declared.request.Actor.TheVariants.{Driver}
 use Rattle.job_model.specs.Attempts.{Who, actor_of}
+use Rattle.job_model.specs.JobScript.{Script}
 use Rattle.job_model.specs.Legal.{IsLegal}
 use Rattle.job_model.specs.declared.events.Event.{Event}
 use Rattle.job_model.specs.declared.ends.EventEnd.{EventEnd}
 use Rattle.job_operations.specs.Operations.{Setting, Operation, Running}
-use Rattle.job_promise.specs.States.{is_new, commit_event, is_refused}
+use Rattle.job_promise.specs.States.{is_new, commit_event, is_refused, clean_event}
 use Rattle.job_facts.specs.Told.{known}
 use Rattle.job_facts.specs.Runs.{Stand, Runs, IsOpening, is_set}
 use Rattle.job_happenings.specs.Happenings.{Play, Happened, knows_now}
@@ -23,10 +24,19 @@ abbrev pub operation_of : Option Running → Option Operation
 operation_of None = None
 operation_of (Some m) = Some m.operation
 
--- the same run, request by request, whose job commit is event k if it is any
-pub record IsRun (g : Setting) (opening : Content) (x : Play) (k : Option ℕ) : Type 0 where
+-- the events of the job's commit and of its first abort or clean, if they are any
+pub record Times : Type 0 where
+  pub commit : Option ℕ
+  pub clean : Option ℕ
+
+abbrev pub times : Script → List EventEnd → Times
+times w ends = record { commit = commit_event w ends; clean = clean_event w ends }
+
+-- the same run, request by request
+pub record IsRun (g : Setting) (opening : Content) (x : Play) (k : Times) : Type 0 where
   pub stand : Stand
-  pub runs : Runs g k opening x.journal stand
+  pub runs : Runs g k.commit opening x.journal stand
+  pub cleans : stand.told.cleans_at ≡ k.clean
   pub driver : stand.driver ≡ operation_of (x.running Driver)
   pub attempts : (a : Who) → stand.attempts a ≡ operation_of (x.running (actor_of a))
   -- what each attempt knows, and what it knew as it last sent
@@ -36,4 +46,4 @@ pub record IsRun (g : Setting) (opening : Content) (x : Play) (k : Option ℕ) :
   pub set_up : is_new (x.live.state Driver).stage ≡ false → is_set stand.driver ≡ true
 
 abbrev pub HappeningsRun : Type 0
-HappeningsRun = (g : Setting) (opening : Content) (x : Play) → IsLegal g.script → IsOpening g opening → Happened g opening x → (ends : List EventEnd) → Ahead x ends → IsRun g opening x (commit_event g.script ends)
+HappeningsRun = (g : Setting) (opening : Content) (x : Play) → IsLegal g.script → IsOpening g opening → Happened g opening x → (ends : List EventEnd) → Ahead x ends → IsRun g opening x (times g.script ends)

@@ -28,7 +28,7 @@ use Rattle.job_operations.specs.JobCommits.{Commit, Fetching, Replacing, Complet
 use Rattle.job_operations.specs.Operations.{Setting, Operation, Running, start_of, TheSetup, TheWrite, TheTaskCommit, TheTaskAbort, TheCommit, TheClean, advance, over}
 use Rattle.job_promise.specs.Headline.{Same, Always}
 use Rattle.job_promise.specs.Seen.{see_all, nothing_seen, is_begun, is_marked, Seen}
-use Rattle.job_promise.specs.States.{same_actor, refusal, Doing, missing, first_not, driver_may, commit_event}
+use Rattle.job_promise.specs.States.{same_actor, refusal, Doing, missing, first_not, driver_may, commit_event, clean_event}
 use Rattle.job_promise.specs.Turns.{until, by_actor, is_wanting, since}
 use Rattle.job_promise.specs.Follows.{known_then}
 use Rattle.job_promise.specs.Ends.{EndedIn, CommitEnded, commit_due}
@@ -43,11 +43,12 @@ use Rattle.job_facts.specs.Runs.{IsOpening, is_just_set}
 use Rattle.job_facts.proofs.Entries.{take_all, sees, tells_so, always, reverted_now}
 use Rattle.job_facts.proofs.Changes.{moment_scene}
 use Rattle.job_happenings.specs.Happenings.{Play, MayOpen, Opens, Closes, open_running, happen, Happened, happens}
-use Rattle.job_happenings.specs.Running.{Ahead, IsRun, operation_of}
-use Rattle.job_happenings.proofs.RunningStages.{Begins, begins_so, IsSettingUp, IsTimed, timed_setting, may_commit_job}
+use Rattle.job_happenings.specs.Running.{Ahead, IsRun, operation_of, times}
+use Rattle.job_happenings.proofs.RunningStages.{Begins, begins_so, IsSettingUp, IsTimed, timed_setting, may_commit_job, Begun}
 use Rattle.job_happenings.proofs.Actors.{same_is}
 use Rattle.job_happenings.proofs.Told.{told_all}
 use Rattle.job_happenings.proofs.Reported.{last_more, none_left, reported}
+use Rattle.job_happenings.proofs.RunningNumbers.{begun_at}
 use Rattle.job_happenings.proofs.Running.{number, is_run, carried, opened_ahead, closed_ahead, not_refused}
 use Rattle.job_ends.specs.CommitRuns.{IsDue, CommitStands}
 use Rattle.job_ends.proofs.Alone.{go_alone}
@@ -153,16 +154,16 @@ module _ (g : Setting) (opening : Content) (j : IsLegal g.script) (is_opening : 
     abbrev known : Known
     known = known_then g Driver d (by_actor Driver z.journal)
 
-    abbrev Begun : Type 0
-    Begun = (d.op ≡ ops.Commit) × (n.op ≡ TheCommit (commit_start w d.missing))
+    abbrev IsCommit : Type 0
+    IsCommit = (d.op ≡ ops.Commit) × (n.op ≡ TheCommit (commit_start w d.missing))
 
-    begun_over : over (run (advance g Driver) (record { operation = n.op; known = known }) es).operation ≡ Some (ends.Commit e) → Begun
+    begun_over : over (run (advance g Driver) (record { operation = n.op; known = known }) es).operation ≡ Some (ends.Commit e) → IsCommit
     begun_over o = driver_commit g d.op d.missing known n.op n.begun_is (sym (kind_run g Driver (record { operation = n.op; known = known }) es) ∙ over_kind _ (ends.Commit e) o)
 
-    begun_wanting : is_wanting Driver d.op (ends.Commit e) ≡ true → Begun
+    begun_wanting : is_wanting Driver d.op (ends.Commit e) ≡ true → IsCommit
     begun_wanting h = let is = wanting_commit d.op e h in (is, sym (some_is (sym (ap (λ v. start_of g Driver v d.missing known) is) ∙ n.begun_is)))
 
-    begun : Begun
+    begun : IsCommit
     begun =
         let f = (told_all g opening z n.closed.happened).finish n.place (record { actor = Driver; end = ends.Commit e }) n.finished in
         let same : f.doing ≡ d = some_is (sym f.does ∙ n.doing) in
@@ -185,7 +186,7 @@ module _ (g : Setting) (opening : Content) (j : IsLegal g.script) (is_opening : 
     ahead : Ahead (happen g z (Closes n.event_end)) x.ends
     ahead = n.closed.ahead x.ends (ahead_none x idle)
 
-    then : IsRun g opening (happen g z (Closes n.event_end)) k
+    then : IsRun g opening (happen g z (Closes n.event_end)) (times w x.ends)
     then = is_run g opening j is_opening (happen g z (Closes n.event_end)) (happens z (Closes n.event_end) n.closed.happened n.closed.may) x.ends ahead
 
     at_led : then.stand.driver ≡ Some (TheCommit led)
@@ -209,18 +210,18 @@ module _ (g : Setting) (opening : Content) (j : IsLegal g.script) (is_opening : 
         let op = operation_of (s.at.running Driver) in
         let may : driver_may ops.Commit (s.at.past.state Driver).stage ≡ true = ap (λ v. driver_may v (s.at.past.state Driver).stage) (sym begun.0) ∙ b.may_begin in
         let just = may_commit_job (s.at.past.state Driver).stage (s.at.past.state Driver).life op (driver_past g opening j is_opening s.at s.happened s.may.idle) may in
-        let timed : IsTimed (is_begun k (length s.at.ends)) op = subst (λ v. IsTimed (is_begun k (number v (length s.at.ends))) op) s.may.idle h.timed in
-        timed_setting (is_begun k (length s.at.ends)) op timed (just_setting op just)
+        let timed : IsTimed (begun_at (times w x.ends) (length s.at.ends)) op = subst (λ v. IsTimed (begun_at (times w x.ends) (number v (length s.at.ends))) op) s.may.idle h.timed in
+        (timed_setting (begun_at (times w x.ends) (length s.at.ends)) op timed (just_setting op just)).0
 
     -- where the event begins the commit it has begun
-    begun_timed : (ev : Event) (b : Bool) → ((ev ≡ Do Driver ops.Commit) ⊎ (ev ≡ Start Driver ops.Commit)) → IsTimed b (operation_of (open_running g s.at ev Driver)) → b ≡ true
-    begun_timed ev b (inl is) h = subst (λ v. IsTimed b (operation_of (open_running g s.at v Driver))) is h
-    begun_timed ev b (inr is) h = subst (λ v. IsTimed b (operation_of (open_running g s.at v Driver))) is h
+    begun_timed : (ev : Event) (b : Begun) → ((ev ≡ Do Driver ops.Commit) ⊎ (ev ≡ Start Driver ops.Commit)) → IsTimed b (operation_of (open_running g s.at ev Driver)) → b.commit ≡ true
+    begun_timed ev b (inl is) h = (subst (λ v. IsTimed b (operation_of (open_running g s.at v Driver))) is h).0
+    begun_timed ev b (inr is) h = (subst (λ v. IsTimed b (operation_of (open_running g s.at v Driver))) is h).0
 
     timed_now : is_begun k (length s.at.ends + 1) ≡ true
     timed_now =
         let h = (carried g opening j is_opening (happen g s.at (Opens s.event)) (happens s.at (Opens s.event) s.happened s.may) x.ends ahead_opened).along in
-        begun_timed s.event (is_begun k (length s.at.ends + 1)) (subst (λ v. IsBegin s.event Driver v) begun.0 s.begins) h.timed
+        begun_timed s.event (begun_at (times w x.ends) (length s.at.ends + 1)) (subst (λ v. IsBegin s.event Driver v) begun.0 s.begins) h.timed
 
     number_is : k ≡ Some d.since
     number_is = commit_number k (length s.at.ends) timed_before timed_now ∙ ap (λ v. Some v) (sym s.since_is)
@@ -243,11 +244,11 @@ module _ (g : Setting) (opening : Content) (j : IsLegal g.script) (is_opening : 
     opened_commit ev (inr is) = ap (λ v. operation_of (open_running g s.at v Driver)) is
 
     -- the driver has not cleaned up as it began
-    unclean : (tell_all w nothing_told s.at.journal).cleaned ≡ false
+    unclean : (tell_all w (nothing_told (clean_event w x.ends)) s.at.journal).cleaned ≡ false
     unclean =
         let r = is_run g opening j is_opening (happen g s.at (Opens s.event)) (happens s.at (Opens s.event) s.happened s.may) x.ends ahead_opened in
         let at : r.stand.driver ≡ Some (TheCommit (commit_start w (missing w s.at.past.reported))) = r.driver ∙ opened_commit s.event (subst (λ v. IsBegin s.event Driver v) begun.0 s.begins) in
-        sym (ap (λ (m : Told). m.cleaned) (tells_so g k opening j is_opening s.at.journal r.stand r.runs)) ∙ (in_commit g k opening j is_opening s.at.journal r.stand r.runs (commit_start w (missing w s.at.past.reported)) at).2.uncleaned
+        sym (ap (λ (m : Told). m.cleaned) (tells_so g k opening j is_opening s.at.journal r.stand r.runs) ∙ ap (λ c. (tell_all w (nothing_told c) s.at.journal).cleaned) r.cleans) ∙ (in_commit g k opening j is_opening s.at.journal r.stand r.runs (commit_start w (missing w s.at.past.reported)) at).2.uncleaned
 
     -- where it has sent a request no task was missing, and each has a last publisher from then on
     none_missing : (u : Entry) → IsIn u es → d.missing ≡ None

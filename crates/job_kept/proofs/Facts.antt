@@ -3,7 +3,7 @@ use Rattle.std.proofs.Common.{◌≡◌, ℕ, false, sym, ap, subst, ◌∙◌}
 use Rattle.proof_base.proofs.Bools.{not_so}
 use Rattle.s3_types.specs.declared.request.Actor.TheVariants.{Driver}
 use Rattle.job_promise.specs.Seen.{Seen, nothing_seen, see_all}
-use Rattle.job_promise.specs.States.{Past, is_new, past, commit_event}
+use Rattle.job_promise.specs.States.{Past, is_new, past, commit_event, clean_event}
 use Rattle.job_facts.specs.Facts.{Hold}
 use Rattle.job_facts.specs.Told.{Told, nothing_told, tell_all}
 use Rattle.job_facts.proofs.Entries.{sees, tells_so, late_now}
@@ -20,6 +20,6 @@ runs_hold_facts g opening x j is_opening run idle done =
     let p = happenings_play g opening x j run idle in
     let new : is_new (x.live.state Driver).stage ≡ false = ap (λ (q : Past). is_new (q.state Driver).stage) (p.live ∙ p.past) ∙ not_so (is_new ((past w x.ends).state Driver).stage) done in
     let hold = (late_now g k opening j is_opening x.journal r.stand r.runs (r.set_up new)).hold in
-    subst (λ (n : ℕ). Hold w n (see_all w k (nothing_seen opening) x.journal) (tell_all w nothing_told x.journal)) (sym is_opening.least)
-    (subst (λ (s : Seen). Hold w g.minimum s (tell_all w nothing_told x.journal)) (sees g k opening j is_opening x.journal r.stand r.runs)
-    (subst (λ (m : Told). Hold w g.minimum r.stand.seen m) (tells_so g k opening j is_opening x.journal r.stand r.runs) hold))
+    subst (λ (n : ℕ). Hold w n (see_all w k (nothing_seen opening) x.journal) (tell_all w (nothing_told (clean_event w x.ends)) x.journal)) (sym is_opening.least)
+    (subst (λ (s : Seen). Hold w g.minimum s (tell_all w (nothing_told (clean_event w x.ends)) x.journal)) (sees g k opening j is_opening x.journal r.stand r.runs)
+    (subst (λ (m : Told). Hold w g.minimum r.stand.seen m) (tells_so g k opening j is_opening x.journal r.stand r.runs ∙ ap (λ c. tell_all w (nothing_told c) x.journal) r.cleans) hold))

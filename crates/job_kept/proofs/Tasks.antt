@@ -20,7 +20,7 @@ use Rattle.job_operations.specs.TaskCommits.{TaskCommit, Looking, Reading, Publi
 use Rattle.job_operations.specs.Knowledge.{knows}
 use Rattle.job_operations.specs.Operations.{Setting, Operation, TheSetup, TheWrite, TheTaskCommit, TheTaskAbort, TheCommit, TheClean, Running, tells, advance, start_of, over}
 use Rattle.job_promise.specs.Ends.{has_cleaned}
-use Rattle.job_promise.specs.States.{Doing, commit_event}
+use Rattle.job_promise.specs.States.{Doing, commit_event, clean_event}
 use Rattle.job_promise.specs.Turns.{until, by_actor, until_last}
 use Rattle.job_promise.specs.Follows.{known_then}
 use Rattle.job_promise.specs.OperationEnds.{TaskIs, WasPublished}
@@ -30,7 +30,7 @@ use Rattle.request_frame.proofs.Members.{some_is, none_some, false_true}
 use Rattle.job_facts.specs.Runs.{IsOpening}
 use Rattle.job_facts.proofs.Whose.{attempt}
 use Rattle.job_happenings.specs.Happenings.{Play, Closes, happen, Happened, happens}
-use Rattle.job_happenings.specs.Running.{IsRun, operation_of}
+use Rattle.job_happenings.specs.Running.{times, IsRun, operation_of}
 use Rattle.job_happenings.proofs.Running.{is_run}
 use Rattle.job_ends.specs.TaskEnds.{is_abort}
 use Rattle.job_ends.proofs.TaskEnds.{task_ends, task_joined}
@@ -115,7 +115,7 @@ module _ (g : Setting) (opening : Content) (j : IsLegal g.script) (is_opening : 
     at = (run (advance g (Attempt t a)) (record { operation = n.op; known = k }) es).operation
 
     -- the run at the end of the event
-    then : IsRun g opening (happen g z (Closes n.event_end)) (commit_event g.script x.ends)
+    then : IsRun g opening (happen g z (Closes n.event_end)) (times g.script x.ends)
     then = is_run g opening j is_opening (happen g z (Closes n.event_end)) (happens z (Closes n.event_end) n.closed.happened n.closed.may) x.ends (n.closed.ahead x.ends (ahead_none x idle))
 
     is_at : then.stand.attempts (attempt t a) ≡ Some at
@@ -123,12 +123,13 @@ module _ (g : Setting) (opening : Content) (j : IsLegal g.script) (is_opening : 
 
     -- whether the driver's abort or clean had begun at its last entry
     abbrev cleaned : Bool
-    cleaned = has_cleaned (until_last (Attempt t a) (until (i + 1) x.journal))
+    cleaned = has_cleaned (clean_event g.script x.ends) (until_last (Attempt t a) (until (i + 1) x.journal))
 
-    cleaned_then : cleaned ≡ has_cleaned (until_last (Attempt t a) z.journal)
+    cleaned_then : cleaned ≡ has_cleaned then.stand.told.cleans_at (until_last (Attempt t a) z.journal)
     cleaned_then =
-        ap (λ l. has_cleaned (until_last (Attempt t a) l)) (journal_until g opening x run_x idle i n.event_end n.closed)
-        ∙ ap has_cleaned (strange_last (Attempt t a) refl z.journal (until (i + 1) n.closed.entries) (until_strange g opening x run_x idle i n.event_end n.closed))
+        ap (λ l. has_cleaned (clean_event g.script x.ends) (until_last (Attempt t a) l)) (journal_until g opening x run_x idle i n.event_end n.closed)
+        ∙ ap (has_cleaned (clean_event g.script x.ends)) (strange_last (Attempt t a) refl z.journal (until (i + 1) n.closed.entries) (until_strange g opening x run_x idle i n.event_end n.closed))
+        ∙ ap (λ c. has_cleaned c (until_last (Attempt t a) z.journal)) (sym then.cleans)
 
     gone_so : over at ≡ Some (ends.Task e) → (d.op ≡ ops.Abort → ⊥) → (name : List ℕ) → e ≡ tasks.Gone name → cleaned ≡ true
     gone_so o not_abort name is =

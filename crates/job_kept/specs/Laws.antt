@@ -20,7 +20,7 @@ use Rattle.job_operations.specs.Operations.{Setting}
 use Rattle.job_promise.specs.Entries.{ZeroRename}
 use Rattle.job_promise.specs.Promise.{Promised, ArePicked, all_picks, setting, seen_until, CleansEnd}
 use Rattle.job_promise.specs.Seen.{nothing_seen, see_all}
-use Rattle.job_promise.specs.States.{is_new, past, commit_event, Doing}
+use Rattle.job_promise.specs.States.{is_new, past, commit_event, Doing, clean_event}
 use Rattle.job_facts.specs.Facts.{Hold}
 use Rattle.job_promise.specs.Turns.{until, until_last, by_actor}
 use Rattle.job_promise.specs.Follows.{Plays, known_then}
@@ -42,12 +42,12 @@ SetupsEndAmong w journal xs = (j : ℕ) (d : Doing) (e : SetupEnd) (es : List En
 abbrev pub TasksEndAmong : Script → Content → List Entry → List EventEnd → Type 0
 TasksEndAmong w opening journal xs = (j t a : ℕ) (d : Doing) (e : TaskEnd) (es : List Entry) → EndedIn w xs journal j (Attempt t a) d (ends.Task e) es
     → (e ≡ tasks.NoMemory) ⊎ ((worn : Option Request) × WornFirst w.retries es worn
-    × TaskIs d.op w (record { task = t; attempt = a }) es (known_then (setting w opening) (Attempt t a) d (by_actor (Attempt t a) journal)).publish_sent (has_cleaned (until_last (Attempt t a) (until (j + 1) journal))) worn e)
+    × TaskIs d.op w (record { task = t; attempt = a }) es (known_then (setting w opening) (Attempt t a) d (by_actor (Attempt t a) journal)).publish_sent (has_cleaned (clean_event w xs) (until_last (Attempt t a) (until (j + 1) journal))) worn e)
 
 -- and its commit that ended Done has published so
 abbrev pub PublishesAmong : Script → Content → List Entry → List EventEnd → Type 0
 PublishesAmong w opening journal xs = (j t a : ℕ) (d : Doing) (es : List Entry) → EndedIn w xs journal j (Attempt t a) d (ends.Task tasks.Done) es → d.op ≡ ops.Commit
-    → has_cleaned (until_last (Attempt t a) (until (j + 1) journal)) ≡ false → WasPublished w opening journal t a (j + 1)
+    → has_cleaned (clean_event w xs) (until_last (Attempt t a) (until (j + 1) journal)) ≡ false → WasPublished w opening journal t a (j + 1)
 
 -- the driver's commit has the end that is due, and is served
 abbrev pub CommitsEndAmong : Script → Content → List Entry → List EventEnd → Type 0
@@ -83,7 +83,7 @@ is_set_up w xs = not (is_new ((past w xs).state Driver).stage)
 
 -- from then on what holds of one job between any two requests holds of what its journal leaves and tells
 abbrev pub FactsHold : Script → Content → List Entry → List EventEnd → Type 0
-FactsHold w opening journal xs = is_set_up w xs ≡ true → Hold w opening.minimum (see_all w (commit_event w xs) (nothing_seen opening) journal) (tell_all w nothing_told journal)
+FactsHold w opening journal xs = is_set_up w xs ≡ true → Hold w opening.minimum (see_all w (commit_event w xs) (nothing_seen opening) journal) (tell_all w (nothing_told (clean_event w xs)) journal)
 
 -- and so it is wherever no event goes on
 abbrev pub RunsHoldFacts : Type 0

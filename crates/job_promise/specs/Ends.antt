@@ -5,7 +5,6 @@ use Rattle.s3_types.specs.Moment.{is_unanswered}
 use Rattle.s3_types.specs.declared.request.Actor.{Actor}
 use Rattle.s3_types.specs.declared.request.Actor.TheVariants.{Driver}
 use Rattle.s3_types.specs.declared.request.Request.{Request}
-use Rattle.s3_types.specs.declared.request.Request.TheVariants.{ListUploads}
 use Rattle.s3_types.specs.declared.journal.Entry.{Entry}
 use Rattle.sendings.specs.Worn.{WornFirst}
 use Rattle.job_model.specs.JobScript.{Script}
@@ -16,7 +15,7 @@ use Rattle.job_model.specs.declared.ends.OpEnd.{OpEnd}
 use Rattle.job_model.specs.declared.ends.EventEnd.{EventEnd}
 use Rattle.job_operations.specs.Outputs.{Picks, same_path}
 use Rattle.job_operations.specs.JobCommits.{stage_of}
-use Rattle.job_promise.specs.Seen.{Seen, is_marking}
+use Rattle.job_promise.specs.Seen.{Seen, is_begun, is_marking}
 use Rattle.job_promise.specs.States.{Doing, past, after_event, told}
 use Rattle.job_promise.specs.Turns.{until, since, by_actor}
 
@@ -64,11 +63,6 @@ pub record CommitEnded (w : Script) (s : Seen) (missing : Option ℕ) (entries :
 
 -- ---- the driver's abort and clean
 
--- the request lists live uploads, with which an abort or a clean of the job begins, and nothing else does
-abbrev pub lists_uploads : Request → Bool
-lists_uploads (ListUploads bucket prefix after limit) = true
-lists_uploads _ = false
-
--- the driver's abort or clean has begun
-abbrev pub has_cleaned : List Entry → Bool
-has_cleaned es = list_any (λ e. is_driver e.actor && lists_uploads e.request) es
+-- the driver's abort or clean has begun, in event c if it is any: with the driver's first entry in it or in a later one
+abbrev pub has_cleaned : Option ℕ → List Entry → Bool
+has_cleaned c es = list_any (λ e. is_driver e.actor && is_begun c e.event) es

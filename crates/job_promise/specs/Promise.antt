@@ -27,7 +27,7 @@ use Rattle.job_operations.specs.Outputs.{Picks}
 use Rattle.job_operations.specs.Operations.{Setting}
 use Rattle.job_promise.specs.Seen.{Seen, seen, is_marked}
 use Rattle.job_promise.specs.Headline.{Same, Always}
-use Rattle.job_promise.specs.States.{Doing, Decided, NotBegun, Unended, EndedSo, past, commit_event}
+use Rattle.job_promise.specs.States.{Doing, Decided, NotBegun, Unended, EndedSo, past, commit_event, clean_event}
 use Rattle.job_promise.specs.Turns.{until, before, since, by_actor, until_last, AllBy, is_memory}
 use Rattle.job_promise.specs.Follows.{Plays, known_then}
 use Rattle.job_promise.specs.Ends.{EndedIn, CommitEnded, has_cleaned}
@@ -71,12 +71,12 @@ SetupsEnd w opening journal xs = AreOwn journal → (j : ℕ) (d : Doing) (e : S
 abbrev pub TasksEnd : Script → Content → List Entry → List EventEnd → Type 0
 TasksEnd w opening journal xs = AreOwn journal → (j t a : ℕ) (d : Doing) (e : TaskEnd) (es : List Entry) → EndedIn w xs journal j (Attempt t a) d (ends.Task e) es
     → (e ≡ tasks.NoMemory) ⊎ ((worn : Option Request) × WornFirst w.retries es worn
-    × TaskIs d.op w (record { task = t; attempt = a }) es (known_then (setting w opening) (Attempt t a) d (by_actor (Attempt t a) journal)).publish_sent (has_cleaned (until_last (Attempt t a) (until (j + 1) journal))) worn e)
+    × TaskIs d.op w (record { task = t; attempt = a }) es (known_then (setting w opening) (Attempt t a) d (by_actor (Attempt t a) journal)).publish_sent (has_cleaned (clean_event w xs) (until_last (Attempt t a) (until (j + 1) journal))) worn e)
 
 -- an attempt's commit that ended Done has published, where the driver's abort or clean has not begun before its last entry and no stranger sends
 abbrev pub Publishes : Script → Content → List Entry → List EventEnd → Type 0
 Publishes w opening journal xs = AreOwn journal → (j t a : ℕ) (d : Doing) (es : List Entry) → EndedIn w xs journal j (Attempt t a) d (ends.Task tasks.Done) es → d.op ≡ ops.Commit
-    → has_cleaned (until_last (Attempt t a) (until (j + 1) journal)) ≡ false → WasPublished w opening journal t a (j + 1)
+    → has_cleaned (clean_event w xs) (until_last (Attempt t a) (until (j + 1) journal)) ≡ false → WasPublished w opening journal t a (j + 1)
 
 -- the driver's abort or clean; where it is Done and nobody else has sent since it began, nothing is left and nothing was hidden
 abbrev pub CleansEnd : Script → Content → List Entry → List EventEnd → Type 0

@@ -363,14 +363,30 @@ abbrev pub is_refused : EventEnd → Bool
 is_refused (Refused f) = true
 is_refused _ = false
 
--- the number of the first event from n on that begins the driver's commit and is not refused; one without an end counts
+-- an abort or a clean of the job
+abbrev pub begins_clean : Event → Bool
+begins_clean (Do Driver Abort) = true
+begins_clean (Do Driver Clean) = true
+begins_clean (Start Driver Abort) = true
+begins_clean (Start Driver Clean) = true
+begins_clean _ = false
+
+-- the number of the first event from n on that passes a test and is not refused; one without an end counts
+abbrev pub event_from : (Event → Bool) → ℕ → List Event → List EventEnd → Option ℕ
+event_from p n [] xs = None
+event_from p n (ev ∷ evs) [] = cond (p ev) (Some n) (event_from p (n + 1) evs [])
+event_from p n (ev ∷ evs) (x ∷ xs) = cond (p ev && not (is_refused x)) (Some n) (event_from p (n + 1) evs xs)
+
+-- that begins the driver's commit
 abbrev pub commit_from : ℕ → List Event → List EventEnd → Option ℕ
-commit_from n [] xs = None
-commit_from n (ev ∷ evs) [] = cond (begins_commit ev) (Some n) (commit_from (n + 1) evs [])
-commit_from n (ev ∷ evs) (x ∷ xs) = cond (begins_commit ev && not (is_refused x)) (Some n) (commit_from (n + 1) evs xs)
+commit_from n evs xs = event_from begins_commit n evs xs
 
 abbrev pub commit_event : Script → List EventEnd → Option ℕ
 commit_event w xs = commit_from 1 w.events xs
+
+-- and that begins the first abort or clean of the job
+abbrev pub clean_event : Script → List EventEnd → Option ℕ
+clean_event w xs = event_from begins_clean 1 w.events xs
 
 -- ---- the verdict on a run
 

@@ -32,7 +32,8 @@ use Rattle.job_facts.proofs.Running.{At, InCommit}
 use Rattle.job_facts.proofs.Entries.{take_all, see_more, sees, late_now}
 use Rattle.job_facts.proofs.Changes.{moment_scene}
 use Rattle.job_happenings.specs.Happenings.{Play, Sends, happen, MaySend, Happened}
-use Rattle.job_happenings.specs.Running.{operation_of}
+use Rattle.job_happenings.specs.Running.{times, operation_of}
+use Rattle.job_happenings.proofs.RunningNumbers.{begun_at}
 use Rattle.job_happenings.proofs.RunningStages.{IsTimed}
 use Rattle.job_happenings.proofs.Running.{number, carried, sent_ahead}
 use Rattle.job_works.specs.Picks.{ArePicksOf}
@@ -149,7 +150,7 @@ module _ (g : Setting) (opening : Content) (j : IsLegal g.script) (is_opening : 
       let asked : commit_asks w c ≡ Some e.request = ap (wants g e.actor) (sym same) ∙ may.asked in
       let honest : IsHonestOutcome e.outcome (answer s.scene e.request) = subst (λ (v : Scene). IsHonestOutcome e.outcome (answer v e.request)) scene may.honest in
       let few : s.scene.content.next ≤ 2 ^ 64 = subst (λ (v : Scene). v.content.next ≤ 2 ^ 64) scene may.few in
-      let timed : is_begun k (number x.now (length x.ends)) ≡ true = subst (IsTimed (is_begun k (number x.now (length x.ends)))) (ap operation_of at) h.timed in
+      let timed : is_begun k (number x.now (length x.ends)) ≡ true = (subst (IsTimed (begun_at (times w xs) (number x.now (length x.ends)))) (ap operation_of at) h.timed).0 in
       let here : e.event ≡ number x.now (length x.ends) = may.number ∙ sym (ap (λ o. number o (length x.ends)) may.during) in
       let begun : (s.begun || is_begun k e.event) ≡ true = ap (λ v. s.begun || is_begun k v) here ∙ ap (λ b. s.begun || b) timed ∙ or_true s.begun in
       let before : ps ≡ picks_below s.picks w.tasks = are xs old ∙ whole k x.journal ∙ ap (λ (v : Seen). picks_below v.picks w.tasks) (sym seen_is) in

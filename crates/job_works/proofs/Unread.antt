@@ -199,7 +199,7 @@ module _ (g : Setting) (k : Option ℕ) (opening : Content) (j : IsLegal g.scrip
   begun_now : (s : Seen) (n : ℕ) → is_begun k n ≡ true → (s.begun || is_begun k n) ≡ true
   begun_now s n e = ap (λ b. s.begun || b) e ∙ or_true s.begun
 
-  sent : (fs : List Entry) (y : Stand) (op : Operation) (n : ℕ) (r : Request) (o : Outcome) → Runs g k opening fs y → y.driver ≡ Some op → asks g (who Driver) nothing_learnt op ≡ Some r → IsTimely k n op → y.seen.scene.content.next ≤ 2 ^ 64
+  sent : (fs : List Entry) (y : Stand) (op : Operation) (n : ℕ) (r : Request) (o : Outcome) → Runs g k opening fs y → y.driver ≡ Some op → asks g (who Driver) nothing_learnt op ≡ Some r → IsTimely k y.told.cleans_at n op → y.seen.scene.content.next ≤ 2 ^ 64
       → IsHonestOutcome o (answer y.seen.scene r) → FreeAt w y.seen.picks y.driver → FreeAt w (see w k y.seen (driver_entry n r o)).picks (Some (tells g (who Driver) op o))
   sent fs y (TheSetup t) n r o run d asked timely few honest free = tt
   sent fs y (TheWrite t) n r o run d asked timely few honest free = tt
@@ -209,7 +209,7 @@ module _ (g : Setting) (k : Option ℕ) (opening : Content) (j : IsLegal g.scrip
   sent fs y (TheCommit c) n r o run d asked timely few honest free =
       let l = late_now g k opening j is_opening fs y run (ap is_set d) in
       let i : InCommit g opening y.seen.picks y.told c = subst (λ v. At g opening v y.seen y.told) d l.driver in
-      free_next w g.minimum j k y.seen y.told n l.hold i.uncleaned few (begun_now y.seen n timely) c i.decides (subst (FreeAt w y.seen.picks) d free) r asked o honest
+      free_next w g.minimum j k y.seen y.told n l.hold i.uncleaned few (begun_now y.seen n timely.0) c i.decides (subst (FreeAt w y.seen.picks) d free) r asked o honest
 
   begin_unread : (fs : List Entry) (y : Stand) (b : Beginning) → Runs g k opening fs y → MayBegin g y b → FreeAt w y.seen.picks y.driver → FreeAt w y.seen.picks (begin g y b).driver
   begin_unread fs y (BeginCommit missing) run may free =
@@ -220,7 +220,7 @@ module _ (g : Setting) (k : Option ℕ) (opening : Content) (j : IsLegal g.scrip
   begin_unread fs y _ run may free = free
 
   pub unread : (es : List Entry) (x : Stand) → Runs g k opening es x → FreeAt w x.seen.picks x.driver
-  unread es x (run_begins) = tt
+  unread es x (run_begins c) = tt
   unread es x (actor_begins fs y b run may) = begin_unread fs y b run may (unread fs y run)
   unread es x (driver_sends fs y op n r o run d asked timely few honest) = sent fs y op n r o run d asked timely few honest (unread fs y run)
   unread es x (attempt_sends fs y a op n r o run set at asked honest) = subst (λ p. FreeAt w p y.driver) (sym (attempt_picks w k y.seen a n r o)) (unread fs y run)

@@ -33,7 +33,7 @@ use Rattle.job_model.specs.declared.ends.OpEnd.TheVariants as ends
 use Rattle.job_model.specs.declared.ends.ActorEnd.{ActorEnd}
 use Rattle.job_model.specs.declared.ends.EventEnd.TheVariants.{Ended}
 use Rattle.job_operations.specs.JobCommits.{set_request, set_read, ok_set, stage_of}
-use Rattle.job_promise.specs.States.{Doing, past, after_event, told}
+use Rattle.job_promise.specs.States.{Doing, past, after_event, told, clean_event}
 use Rattle.job_promise.specs.Seen.{seen, see_all, is_marked}
 use Rattle.job_promise.specs.Turns.{until, since, before, by_actor, until_last}
 use Rattle.job_promise.specs.Ends.{EndedIn, is_mark_answered, has_cleaned}
@@ -109,7 +109,7 @@ setups_end own (suc (suc (suc (suc j)))) d e es h = no_event j Driver d (ends.Se
 -- ---- the attempt
 
 abbrev TaskSo : ℕ → ℕ → Doing → TaskEnd → List Entry → ℕ → Type 0
-TaskSo t a d e es j = (e ≡ tasks.NoMemory) ⊎ ((worn : Option Request) × WornFirst 3 es worn × TaskIs d.op script (record { task = t; attempt = a }) es (known_then (setting script opening) (Attempt t a) d (by_actor (Attempt t a) journal)).publish_sent (has_cleaned (until_last (Attempt t a) (until (j + 1) journal))) worn e)
+TaskSo t a d e es j = (e ≡ tasks.NoMemory) ⊎ ((worn : Option Request) × WornFirst 3 es worn × TaskIs d.op script (record { task = t; attempt = a }) es (known_then (setting script opening) (Attempt t a) d (by_actor (Attempt t a) journal)).publish_sent (has_cleaned (clean_event script the_ends) (until_last (Attempt t a) (until (j + 1) journal))) worn e)
 
 -- of an attempt's operation that is done
 task_so : (j t a : ℕ) (d c : Doing) (e : TaskEnd) (es : List Entry) → worker ≡ Attempt t a → tasks.Done ≡ e → c ≡ d
@@ -118,7 +118,7 @@ task_so : (j t a : ℕ) (d c : Doing) (e : TaskEnd) (es : List Entry) → worker
 task_so j t a d c e es who end doing worn entries may = subst (λ y. TaskSo t a d y es j) end (inr (
   None,
   worn_none es (since c.since (by_actor worker (until (j + 1) journal))) worn (entries ∙ λ i. since (sym doing i).since (by_actor (sym who i) (until (j + 1) journal))),
-  subst (λ x. TaskIs x.op script (record { task = t; attempt = a }) es (known_then (setting script opening) (Attempt t a) d (by_actor (Attempt t a) journal)).publish_sent (has_cleaned (until_last (Attempt t a) (until (j + 1) journal))) None tasks.Done) doing (may _ _),
+  subst (λ x. TaskIs x.op script (record { task = t; attempt = a }) es (known_then (setting script opening) (Attempt t a) d (by_actor (Attempt t a) journal)).publish_sent (has_cleaned (clean_event script the_ends) (until_last (Attempt t a) (until (j + 1) journal))) None tasks.Done) doing (may _ _),
 ))
 
 write_worn : first_worn 3 (since 2 (by_actor worker (until 2 journal))) ≡ None

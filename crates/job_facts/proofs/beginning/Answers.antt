@@ -5,7 +5,7 @@ use Rattle.job_facts.proofs.beginning.Goals as goal
 
 pub returns : goal.returns
 returns c = record {
-  told = record { known = λ w a es. known_is w a es nothing_told; cleaned = λ w es. cleaned_is w es nothing_told };
+  told = record { known = λ w c a es. known_is w a es (nothing_told c); cleaned = λ w c es. cleaned_is w es (nothing_told c) };
   begins = facts_begin;
   reads = idle_keeps;
 }

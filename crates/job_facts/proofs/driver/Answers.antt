@@ -15,9 +15,9 @@ returns c = record {
     };
     beside = λ g m a op fits r e n o c h. beside g m a op fits r e o c h;
   };
-  clean = λ g j k s m n h t fits r e o honest. record {
+  clean = λ g j k s m n h timely t fits r e o honest. record {
     hold = clean_keeps g.script g.minimum k s m n j h t.operation fits r e o;
-    fits = clean_goes g.script g.minimum k s m n j h g.script.retries t.spare t.repeated t.operation fits r e o honest;
+    fits = clean_goes g.script g.minimum k s m n j h timely g.script.retries t.spare t.repeated t.operation fits r e o honest;
     shows = clean_shows g.script g.minimum k s m n j h t.operation fits r e o;
   };
 }

@@ -8,10 +8,10 @@ use Rattle.job_facts.proofs.standing.Goals as goal
 pub returns : goal.returns
 returns c = record {
   closes = record {
-    begins = λ c id e. absurd (false≢true e);
+    begins = λ v c id e. absurd (false≢true e);
     starts = λ w m. reverts_start w m.publish_sent m.drawn;
-    commit = λ g j s m h closed c f t v r e n o. commit_closes g j s m h closed c f t v r e o;
-    clean = λ w m t h r e n o. clean_closes w m t h r e o;
+    commit = λ g j s m h closed c f t v r e n o. commit_closes g j s m h closed c f t v r e n o;
+    clean = λ w m t h r e n timely o. clean_closes m n timely r o;
     attempt = λ g m a op fits r e n o. (attempt_closes g m a op fits r e o, attempt_reverts g m a op fits r e o);
   };
   gone = record {
