@@ -4,7 +4,7 @@ use Rattle.s3_types.specs.declared.request.Actor.{Actor}
 use Rattle.s3_types.specs.declared.request.Actor.TheVariants.{Driver, Attempt, Shell}
 use Rattle.s3_types.specs.declared.request.Request.{Request}
 use Rattle.s3_types.specs.declared.journal.Outcome.{Outcome}
-use Rattle.s3_types.specs.declared.journal.Outcome.TheVariants.{Answered, Slow, RequestLost, ReplyLost}
+use Rattle.s3_types.specs.declared.journal.Outcome.TheVariants.{Answered, Slow, RequestLost}
 use Rattle.sendings.specs.Retries.{Item, Got, WornOut, unanswered_by}
 use Rattle.machine.specs.declared.retrying.Retrying.{Retrying}
 use Rattle.job_model.specs.Known.{Known}
@@ -63,8 +63,7 @@ driver_lost told same retries m sent (suc n) = refl
 driver_plan : {O : Type 0} (told : Driving O → Item → Driving O) → ((m : Driving O) (i : Item) → (told m i).plan ≡ m.plan) → (t : Retrying (Driving O)) (o : Outcome) → (stepped told t o).machine.plan ≡ t.machine.plan
 driver_plan told same t (Answered r) = same t.machine (Got r t.repeated)
 driver_plan told same t Slow = driver_lost told same t.retries t.machine t.repeated t.spare
-driver_plan told same t RequestLost = driver_lost told same t.retries t.machine true t.spare
-driver_plan told same t ReplyLost = driver_lost told same t.retries t.machine true t.spare
+driver_plan told same t _ = driver_lost told same t.retries t.machine true t.spare
 
 driver_stays : {O : Type 0} (told : Driving O → Item → Driving O) → ((m : Driving O) (i : Item) → (told m i).plan ≡ m.plan) → (w : Script) (a : Actor) (t : Retrying (Driving O)) (o : Outcome) → OfDriver w a t → OfDriver w a (stepped told t o)
 driver_stays told same w a t o h = record { actor = h.actor; plan = driver_plan told same t o ∙ h.plan; retries = h.retries }
@@ -85,8 +84,7 @@ attempt_steps : {O : Type 0} (told : Attempting O → Item → Attempting O) →
     → IsBy g a (stepped told t o).machine.plan × ((stepped told t o).spare ≤ t.retries)
 attempt_steps told more g a t (Answered r) h le = (knows_more g a t.machine.plan (told t.machine (Got r t.repeated)).plan (more t.machine (Got r t.repeated)) h, omega arith)
 attempt_steps told more g a t Slow h le = attempt_lost told more g a t.retries t.machine t.repeated t.spare h le
-attempt_steps told more g a t RequestLost h le = attempt_lost told more g a t.retries t.machine true t.spare h le
-attempt_steps told more g a t ReplyLost h le = attempt_lost told more g a t.retries t.machine true t.spare h le
+attempt_steps told more g a t _ h le = attempt_lost told more g a t.retries t.machine true t.spare h le
 
 attempt_stays : {O : Type 0} (told : Attempting O → Item → Attempting O) → ((m : Attempting O) (i : Item) → (told m i).plan ≡ with_known m.plan (told m i).plan.known) → (g : Setting) (a : Actor) (t : Retrying (Attempting O)) (o : Outcome) → OfAttempt g a t → OfAttempt g a (stepped told t o)
 attempt_stays told more g a t o h =
@@ -105,11 +103,7 @@ stays g a (Clean t) o h = driver_stays clean_told (λ m i. refl) g.script a t o 
 
 ends : (k : Known) (act : Act) → end_of act ≡ over (running_of k act).operation
 ends k (Setup t) = refl
-ends k (Write t) = refl
-ends k (CommitTask t) = refl
-ends k (AbortTask t) = refl
-ends k (Commit c) = refl
-ends k (Clean t) = refl
+ends k _ = refl
 
 either : (b : Bool) (k : Known) → k ≡ cond b k k
 either true k = refl

@@ -35,8 +35,7 @@ use Rattle.job_actors.proofs.Going.{not_self}
 -- where the driver begins so, whoever has the plan does, since nobody else has it
 by_driver : (op : Op) (j : Job) (act : Act) → ((g : Setting) (missing : Option ℕ) (k : Known) → j ≡ job_of g.script → Begun g Driver op missing k act) → BeginsJob op j act
 by_driver op j act f g Driver missing k h = f g missing k h
-by_driver op j act f g (Attempt task attempt) missing k h = absurd h
-by_driver op j act f g Shell missing k h = absurd h
+by_driver op j act f g _ missing k h = absurd h
 
 pub begins_setup : (j : Job) → BeginsJob ops.Setup j (setup_of j)
 begins_setup j = by_driver ops.Setup j (setup_of j) (λ g missing k e.
@@ -67,8 +66,7 @@ commit_begins j reported g k e so = record {
 
 pub begins_commit : (j : Job) (reported : List ℕ) → BeginsCommit j reported (commit_of j reported)
 begins_commit j reported g Driver k h so = commit_begins j reported g k h so
-begins_commit j reported g (Attempt task attempt) k h so = absurd h
-begins_commit j reported g Shell k h so = absurd h
+begins_commit j reported g _ k h so = absurd h
 
 -- ---- an attempt's
 

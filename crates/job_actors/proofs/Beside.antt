@@ -16,7 +16,7 @@ use Rattle.s3_types.specs.Multipart.{live, joined}
 use Rattle.s3_types.specs.declared.object.Object.{Object}
 use Rattle.s3_types.specs.declared.reply.Refusal.{Refusal}
 use Rattle.s3_types.specs.declared.request.Committer.{Committer}
-use Rattle.s3_types.specs.declared.request.Committer.TheVariants.{Magic, Directory, Partitioned}
+use Rattle.s3_types.specs.declared.request.Committer.TheVariants.{Magic}
 use Rattle.s3_types.specs.declared.request.Request.{Request}
 use Rattle.s3_types.specs.declared.request.Request.TheVariants.{PutObject, CopyObject, CompleteUpload}
 use Rattle.list_walk.specs.Left.{keys_left, walk_left, sweep_left, thousands, one_if as one}
@@ -109,14 +109,12 @@ commit_stays w minimum a _ s r h = omega arith
 
 after_stays : (c : Committer) (w : Script) (a : Who) (s : Scene) (r : Request) → PutsNone (attempt_prefix w a) r → after_left c w a (apply s r) ≤ after_left c w a s
 after_stays Magic w a s r h = sweep_stays w.dest.bucket (attempt_prefix w a) sweep_start s r h
-after_stays Directory w a s r h = omega arith
-after_stays Partitioned w a s r h = omega arith
+after_stays _ w a s r h = omega arith
 
 abort_stays : (w : Script) (a : Who) (x : TaskAbort) (s : Scene) (r : Request) → PutsNone (attempt_prefix w a) r → abort_left_at w a x (apply s r) ≤ abort_left_at w a x s
 abort_stays w a (aborts.Dropping d ds sent) s r h = let i = after_stays w.committer w a s r h in omega (arith, i)
 abort_stays w a (aborts.Sweeping v) s r h = sweep_stays w.dest.bucket (attempt_prefix w a) v s r h
-abort_stays w a aborts.Removing s r h = omega arith
-abort_stays w a (aborts.TaskAbortOver end) s r h = omega arith
+abort_stays w a _ s r h = omega arith
 
 pub attempts_stay : AttemptsStay
 attempts_stay = record {

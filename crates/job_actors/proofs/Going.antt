@@ -13,7 +13,7 @@ use Rattle.job_model.specs.Known.{Known, Drawn}
 use Rattle.job_model.specs.Jobs.{Job}
 use Rattle.job_model.specs.JobScript.{Script}
 use Rattle.job_operations.specs.Knowledge.{learn, is_set_key}
-use Rattle.job_operations.specs.Uploading.{Creating, Sending}
+use Rattle.job_operations.specs.Uploading.{Creating}
 use Rattle.job_operations.specs.Setup.{Setup, setup_after}
 use Rattle.job_operations.specs.Cleanups.{Clean, clean_after}
 use Rattle.job_operations.specs.Writes as writes
@@ -209,24 +209,14 @@ write_drawn w a k l o e = ap (λ ds. writes.write_asks w a (record { drawn = ds;
   where
     write_sent : (w : Script) (a : Who) (ds : List Drawn) (p s q t : Bool) (o : writes.Write) → writes.write_asks w a (record { drawn = ds; put_sent = p; publish_sent = s }) o ≡ writes.write_asks w a (record { drawn = ds; put_sent = q; publish_sent = t }) o
     write_sent w a ds p s q t (writes.Uploads f fs Creating) = refl
-    write_sent w a ds p s q t (writes.Uploads f fs (Sending b bs)) = refl
-    write_sent w a ds p s q t (writes.Marking f fs) = refl
-    write_sent w a ds p s q t (writes.Recording f fs) = refl
-    write_sent w a ds p s q t (writes.WriteOver end) = refl
+    write_sent w a ds p s q t _ = refl
 
 commit_drawn : (w : Script) (a : Who) (k l : Known) (o : commits.TaskCommit) → l.drawn ≡ k.drawn → commits.task_commit_asks w a l o ≡ commits.task_commit_asks w a k o
 commit_drawn w a k l o e = ap (λ ds. commits.task_commit_asks w a (record { drawn = ds; put_sent = l.put_sent; publish_sent = l.publish_sent }) o) e ∙ commit_sent w a k.drawn l.put_sent l.publish_sent k.put_sent k.publish_sent o
   where
     commit_sent : (w : Script) (a : Who) (ds : List Drawn) (p s q t : Bool) (o : commits.TaskCommit) → commits.task_commit_asks w a (record { drawn = ds; put_sent = p; publish_sent = s }) o ≡ commits.task_commit_asks w a (record { drawn = ds; put_sent = q; publish_sent = t }) o
-    commit_sent w a ds p s q t (commits.Looking keys) = refl
-    commit_sent w a ds p s q t (commits.Reading cs f fs) = refl
-    commit_sent w a ds p s q t (commits.Publishing cs) = refl
-    commit_sent w a ds p s q t (commits.Checking d ds') = refl
     commit_sent w a ds p s q t (commits.Uploads f fs Creating) = refl
-    commit_sent w a ds p s q t (commits.Uploads f fs (Sending b bs)) = refl
-    commit_sent w a ds p s q t commits.Storing = refl
-    commit_sent w a ds p s q t commits.Renaming = refl
-    commit_sent w a ds p s q t (commits.TaskCommitOver end) = refl
+    commit_sent w a ds p s q t _ = refl
 
 -- what a plan learns
 learned_got : (w : Script) (n : ℕ) (a : Who) (k : Known) (q : Option Request) (r : Reply) (b : Bool) → learned (task_script (task_of w n a k)) a k q (Got r b) ≡ learn_of w a k q (Answered r)
@@ -274,8 +264,7 @@ driver_at : {O : Type 0} (j : Job) (told : Driving O → Item → Driving O) (af
     → (let x = step retries told (record { operation = record { plan = j; operation = o }; spare = spare; repeated = repeated }) out in counted x.spare x.repeated x.operation.operation) ≡ step retries after (counted spare repeated o) out
 driver_at j told after h retries spare repeated o (Answered r) = ap (λ m. counted retries false m.operation) (h o (Got r repeated))
 driver_at j told after h retries spare repeated o Slow = driver_unanswered j told after h retries spare repeated o
-driver_at j told after h retries spare repeated o RequestLost = driver_unanswered j told after h retries spare true o
-driver_at j told after h retries spare repeated o ReplyLost = driver_unanswered j told after h retries spare true o
+driver_at j told after h retries spare repeated o _ = driver_unanswered j told after h retries spare true o
 
 pub driver_goes : {O : Type 0} (j : Job) (retries : ℕ) (told : Driving O → Item → Driving O) (after : O → Item → O) → ((o : O) (i : Item) → told (record { plan = j; operation = o }) i ≡ record { plan = j; operation = after o i })
     → (t : Retrying (Driving O)) (out : Outcome) → t.machine.plan ≡ j → t.retries ≡ retries

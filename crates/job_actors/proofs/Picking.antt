@@ -29,7 +29,7 @@ use Rattle.job_works.specs.Works.{IsAt}
 use Rattle.job_works.proofs.Unread.{attempt_picks, left}
 use Rattle.job_works.proofs.Keeping.{with_read, picks_then, picks_go_on}
 use Rattle.job_actors.specs.declared.act.Act.{Act}
-use Rattle.job_actors.specs.declared.act.Act.TheVariants.{Setup, Write, CommitTask, AbortTask, Commit, Clean}
+use Rattle.job_actors.specs.declared.act.Act.TheVariants.{Setup, Commit, Clean}
 use Rattle.job_actors.specs.Acts.{wants_of, tells_of}
 use Rattle.job_actors.specs.Plans.{picks_of, running_of, IsAttempt, IsOf}
 
@@ -37,11 +37,7 @@ use Rattle.job_actors.specs.Plans.{picks_of, running_of, IsAttempt, IsOf}
 
 pub act_has_picks : (k : Known) (work : Act) → is_some (picks_of work) ≡ is_job_commit (running_of k work).operation
 act_has_picks k (Setup t) = refl
-act_has_picks k (Write t) = refl
-act_has_picks k (CommitTask t) = refl
-act_has_picks k (AbortTask t) = refl
-act_has_picks k (Commit c) = refl
-act_has_picks k (Clean t) = refl
+act_has_picks k _ = refl
 
 -- ---- they are those that are seen
 
@@ -75,33 +71,23 @@ kept picked (CommitOver end) o = refl
 pub act_picks : (g : Setting) (opening : Content) (x : Play) (a : Actor) (work : Act) → IsAt IsOf running_of g opening x a work → HasPicked g opening x (picks_of work)
     → (e : Entry) → e.actor ≡ a → MaySend g opening x e → HasPicked g opening (happen g x (Sends e)) (picks_of (tells_of work e.outcome))
 act_picks g opening x a (Setup t) at has e is may = tt
-act_picks g opening x a (Write t) at has e is may = tt
-act_picks g opening x a (CommitTask t) at has e is may = tt
-act_picks g opening x a (AbortTask t) at has e is may = tt
-act_picks g opening x a (Clean t) at has e is may = tt
 act_picks g opening x a (Commit c) at has e is may =
     let driver : a ≡ Driver = at.goes_by.0 in
     let go_on = picks_go_on g opening at.legal at.opens x at.happened c.operation _ (ap x.running (sym driver) ∙ at.at) (picks_from 0 c.picked) has e (is ∙ driver) may in
     subst (ArePicksOf g opening (happen g x (Sends e))) (kept c.picked c.operation e.outcome) go_on
+act_picks g opening x a _ at has e is may = tt
 
 -- ---- any other operation leaves them
 
 setup_reads : (w v : Script) (op : setups.Setup) (r : Request) → setup_asks v op ≡ Some r → (t : ℕ) → is_reading w t r ≡ false
-setup_reads w v setups.Heading r e t = ap (is_reading w t) (sym (some_is e))
-setup_reads w v (setups.Checking keys) r e t = ap (is_reading w t) (sym (some_is e))
-setup_reads w v setups.Clearing r e t = ap (is_reading w t) (sym (some_is e))
 setup_reads w v (setups.Sweeping (walks.Listing keys)) r e t = ap (is_reading w t) (sym (some_is e))
-setup_reads w v (setups.Sweeping (walks.Deleting q qs)) r e t = ap (is_reading w t) (sym (some_is e))
 setup_reads w v (setups.SetupOver end) r e t = absurd (none_some refl e)
+setup_reads w v _ r e t = ap (is_reading w t) (sym (some_is e))
 
 clean_reads : (w v : Script) (op : cleans.Clean) (r : Request) → clean_asks v op ≡ Some r → (t : ℕ) → is_reading w t r ≡ false
-clean_reads w v (cleans.Walking found) r e t = ap (is_reading w t) (sym (some_is e))
-clean_reads w v (cleans.Aborting u us) r e t = ap (is_reading w t) (sym (some_is e))
 clean_reads w v (cleans.Sweeping (walks.Listing keys)) r e t = ap (is_reading w t) (sym (some_is e))
-clean_reads w v (cleans.Sweeping (walks.Deleting q qs)) r e t = ap (is_reading w t) (sym (some_is e))
-clean_reads w v cleans.Naming r e t = ap (is_reading w t) (sym (some_is e))
-clean_reads w v (cleans.Removing p ps) r e t = ap (is_reading w t) (sym (some_is e))
 clean_reads w v (cleans.CleanOver end) r e t = absurd (none_some refl e)
+clean_reads w v _ r e t = ap (is_reading w t) (sym (some_is e))
 
 module _ (w : Script) (k : Option ℕ) (s : Seen) (n : ℕ) (r : Request) where
   -- what is seen of the picks after the request
@@ -113,9 +99,7 @@ module _ (w : Script) (k : Option ℕ) (s : Seen) (n : ℕ) (r : Request) where
     where
       by : (o : Outcome) → Leaves Driver o
       by (Answered x) = λ i t. left (s.begun || is_begun k n) (is_reading w t r) (s.last t) (s.picks t) (none t) i
-      by Slow = refl
-      by RequestLost = refl
-      by ReplyLost = refl
+      by _ = refl
 
   attempt_leaves : (a : Actor) → IsAttempt a → (o : Outcome) → Leaves a o
   attempt_leaves a is o = subst (λ b. Leaves b o) (sym is.2) (attempt_picks w k s (record { task = is.0; attempt = is.1 }) n r o)
@@ -123,8 +107,6 @@ module _ (w : Script) (k : Option ℕ) (s : Seen) (n : ℕ) (r : Request) where
 pub act_leaves : (g : Setting) (opening : Content) (x : Play) (a : Actor) (work : Act) → IsAt IsOf running_of g opening x a work → picks_of work ≡ None → (r : Request) → wants_of work ≡ Some r
     → (k : Option ℕ) (s : Seen) (n : ℕ) (o : Outcome) → (see g.script k s (record { event = n; actor = a; request = r; outcome = o })).picks ≡ s.picks
 act_leaves g opening x a (Setup t) at none r asked k s n o = driver_leaves g.script k s n r a at.goes_by.actor (setup_reads g.script (job_script t.machine.plan) t.machine.operation r asked) o
-act_leaves g opening x a (Write t) at none r asked k s n o = attempt_leaves g.script k s n r a at.goes_by.actor o
-act_leaves g opening x a (CommitTask t) at none r asked k s n o = attempt_leaves g.script k s n r a at.goes_by.actor o
-act_leaves g opening x a (AbortTask t) at none r asked k s n o = attempt_leaves g.script k s n r a at.goes_by.actor o
 act_leaves g opening x a (Commit c) at none r asked k s n o = absurd (none_some none refl)
 act_leaves g opening x a (Clean t) at none r asked k s n o = driver_leaves g.script k s n r a at.goes_by.actor (clean_reads g.script (job_script t.machine.plan) t.machine.operation r asked) o
+act_leaves g opening x a _ at none r asked k s n o = attempt_leaves g.script k s n r a at.goes_by.actor o

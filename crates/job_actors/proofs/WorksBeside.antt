@@ -117,14 +117,10 @@ module _ {w : Script} (j : IsLegal w) (a b : Who) (d : IsAttempt w a) (e : IsAtt
   write_none k (writes.WriteOver end) r q = absurd (none_some refl q)
 
   commit_none : (k : Known) (t : commits.TaskCommit) (r : Request) → commits.task_commit_asks w a k t ≡ Some r → Free r
-  commit_none k (commits.Looking keys) r q = free r (ap adds_key (sym (some_is q)))
-  commit_none k (commits.Reading cs f fs) r q = free r (ap adds_key (sym (some_is q)))
   commit_none k (commits.Publishing cs) r q = puts_apart (attempt_prefix w b) r _ _ _ _ (some_is q) (set_apart w b a.task)
-  commit_none k (commits.Checking p ps) r q = free r (ap adds_key (sym (some_is q)))
   commit_none k (commits.Uploads f fs u) r q = subst Free (some_is q) (uploads_none k f u)
-  commit_none k commits.Storing r q = free r (ap adds_key (sym (some_is q)))
-  commit_none k commits.Renaming r q = free r (ap adds_key (sym (some_is q)))
   commit_none k (commits.TaskCommitOver end) r q = absurd (none_some refl q)
+  commit_none k _ r q = free r (ap adds_key (sym (some_is q)))
 
 module _ (w : Script) (b : Who) where
   abbrev FreeOf : Request → Type 0
@@ -134,30 +130,21 @@ module _ (w : Script) (b : Who) where
   free_of r e = adds_none (attempt_prefix w b) r e
 
   abort_none : (a : Who) (t : aborts.TaskAbort) (r : Request) → aborts.task_abort_asks w a t ≡ Some r → FreeOf r
-  abort_none a (aborts.Dropping x xs sent) r q = free_of r (ap adds_key (sym (some_is q)))
   abort_none a (aborts.Sweeping (Listing keys)) r q = free_of r (ap adds_key (sym (some_is q)))
-  abort_none a (aborts.Sweeping (Deleting p ps)) r q = free_of r (ap adds_key (sym (some_is q)))
-  abort_none a aborts.Removing r q = free_of r (ap adds_key (sym (some_is q)))
   abort_none a (aborts.TaskAbortOver end) r q = absurd (none_some refl q)
+  abort_none a _ r q = free_of r (ap adds_key (sym (some_is q)))
 
   -- ---- the driver's
 
   setup_none : (t : setups.Setup) (r : Request) → setups.setup_asks w t ≡ Some r → FreeOf r
-  setup_none setups.Heading r q = free_of r (ap adds_key (sym (some_is q)))
-  setup_none (setups.Checking keys) r q = free_of r (ap adds_key (sym (some_is q)))
-  setup_none setups.Clearing r q = free_of r (ap adds_key (sym (some_is q)))
   setup_none (setups.Sweeping (Listing keys)) r q = free_of r (ap adds_key (sym (some_is q)))
-  setup_none (setups.Sweeping (Deleting p ps)) r q = free_of r (ap adds_key (sym (some_is q)))
   setup_none (setups.SetupOver end) r q = absurd (none_some refl q)
+  setup_none _ r q = free_of r (ap adds_key (sym (some_is q)))
 
   clean_none : (t : cleans.Clean) (r : Request) → cleans.clean_asks w t ≡ Some r → FreeOf r
-  clean_none (cleans.Walking found) r q = free_of r (ap adds_key (sym (some_is q)))
-  clean_none (cleans.Aborting u us) r q = free_of r (ap adds_key (sym (some_is q)))
   clean_none (cleans.Sweeping (Listing keys)) r q = free_of r (ap adds_key (sym (some_is q)))
-  clean_none (cleans.Sweeping (Deleting p ps)) r q = free_of r (ap adds_key (sym (some_is q)))
-  clean_none cleans.Naming r q = free_of r (ap adds_key (sym (some_is q)))
-  clean_none (cleans.Removing p ps) r q = free_of r (ap adds_key (sym (some_is q)))
   clean_none (cleans.CleanOver end) r q = absurd (none_some refl q)
+  clean_none _ r q = free_of r (ap adds_key (sym (some_is q)))
 
   -- what the driver puts in its bucket is not below the job's magic directory
   driving_none : (r : Request) → IsDriving w r → bucket_of r ≡ w.dest.bucket → FreeOf r
@@ -189,42 +176,31 @@ module _ (w : Script) (b : Who) where
 
 -- of attempts only a magic one adds keys
 write_adds : (w : Script) (minimum : ℕ) (a : Who) (k l : Known) (t : writes.Write) → FitsWrite w minimum a l t → (r : Request) → writes.write_asks w a k t ≡ Some r → adds_key r ≡ true → is_magic w.committer ≡ true
-write_adds w minimum a k l (writes.Uploads f fs u) fits r q e = fits.0
-write_adds w minimum a k l (writes.Marking f fs) fits r q e = fits.0
-write_adds w minimum a k l (writes.Recording f fs) fits r q e = fits.0
 write_adds w minimum a k l (writes.WriteOver end) fits r q e = absurd (none_some refl q)
+write_adds w minimum a k l _ fits r q e = fits.0
 
 commit_adds : (w : Script) (minimum : ℕ) (a : Who) (k l : Known) (t : commits.TaskCommit) → FitsCommit w minimum a l t → (r : Request) → commits.task_commit_asks w a k t ≡ Some r → adds_key r ≡ true → is_magic w.committer ≡ true
 commit_adds w minimum a k l (commits.Looking keys) fits r q e = fits.0
 commit_adds w minimum a k l (commits.Reading cs f fs) fits r q e = fits.0
 commit_adds w minimum a k l (commits.Publishing cs) fits r q e = fits.0
-commit_adds w minimum a k l (commits.Checking p ps) fits r q e = absurd (false_true refl (ap adds_key (some_is q) ∙ e))
 commit_adds w minimum a k l (commits.Uploads f fs Creating) fits r q e = absurd (false_true refl (ap adds_key (some_is q) ∙ e))
-commit_adds w minimum a k l (commits.Uploads f fs (Sending p ps)) fits r q e = absurd (false_true refl (ap adds_key (some_is q) ∙ e))
-commit_adds w minimum a k l commits.Storing fits r q e = absurd (false_true refl (ap adds_key (some_is q) ∙ e))
-commit_adds w minimum a k l commits.Renaming fits r q e = absurd (false_true refl (ap adds_key (some_is q) ∙ e))
 commit_adds w minimum a k l (commits.TaskCommitOver end) fits r q e = absurd (none_some refl q)
+commit_adds w minimum a k l _ fits r q e = absurd (false_true refl (ap adds_key (some_is q) ∙ e))
 
 abort_adds : (w : Script) (a : Who) (t : aborts.TaskAbort) (r : Request) → aborts.task_abort_asks w a t ≡ Some r → adds_key r ≡ true → is_magic w.committer ≡ true
-abort_adds w a (aborts.Dropping x xs sent) r q e = absurd (false_true refl (ap adds_key (some_is q) ∙ e))
 abort_adds w a (aborts.Sweeping (Listing keys)) r q e = absurd (false_true refl (ap adds_key (some_is q) ∙ e))
-abort_adds w a (aborts.Sweeping (Deleting p ps)) r q e = absurd (false_true refl (ap adds_key (some_is q) ∙ e))
-abort_adds w a aborts.Removing r q e = absurd (false_true refl (ap adds_key (some_is q) ∙ e))
 abort_adds w a (aborts.TaskAbortOver end) r q e = absurd (none_some refl q)
+abort_adds w a _ r q e = absurd (false_true refl (ap adds_key (some_is q) ∙ e))
 
 is_magic_so : (c : Committer) → is_magic c ≡ true → c ≡ Magic
 is_magic_so Magic e = refl
-is_magic_so Directory e = absurd (false_true refl e)
-is_magic_so Partitioned e = absurd (false_true refl e)
+is_magic_so _ e = absurd (false_true refl e)
 
 -- the commit of a magic job deletes nothing, and so nothing raises what it has left
 magic_calm : (j : Job) (c : Commit) → j.committer ≡ Magic → ((sets : Sets) (p : List ℕ) (ps : List (List ℕ)) (t : Sweep) (n : ℕ) → c ≡ Replacing sets p ps t n → ⊥) → commit_rise_of most_commits j c ≡ 0
 magic_calm j (Fetching sets n) magic never = ap (λ z. if_staging z (prefixes_most j (widest most_commits sets) * (j.retries + 1))) magic
 magic_calm j (Replacing sets p ps t n) magic never = absurd (never sets p ps t n refl)
-magic_calm j (Completing sets x xs finished) magic never = refl
-magic_calm j (Marking sets n) magic never = refl
-magic_calm j (Reverting z zs n) magic never = refl
-magic_calm j (CommitOver end) magic never = refl
+magic_calm j _ magic never = refl
 
 none_times : (a b : ℕ) → a ≡ 0 → a * b ≡ 0
 none_times a b e = let none : 0 * b ≡ 0 = omega arith in subst (λ x. x * b ≡ 0) (sym e) none
@@ -275,9 +251,7 @@ module _ (g : Setting) (opening : Content) (x : Play) where
 
   -- another actor than the driver adds a key in a magic job alone
   other_adds : (a b : Actor) (other : Act) → At b other → (b ≡ Driver → ⊥) → (r : Request) → wants_of other ≡ Some r → adds_key r ≡ true → is_magic g.script.committer ≡ true
-  other_adds a b (acts.Setup t) at ne r e adds = absurd (ne at.goes_by.actor)
   other_adds a b (acts.Commit c) at ne r e adds = absurd (ne at.goes_by.0)
-  other_adds a b (acts.Clean t) at ne r e adds = absurd (ne at.goes_by.actor)
   other_adds a b (acts.Write t) at ne r e adds =
       let o = by_attempt g opening x b (acts.Write t) at.goes_by.actor at in
       let m = running_of (knows_now g x (actor_of o.0)) (acts.Write t) in
@@ -293,6 +267,7 @@ module _ (g : Setting) (opening : Content) (x : Play) where
   other_adds a b (acts.AbortTask t) at ne r e adds =
       let o = by_attempt g opening x b (acts.AbortTask t) at.goes_by.actor at in
       abort_adds g.script o.0 t.machine.operation r (sym (asks g opening x (actor_of o.0) (acts.AbortTask t) o.2) ∙ e) adds
+  other_adds a b _ at ne r e adds = absurd (ne at.goes_by.actor)
 
   commit_calm : (a b : Actor) (c : Committing) (other : Act) → At a (acts.Commit c) → At b other → (a ≡ b → ⊥) → (r : Request) → wants_of other ≡ Some r → rise_of (acts.Commit c) r ≡ 0
   commit_calm a b c other at bt ne r e = elim (true_or_false (adds_key r)) [

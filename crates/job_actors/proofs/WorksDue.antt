@@ -7,7 +7,7 @@ use Rattle.s3_types.specs.declared.request.Actor.{Actor}
 use Rattle.s3_types.specs.declared.request.Request.{Request}
 use Rattle.s3_types.specs.declared.reply.Reply.{Reply}
 use Rattle.s3_types.specs.declared.journal.Outcome.{Outcome}
-use Rattle.s3_types.specs.declared.journal.Outcome.TheVariants.{Answered, Slow, RequestLost, ReplyLost}
+use Rattle.s3_types.specs.declared.journal.Outcome.TheVariants.{Answered}
 use Rattle.machine.specs.Turns.{FitsOutcome}
 use Rattle.machine.specs.declared.retrying.Retrying.{Retrying}
 use Rattle.job_model.specs.Attempts.{Who, actor_of}
@@ -49,9 +49,7 @@ use Rattle.job_actors.proofs.WorksGo.{few_now, commit_at, asks}
 -- what is due to a machine's request fits it under its retries
 outcome_fits : {M : Type 0} (wants : M → Option Request) (fits : M → Reply → Bool → Type 0) (t : Retrying M) (s : Scene) → FitsDue wants fits t.machine s → (r : Request) (o : Outcome) → wants t.machine ≡ Some r → IsHonestOutcome o (answer s r) → FitsOutcome fits t o
 outcome_fits wants fits t s h r (Answered x) e honest = subst (λ y. fits t.machine y t.repeated) (sym honest) (h r e t.repeated)
-outcome_fits wants fits t s h r Slow e honest = tt
-outcome_fits wants fits t s h r RequestLost e honest = tt
-outcome_fits wants fits t s h r ReplyLost e honest = tt
+outcome_fits wants fits t s h r _ e honest = tt
 
 -- the same at another plan
 driving_by : {O : Type 0} (wants : Driving O → Option Request) (fits : Driving O → Reply → Bool → Type 0) (m : Driving O) (j : Job) (s : Scene) → m.plan ≡ j → FitsDue wants fits (record { plan = j; operation = m.operation }) s → FitsDue wants fits m s

@@ -15,7 +15,7 @@ use Rattle.job_happenings.specs.Happenings.{Play, scene_of, knows_now}
 use Rattle.job_works.specs.Works.{IsAt}
 use Rattle.job_answers.proofs.Telling.{asks_same, tells_same}
 use Rattle.job_actors.specs.declared.act.Act.{Act}
-use Rattle.job_actors.specs.declared.act.Act.TheVariants.{Setup, Write, CommitTask, AbortTask, Commit, Clean}
+use Rattle.job_actors.specs.declared.act.Act.TheVariants.{Setup, Commit}
 use Rattle.job_actors.specs.Acts.{wants_of, tells_of, end_of}
 use Rattle.job_actors.specs.Plans.{running_of, IsOf, AsksSo, GoesSo}
 use Rattle.job_actors.proofs.ActorsGo.{actors_go}
@@ -31,11 +31,7 @@ commit_at g opening x a c at = commit_now g opening x at.legal at.opens at.happe
 
 asks_so : (g : Setting) (opening : Content) (x : Play) (a : Actor) (work : Act) → IsAt IsOf running_of g opening x a work → AsksSo g.script work
 asks_so g opening x a (Commit c) at = let s = stand g opening x at.legal at.opens at.happened in asks_same g.script g.minimum s.told at.legal c.operation (commit_at g opening x a c at).commits.fits
-asks_so g opening x a (Setup t) at = tt
-asks_so g opening x a (Write t) at = tt
-asks_so g opening x a (CommitTask t) at = tt
-asks_so g opening x a (AbortTask t) at = tt
-asks_so g opening x a (Clean t) at = tt
+asks_so g opening x a _ at = tt
 
 pub asks : (g : Setting) (opening : Content) (x : Play) (a : Actor) (work : Act) → IsAt IsOf running_of g opening x a work → wants_of work ≡ operations.wants g a (running_of (knows_now g x a) work)
 asks g opening x a work at = actors_go.wants g a (knows_now g x a) work at.goes_by (asks_so g opening x a work at)
@@ -48,10 +44,7 @@ goes_so g opening x a (Commit c) at r e o honest =
     let due : IsHonestOutcome o (answer s.seen.scene r) = subst (λ z. IsHonestOutcome o (answer z r)) (sym (scene_is g opening x at.legal at.opens at.happened)) honest in
     tells_same g.script g.minimum s.seen.scene s.seen.last s.told at.legal v.hold (few_now g opening x a (Commit c) at) c.operation v.fits r asked o due
 goes_so g opening x a (Setup t) at r e o honest = tt
-goes_so g opening x a (Write t) at r e o honest = tt
-goes_so g opening x a (CommitTask t) at r e o honest = tt
-goes_so g opening x a (AbortTask t) at r e o honest = tt
-goes_so g opening x a (Clean t) at r e o honest = tt
+goes_so g opening x a _ at r e o honest = tt
 
 pub goes : (g : Setting) (opening : Content) (x : Play) (a : Actor) (work : Act) → IsAt IsOf running_of g opening x a work → (r : Request) → wants_of work ≡ Some r → (o : Outcome) → IsHonestOutcome o (answer (scene_of opening x) r)
     → IsOf g a (tells_of work o) × (running_of (advance g a (running_of (knows_now g x a) work) o).known (tells_of work o) ≡ advance g a (running_of (knows_now g x a) work) o)

@@ -1,10 +1,10 @@
 -- Until the driver cleans up each task has a last publisher where the driver's commit reads sets.
 use Rattle.std.proofs.Common.{◌≡◌, ℕ, inl, inr, nat_lt, Bool, true, false, cond, List, [], ◌∷◌, ◌++◌, length, Option, Some, None, refl, sym, ap, subst, ◌∙◌, arith}
 use Rattle.s3_types.specs.Store.{Content}
-use Rattle.s3_types.specs.declared.request.Actor.TheVariants.{Driver, Attempt, Shell}
+use Rattle.s3_types.specs.declared.request.Actor.TheVariants.{Driver}
 use Rattle.s3_types.specs.declared.reply.Reply.{Reply}
 use Rattle.s3_types.specs.declared.journal.Outcome.{Outcome}
-use Rattle.s3_types.specs.declared.journal.Outcome.TheVariants.{Answered, Slow, RequestLost, ReplyLost}
+use Rattle.s3_types.specs.declared.journal.Outcome.TheVariants.{Answered, Slow}
 use Rattle.s3_types.specs.declared.journal.Entry.{Entry}
 use Rattle.s3_types.specs.declared.request.Request.{Request}
 use Rattle.job_model.specs.Known.{Known}
@@ -13,18 +13,18 @@ use Rattle.job_model.specs.JobScript.{Script}
 use Rattle.job_model.specs.declared.events.Op.{Op}
 use Rattle.job_model.specs.declared.events.Op.TheVariants as ops
 use Rattle.job_model.specs.declared.events.Event.{Event}
-use Rattle.job_model.specs.declared.events.Event.TheVariants.{Do, Start, Step, Run, Kill, Mix, Restart, Recover}
+use Rattle.job_model.specs.declared.events.Event.TheVariants.{Do, Start}
 use Rattle.job_model.specs.declared.ends.EventEnd.{EventEnd}
 use Rattle.list_walk.specs.Walks.{Sweep, sweep_hears}
 use Rattle.job_operations.specs.Lanes.{Turn, again, follow, dealt, revert}
 use Rattle.job_operations.specs.JobCommits.{Sets, all_commits, set_read, is_no_magic, Commit, Fetching, Replacing, Completing, Marking, Reverting, CommitOver, completing, replacing, fetching, fetched, swept, reverting, worn_completion, commit_misses, commit_tells, commit_start}
-use Rattle.job_operations.specs.Operations.{Setting, Operation, TheSetup, TheWrite, TheTaskCommit, TheTaskAbort, TheCommit, TheClean, who, tells, start_of}
-use Rattle.job_promise.specs.Seen.{Seen, see_all, nothing_seen, is_begun}
-use Rattle.job_promise.specs.States.{missing, commit_event, clean_event}
+use Rattle.job_operations.specs.Operations.{Setting, Operation, TheCommit, who, tells, start_of}
+use Rattle.job_promise.specs.Seen.{Seen, see_all, nothing_seen}
+use Rattle.job_promise.specs.States.{missing, commit_event}
 use Rattle.job_facts.specs.Runs.{IsOpening}
 use Rattle.job_facts.specs.Standing.{HasPublished}
 use Rattle.job_happenings.specs.Happenings.{Play, Refuses, Opens, Sends, Finishes, Closes, knows_now, begun, open_running, hear, happen, MaySend, Happened, nothing_happened, happens, Strays}
-use Rattle.job_happenings.specs.Running.{Ahead, operation_of, times}
+use Rattle.job_happenings.specs.Running.{Ahead, operation_of}
 use Rattle.job_facts.specs.Told.{strange_entry}
 use Rattle.job_happenings.proofs.Actors.{same_or_not, put_here, put_other}
 use Rattle.job_happenings.proofs.Running.{sent_ahead, finished_ahead, opened_ahead, refused_ahead, not_refused, closed_ahead, strayed_ahead}
@@ -36,11 +36,7 @@ use Rattle.job_happenings.proofs.Reported.{AllReported, none_left, Unclean, late
 -- while it reads sets each task has a last publisher
 abbrev pub AllRead : Script → Seen → Commit → Type 0
 AllRead w s (Fetching sets n) = AllPublished w s
-AllRead w s (Replacing sets p ps v n) = Unit {0}
-AllRead w s (Completing sets x xs finished) = Unit {0}
-AllRead w s (Marking sets n) = Unit {0}
-AllRead w s (Reverting r rs n) = Unit {0}
-AllRead w s (CommitOver end) = Unit {0}
+AllRead w s _ = Unit {0}
 
 abbrev pub DriverReads : Script → Seen → Option Operation → Type 0
 DriverReads w s (Some (TheCommit c)) = AllRead w s c
@@ -49,11 +45,7 @@ DriverReads w s _ = Unit {0}
 module _ (w : Script) (s : Seen) where
   all_read : AllPublished w s → (c : Commit) → AllRead w s c
   all_read all (Fetching sets n) = all
-  all_read all (Replacing sets p ps v n) = tt
-  all_read all (Completing sets x xs finished) = tt
-  all_read all (Marking sets n) = tt
-  all_read all (Reverting r rs n) = tt
-  all_read all (CommitOver end) = tt
+  all_read all _ = tt
 
   either : (b : Bool) (c d : Commit) → AllRead w s c → AllRead w s d → AllRead w s (cond b c d)
   either true c d h g = h
@@ -89,40 +81,25 @@ module _ (w : Script) (s : Seen) where
   read_heard (Fetching sets n) x h = all_read h (fetched w sets (set_read x))
   read_heard (Replacing sets p ps v n) x h = past_swept sets p ps (sweep_hears (is_no_magic w) v x)
   read_heard (Completing sets y ys finished) x h = past_completing sets (ys ++ follow w.lanes (length (all_commits sets)) y.number) (y.number ∷ finished)
-  read_heard (Marking sets n) x h = tt
   read_heard (Reverting r rs n) x h = past_reverting rs
-  read_heard (CommitOver end) x h = tt
+  read_heard _ x h = tt
 
   read_tells : (c : Commit) (o : Outcome) → AllRead w s c → AllRead w s (commit_tells w c o)
   read_tells c (Answered x) h = read_heard c x h
   read_tells c Slow h = read_missed c false h
-  read_tells c RequestLost h = read_missed c true h
-  read_tells c ReplyLost h = read_missed c true h
+  read_tells c _ h = read_missed c true h
 
 read_still : (w : Script) (s u : Seen) → ((t : ℕ) → HasPublished s t → HasPublished u t) → (c : Commit) → AllRead w s c → AllRead w u c
 read_still w s u keeps (Fetching sets n) h = λ t l. keeps t (h t l)
-read_still w s u keeps (Replacing sets p ps v n) h = tt
-read_still w s u keeps (Completing sets x xs finished) h = tt
-read_still w s u keeps (Marking sets n) h = tt
-read_still w s u keeps (Reverting r rs n) h = tt
-read_still w s u keeps (CommitOver end) h = tt
+read_still w s u keeps _ h = tt
 
 driver_still : (w : Script) (s u : Seen) → ((t : ℕ) → HasPublished s t → HasPublished u t) → (d : Option Operation) → DriverReads w s d → DriverReads w u d
-driver_still w s u keeps None h = tt
 driver_still w s u keeps (Some (TheCommit c)) h = read_still w s u keeps c h
-driver_still w s u keeps (Some (TheSetup t)) h = tt
-driver_still w s u keeps (Some (TheWrite t)) h = tt
-driver_still w s u keeps (Some (TheTaskCommit t)) h = tt
-driver_still w s u keeps (Some (TheTaskAbort t)) h = tt
-driver_still w s u keeps (Some (TheClean t)) h = tt
+driver_still w s u keeps _ h = tt
 
 driver_tells : (g : Setting) (s : Seen) (op : Operation) (o : Outcome) → DriverReads g.script s (Some op) → DriverReads g.script s (Some (tells g (who Driver) op o))
 driver_tells g s (TheCommit c) o h = read_tells g.script s c o h
-driver_tells g s (TheSetup t) o h = tt
-driver_tells g s (TheWrite t) o h = tt
-driver_tells g s (TheTaskCommit t) o h = tt
-driver_tells g s (TheTaskAbort t) o h = tt
-driver_tells g s (TheClean t) o h = tt
+driver_tells g s _ o h = tt
 
 -- ---- it begins
 
@@ -134,11 +111,8 @@ commit_begins w reported s all = by (missing w reported) refl
     by None e = all_read w s (λ t l. all t (none_left reported 0 w.tasks e t (omega arith) (omega (arith, l)))) (fetching w [])
 
 driver_begins : (g : Setting) (reported : ℕ → Bool) (s : Seen) → AllReported reported s → (op : Op) (k : Known) → DriverReads g.script s (operation_of (begun (start_of g Driver op (missing g.script reported) k) k))
-driver_begins g reported s all ops.Setup k = tt
-driver_begins g reported s all ops.Write k = tt
 driver_begins g reported s all ops.Commit k = commit_begins g.script reported s all
-driver_begins g reported s all ops.Abort k = tt
-driver_begins g reported s all ops.Clean k = tt
+driver_begins g reported s all _ k = tt
 
 -- ---- every run
 
@@ -151,17 +125,8 @@ module _ (g : Setting) (opening : Content) (j : IsLegal g.script) (is_opening : 
 
   driver_opened : (y : Play) (ev : Event) → AllReported y.past.reported (seen_by y) → DriverReads w (seen_by y) (operation_of (y.running Driver)) → DriverReads w (seen_by y) (operation_of (open_running g y ev Driver))
   driver_opened y (Do Driver op) all old = driver_begins g y.past.reported (seen_by y) all op (knows_now g y Driver)
-  driver_opened y (Do (Attempt t n) op) all old = old
-  driver_opened y (Do Shell op) all old = old
   driver_opened y (Start Driver op) all old = driver_begins g y.past.reported (seen_by y) all op (knows_now g y Driver)
-  driver_opened y (Start (Attempt t n) op) all old = old
-  driver_opened y (Start Shell op) all old = old
-  driver_opened y (Step a n) all old = old
-  driver_opened y (Run a) all old = old
-  driver_opened y (Kill a) all old = old
-  driver_opened y (Mix seed) all old = old
-  driver_opened y Restart all old = old
-  driver_opened y (Recover a) all old = old
+  driver_opened y _ all old = old
 
   sends : (y : Play) (e : Entry) → MaySend g opening y e → DriverReads w (seen_by y) (operation_of (y.running Driver)) → DriverReads w (seen_by (happen g y (Sends e))) (operation_of ((happen g y (Sends e)).running Driver))
   sends y e may old =

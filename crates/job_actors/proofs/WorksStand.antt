@@ -12,7 +12,7 @@ use Rattle.job_model.specs.declared.ends.SetupEnd.TheVariants as setups
 use Rattle.job_model.specs.declared.ends.EventEnd.TheVariants.{Done}
 use Rattle.job_operations.specs.Setup.{Setup, SetupOver}
 use Rattle.list_walk.specs.Walks.{Sweep}
-use Rattle.job_operations.specs.JobCommits.{Sets, picks_of, replaced, Commit, Fetching, Replacing, Completing, Marking, Reverting, CommitOver}
+use Rattle.job_operations.specs.JobCommits.{Sets, picks_of, replaced, Commit, Fetching, Replacing}
 use Rattle.job_operations.specs.Operations.{Setting, Operation, TheSetup, TheCommit, Running}
 use Rattle.job_promise.specs.Seen.{Seen}
 use Rattle.job_promise.specs.States.{commit_event}
@@ -120,11 +120,7 @@ module _ (g : Setting) (opening : Content) (x : Play) (j : IsLegal g.script) (is
 
     stands : (v : Commit) → v ≡ c → AllRead w stand.seen v → SetStands w stand.seen v
     stands (Fetching sets n) is all = set_stands w g.minimum stand.seen stand.told (Fetching sets n) commit_late.hold (subst (λ z. Commits w g.minimum stand.seen stand.told z) (sym is) commits).fits in_commit.uncleaned all
-    stands (Replacing sets p ps t n) is all = tt
-    stands (Completing sets y ys finished) is all = tt
-    stands (Marking sets n) is all = tt
-    stands (Reverting r rs n) is all = tt
-    stands (CommitOver end) is all = tt
+    stands _ is all = tt
 
     pub commit_now : CommitNow g stand.seen stand.told c
     commit_now = record { commits = commits; stands = stands c refl reads }

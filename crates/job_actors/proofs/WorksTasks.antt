@@ -10,7 +10,7 @@ use Rattle.job_model.specs.JobScript.{Script}
 use Rattle.job_operations.specs.Writes.{write_start}
 use Rattle.job_operations.specs.TaskCommits.{task_commit_start}
 use Rattle.job_operations.specs.TaskAborts.{task_abort_start}
-use Rattle.job_operations.specs.Operations.{Setting, Operation, TheSetup, TheWrite, TheTaskCommit, TheTaskAbort, TheCommit, TheClean, tells}
+use Rattle.job_operations.specs.Operations.{Setting, Operation, TheWrite, TheTaskCommit, TheTaskAbort, tells}
 use Rattle.request_frame.proofs.Members.{none_some}
 use Rattle.job_facts.specs.Told.{known}
 use Rattle.job_facts.proofs.Whose.{put_at}
@@ -19,20 +19,12 @@ use Rattle.job_answers.specs.Due.{ReadsOwn}
 use Rattle.job_answers.proofs.Kept.{reads_begin, reads_go}
 
 abbrev pub OwnTask : Script → Who → Operation → Type 0
-OwnTask w a (TheSetup t) = Unit {0}
-OwnTask w a (TheWrite t) = Unit {0}
 OwnTask w a (TheTaskCommit t) = ReadsOwn w a t.operation
-OwnTask w a (TheTaskAbort t) = Unit {0}
-OwnTask w a (TheCommit c) = Unit {0}
-OwnTask w a (TheClean t) = Unit {0}
+OwnTask w a _ = Unit {0}
 
 own_tells : (g : Setting) (a : Who) (op : Operation) (o : Outcome) → OwnTask g.script a op → OwnTask g.script a (tells g a op o)
-own_tells g a (TheSetup t) o h = tt
-own_tells g a (TheWrite t) o h = tt
 own_tells g a (TheTaskCommit t) o h = reads_go g.script g.minimum g.script.retries a t o h
-own_tells g a (TheTaskAbort t) o h = tt
-own_tells g a (TheCommit c) o h = tt
-own_tells g a (TheClean t) o h = tt
+own_tells g a _ o h = tt
 
 -- ---- every run
 

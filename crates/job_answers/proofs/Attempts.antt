@@ -27,8 +27,8 @@ use Rattle.job_operations.specs.Uploading.{Creating, Sending, file_parts}
 use Rattle.job_operations.specs.Writes as writes
 use Rattle.job_operations.specs.Writes.{Write}
 use Rattle.job_operations.specs.TaskCommits as commits
-use Rattle.job_operations.specs.TaskCommits.{TaskCommit, Looking, Reading, Publishing, Checking, Storing, Renaming, TaskCommitOver, attempt_prefix, partition_prefix}
-use Rattle.job_operations.specs.TaskAborts.{TaskAbort, Dropping, Sweeping, Removing, TaskAbortOver}
+use Rattle.job_operations.specs.TaskCommits.{TaskCommit, Looking, Reading, Checking, attempt_prefix, partition_prefix}
+use Rattle.job_operations.specs.TaskAborts.{TaskAbort, Sweeping}
 use Rattle.job_operations.specs.AtWork.{write_wants, task_commit_wants, task_abort_wants}
 use Rattle.job_promise.specs.Seen.{is_magic}
 use Rattle.list_walk.specs.Fitting.{FitsPage}
@@ -89,9 +89,7 @@ module _ (w : Script) (minimum : ℕ) (s : Scene) (last : ℕ → Option ℕ) (m
   pub write_due : (t : Write) → FitsWrite w minimum a (known m a) t → FitsDue write_wants write_fits (at_work w minimum a k t) s
   write_due (writes.Uploads g fs Creating) fits r e repeated = subst (λ q. FitsCreate k.drawn (answer s q)) (some_is e) (create_fits (file_key w g))
   write_due (writes.Uploads g fs (Sending p ps)) fits r e repeated = subst (λ q. FitsPart (answer s q)) (some_is e) (sending_fits g fs p ps fits.2)
-  write_due (writes.Marking g fs) fits r e repeated = tt
-  write_due (writes.Recording g fs) fits r e repeated = tt
-  write_due (writes.WriteOver end) fits r e repeated = tt
+  write_due _ fits r e repeated = tt
 
   -- ---- a commit
 
@@ -123,19 +121,13 @@ module _ (w : Script) (minimum : ℕ) (s : Scene) (last : ℕ → Option ℕ) (m
   pub commit_due : s.content.next ≤ 2 ^ 64 → (t : TaskCommit) → FitsCommit w minimum a (known m a) t → ReadsOwn w a t → FitsDue task_commit_wants commit_fits (at_work w minimum a k t) s
   commit_due few (Looking keys) fits own r e repeated = subst (λ q. FitsListing keys (answer s q)) (some_is e) (listing_fits keys fits.2)
   commit_due few (Reading cs g gs) fits own r e repeated = subst (λ q. FitsRecord w a k g (answer s q)) (some_is e) (record_fits fits.0 few cs fits.1 g (own g (inl refl)))
-  commit_due few (Publishing cs) fits own r e repeated = tt
   commit_due few (Checking d ds) fits own r e repeated = subst (λ q. FitsPage (answer s q)) (some_is e) (look_fits (partition_prefix w d))
   commit_due few (commits.Uploads g gs Creating) fits own r e repeated = subst (λ q. FitsCreate k.drawn (answer s q)) (some_is e) (create_fits (file_key w g))
   commit_due few (commits.Uploads g gs (Sending p ps)) fits own r e repeated = subst (λ q. FitsPart (answer s q)) (some_is e) (sending_fits g gs p ps fits.2)
-  commit_due few Storing fits own r e repeated = tt
-  commit_due few Renaming fits own r e repeated = tt
-  commit_due few (TaskCommitOver end) fits own r e repeated = tt
+  commit_due few _ fits own r e repeated = tt
 
 -- ---- an abort
 
 pub abort_due : (w : Script) (minimum : ℕ) (s : Scene) → HasBucket s.content w.dest.bucket → (a : Who) (k : Known) (t : TaskAbort) → FitsDue task_abort_wants abort_fits (at_work w minimum a k t) s
-abort_due w minimum s there a k (Dropping d ds sent) r e repeated = tt
 abort_due w minimum s there a k (Sweeping (walks.Listing keys)) r e repeated = subst (λ q. undoing.FitsAbort (Sweeping (walks.Listing keys)) (answer s q)) (some_is e) (sweep_fits w s there (attempt_prefix w a) (walks.Listing keys))
-abort_due w minimum s there a k (Sweeping (walks.Deleting q qs)) r e repeated = tt
-abort_due w minimum s there a k Removing r e repeated = tt
-abort_due w minimum s there a k (TaskAbortOver end) r e repeated = tt
+abort_due w minimum s there a k _ r e repeated = tt

@@ -5,11 +5,11 @@ use Rattle.s3_types.specs.Store.{Scene}
 use Rattle.s3_types.specs.Answer.{answer}
 use Rattle.s3_types.specs.Moment.{effect, IsHonestOutcome}
 use Rattle.s3_types.specs.declared.request.Committer.{Committer}
-use Rattle.s3_types.specs.declared.request.Committer.TheVariants.{Magic, Directory, Partitioned}
+use Rattle.s3_types.specs.declared.request.Committer.TheVariants.{Magic}
 use Rattle.s3_types.specs.declared.request.Mode.{Mode}
 use Rattle.s3_types.specs.declared.request.Request.{Request}
 use Rattle.s3_types.specs.declared.journal.Outcome.{Outcome}
-use Rattle.s3_types.specs.declared.journal.Outcome.TheVariants.{Answered, Slow, RequestLost, ReplyLost}
+use Rattle.s3_types.specs.declared.journal.Outcome.TheVariants.{Answered}
 use Rattle.request_frame.proofs.Members.{false_true}
 use Rattle.job_model.specs.Attempts.{Who}
 use Rattle.job_model.specs.Legal.{IsLegal}
@@ -17,7 +17,7 @@ use Rattle.job_model.specs.JobScript.{Script}
 use Rattle.job_model.specs.declared.ends.CommitEnd.{CommitEnd}
 use Rattle.job_operations.specs.Outputs.{same_path}
 use Rattle.job_operations.specs.Lanes.{Turn, dealt}
-use Rattle.job_operations.specs.JobCommits.{Commit, Fetching, Replacing, Completing, Marking, Reverting, CommitOver, picks_of, completing, replaced, replacing, decided, commit_start, commit_asks, commit_tells}
+use Rattle.job_operations.specs.JobCommits.{Commit, Fetching, Replacing, Completing, picks_of, completing, replaced, replacing, decided, commit_start, commit_asks, commit_tells}
 use Rattle.job_operations.specs.Operations.{Setting, Operation, asks}
 use Rattle.job_operations.proofs.LaneTables.{tabled_start, tabled_tells}
 use Rattle.job_promise.specs.Seen.{Seen, see, is_begun, is_magic}
@@ -48,8 +48,7 @@ empty_completing m (x ∷ xs) = record { only = λ n l e. absurd (omega (arith, 
 module _ (w : Script) (m : Told) where
   empty_replacing : (c : Committer) (mode : Mode) → is_magic c ≡ true → Turns m (replacing w [] (replaced c mode w (picks_of [])))
   empty_replacing Magic mode h = empty_completing m (dealt w.lanes 0)
-  empty_replacing Directory mode h = absurd (false_true refl h)
-  empty_replacing Partitioned mode h = absurd (false_true refl h)
+  empty_replacing _ mode h = absurd (false_true refl h)
 
   empty_decided : is_magic w.committer ≡ true → (o : Option CommitEnd) → Turns m (decided w [] o)
   empty_decided magic (Some end) = tt
@@ -81,9 +80,7 @@ commits_begin w minimum s m j h gone missing none = record {
 
 driver_scene : (w : Script) (k : Option ℕ) (s : Seen) (n : ℕ) (r : Request) (o : Outcome) → (see w k s (driver_entry n r o)).scene ≡ effect s.scene r o
 driver_scene w k s n r (Answered x) = refl
-driver_scene w k s n r Slow = refl
-driver_scene w k s n r RequestLost = refl
-driver_scene w k s n r ReplyLost = refl
+driver_scene w k s n r _ = refl
 
 pub commits_go : (g : Setting) → IsLegal g.script → (k : Option ℕ) (s : Seen) (m : Told) (n : ℕ) (c : Commit) → Commits g.script g.minimum s m c → s.scene.content.next ≤ 2 ^ 64
     → (r : Request) → commit_asks g.script c ≡ Some r → (o : Outcome) → IsHonestOutcome o (answer s.scene r) → Commits g.script g.minimum (see g.script k s (driver_entry n r o)) (tell g.script m (driver_entry n r o)) (commit_tells g.script c o)
@@ -103,18 +100,14 @@ still_unclean w minimum s m n c v r e o h late = ap (λ b. b || is_begun m.clean
 
 attempt_scene : (w : Script) (k : Option ℕ) (s : Seen) (a : Who) (n : ℕ) (r : Request) (o : Outcome) → (see w k s (entry a n r o)).scene ≡ effect s.scene r o
 attempt_scene w k s a n r (Answered x) = refl
-attempt_scene w k s a n r Slow = refl
-attempt_scene w k s a n r RequestLost = refl
-attempt_scene w k s a n r ReplyLost = refl
+attempt_scene w k s a n r _ = refl
 
 -- what nobody but the driver ends stays as it is
 same_turns : (m now : Told) (c : Commit) → now.ended ≡ m.ended → Turns m c → Turns now c
 same_turns m now (Fetching sets n) e h = λ id. ap (λ f. f id) e ∙ h id
 same_turns m now (Replacing sets p ps v n) e h = λ id. ap (λ f. f id) e ∙ h id
 same_turns m now (Completing sets x xs finished) e h = subst (λ f. Turned f sets (x ∷ xs) finished) (sym e) h
-same_turns m now (Marking sets n) e h = tt
-same_turns m now (Reverting r rs n) e h = tt
-same_turns m now (CommitOver end) e h = tt
+same_turns m now _ e h = tt
 
 pub commits_beside : (g : Setting) → IsLegal g.script → (k : Option ℕ) (s : Seen) (m : Told) (a : Who) (n : ℕ) (c : Commit) → Commits g.script g.minimum s m c → IsAttempt g.script a → (op : Operation) → Fits g.script g.minimum a m op
     → (r : Request) → asks g a (known m a) op ≡ Some r → (o : Outcome) → IsHonestOutcome o (answer s.scene r) → Commits g.script g.minimum (see g.script k s (entry a n r o)) (tell g.script m (entry a n r o)) c

@@ -11,7 +11,7 @@ use Rattle.s3_types.specs.declared.request.Request.TheVariants.{PutObject}
 use Rattle.s3_types.specs.declared.reply.Reply.TheVariants.{Stored, Deleted, Refused}
 use Rattle.s3_types.specs.declared.reply.Refusal.TheVariants.{NoSuchBucket}
 use Rattle.s3_types.specs.declared.journal.Outcome.{Outcome}
-use Rattle.s3_types.specs.declared.journal.Outcome.TheVariants.{Answered, Slow, RequestLost, ReplyLost}
+use Rattle.s3_types.specs.declared.journal.Outcome.TheVariants.{Answered}
 use Rattle.pending_json.specs.Pending.{Pending}
 use Rattle.request_frame.specs.Held.{HasBucket}
 use Rattle.request_frame.proofs.Members.{some_is, none_some, true_or_false}
@@ -51,19 +51,14 @@ use Rattle.job_answers.proofs.HeldSets.{set_is, same_read}
 -- ---- set-up and clean
 
 pub setup_due : (w : Script) (s : Scene) (t : Setup) → SetsUp w s.content t → FitsDue setup_wants setups.FitsDriving (driving w t) s
-setup_due w s setup.Heading up r e repeated = tt
 setup_due w s (setup.Checking keys) up r e repeated = subst (λ q. setups.FitsSetup (setup.Checking keys) (answer s q)) (some_is e) (inl (page_fits w s up (dest_prefix w) keys))
-setup_due w s setup.Clearing up r e repeated = tt
 setup_due w s (setup.Sweeping v) up r e repeated = subst (λ q. setups.FitsSetup (setup.Sweeping v) (answer s q)) (some_is e) (inl (sweep_fits w s up.0 (magic_prefix w.dest.key w.job) v))
-setup_due w s (setup.SetupOver end) up r e repeated = tt
+setup_due w s _ up r e repeated = tt
 
 pub clean_due : (w : Script) (s : Scene) → HasBucket s.content w.dest.bucket → (t : Clean) → FitsDue clean_wants cleans.FitsDriving (driving w t) s
 clean_due w s there (clean.Walking found) r e repeated = subst (λ q. cleans.FitsClean (clean.Walking found) (answer s q)) (some_is e) (uploads_fit w s there (dest_prefix w) found)
-clean_due w s there (clean.Aborting u us) r e repeated = tt
 clean_due w s there (clean.Sweeping v) r e repeated = subst (λ q. cleans.FitsClean (clean.Sweeping v) (answer s q)) (some_is e) (sweep_fits w s there (magic_prefix w.dest.key w.job) v)
-clean_due w s there clean.Naming r e repeated = tt
-clean_due w s there (clean.Removing p ps) r e repeated = tt
-clean_due w s there (clean.CleanOver end) r e repeated = tt
+clean_due w s there _ r e repeated = tt
 
 -- ---- the job's commit
 
@@ -132,6 +127,4 @@ module _ (w : Script) (minimum : ℕ) (s : Seen) (m : Told) (j : IsLegal w) (few
 
   pub job_due : (c : Commit) → Commits w minimum s m c → SetStands w s c → (picked : List ℕ) (r : Request) → commit_wants (committing w picked c) ≡ Some r → (o : Outcome) → IsHonestOutcome o (answer s.scene r) → FitsCommit (committing w picked c) o
   job_due c v stands picked r e (Answered x) honest = subst (FitsReply (job_of w) c) (sym honest) (reply_fits c v stands picked r e)
-  job_due c v stands picked r e Slow honest = tt
-  job_due c v stands picked r e RequestLost honest = tt
-  job_due c v stands picked r e ReplyLost honest = tt
+  job_due c v stands picked r e _ honest = tt

@@ -1,7 +1,7 @@
 -- The sets of attempts of the job are sets of its tasks.
 use Rattle.std.proofs.Common.{◌≡◌, ℕ, zero, suc, inl, inr, Bool, List, [], ◌∷◌, map, slice_get, Some, is_some, refl, sym, ap, subst, ◌∙◌}
 use Rattle.s3_types.specs.declared.request.Committer.{Committer}
-use Rattle.s3_types.specs.declared.request.Committer.TheVariants.{Magic, Directory, Partitioned}
+use Rattle.s3_types.specs.declared.request.Committer.TheVariants.{Magic}
 use Rattle.path_keys.specs.Paths.{relative_in}
 use Rattle.path_keys.proofs.Beneath.{behind_some}
 use Rattle.pending_json.specs.Pending.{Pending}
@@ -70,5 +70,4 @@ module _ {w : Script} (j : IsLegal w) where
 -- the read of a set by the script that the sets tell
 pub same_read : (c : Committer) (w : Script) (sets : Sets) (t : ℕ) → set_request c (read_script (job_of w) sets) t ≡ set_request c w t
 same_read Magic w sets t = refl
-same_read Directory w sets t = refl
-same_read Partitioned w sets t = refl
+same_read _ w sets t = refl

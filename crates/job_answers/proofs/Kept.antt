@@ -1,7 +1,7 @@
 -- What is to be known of operations beside the facts is kept.
 use Rattle.std.proofs.Common.{◌≡◌, ℕ, Bool, false, List, [], ◌∷◌, map, length, Option, Some, None, inr}
 use Rattle.s3_types.specs.declared.request.Committer.{Committer}
-use Rattle.s3_types.specs.declared.request.Committer.TheVariants.{Magic, Directory, Partitioned}
+use Rattle.s3_types.specs.declared.request.Committer.TheVariants.{Magic}
 use Rattle.s3_types.specs.declared.reply.Reply.{Reply}
 use Rattle.s3_types.specs.declared.reply.Reply.TheVariants.{Page, Refused}
 use Rattle.s3_types.specs.declared.reply.Refusal.TheVariants.{NoSuchKey, NoSuchFile}
@@ -13,10 +13,10 @@ use Rattle.job_model.specs.Attempts.{Who}
 use Rattle.job_model.specs.JobScript.{Script}
 use Rattle.job_operations.specs.Outputs.{files}
 use Rattle.job_operations.specs.Records.{record_key}
-use Rattle.job_operations.specs.Uploading.{Uploaded, GoesOn, AllSent, IsGone, upload_hears}
+use Rattle.job_operations.specs.Uploading.{Uploaded, AllSent, upload_hears}
 use Rattle.list_walk.specs.Walks.{Walked, More, Whole, walked}
-use Rattle.job_operations.specs.TaskCommits.{TaskCommit, Looking, Reading, Publishing, Checking, Uploads, Storing, Renaming, TaskCommitOver, to_check, storing, checking, checked, reading, looked, looked_at, read_record, uploaded, renamed, least_missing, in_order, task_commit_start, task_commit_start_by, task_commit_hears, task_commit_after}
-use Rattle.job_operations.specs.JobCommits.{Commit, Fetching, Replacing, Completing, Marking, Reverting, CommitOver}
+use Rattle.job_operations.specs.TaskCommits.{TaskCommit, Looking, Reading, Checking, Uploads, Renaming, to_check, storing, checking, checked, reading, looked, looked_at, read_record, uploaded, renamed, least_missing, in_order, task_commit_start, task_commit_start_by, task_commit_hears, task_commit_after}
+use Rattle.job_operations.specs.JobCommits.{Commit, Fetching}
 use Rattle.job_promise.specs.Seen.{Seen}
 use Rattle.job_facts.specs.Told.{Told}
 use Rattle.job_facts.specs.Facts.{Hold}
@@ -58,9 +58,8 @@ module _ (w : Script) (a : Who) where
   own_checked d ds _ = tt
 
   own_uploaded : (f : File) (fs : List File) (u : Uploaded) → ReadsOwn w a (uploaded w f fs u)
-  own_uploaded f fs (GoesOn u) = tt
   own_uploaded f fs AllSent = own_storing fs
-  own_uploaded f fs IsGone = tt
+  own_uploaded f fs _ = tt
 
   own_renamed : (x : Reply) (repeated : Bool) → ReadsOwn w a (renamed w a x repeated)
   own_renamed (Refused NoSuchFile) repeated = tt
@@ -69,20 +68,17 @@ module _ (w : Script) (a : Who) where
   own_heard : (minimum : ℕ) (t : TaskCommit) (x : Reply) (repeated : Bool) → ReadsOwn w a t → ReadsOwn w a (task_commit_hears w minimum a t x repeated)
   own_heard minimum (Looking keys) x repeated own = own_looked (walked keys x)
   own_heard minimum (Reading cs f fs) x repeated own = own_read cs f fs x own
-  own_heard minimum (Publishing cs) x repeated own = tt
   own_heard minimum (Checking d ds) x repeated own = own_checked d ds x
   own_heard minimum (Uploads f fs u) x repeated own = own_uploaded f fs (upload_hears w minimum f u x)
-  own_heard minimum Storing x repeated own = tt
   own_heard minimum Renaming x repeated own = own_renamed x repeated
-  own_heard minimum (TaskCommitOver end) x repeated own = tt
+  own_heard minimum _ x repeated own = tt
 
 pub reads_begin : (w : Script) (a : Who) → ReadsOwn w a (task_commit_start w a)
 reads_begin w a = by w.committer
   where
     by : (c : Committer) → ReadsOwn w a (task_commit_start_by c w a)
     by Magic = tt
-    by Directory = own_checking w a (to_check w a)
-    by Partitioned = own_checking w a (to_check w a)
+    by _ = own_checking w a (to_check w a)
 
 pub reads_go : (w : Script) (minimum retries : ℕ) (a : Who) (t : Retried TaskCommit) (o : Outcome) → ReadsOwn w a t.operation → ReadsOwn w a (step retries (task_commit_after w minimum a) t o).operation
 reads_go w minimum retries a t o own = step_so retries (task_commit_after w minimum a) t o (ReadsOwn w a) (λ x e. own_heard w a minimum t.operation x t.repeated own) (λ none. own) (λ none. tt)
@@ -91,8 +87,4 @@ reads_go w minimum retries a t o own = step_so retries (task_commit_after w mini
 
 pub set_stands : (w : Script) (minimum : ℕ) (s : Seen) (m : Told) (c : Commit) → Hold w minimum s m → FitsJobCommit w minimum m.publish_sent m.drawn c → m.cleaned ≡ false → AllPublished w s → SetStands w s c
 set_stands w minimum s m (Fetching sets n) h fits cleaned all = let last = all (length sets) fits.0 in h.standing cleaned (length sets) last.0 fits.0 last.1
-set_stands w minimum s m (Replacing sets p ps v n) h fits cleaned all = tt
-set_stands w minimum s m (Completing sets x xs finished) h fits cleaned all = tt
-set_stands w minimum s m (Marking sets n) h fits cleaned all = tt
-set_stands w minimum s m (Reverting r rs n) h fits cleaned all = tt
-set_stands w minimum s m (CommitOver end) h fits cleaned all = tt
+set_stands w minimum s m _ h fits cleaned all = tt

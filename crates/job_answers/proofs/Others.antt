@@ -6,7 +6,7 @@ use Rattle.job_model.specs.Attempts.{Who}
 use Rattle.job_model.specs.JobScript.{Script}
 use Rattle.job_model.specs.Known.{Known}
 use Rattle.job_operations.specs.Knowledge.{learn}
-use Rattle.job_operations.specs.Operations.{Operation, TheSetup, TheWrite, TheTaskCommit, TheTaskAbort, TheCommit, TheClean}
+use Rattle.job_operations.specs.Operations.{Operation, TheWrite, TheTaskCommit, TheTaskAbort}
 use Rattle.job_facts.specs.Told.{Told, known, tell, entry}
 use Rattle.job_facts.specs.Fits.{Fits, FitsWrite, FitsCommit, FitsAbort}
 use Rattle.job_facts.proofs.Whose.{who_other}
@@ -22,12 +22,10 @@ attempt_leaves w m a b ne n r o =
     }
 
 fits_still : (w : Script) (minimum : ℕ) (m now : Told) (a : Who) → IsSameTold m now a → (op : Operation) → Fits w minimum a m op → Fits w minimum a now op
-fits_still w minimum m now a same (TheSetup t) h = h
 fits_still w minimum m now a same (TheWrite t) h = (same.undone ∙ h.0, subst (λ k. FitsWrite w minimum a k t.operation) (sym same.known) h.1)
 fits_still w minimum m now a same (TheTaskCommit t) h = (same.undone ∙ h.0, subst (λ k. FitsCommit w minimum a k t.operation) (sym same.known) h.1)
 fits_still w minimum m now a same (TheTaskAbort t) h = subst (λ k. FitsAbort w a k t.operation) (sym same.known) h
-fits_still w minimum m now a same (TheCommit c) h = h
-fits_still w minimum m now a same (TheClean t) h = h
+fits_still w minimum m now a same _ h = h
 
 pub others_leave : OthersLeave
 others_leave = record {

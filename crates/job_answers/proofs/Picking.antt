@@ -106,9 +106,7 @@ module _ (w : Script) (k : Option ℕ) (s : Seen) (n : ℕ) (picked : List ℕ) 
   -- a request that reads no set
   other_picked : (r : Request) → ((t : ℕ) → is_reading w t r ≡ false) → (o : Outcome) → ArePicked w (now r o) picked
   other_picked r not_one (Answered x) = λ t l. left (s.begun || is_begun k n) (is_reading w t r) (s.last t) (s.picks t) (not_one t) ∙ are t l
-  other_picked r not_one Slow = are
-  other_picked r not_one RequestLost = are
-  other_picked r not_one ReplyLost = are
+  other_picked r not_one _ = are
 
 module _ (g : Setting) (j : IsLegal g.script) (k : Option ℕ) (s : Seen) (m : Told) (n : ℕ) (few : s.scene.content.next ≤ 2 ^ 64) (begun : (s.begun || is_begun k n) ≡ true) (picked : List ℕ) (are : ArePicked g.script s picked) where
   abbrev w : Script
@@ -198,9 +196,7 @@ module _ (g : Setting) (j : IsLegal g.script) (k : Option ℕ) (s : Seen) (m : T
 
 attempt_picks : (w : Script) (k : Option ℕ) (s : Seen) (a : Who) (n : ℕ) (r : Request) (o : Outcome) → (see w k s (entry a n r o)).picks ≡ s.picks
 attempt_picks w k s a n r (Answered x) = refl
-attempt_picks w k s a n r Slow = refl
-attempt_picks w k s a n r RequestLost = refl
-attempt_picks w k s a n r ReplyLost = refl
+attempt_picks w k s a n r _ = refl
 
 pub picks_tell : PicksTell
 picks_tell = record {

@@ -3,7 +3,7 @@ use Rattle.std.proofs.Common.{◌≡◌, ℕ, zero, suc, ◌+◌, Bool, true, []
 use Rattle.s3_types.specs.declared.request.Request.{Request}
 use Rattle.s3_types.specs.declared.request.Request.TheVariants.{PutObject, CreateUpload, UploadPart, ClusterPut, ClusterRename}
 use Rattle.s3_types.specs.declared.journal.Outcome.{Outcome}
-use Rattle.s3_types.specs.declared.journal.Outcome.TheVariants.{Answered, Slow, RequestLost, ReplyLost}
+use Rattle.s3_types.specs.declared.journal.Outcome.TheVariants.{Answered, Slow, RequestLost}
 use Rattle.sendings.specs.Retries.{Item, Got, WornOut, OutOfMemory, Retried, fresh, step, unanswered_by, is_zero}
 use Rattle.magic_paths.specs.Layout as layout
 use Rattle.job_model.specs.Files.{File}
@@ -16,8 +16,8 @@ use Rattle.job_operations.specs.Records.{file_key, record_key, record_text, set_
 use Rattle.job_operations.specs.Uploading.{Uploading, Creating, Sending, upload_asks}
 use Rattle.job_operations.specs.Setup.{setup_after}
 use Rattle.job_operations.specs.Writes as writes
-use Rattle.job_operations.specs.Writes.{Write, write_start, write_asks, write_after}
-use Rattle.job_operations.specs.TaskCommits.{TaskCommit, Looking, Reading, Publishing, Checking, Uploads, Storing, Renaming, TaskCommitOver, task_commit_asks, task_commit_after, temporary_path}
+use Rattle.job_operations.specs.Writes.{Write, write_asks, write_after}
+use Rattle.job_operations.specs.TaskCommits.{TaskCommit, Publishing, Uploads, Storing, task_commit_asks, task_commit_after, temporary_path}
 use Rattle.job_operations.specs.TaskAborts.{TaskAbort, task_abort_asks, task_abort_after}
 use Rattle.job_operations.specs.Cleanups.{clean_after}
 use Rattle.job_operations.specs.AtWork.{Attempting, Driving, task_of, task_script, learned, write_wants, write_told, task_commit_wants, task_commit_told, task_abort_wants, task_abort_told, setup_told, clean_told, picked_after}
@@ -57,8 +57,7 @@ module _ (w : Script) (n : ℕ) (a : Who) (k : Known) where
     pub step_same : (t : Retried O) (o : Outcome) → step retries told (planned w n a k t) o ≡ planned w n a (known_then w a k (wants t.operation) (heard t o)) (step retries after t o)
     step_same t (Answered x) = ap (fresh retries) (same t.operation (Got x t.repeated))
     step_same t Slow = missed t.operation t.repeated t.spare
-    step_same t RequestLost = missed t.operation true t.spare
-    step_same t ReplyLost = missed t.operation true t.spare
+    step_same t _ = missed t.operation true t.spare
 
   -- ---- the operations
 
@@ -87,19 +86,14 @@ module _ (w : Script) (a : Who) (k l : Known) (e : k.drawn ≡ l.drawn) where
 
   pub same_write : (op : Write) → write_asks w a k op ≡ write_asks w a l op
   same_write (writes.Uploads f fs u) = ap (λ r. Some r) (same_upload f u)
-  same_write (writes.Marking f fs) = refl
   same_write (writes.Recording f fs) = ap (λ ds. Some (PutObject w.dest.bucket (record_key w a f) (record_text w a f (first_drawn ds)) None)) e
-  same_write (writes.WriteOver end) = refl
+  same_write _ = refl
 
   pub same_commit : (op : TaskCommit) → task_commit_asks w a k op ≡ task_commit_asks w a l op
-  same_commit (Looking keys) = refl
-  same_commit (Reading cs f fs) = refl
   same_commit (Publishing cs) = ap (λ ds. Some (PutObject w.dest.bucket (layout.set_key w.dest.key w.job a.task) (set_text w a cs (knowing ds)) None)) e
-  same_commit (Checking d ds) = refl
   same_commit (Uploads f fs u) = ap (λ r. Some r) (same_upload f u)
   same_commit Storing = ap (λ ds. Some (ClusterPut (temporary_path w a) (set_text w a (files w a) (knowing ds)))) e
-  same_commit Renaming = refl
-  same_commit (TaskCommitOver end) = refl
+  same_commit _ = refl
 
 -- ---- the driver's
 
@@ -111,8 +105,7 @@ module _ {O : Type 0} (w : Script) (retries : ℕ) (told : Driving O → Item �
   step_driven : (t : Retried O) (o : Outcome) → step retries told (driven w t) o ≡ driven w (step retries after t o)
   step_driven t (Answered x) = ap (fresh retries) (same t.operation (Got x t.repeated))
   step_driven t Slow = missed_driven t.operation t.repeated t.spare
-  step_driven t RequestLost = missed_driven t.operation true t.spare
-  step_driven t ReplyLost = missed_driven t.operation true t.spare
+  step_driven t _ = missed_driven t.operation true t.spare
 
 pub machines_tell : MachinesTell
 machines_tell = record {

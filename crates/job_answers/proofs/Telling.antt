@@ -33,7 +33,7 @@ use Rattle.job_operations.specs.Outputs.{Picks, files, files_picked, wanted_belo
 use Rattle.job_operations.specs.Conflicts.{partitions}
 use Rattle.job_operations.specs.TaskCommits.{partition_prefix}
 use Rattle.job_operations.specs.Records.{file_key, mark_text, files_set}
-use Rattle.list_walk.specs.Walks.{Sweep, Listing, Deleting, sweep_hears}
+use Rattle.list_walk.specs.Walks.{Sweep, Listing, sweep_hears}
 use Rattle.job_operations.specs.JobCommits.{Sets, picks_of, set_request, set_read, Commit, Fetching, Replacing, Completing, Marking, Reverting, CommitOver, commit_asks, commit_tells, commit_start, is_no_magic, replaced, replacing, decided, fetching, fetched, swept}
 use Rattle.job_operations.specs.AtWork.{job_of, read_script, sets_in, with_set, sets_after}
 use Rattle.commit_parts.specs.Relatives.{relative_of}
@@ -193,11 +193,8 @@ begins_same w j None = fetching_same j 0 (λ a. false) (λ a. []) [] (no_sets w 
 pub asks_same : (w : Script) (minimum : ℕ) (m : Told) → IsLegal w → (c : Commit) → FitsJobCommit w minimum m.publish_sent m.drawn c → commit_asks (read_script (job_of w) (sets_in c)) c ≡ commit_asks w c
 asks_same w minimum m j (Fetching sets n) fits = ap (λ r. Some r) (same_read w.committer w sets (length sets))
 asks_same w minimum m j (Replacing sets p ps (Listing keys) n) fits = refl
-asks_same w minimum m j (Replacing sets p ps (Deleting k ks) n) fits = refl
-asks_same w minimum m j (Completing sets x xs finished) fits = refl
 asks_same w minimum m j (Marking sets n) fits = ap (λ text. Some (PutObject w.dest.bucket (layout.success_key w.dest.key) text None)) (mark_same j minimum m.publish_sent m.drawn sets fits)
-asks_same w minimum m j (Reverting r rs n) fits = refl
-asks_same w minimum m j (CommitOver end) fits = refl
+asks_same w minimum m j _ fits = refl
 
 swept_same : (w : Script) (known sets : Sets) (p : List ℕ) (ps : List (List ℕ)) (o : Option Sweep) → swept (read_script (job_of w) known) sets p ps o ≡ swept w sets p ps o
 swept_same w known sets p ps (Some v) = refl
@@ -247,10 +244,7 @@ module _ (w : Script) (minimum : ℕ) (s : Scene) (last : ℕ → Option ℕ) (m
   heard_same : (c : Commit) → FitsJobCommit w minimum m.publish_sent m.drawn c → (r : Request) → commit_asks w c ≡ Some r → (x : Reply) → x ≡ answer s r → commit_tells (read_script (job_of w) (sets_after c (Answered x))) c (Answered x) ≡ commit_tells w c (Answered x)
   heard_same (Fetching sets n) fits r e x honest = read_same sets fits.0 fits.1 x (honest ∙ ap (answer s) (sym (some_is e)))
   heard_same (Replacing sets p ps v n) fits r e x honest = swept_same w sets sets p ps (sweep_hears (is_no_magic w) v x)
-  heard_same (Completing sets y ys finished) fits r e x honest = refl
-  heard_same (Marking sets n) fits r e x honest = refl
-  heard_same (Reverting q qs n) fits r e x honest = refl
-  heard_same (CommitOver end) fits r e x honest = refl
+  heard_same _ fits r e x honest = refl
 
   pub tells_same : (c : Commit) → FitsJobCommit w minimum m.publish_sent m.drawn c → (r : Request) → commit_asks w c ≡ Some r → (o : Outcome) → IsHonestOutcome o (answer s r) → commit_tells (read_script (job_of w) (sets_after c o)) c o ≡ commit_tells w c o
   tells_same c fits r e (Answered x) honest = heard_same c fits r e x honest

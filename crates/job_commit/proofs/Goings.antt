@@ -94,12 +94,10 @@ deletion_missed sets m sweep (p ∷ ps) some = refl
 
 -- the count of the step is the operation's
 pub missed_same : (j : Job) (sets : Sets) (places : List Place) (step : Step) → StepHolds j sets places step → missed_in step ≡ missed_of (operation_of sets step)
-missed_same j sets places (steps.Fetching m) s = refl
 missed_same j sets places (steps.Replacing d m) s = deletion_missed sets m d.sweep d.prefixes (s.deletes d m refl).some
 missed_same j sets places (steps.Completing l) s = first_missed_of sets l.turns l.finished
-missed_same j sets places (steps.Marking m) s = refl
 missed_same j sets places (steps.Reverting u m) s = undo_missed sets u m (s.some u m refl)
-missed_same j sets places (steps.Over end) s = refl
+missed_same j sets places _ s = refl
 
 reverting_more : (j : Job) (sets : Sets) (u : List Undo) (m : ℕ) (lost : Bool) → (u ≡ [] → ⊥) → missed_of (reverting_from m (map (undo_request (all_commits sets)) u)) < j.retries → reverting_from (m + 1) (map (undo_request (all_commits sets)) u) ≡ missed_at j (reverting_from m (map (undo_request (all_commits sets)) u)) lost
 reverting_more j sets [] m lost some h = absurd (some refl)
@@ -134,12 +132,10 @@ counted_holds j sets places (steps.Reverting u m) absent s = holds_reverting j s
 counted_holds j sets places (steps.Over end) absent s = holds_over j sets places end
 
 pub counted_asks : (j : Job) (sets : Sets) (places : List Place) (step : Step) → ((l : LaneTable) → step ≡ steps.Completing l → ⊥) → StepHolds j sets places step → asks j (operation_of sets step) ≡ asks j (operation_of sets (counted step))
-counted_asks j sets places (steps.Fetching m) absent s = refl
 counted_asks j sets places (steps.Replacing d m) absent s = replacing_asks j sets m (m + 1) d.sweep d.prefixes (s.deletes d m refl).some
 counted_asks j sets places (steps.Completing l) absent s = absurd (absent l refl)
-counted_asks j sets places (steps.Marking m) absent s = refl
 counted_asks j sets places (steps.Reverting u m) absent s = reverting_asks j sets u m (m + 1) (s.some u m refl)
-counted_asks j sets places (steps.Over end) absent s = refl
+counted_asks j sets places _ absent s = refl
 
 -- the count fits
 pub count_fits : (j : Job) (sets : Sets) (places : List Place) (old step : Step) (n : ℕ) → step ≡ old → StepHolds j sets places old → missed_of (operation_of sets old) < j.retries → n ≡ j.retries → n ≤ 9 → missed_in step + 1 < 2 ^ 32

@@ -27,12 +27,10 @@ of_deletion sets m sweep [] = refl
 of_deletion sets m sweep (p ∷ ps) = refl
 
 of_step : (sets : Sets) (step : Step) → lost_in step ≡ lost_of (operation_of sets step)
-of_step sets (steps.Fetching m) = refl
 of_step sets (steps.Replacing d m) = of_deletion sets m d.sweep d.prefixes
 of_step sets (steps.Completing l) = of_lanes sets l.turns l.finished
-of_step sets (steps.Marking m) = refl
 of_step sets (steps.Reverting u m) = of_undo m (map (undo_request (all_commits sets)) u)
-of_step sets (steps.Over end) = refl
+of_step sets _ = refl
 
 pub lost_seen : (j : Job) (sets : Sets) (picks : List Pick) (step : Step) (old : Committing) → record { plan = j; picked = attempts_of picks; operation = operation_of sets step } ≡ old → lost_in step ≡ lost_of old.operation
 lost_seen j sets picks step old e = of_step sets step ∙ ap (λ (m : Committing). lost_of m.operation) e

@@ -212,8 +212,7 @@ fetching_yes j sets h = let P : Bool → Type 0 = λ v. Fetching sets 0 ≡ cond
 -- the read of a set is the same by each script of the job
 read_same : (c : Committer) (j : Job) (sets : Sets) (n : ℕ) → set_request c (job_script j) n ≡ set_request c (read_script j sets) n
 read_same Magic j sets n = refl
-read_same Directory j sets n = refl
-read_same Partitioned j sets n = refl
+read_same _ j sets n = refl
 
 -- a set is read
 pub fetching_is : (j : Job) (sets : Sets) (places : List Place) (count t : ℕ) (r : Request) (next : Next) → AreRead j sets → count ≡ length sets → t ≡ j.tasks → count < t → r ≡ set_request j.committer (job_script j) count → next ≡ record { step = steps.Fetching 0; asked = Some r }

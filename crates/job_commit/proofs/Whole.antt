@@ -37,12 +37,10 @@ end_in (steps.Over end) = Some end
 end_in _ = None
 
 pub end_is : (j : Job) (sets : Sets) (places : List Place) (step : Step) → StepHolds j sets places step → end_in step ≡ commit_over (operation_of sets step)
-end_is j sets places (steps.Fetching m) s = refl
 end_is j sets places (steps.Replacing d m) s = sym (deletion_goes_on sets m d.sweep d.prefixes)
 end_is j sets places (steps.Completing l) s = sym (lanes_go_on sets l.turns l.finished)
-end_is j sets places (steps.Marking m) s = refl
 end_is j sets places (steps.Reverting u m) s = sym (undo_goes_on sets u m (s.some u m refl))
-end_is j sets places (steps.Over end) s = refl
+end_is j sets places _ s = refl
 
 abbrev pub seen : Job → List Pick → Commit → Committing
 seen j picks c = record { plan = j; picked = attempts_of picks; operation = c }

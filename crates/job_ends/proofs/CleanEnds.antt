@@ -7,7 +7,7 @@ use Rattle.s3_types.specs.Answer.{answer, answer_at, apply}
 use Rattle.s3_types.specs.Moment.{after_all, AreHonest}
 use Rattle.s3_types.specs.declared.request.Actor.{Actor}
 use Rattle.s3_types.specs.declared.request.Committer.{Committer}
-use Rattle.s3_types.specs.declared.request.Committer.TheVariants.{Magic, Directory, Partitioned}
+use Rattle.s3_types.specs.declared.request.Committer.TheVariants.{Magic}
 use Rattle.s3_types.specs.declared.request.Request.{Request}
 use Rattle.s3_types.specs.declared.request.UploadRef.{UploadRef}
 use Rattle.s3_types.specs.declared.reply.Reply.{Reply}
@@ -52,17 +52,12 @@ abbrev Ends : CleanEnd → Type 0
 Ends e = (e ≡ cleans.StoreFault) ⊎ (e ≡ cleans.Done)
 
 abbrev Over : Clean → Type 0
-Over (Walking found) = Unit {0}
-Over (Aborting u us) = Unit {0}
-Over (Sweeping s) = Unit {0}
-Over Naming = Unit {0}
-Over (Removing p ps) = Unit {0}
 Over (CleanOver end) = Ends end
+Over _ = Unit {0}
 
 aborted_so : (c : Committer) → Over (aborted c)
 aborted_so Magic = tt
-aborted_so Directory = tt
-aborted_so Partitioned = tt
+aborted_so _ = tt
 
 aborting_so : (c : Committer) (us : List UploadRef) → Over (aborting c us)
 aborting_so c [] = aborted_so c
@@ -105,15 +100,11 @@ over_so (CleanOver end) h e is = subst Ends (same is) h
     same : {d e : CleanEnd} → Some (ends.Clean d) ≡ Some (ends.Clean e) → d ≡ e
     same e = cc
 over_so (Walking found) h e is = absurd (none_some refl is)
-over_so (Aborting u us) h e is = absurd (none_some refl is)
-over_so (Sweeping s) h e is = absurd (none_some refl is)
-over_so Naming h e is = absurd (none_some refl is)
-over_so (Removing p ps) h e is = absurd (none_some refl is)
+over_so _ h e is = absurd (none_some refl is)
 
 fault_is : (e : CleanEnd) → is_fault (Some (ends.Clean e)) ≡ true → e ≡ cleans.StoreFault
 fault_is cleans.StoreFault h = refl
-fault_is cleans.Done h = absurd (false_true refl h)
-fault_is cleans.NoMemory h = absurd (false_true refl h)
+fault_is _ h = absurd (false_true refl h)
 
 module _ (g : Setting) (a : Actor) (k : Known) (es : List Entry) (f : Follows (wants g a) (advance g a) (cleaning g k) es) where
   abbrev w : Script
@@ -154,13 +145,12 @@ module _ (g : Setting) (a : Actor) (k : Known) (es : List Entry) (f : Follows (w
 
     -- it hides nothing
     shows : (s : Scene) (t : Clean) → Clears w s t → (r : Request) → clean_asks w t ≡ Some r → Same (view w.dest (apply s r).content) (view w.dest s.content)
-    shows s (Walking found) h r e = hidden_shows j s r ReplyLost h.0 (subst (HidesAll w) (some_is e) (λ b q i. absurd i))
-    shows s (Aborting u us) h r e = hidden_shows j s r ReplyLost h.0 (subst (HidesAll w) (some_is e) (λ b q i. absurd i))
     shows s (Sweeping (Listing keys)) h r e = hidden_shows j s r ReplyLost h.2 (subst (HidesAll w) (some_is e) (λ b q i. absurd i))
     shows s (Sweeping (Deleting q qs)) h r e = hidden_shows j s r ReplyLost h.2 (subst (HidesAll w) (some_is e) (λ b x i. h.3 x (taken_in 1000 (q ∷ qs) x i)))
     shows s Naming h r e = subst (λ v. Same (view w.dest (apply s v).content) (view w.dest s.content)) (some_is e) (λ p. refl)
     shows s (Removing p ps) h r e = subst (λ v. Same (view w.dest (apply s v).content) (view w.dest s.content)) (some_is e) (λ q. refl)
     shows s (CleanOver end) h r e = absurd (none_some refl e)
+    shows s _ h r e = hidden_shows j s r ReplyLost h.0 (subst (HidesAll w) (some_is e) (λ b q i. absurd i))
 
     refused : (s : Scene) (found : List UploadRef) → fin.get s.content.buckets w.dest.bucket ≡ None → answer s (uploads_after w.dest.bucket (dest_prefix w) found) ≡ Refused NoSuchBucket
     refused s found e = ap (λ o. answer_at o s.content.next s.content.minimum (uploads_after w.dest.bucket (dest_prefix w) found)) e

@@ -243,11 +243,7 @@ module _ (g : Setting) (j : IsLegal g.script) (k : Option ℕ) (opening : Conten
         by (commits.Missing t) is d b = undecided p (not_picked p w.tasks t (task t (sym is)) (unread t (task t (sym is)) (none_low d.1)))
         by (commits.SamePath q t u) is d b = ap (λ c. is_picked w p && not c) (clashes q t u d) ∙ and_none (is_picked w p)
         by (commits.StoreFault stages.Read) is d b = let low : length h.sets < w.tasks = d.1 in undecided p (not_picked p w.tasks (length h.sets) low (unread (length h.sets) low (omega arith)))
-        by (commits.StoreFault stages.Delete) is d b = absurd (false_true refl b)
-        by (commits.StoreFault stages.Complete) is d b = absurd (false_true refl b)
-        by (commits.StoreFault stages.Success) is d b = absurd (false_true refl b)
-        by commits.Committed is d b = absurd (false_true refl b)
-        by commits.NoMemory is d b = absurd (false_true refl b)
+        by _ is d b = absurd (false_true refl b)
 
   module _ (es : List Entry) (x : Stand) (run : Runs g k opening es x) (more : List Entry) (none : NoneRead w more) where
     -- at each moment behind it the picks are those of its end

@@ -8,7 +8,7 @@ use Rattle.s3_types.specs.Moment.{IsHonestOutcome}
 use Rattle.s3_types.specs.declared.request.Actor.TheVariants.{Driver}
 use Rattle.s3_types.specs.declared.request.Request.{Request}
 use Rattle.s3_types.specs.declared.journal.Outcome.{Outcome}
-use Rattle.s3_types.specs.declared.journal.Outcome.TheVariants.{Answered, Slow, RequestLost, ReplyLost}
+use Rattle.s3_types.specs.declared.journal.Outcome.TheVariants.{Answered}
 use Rattle.s3_types.specs.declared.journal.Entry.{Entry}
 use Rattle.magic_paths.specs.Layout.{magic_prefix, success_key}
 use Rattle.magic_paths.specs.Places.{SuccessPlace}
@@ -24,9 +24,9 @@ use Rattle.job_model.specs.JobScript.{Script}
 use Rattle.job_model.specs.declared.ends.CommitEnd.{CommitEnd}
 use Rattle.job_model.specs.declared.ends.CommitEnd.TheVariants as commits
 use Rattle.job_operations.specs.Outputs.{Picks, same_path}
-use Rattle.job_operations.specs.Setup.{Setup, Heading, Checking, Clearing, Sweeping, SetupOver, setup_asks}
-use Rattle.list_walk.specs.Walks.{Listing, Deleting}
-use Rattle.job_operations.specs.Cleanups.{Clean, Walking, Aborting, Naming, Removing, CleanOver, clean_asks}
+use Rattle.job_operations.specs.Setup.{Setup, Sweeping, SetupOver, setup_asks}
+use Rattle.list_walk.specs.Walks.{Listing}
+use Rattle.job_operations.specs.Cleanups.{Clean, CleanOver, clean_asks}
 use Rattle.job_operations.specs.Cleanups as cleanups
 use Rattle.job_operations.specs.JobCommits.{picks_of, Commit, CommitOver, commit_start, commit_asks, commit_tells, commit_over}
 use Rattle.job_operations.specs.LaneTable.{Sound, AllSound}
@@ -63,9 +63,7 @@ no_setup e = cc
 
 pub attempts_leave : (w : Script) (k : Option ℕ) (s : Seen) (a : Who) (n : ℕ) (r : Request) (o : Outcome) → (see w k s (entry a n r o)).picks ≡ s.picks
 attempts_leave w k s a n r (Answered y) = refl
-attempts_leave w k s a n r Slow = refl
-attempts_leave w k s a n r RequestLost = refl
-attempts_leave w k s a n r ReplyLost = refl
+attempts_leave w k s a n r _ = refl
 
 module _ (g : Setting) (j : IsLegal g.script) (k : Option ℕ) (opening : Content) (is_opening : IsOpening g opening) where
   abbrev w : Script
@@ -217,10 +215,8 @@ module _ (g : Setting) (j : IsLegal g.script) (x : Stand) (end : CommitEnd) (h :
     where
       by : (v : CommitEnd) → EndIs None v → IsDue u h.missing h.sets v → v ≡ commit_due u (picks_of h.sets) h.missing None
       by (commits.StoreFault t) is d = absurd is
-      by commits.Committed is d = d
       by (commits.Missing t) is d = ap (λ v. commit_due u (picks_of h.sets) v None) (sym d.0)
-      by (commits.SamePath p t v) is d = d
-      by commits.NoMemory is d = d
+      by _ is d = d
 
   none_missing : h.missing ≡ None → EndsDue u x.seen.picks h.missing x.commit end
   none_missing e =
@@ -254,26 +250,17 @@ and_none false = refl
 
 pub driver_leaves : (w : Script) (k : Option ℕ) (s : Seen) (n : ℕ) (r : Request) (o : Outcome) → ((t : ℕ) → is_reading w t r ≡ false) → (t : ℕ) → (see w k s (driver_entry n r o)).picks t ≡ s.picks t
 driver_leaves w k s n r (Answered y) e t = ap (λ b. cond ((s.begun || is_begun k n) && b) (s.last t) (s.picks t)) (e t) ∙ ap (λ b. cond b (s.last t) (s.picks t)) (and_none (s.begun || is_begun k n))
-driver_leaves w k s n r Slow e t = refl
-driver_leaves w k s n r RequestLost e t = refl
-driver_leaves w k s n r ReplyLost e t = refl
+driver_leaves w k s n r _ e t = refl
 
 pub setup_reads : (w : Script) (c : Setup) (r : Request) → setup_asks w c ≡ Some r → (t : ℕ) → is_reading w t r ≡ false
-setup_reads w Heading r e t = ap (is_reading w t) (sym (some_is e))
-setup_reads w (Checking keys) r e t = ap (is_reading w t) (sym (some_is e))
-setup_reads w Clearing r e t = ap (is_reading w t) (sym (some_is e))
 setup_reads w (Sweeping (Listing keys)) r e t = ap (is_reading w t) (sym (some_is e))
-setup_reads w (Sweeping (Deleting q qs)) r e t = ap (is_reading w t) (sym (some_is e))
 setup_reads w (SetupOver end) r e t = absurd (none_some refl e)
+setup_reads w _ r e t = ap (is_reading w t) (sym (some_is e))
 
 pub clean_reads : (w : Script) (c : Clean) (r : Request) → clean_asks w c ≡ Some r → (t : ℕ) → is_reading w t r ≡ false
-clean_reads w (Walking found) r e t = ap (is_reading w t) (sym (some_is e))
-clean_reads w (Aborting u us) r e t = ap (is_reading w t) (sym (some_is e))
 clean_reads w (cleanups.Sweeping (Listing keys)) r e t = ap (is_reading w t) (sym (some_is e))
-clean_reads w (cleanups.Sweeping (Deleting q qs)) r e t = ap (is_reading w t) (sym (some_is e))
-clean_reads w Naming r e t = ap (is_reading w t) (sym (some_is e))
-clean_reads w (Removing p ps) r e t = ap (is_reading w t) (sym (some_is e))
 clean_reads w (CleanOver end) r e t = absurd (none_some refl e)
+clean_reads w _ r e t = ap (is_reading w t) (sym (some_is e))
 
 -- ---- the list of picks
 

@@ -8,7 +8,7 @@ use Rattle.s3_types.specs.declared.request.Request.{Request}
 use Rattle.s3_types.specs.declared.request.Request.TheVariants.{CompleteUpload}
 use Rattle.s3_types.specs.declared.reply.Reply.{Reply}
 use Rattle.s3_types.specs.declared.journal.Outcome.{Outcome}
-use Rattle.s3_types.specs.declared.journal.Outcome.TheVariants.{Answered, Slow, RequestLost, ReplyLost}
+use Rattle.s3_types.specs.declared.journal.Outcome.TheVariants.{Answered, Slow}
 use Rattle.s3_types.specs.declared.journal.Entry.{Entry}
 use Rattle.magic_paths.specs.Layout as layout
 use Rattle.pending_json.specs.declared.records.PendingSet.{PendingSet}
@@ -110,8 +110,7 @@ module _ (w : Script) where
     pub at_tells : (missing : Option ℕ) (sets : Sets) (c : Commit) (o : Outcome) → (IsRead c o → ⊥) → D c → IsAt w missing sets c → IsAt w missing sets (commit_tells w c o)
     at_tells missing sets c (Answered x) unread d h = at_heard missing sets c x unread d h
     at_tells missing sets c Slow unread d h = at_missed missing sets c false d h
-    at_tells missing sets c RequestLost unread d h = at_missed missing sets c true d h
-    at_tells missing sets c ReplyLost unread d h = at_missed missing sets c true d h
+    at_tells missing sets c _ unread d h = at_missed missing sets c true d h
 
 -- ---- how it may end
 
@@ -181,8 +180,7 @@ module _ (w : Script) (P : CommitEnd → Type 0) (fault : (t : Stage) → P (com
   pub by_tells : (c : Commit) (o : Outcome) → (IsMarkAnswer c o → P commits.Committed) → EndsBy P c → EndsBy P (commit_tells w c o)
   by_tells c (Answered x) mark h = by_heard c x mark h
   by_tells c Slow mark h = by_missed c false h
-  by_tells c RequestLost mark h = by_missed c true h
-  by_tells c ReplyLost mark h = by_missed c true h
+  by_tells c _ mark h = by_missed c true h
 
 -- ---- which task it missed
 
@@ -200,9 +198,7 @@ module _ (w : Script) where
 
   over_tells : (end : CommitEnd) (o : Outcome) → commit_tells w (CommitOver end) o ≡ CommitOver end
   over_tells end (Answered x) = refl
-  over_tells end Slow = refl
-  over_tells end RequestLost = refl
-  over_tells end ReplyLost = refl
+  over_tells end _ = refl
 
   over_run : (end : CommitEnd) (es : List Entry) → run (commit_tells w) (CommitOver end) es ≡ CommitOver end
   over_run end [] = refl
@@ -285,11 +281,7 @@ module _ (w : Script) (minimum : ℕ) (s : Seen) (m : Told) (j : IsLegal w) (f :
 
   pub sound_now : (c : Commit) → FitsJobCommit w minimum m.publish_sent m.drawn c → Sound c
   sound_now (Completing sets x xs finished) fits = apart_of sets fits
-  sound_now (Fetching sets n) fits = tt
-  sound_now (Replacing sets p ps x n) fits = tt
-  sound_now (Marking sets n) fits = tt
-  sound_now (Reverting q qs n) fits = tt
-  sound_now (CommitOver end) fits = tt
+  sound_now _ fits = tt
 
 -- one more entry, where all before it were sound
 pub sound_more : (w : Script) (c : Commit) (es : List Entry) (e : Entry) → AllSound w c es → Sound (run (commit_tells w) c es) → AllSound w c (es ++ e ∷ [])

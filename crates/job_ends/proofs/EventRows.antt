@@ -5,7 +5,7 @@ use Rattle.proof_base.proofs.Numbers.{below_is, below_so, below_not, at_most_is,
 use Rattle.s3_types.specs.Store.{Content, Scene, opening as opening_scene}
 use Rattle.s3_types.specs.Moment.{effect, after_all, moment, AreHonest, IsHonest}
 use Rattle.s3_types.specs.declared.request.Actor.{Actor}
-use Rattle.s3_types.specs.declared.request.Actor.TheVariants.{Driver, Attempt, Shell}
+use Rattle.s3_types.specs.declared.request.Actor.TheVariants.{Attempt}
 use Rattle.s3_types.specs.declared.journal.Entry.{Entry}
 use Rattle.job_promise.specs.States.{same_actor}
 use Rattle.job_promise.specs.Turns.{until, before, since, by_actor, AllBy, AllFrom, IsRising}
@@ -142,9 +142,8 @@ swapped p q (e ∷ es) = by (p e) (q e) refl refl (swapped p q es)
     by false false f g old = rw (f, g) old
 
 same_self : (a : Actor) → same_actor a a ≡ true
-same_self Driver = refl
 same_self (Attempt t u) = ap (λ b. b && nat_eq u u) (nat_true t t refl) ∙ nat_true u u refl
-same_self Shell = refl
+same_self _ = refl
 
 alone : (a : Actor) (es : List Entry) → AllBy a es → by_actor a es ≡ es
 alone a [] h = refl

@@ -42,10 +42,8 @@ module _ (g : Setting) (k : Option ℕ) (opening : Content) (j : IsLegal g.scrip
   gone_is e = cc
 
   never_write : (s : Seen) (a : Who) (t : writes.Write) (name : List ℕ) → WriteStands g.script s a t → option_map ends.Task (writes.write_over t) ≡ Some (ends.Task (tasks.Gone name)) → ⊥
-  never_write s a (writes.Uploads f fs u) name h e = none_some refl e
-  never_write s a (writes.Marking f fs) name h e = none_some refl e
-  never_write s a (writes.Recording f fs) name h e = none_some refl e
   never_write s a (writes.WriteOver end) name h e = subst NotGone (gone_is e) h.0
+  never_write s a _ name h e = none_some refl e
 
   never_commit : (P : Type 0) (s : Seen) (a : Who) (repeated : Bool) (t : commits.TaskCommit) (name : List ℕ) → CommitStandsBy P g.script s a repeated t → option_map ends.Task (commits.task_commit_over t) ≡ Some (ends.Task (tasks.Gone name)) → ⊥
   never_commit P s a repeated (commits.Looking keys) name h e = none_some refl e
@@ -96,8 +94,7 @@ module _ (g : Setting) (k : Option ℕ) (opening : Content) (j : IsLegal g.scrip
 
   commit_begun : (c : Committer) (a : Who) → commits.task_commit_over (commits.task_commit_start_by c g.script a) ≡ None
   commit_begun Magic a = refl
-  commit_begun Directory a = checking_begun a (commits.to_check g.script a)
-  commit_begun Partitioned a = checking_begun a (commits.to_check g.script a)
+  commit_begun _ a = checking_begun a (commits.to_check g.script a)
 
   commit_goes : (a : Who) (op : Operation) (e : OpEnd) → TheTaskCommit (fresh g.script.retries (commits.task_commit_start g.script a)) ≡ op → over op ≡ Some e → ⊥
   commit_goes a op e is o = none_some (ap (option_map ends.Task) (commit_begun g.script.committer a)) (ap over is ∙ o)
@@ -106,18 +103,16 @@ module _ (g : Setting) (k : Option ℕ) (opening : Content) (j : IsLegal g.scrip
   gone_late op name not_abort e b ops.Write m s = write_begun g.script.committer (files g.script b) name (ap over (some_is s) ∙ e)
   gone_late op name not_abort e b ops.Commit m s = commit_goes b op _ (some_is s) e
   gone_late op name not_abort e b ops.Abort m s = false_true not_abort (sym (ap is_abort (some_is s)))
-  gone_late op name not_abort e b ops.Setup m s = none_some refl s
-  gone_late op name not_abort e b ops.Clean m s = none_some refl s
+  gone_late op name not_abort e b _ m s = none_some refl s
 
   abbrev done : ℕ → Bool → Operation
   done spare repeated = TheTaskCommit (record { operation = commits.TaskCommitOver tasks.Done; spare = spare; repeated = repeated })
 
   done_late : (spare : ℕ) (repeated : Bool) (b : Who) (o : Op) (m : Known) → start_of g (actor_of b) o None m ≡ Some (done spare repeated) → ⊥
-  done_late spare repeated b ops.Write m s = absurd cc
   done_late spare repeated b ops.Commit m s = commit_goes b (done spare repeated) _ (some_is s) refl
-  done_late spare repeated b ops.Abort m s = absurd cc
   done_late spare repeated b ops.Setup m s = none_some refl s
   done_late spare repeated b ops.Clean m s = none_some refl s
+  done_late spare repeated b _ m s = absurd cc
 
   -- ---- so is it at the attempt's last entry
 

@@ -1,7 +1,7 @@
 -- The first file that is shown among the keys below a destination, as they are listed page by page.
 use Rattle.std.proofs.Common.{◌≡◌, ℕ, ◌≤◌, ◌<◌, ◌⊎◌, inl, inr, Bool, true, false, cond, List, [], ◌∷◌, ◌++◌, Option, Some, None, refl, sym, ap, ◌∙◌, arith, codes, append_assoc}
 use Rattle.std.specs.declared.cmp.Ordering.{Ordering}
-use Rattle.std.specs.declared.cmp.Ordering.TheVariants.{Less, Equal, Greater}
+use Rattle.std.specs.declared.cmp.Ordering.TheVariants.{Equal}
 use Rattle.std.specs.Ordering.{is_lt, nat_cmp, ordering_reverse, ordering_then}
 use Rattle.std.proofs.lemmas.Cmp.{nat_cmp_total}
 use Rattle.proof_base.specs.Order.{text_cmp, text_total}
@@ -20,9 +20,8 @@ use Rattle.request_frame.proofs.Flat.{behind}
 use Rattle.job_facts.proofs.Legal.{some_dest}
 
 equal_self : (o : Ordering) → o ≡ ordering_reverse o → o ≡ Equal
-equal_self Less e = absurd (cc)
 equal_self Equal e = refl
-equal_self Greater e = absurd (cc)
+equal_self _ e = absurd (cc)
 
 -- a common front does not matter
 pub front_cmp : (pre p q : List ℕ) → text_cmp (pre ++ p) (pre ++ q) ≡ text_cmp p q

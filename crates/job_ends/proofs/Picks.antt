@@ -86,9 +86,7 @@ module _ (g : Setting) (j : IsLegal g.script) (k : Option ℕ) (s : Seen) (m : T
 
   unread : (r : Request) → ((t : ℕ) → is_reading w t r ≡ false) → (o : Outcome) (t : ℕ) → after r o t ≡ s.picks t
   unread r e (Answered y) t = ap (λ b. cond (begun_now && b) (s.last t) (s.picks t)) (e t) ∙ ap (λ b. cond b (s.last t) (s.picks t)) (and_false begun_now)
-  unread r e Slow t = refl
-  unread r e RequestLost t = refl
-  unread r e ReplyLost t = refl
+  unread r e _ t = refl
 
   sweep_unread : (p : List ℕ) (x : Sweep) (t : ℕ) → is_reading w t (sweep_asks w.dest.bucket p x) ≡ false
   sweep_unread p (Listing keys) t = refl
@@ -207,10 +205,9 @@ module _ (g : Setting) (j : IsLegal g.script) (k : Option ℕ) (s : Seen) (m : T
   pub other_unread : (c : Commit) → is_fetching c ≡ false → D c → (r : Request) → commit_asks w c ≡ Some r → (t : ℕ) → is_reading w t r ≡ false
   other_unread (Fetching sets x) z d r e t = absurd (false_true z refl)
   other_unread (Replacing sets p ps x y) z d r e t = ap (is_reading w t) (sym (some_is e)) ∙ sweep_unread p x t
-  other_unread (Completing sets x xs finished) z d r e t = ap (is_reading w t) (sym (some_is e))
-  other_unread (Marking sets x) z d r e t = ap (is_reading w t) (sym (some_is e))
   other_unread (Reverting q qs x) z d r e t = ap (is_reading w t) (sym (some_is e)) ∙ elim (d q (inl refl)).2 [ inl y ↦ ap (is_reading w t) y | inr y ↦ ap (is_reading w t) y ]
   other_unread (CommitOver end) z d r e t = absurd (none_some refl e)
+  other_unread _ z d r e t = ap (is_reading w t) (sym (some_is e))
 
   same_after : (missing : Option ℕ) (sets : Sets) (c : Commit) (r : Request) (o : Outcome) → (IsRead w c o → ⊥) → D c → IsAt w missing sets c → ArePicks w s.picks sets → ((t : ℕ) → after r o t ≡ s.picks t) → After missing c r o
   same_after missing sets c r o not_read d at agree same = record {

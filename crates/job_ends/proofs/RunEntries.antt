@@ -17,9 +17,9 @@ use Rattle.job_model.specs.JobScript.{Script}
 use Rattle.job_model.specs.Known.{Known}
 use Rattle.job_model.specs.declared.events.Op.{Op}
 use Rattle.job_model.specs.declared.events.Op.TheVariants as ops
-use Rattle.job_operations.specs.Setup.{Setup, Heading, Checking, Clearing, Sweeping, SetupOver, setup_asks}
+use Rattle.job_operations.specs.Setup.{Setup, SetupOver, setup_asks}
 use Rattle.job_operations.specs.JobCommits.{Commit}
-use Rattle.job_operations.specs.Operations.{Setting, Operation, TheSetup, TheWrite, TheTaskCommit, TheTaskAbort, TheCommit, TheClean, who, asks, tells, start_of}
+use Rattle.job_operations.specs.Operations.{Setting, Operation, TheSetup, TheCommit, TheClean, who, asks, tells, start_of}
 use Rattle.job_promise.specs.OperationEnds.{WasPublished}
 use Rattle.job_promise.specs.Seen.{is_begun, is_publishing}
 use Rattle.job_promise.specs.Turns.{by_actor, until_last, AllBy, AllUpTo, is_own, own}
@@ -167,19 +167,14 @@ module _ (g : Setting) (k : Option ℕ) (opening : Content) where
   -- ---- until the set-up is done
 
   asks_on : (w : Script) (c : Setup) (r : Request) → setup_asks w c ≡ Some r → is_done c ≡ false
-  asks_on w Heading r e = refl
-  asks_on w (Checking keys) r e = refl
-  asks_on w Clearing r e = refl
-  asks_on w (Sweeping t) r e = refl
   asks_on w (SetupOver end) r e = absurd (none_some refl e)
+  asks_on w _ r e = refl
 
   was_unset : (op : Operation) (r : Request) (o : Outcome) → asks g (who Driver) nothing_learnt op ≡ Some r → is_set (Some (tells g (who Driver) op o)) ≡ false → is_set (Some op) ≡ false
   was_unset (TheSetup t) r o asked e = asks_on g.script t.operation r asked
   was_unset (TheCommit c) r o asked e = absurd (false_true e refl)
   was_unset (TheClean t) r o asked e = absurd (false_true e refl)
-  was_unset (TheWrite t) r o asked e = refl
-  was_unset (TheTaskCommit t) r o asked e = refl
-  was_unset (TheTaskAbort t) r o asked e = refl
+  was_unset _ r o asked e = refl
 
   none_begin : (x : Stand) (b : Beginning) → MayBegin g x b → (is_set x.driver ≡ false → (a : Who) → x.attempts a ≡ None) → is_set (begin g x b).driver ≡ false → (a : Who) → (begin g x b).attempts a ≡ None
   none_begin x BeginSetup (inl unset) old e = old unset

@@ -14,7 +14,7 @@ use Rattle.s3_types.specs.declared.reply.Refusal.TheVariants.{NoSuchUpload}
 use Rattle.s3_types.specs.declared.reply.Reply.{Reply}
 use Rattle.s3_types.specs.declared.reply.Reply.TheVariants.{Refused}
 use Rattle.s3_types.specs.declared.journal.Outcome.{Outcome}
-use Rattle.s3_types.specs.declared.journal.Outcome.TheVariants.{Answered, Slow, RequestLost, ReplyLost}
+use Rattle.s3_types.specs.declared.journal.Outcome.TheVariants.{Answered, Slow}
 use Rattle.s3_types.specs.declared.journal.Entry.{Entry}
 use Rattle.pending_json.specs.Pending.{Pending}
 use Rattle.pending_json.specs.declared.records.PendingSet.{PendingSet}
@@ -26,7 +26,7 @@ use Rattle.job_model.specs.JobScript.{Script}
 use Rattle.job_model.specs.declared.ends.CommitEnd.{CommitEnd}
 use Rattle.job_model.specs.declared.ends.Stage.TheVariants as stages
 use Rattle.job_operations.specs.Outputs.{same_path}
-use Rattle.list_walk.specs.Walks.{Sweep, Listing, Deleting, sweep_hears}
+use Rattle.list_walk.specs.Walks.{Sweep, Listing, sweep_hears}
 use Rattle.job_operations.specs.Lanes.{Turn, again, follow, dealt, nth, completion, revert}
 use Rattle.job_operations.specs.LaneTable.{In, Tabled}
 use Rattle.job_operations.specs.JobCommits.{Sets, picks_of, all_commits, set_request, set_read, Commit, Fetching, Replacing, Completing, Marking, Reverting, CommitOver, is_no_magic, completing, replaced, replacing, decided, fetching, fetched, swept, reverting, worn_completion, commit_start, commit_asks, commit_hears, commit_misses, commit_tells, stage_of}
@@ -92,11 +92,7 @@ TurnsLost es sets xs = (x : Turn) → In x xs → x.lost ≡ true → was_lost (
 
 abbrev Lost : List Entry → Commit → Type 0
 Lost es (Completing sets x xs finished) = TurnsLost es sets (x ∷ xs)
-Lost es (Fetching sets n) = Unit {0}
-Lost es (Replacing sets p ps s n) = Unit {0}
-Lost es (Marking sets n) = Unit {0}
-Lost es (Reverting r rs n) = Unit {0}
-Lost es (CommitOver end) = Unit {0}
+Lost es _ = Unit {0}
 
 module _ (w : Script) (es : List Entry) where
   lost_completing : (sets : Sets) (xs : List Turn) (finished : List ℕ) → TurnsLost es sets xs → Lost es (completing sets xs finished)
@@ -153,9 +149,8 @@ module _ (w : Script) (es : List Entry) (e : Entry) where
         | inl old ↦ lost_before (completion (nth (all_commits sets) z.number)) es e (h z (inr old) l)
         | inr new ↦ absurd (false_true (follow_fresh w.lanes (length (all_commits sets)) y.number z new) l)
       ])
-  lost_heard (Marking sets n) x h = tt
   lost_heard (Reverting q qs n) x h = lost_reverting w now qs
-  lost_heard (CommitOver end) x h = tt
+  lost_heard _ x h = tt
 
   lost_missed : (c : Commit) (lost : Bool) → commit_asks w c ≡ Some e.request → (lost ≡ true → is_lost e.outcome ≡ true) → Lost es c → Lost now (commit_misses w c lost)
   lost_missed (Fetching sets n) lost asked so h = lost_either w now (nat_lt n w.retries) _ _ tt tt
@@ -182,8 +177,7 @@ module _ (w : Script) (es : List Entry) (e : Entry) where
       by : (o : Outcome) → e.outcome ≡ o → Lost now (commit_tells w c o)
       by (Answered x) is = lost_heard c x h
       by Slow is = lost_missed c false asked (λ l. absurd (false_true refl l)) h
-      by RequestLost is = lost_missed c true asked (λ l. ap is_lost is) h
-      by ReplyLost is = lost_missed c true asked (λ l. ap is_lost is) h
+      by _ is = lost_missed c true asked (λ l. ap is_lost is) h
 
 -- ---- an answer to a completion
 
@@ -244,13 +238,12 @@ module _ (g : Setting) (k : Option ℕ) (opening : Content) (j : IsLegal g.scrip
       (z.0, subst (λ q. was_lost q x.commit ≡ true) (some_is asked) (lost y (inl refl) z.1))
   refused_next es x run (Fetching sets i) d lost n r o asked honest why stage got = absurd (no_complete (sym (read_stage w.committer w (length sets)) ∙ ap stage_of (some_is asked) ∙ stage))
   refused_next es x run (Replacing sets p ps (Listing keys) i) d lost n r o asked honest why stage got = let no = ap stage_of (some_is asked) ∙ stage in absurd cc
-  refused_next es x run (Replacing sets p ps (Deleting q qs) i) d lost n r o asked honest why stage got = let no = ap stage_of (some_is asked) ∙ stage in absurd cc
-  refused_next es x run (Marking sets i) d lost n r o asked honest why stage got = let no = ap stage_of (some_is asked) ∙ stage in absurd cc
   refused_next es x run (Reverting q qs i) d lost n r o asked honest why stage got =
       let z = (in_commit es x run (Reverting q qs i) d).2.decides q (inl refl) in
       let is = ap stage_of (some_is asked) ∙ stage in
       elim z.2 [ inl y ↦ let no = sym (ap stage_of y) ∙ is in absurd cc | inr y ↦ let no = sym (ap stage_of y) ∙ is in absurd cc ]
   refused_next es x run (CommitOver end) d lost n r o asked honest why stage got = absurd (none_some refl asked)
+  refused_next es x run _ d lost n r o asked honest why stage got = let no = ap stage_of (some_is asked) ∙ stage in absurd cc
 
   abbrev Answers : Stand → Type 0
   Answers x = (c : Commit) → x.driver ≡ Some (TheCommit c) → Lost x.commit c × Each IsRefusedLost x.commit

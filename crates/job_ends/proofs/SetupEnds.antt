@@ -13,7 +13,7 @@ use Rattle.s3_types.specs.Moment.{after_all, AreHonest}
 use Rattle.s3_types.specs.declared.object.Object.{Object}
 use Rattle.s3_types.specs.declared.request.Actor.{Actor}
 use Rattle.s3_types.specs.declared.request.Committer.{Committer}
-use Rattle.s3_types.specs.declared.request.Committer.TheVariants.{Magic, Directory, Partitioned}
+use Rattle.s3_types.specs.declared.request.Committer.TheVariants.{Magic}
 use Rattle.s3_types.specs.declared.request.Request.{Request}
 use Rattle.s3_types.specs.declared.request.Request.TheVariants.{HeadObject, DeleteObject}
 use Rattle.s3_types.specs.declared.reply.Reply.{Reply}
@@ -112,9 +112,8 @@ module _ (w : Script) (j : IsLegal w) (first : Scene) where
   abbrev Holds : Scene → Setup → Type 0
   Holds s Heading = s ≡ first
   Holds s (Checking keys) = (s ≡ first) × (checks_all w.committer w.mode ≡ true) × IsFree w c × Looked keys
-  Holds s Clearing = Passed × HasBucket s.content w.dest.bucket
-  Holds s (Sweeping t) = Passed × HasBucket s.content w.dest.bucket
   Holds s (SetupOver end) = SetupIs w c None end
+  Holds s _ = Passed × HasBucket s.content w.dest.bucket
 
   -- ---- the destination's own key
 
@@ -220,8 +219,7 @@ module _ (w : Script) (j : IsLegal w) (first : Scene) where
 
   cleared_so : (s : Scene) (k : Committer) → Passed × HasBucket s.content w.dest.bucket → Holds s (cleared k)
   cleared_so s Magic h = h
-  cleared_so s Directory h = h.0
-  cleared_so s Partitioned h = h.0
+  cleared_so s _ h = h.0
 
   swept_so : (s : Scene) (t : Option Sweep) → Passed × HasBucket s.content w.dest.bucket → Holds s (sweeping t)
   swept_so s (Some t) h = h
@@ -260,16 +258,12 @@ module _ (w : Script) (j : IsLegal w) (first : Scene) where
   still : (s : Scene) (m : Setup) → Holds s m → (r : Request) → setup_asks w m ≡ Some r → Holds (apply s r) m
   still s Heading h r asked = ap (apply s) (sym (some_is asked)) ∙ reads_nothing s head_request refl ∙ h
   still s (Checking keys) h r asked = (ap (apply s) (sym (some_is asked)) ∙ reads_nothing s (page_after w.dest.bucket (dest_prefix w) keys) refl ∙ h.0, h.1, h.2, h.3)
-  still s Clearing h r asked = (h.0, still_there w s r ReplyLost h.1)
-  still s (Sweeping t) h r asked = (h.0, still_there w s r ReplyLost h.1)
   still s (SetupOver end) h r asked = h
+  still s _ h r asked = (h.0, still_there w s r ReplyLost h.1)
 
   over_so : (s : Scene) (m : Setup) → Holds s m → (e : SetupEnd) → setup_over m ≡ Some e → SetupIs w c None e
   over_so s (SetupOver end) h e is = subst (SetupIs w c None) (some_is is) h
-  over_so s Heading h e is = absurd (none_some refl is)
-  over_so s (Checking keys) h e is = absurd (none_some refl is)
-  over_so s Clearing h e is = absurd (none_some refl is)
-  over_so s (Sweeping t) h e is = absurd (none_some refl is)
+  over_so s _ h e is = absurd (none_some refl is)
 
   pub setup_ends : (es : List Entry) → Follows (wants_of (setup_asks w)) (step w.retries (setup_after w)) (fresh w.retries setup_start) es → AreHonest first es
       → (e : SetupEnd) → setup_over (run (step w.retries (setup_after w)) (fresh w.retries setup_start) es).operation ≡ Some e → (worn : Option Request) × WornFirst w.retries es worn × SetupIs w c worn e

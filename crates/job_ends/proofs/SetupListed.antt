@@ -2,13 +2,13 @@
 use Rattle.std.proofs.Common.{◌≡◌, ℕ, zero, suc, Bool, true, false, cond, List, [], ◌∷◌, ◌++◌, append-nil, append_assoc, Option, Some, None, refl, sym, ap, subst, ◌∙◌}
 use Rattle.std.proofs.lemmas.Bool.{false≢true}
 use Rattle.s3_types.specs.declared.request.Committer.{Committer}
-use Rattle.s3_types.specs.declared.request.Committer.TheVariants.{Magic, Directory, Partitioned}
+use Rattle.s3_types.specs.declared.request.Committer.TheVariants.{Magic}
 use Rattle.s3_types.specs.declared.request.Request.{Request}
 use Rattle.s3_types.specs.declared.reply.Reply.{Reply}
 use Rattle.s3_types.specs.declared.reply.Reply.TheVariants.{Head, Page, Refused}
 use Rattle.s3_types.specs.declared.reply.Refusal.TheVariants.{NoSuchBucket}
 use Rattle.s3_types.specs.declared.journal.Outcome.{Outcome}
-use Rattle.s3_types.specs.declared.journal.Outcome.TheVariants.{Answered, Slow, RequestLost, ReplyLost}
+use Rattle.s3_types.specs.declared.journal.Outcome.TheVariants.{Answered, Slow}
 use Rattle.s3_types.specs.declared.journal.Entry.{Entry}
 use Rattle.path_keys.specs.Paths.{relative_in}
 use Rattle.sendings.specs.Operation.{run, Follows}
@@ -82,8 +82,7 @@ module _ (w : Script) where
 
   cleared_so : (keys : List (List ℕ)) → Listed keys Clearing → (k : Committer) → w.committer ≡ k → Listed (keys ++ []) (cleared k)
   cleared_so keys h Magic is = λ c. absurd (false≢true (sym (ap (λ v. checks_all v w.mode) is) ∙ c))
-  cleared_so keys h Directory is = more_keys keys h
-  cleared_so keys h Partitioned is = more_keys keys h
+  cleared_so keys h _ is = more_keys keys h
 
   swept_so : (keys : List (List ℕ)) → (checks ≡ true → ⊥) → (t : Option Sweep) → Listed keys (sweeping t)
   swept_so keys h (Some t) = h
@@ -103,10 +102,7 @@ module _ (w : Script) where
 
   over_so : (keys : List (List ℕ)) (m : Setup) → Listed keys m → (e : SetupEnd) → setup_over m ≡ Some e → SetupListed w keys None e
   over_so keys (SetupOver end) h e is = subst (SetupListed w keys None) (some_is is) h
-  over_so keys Heading h e is = absurd (none_some refl is)
-  over_so keys (Checking found) h e is = absurd (none_some refl is)
-  over_so keys Clearing h e is = absurd (none_some refl is)
-  over_so keys (Sweeping t) h e is = absurd (none_some refl is)
+  over_so keys _ h e is = absurd (none_some refl is)
 
   -- ---- its entries
 
@@ -140,8 +136,7 @@ module _ (w : Script) where
           subst (λ l. SetupListed w l (worn_in w.retries (setup_after w) (after t (Answered y)) es) e) (append_assoc keys (keys_told x.request (Answered y)) (keys_listed es))
           (rest (keys ++ keys_told x.request (Answered y)) (after t (Answered y)) (heard keys t.operation h x.request f.0 y) g e is)
       by Slow g is rest = missed keys t.operation x.request t.repeated es e (λ u k v. rest keys u k v e) h t.spare g is
-      by RequestLost g is rest = missed keys t.operation x.request true es e (λ u k v. rest keys u k v e) h t.spare g is
-      by ReplyLost g is rest = missed keys t.operation x.request true es e (λ u k v. rest keys u k v e) h t.spare g is
+      by _ g is rest = missed keys t.operation x.request true es e (λ u k v. rest keys u k v e) h t.spare g is
 
   pub setup_listed : (es : List Entry) → Follows (wants_of (setup_asks w)) after (fresh w.retries setup_start) es → (e : SetupEnd) → setup_over (run after (fresh w.retries setup_start) es).operation ≡ Some e
       → (worn : Option Request) × WornFirst w.retries es worn × SetupListed w (keys_listed es) worn e

@@ -7,7 +7,7 @@ use Rattle.std.proofs.lemmas.List.Elements.{All-nil, All-push, Contains-append_l
 use Rattle.s3_types.specs.declared.request.Actor.{Actor}
 use Rattle.s3_types.specs.declared.request.Actor.TheVariants.{Attempt}
 use Rattle.s3_types.specs.declared.request.Committer.{Committer}
-use Rattle.s3_types.specs.declared.request.Committer.TheVariants.{Magic, Directory, Partitioned}
+use Rattle.s3_types.specs.declared.request.Committer.TheVariants.{Magic}
 use Rattle.s3_types.specs.declared.request.Request.{Request}
 use Rattle.s3_types.specs.declared.request.Request.TheVariants.{ListPage}
 use Rattle.s3_types.specs.declared.reply.PageEntry.{PageEntry}
@@ -54,19 +54,16 @@ module _ (w : Script) (a : Who) (all : List Entry) (sent : Bool) where
   -- ---- a write
 
   abbrev Write : writes.Write → Type 0
-  Write (writes.Uploads f fs u) = Unit {0}
-  Write (writes.Marking f fs) = Unit {0}
-  Write (writes.Recording f fs) = Unit {0}
   Write (writes.WriteOver end) = Ends ops.Write w a all sent end
+  Write _ = Unit {0}
 
   writing_so : (fs : List File) → Write (writes.writing fs)
   writing_so [] = inr tt
   writing_so (f ∷ fs) = tt
 
   uploaded_so : (f : File) (fs : List File) (u : Uploaded) → Write (writes.uploaded w f fs u)
-  uploaded_so f fs (GoesOn u) = tt
-  uploaded_so f fs AllSent = tt
   uploaded_so f fs IsGone = inr refl
+  uploaded_so f fs _ = tt
 
   write_so : (minimum : ℕ) (t : writes.Write) (r : Reply) → Write t → Write (writes.write_hears w minimum t r)
   write_so minimum (writes.Uploads f fs u) r h = uploaded_so f fs (upload_hears w minimum f u r)
@@ -76,8 +73,7 @@ module _ (w : Script) (a : Who) (all : List Entry) (sent : Bool) where
 
   write_begun : (c : Committer) (fs : List File) → Write (writes.write_start_by c fs)
   write_begun Magic fs = writing_so fs
-  write_begun Directory fs = inr tt
-  write_begun Partitioned fs = inr tt
+  write_begun _ fs = inr tt
 
   -- ---- a commit
 
@@ -89,14 +85,9 @@ module _ (w : Script) (a : Who) (all : List Entry) (sent : Bool) where
     pub free : All (λ b. WasListed w all b []) before
 
   abbrev Commit : commits.TaskCommit → Type 0
-  Commit (commits.Looking keys) = Unit {0}
-  Commit (commits.Reading cs f fs) = Unit {0}
-  Commit (commits.Publishing cs) = Unit {0}
   Commit (commits.Checking d ds) = Checked (d ∷ ds)
-  Commit (commits.Uploads f fs u) = Unit {0}
-  Commit commits.Storing = Unit {0}
-  Commit commits.Renaming = Unit {0}
   Commit (commits.TaskCommitOver end) = Ends ops.Commit w a all sent end
+  Commit _ = Unit {0}
 
   reading_so : (cs fs : List File) → Commit (commits.reading cs fs)
   reading_so cs [] = tt
@@ -163,16 +154,13 @@ module _ (w : Script) (a : Who) (all : List Entry) (sent : Bool) where
 
   commit_begun : (c : Committer) → Commit (commits.task_commit_start_by c w a)
   commit_begun Magic = tt
-  commit_begun Directory = to_check_so (checks_partitions w.committer w.mode) refl
-  commit_begun Partitioned = to_check_so (checks_partitions w.committer w.mode) refl
+  commit_begun _ = to_check_so (checks_partitions w.committer w.mode) refl
 
   -- ---- an abort
 
   abbrev Abort : aborts.TaskAbort → Type 0
-  Abort (aborts.Dropping d ds b) = sent ≡ false
-  Abort (aborts.Sweeping s) = sent ≡ false
-  Abort aborts.Removing = sent ≡ false
   Abort (aborts.TaskAbortOver end) = Ends ops.Abort w a all sent end
+  Abort _ = sent ≡ false
 
   removing_so : (b : Bool) → sent ≡ false → Abort (aborts.removing b)
   removing_so true h = h
@@ -180,8 +168,7 @@ module _ (w : Script) (a : Who) (all : List Entry) (sent : Bool) where
 
   dropped_so : (c : Committer) (b : Bool) → sent ≡ false → Abort (aborts.dropped c b)
   dropped_so Magic b h = h
-  dropped_so Directory b h = removing_so b h
-  dropped_so Partitioned b h = removing_so b h
+  dropped_so _ b h = removing_so b h
 
   dropping_so : (c : Committer) (b : Bool) (ds : List Drawn) → sent ≡ false → Abort (aborts.dropping c b ds)
   dropping_so c b [] h = dropped_so c b h
@@ -225,25 +212,15 @@ module _ (g : Setting) (a : Who) (all : List Entry) (sent : Bool) where
   -- where it is over, its end is one of these
   write_over : (t : writes.Write) → Write g.script a all sent t → (e : TaskEnd) → option_map ends.Task (writes.write_over t) ≡ Some (ends.Task e) → Ends ops.Write g.script a all sent e
   write_over (writes.WriteOver end) h e is = subst (Ends ops.Write g.script a all sent) (task_is is) h
-  write_over (writes.Uploads f fs u) h e is = absurd (none_some refl is)
-  write_over (writes.Marking f fs) h e is = absurd (none_some refl is)
-  write_over (writes.Recording f fs) h e is = absurd (none_some refl is)
+  write_over _ h e is = absurd (none_some refl is)
 
   commit_over : (t : commits.TaskCommit) → Commit g.script a all sent t → (e : TaskEnd) → option_map ends.Task (commits.task_commit_over t) ≡ Some (ends.Task e) → Ends ops.Commit g.script a all sent e
   commit_over (commits.TaskCommitOver end) h e is = subst (Ends ops.Commit g.script a all sent) (task_is is) h
-  commit_over (commits.Looking keys) h e is = absurd (none_some refl is)
-  commit_over (commits.Reading cs f fs) h e is = absurd (none_some refl is)
-  commit_over (commits.Publishing cs) h e is = absurd (none_some refl is)
-  commit_over (commits.Checking d ds) h e is = absurd (none_some refl is)
-  commit_over (commits.Uploads f fs u) h e is = absurd (none_some refl is)
-  commit_over commits.Storing h e is = absurd (none_some refl is)
-  commit_over commits.Renaming h e is = absurd (none_some refl is)
+  commit_over _ h e is = absurd (none_some refl is)
 
   abort_over : (t : aborts.TaskAbort) → Abort g.script a all sent t → (e : TaskEnd) → option_map ends.Task (aborts.task_abort_over t) ≡ Some (ends.Task e) → Ends ops.Abort g.script a all sent e
   abort_over (aborts.TaskAbortOver end) h e is = subst (Ends ops.Abort g.script a all sent) (task_is is) h
-  abort_over (aborts.Dropping d ds p) h e is = absurd (none_some refl is)
-  abort_over (aborts.Sweeping s) h e is = absurd (none_some refl is)
-  abort_over aborts.Removing h e is = absurd (none_some refl is)
+  abort_over _ h e is = absurd (none_some refl is)
 
   over_so : (op : Op) (m : Operation) → Op_is op g.script a all sent m → (e : TaskEnd) → over m ≡ Some (ends.Task e) → Ends op g.script a all sent e
   over_so ops.Write (TheWrite t) h e is = write_over t.operation h e is
@@ -259,8 +236,7 @@ writing_calm (f ∷ fs) = refl
 
 write_calm : (c : Committer) (fs : List File) → is_fault (option_map ends.Task (writes.write_over (writes.write_start_by c fs))) ≡ false
 write_calm Magic fs = writing_calm fs
-write_calm Directory fs = refl
-write_calm Partitioned fs = refl
+write_calm _ fs = refl
 
 storing_calm : (fs : List File) → is_fault (option_map ends.Task (commits.task_commit_over (commits.storing fs))) ≡ false
 storing_calm [] = refl
@@ -272,8 +248,7 @@ checking_calm w a (d ∷ ds) = refl
 
 commit_calm : (c : Committer) (w : Script) (a : Who) → is_fault (option_map ends.Task (commits.task_commit_over (commits.task_commit_start_by c w a))) ≡ false
 commit_calm Magic w a = refl
-commit_calm Directory w a = checking_calm w a (commits.to_check w a)
-commit_calm Partitioned w a = checking_calm w a (commits.to_check w a)
+commit_calm _ w a = checking_calm w a (commits.to_check w a)
 
 removing_calm : (b : Bool) → is_fault (option_map ends.Task (aborts.task_abort_over (aborts.removing b))) ≡ false
 removing_calm true = refl
@@ -281,8 +256,7 @@ removing_calm false = refl
 
 dropped_calm : (c : Committer) (b : Bool) → is_fault (option_map ends.Task (aborts.task_abort_over (aborts.dropped c b))) ≡ false
 dropped_calm Magic b = refl
-dropped_calm Directory b = removing_calm b
-dropped_calm Partitioned b = removing_calm b
+dropped_calm _ b = removing_calm b
 
 dropping_calm : (c : Committer) (b : Bool) (ds : List Drawn) → is_fault (option_map ends.Task (aborts.task_abort_over (aborts.dropping c b ds))) ≡ false
 dropping_calm c b [] = dropped_calm c b
@@ -322,11 +296,7 @@ run_so g a all sent op m (e ∷ es) among f h =
 
 fault_end : (e : TaskEnd) → is_fault (Some (ends.Task e)) ≡ true → e ≡ tasks.StoreFault
 fault_end tasks.StoreFault h = refl
-fault_end tasks.Done h = absurd (false_true refl h)
-fault_end tasks.Kept h = absurd (false_true refl h)
-fault_end tasks.NoMemory h = absurd (false_true refl h)
-fault_end (tasks.Conflict d) h = absurd (false_true refl h)
-fault_end (tasks.Gone n) h = absurd (false_true refl h)
+fault_end _ h = absurd (false_true refl h)
 
 not_fault : (op : Op) (w : Script) (a : Who) (all : List Entry) (sent : Bool) (e : TaskEnd) → is_fault (Some (ends.Task e)) ≡ false → Ends op w a all sent e → TaskMay op w a all sent true e
 not_fault op w a all sent e h (inl is) = absurd (false_true h (ap (λ v. is_fault (Some (ends.Task v))) is))

@@ -6,7 +6,7 @@ use Rattle.s3_types.specs.Answer.{answer}
 use Rattle.s3_types.specs.Moment.{IsHonestOutcome}
 use Rattle.s3_types.specs.declared.request.Request.{Request}
 use Rattle.s3_types.specs.declared.request.Committer.{Committer}
-use Rattle.s3_types.specs.declared.request.Committer.TheVariants.{Magic, Directory, Partitioned}
+use Rattle.s3_types.specs.declared.request.Committer.TheVariants.{Magic}
 use Rattle.s3_types.specs.declared.reply.Reply.{Reply}
 use Rattle.s3_types.specs.declared.reply.Reply.TheVariants.{Page}
 use Rattle.s3_types.specs.declared.reply.PageEntry.{PageEntry}
@@ -57,8 +57,7 @@ module _ (w : Script) (a : Who) (k : Known) (unsent : k.publish_sent ≡ false) 
 
   fits_dropped : (c : Committer) (sent : Bool) → FitsAbort w a k (dropped c sent)
   fits_dropped Magic sent = (unsent, λ q i. absurd i)
-  fits_dropped Directory sent = fits_removing sent
-  fits_dropped Partitioned sent = fits_removing sent
+  fits_dropped _ sent = fits_removing sent
 
   pub fits_dropping : (c : Committer) (sent : Bool) (ds : List Drawn) → ((e : Drawn) → IsIn e ds → IsIn e k.drawn) → FitsAbort w a k (dropping c sent ds)
   fits_dropping c sent [] h = fits_dropped c sent

@@ -12,9 +12,9 @@ use Rattle.job_model.specs.JobScript.{Script}
 use Rattle.job_model.specs.Known.{Known}
 use Rattle.job_operations.specs.Uploading.{Uploading, Creating, Sending, upload_asks}
 use Rattle.job_model.specs.Files.{File}
-use Rattle.job_operations.specs.Writes.{Write, Marking, Recording, WriteOver, write_asks, write_after}
+use Rattle.job_operations.specs.Writes.{Write, WriteOver, write_asks, write_after}
 use Rattle.job_operations.specs.Writes as writes
-use Rattle.job_operations.specs.TaskCommits.{TaskCommit, Looking, Reading, Publishing, Checking, Storing, Renaming, TaskCommitOver, task_commit_asks, task_commit_after}
+use Rattle.job_operations.specs.TaskCommits.{TaskCommit, TaskCommitOver, task_commit_asks, task_commit_after}
 use Rattle.job_operations.specs.TaskCommits as commits
 use Rattle.job_operations.specs.Operations.{Setting, Operation, TheSetup, TheWrite, TheTaskCommit, TheTaskAbort, TheCommit, TheClean, asks, tells}
 use Rattle.job_promise.specs.Seen.{Seen}
@@ -37,19 +37,13 @@ upload_adds w k f (Sending p ps) = refl
 
 pub write_adds : (w : Script) (a : Who) (k : Known) (t : Write) (r : Request) → write_asks w a k t ≡ Some r → undoes r ≡ false
 write_adds w a k (writes.Uploads f fs u) r e = ap undoes (sym (some_is e)) ∙ upload_adds w k f u
-write_adds w a k (Marking f fs) r e = ap undoes (sym (some_is e))
-write_adds w a k (Recording f fs) r e = ap undoes (sym (some_is e))
 write_adds w a k (WriteOver end) r e = absurd cc
+write_adds w a k _ r e = ap undoes (sym (some_is e))
 
 pub commit_adds : (w : Script) (a : Who) (k : Known) (t : TaskCommit) (r : Request) → task_commit_asks w a k t ≡ Some r → undoes r ≡ false
-commit_adds w a k (Looking keys) r e = ap undoes (sym (some_is e))
-commit_adds w a k (Reading cs f fs) r e = ap undoes (sym (some_is e))
-commit_adds w a k (Publishing cs) r e = ap undoes (sym (some_is e))
-commit_adds w a k (Checking p ps) r e = ap undoes (sym (some_is e))
 commit_adds w a k (commits.Uploads f fs u) r e = ap undoes (sym (some_is e)) ∙ upload_adds w k f u
-commit_adds w a k Storing r e = ap undoes (sym (some_is e))
-commit_adds w a k Renaming r e = ap undoes (sym (some_is e))
 commit_adds w a k (TaskCommitOver end) r e = absurd cc
+commit_adds w a k _ r e = ap undoes (sym (some_is e))
 
 -- ---- all operations
 

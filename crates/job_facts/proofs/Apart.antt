@@ -22,9 +22,9 @@ use Rattle.job_model.specs.Known.{Known}
 use Rattle.job_operations.specs.Records.{attempt_dir, record_key}
 use Rattle.job_operations.specs.Uploading.{Uploading, Creating, Sending, upload_asks}
 use Rattle.list_walk.specs.Walks.{Listing, Deleting}
-use Rattle.job_operations.specs.Writes.{Write, Marking, Recording, WriteOver, write_asks}
+use Rattle.job_operations.specs.Writes.{Write, WriteOver, write_asks}
 use Rattle.job_operations.specs.Writes as writes
-use Rattle.job_operations.specs.TaskCommits.{TaskCommit, Looking, Reading, Publishing, Checking, Storing, Renaming, TaskCommitOver, task_commit_asks, attempt_prefix, temporary_path}
+use Rattle.job_operations.specs.TaskCommits.{TaskCommit, Publishing, Storing, Renaming, TaskCommitOver, task_commit_asks, attempt_prefix, temporary_path}
 use Rattle.job_operations.specs.TaskCommits as commits
 use Rattle.job_operations.specs.TaskAborts.{TaskAbort, Dropping, Sweeping, Removing, TaskAbortOver, task_abort_asks}
 use Rattle.request_frame.specs.Members.{IsIn}
@@ -131,45 +131,35 @@ module _ (w : Script) (s : Scene) (there : HasBucket s.content w.dest.bucket) wh
   -- writes and commits delete no key, and a write no path
   pub write_keys : (b : Who) (k : Known) (t : Write) (r : Request) → write_asks w b k t ≡ Some r → (q : List ℕ) → Keeps q r
   write_keys b k (writes.Uploads f fs u) r e q = subst (Keeps q) (some_is e) (upload_keys k f u q)
-  write_keys b k (Marking f fs) r e q = subst (Keeps q) (some_is e) (key_put q _ _ _)
-  write_keys b k (Recording f fs) r e q = subst (Keeps q) (some_is e) (key_put q _ _ _)
   write_keys b k (WriteOver end) r e q = absurd cc
+  write_keys b k _ r e q = subst (Keeps q) (some_is e) (key_put q _ _ _)
 
   pub write_paths : (b : Who) (k : Known) (t : Write) (r : Request) → write_asks w b k t ≡ Some r → (q : List ℕ) → KeepsPath q r
   write_paths b k (writes.Uploads f fs u) r e q = subst (KeepsPath q) (some_is e) (upload_paths k f u q)
-  write_paths b k (Marking f fs) r e q = path_still q r (ap changed_paths (sym (some_is e)))
-  write_paths b k (Recording f fs) r e q = path_still q r (ap changed_paths (sym (some_is e)))
   write_paths b k (WriteOver end) r e q = absurd cc
+  write_paths b k _ r e q = path_still q r (ap changed_paths (sym (some_is e)))
 
   pub commit_keys : (b : Who) (k : Known) (t : TaskCommit) (r : Request) → task_commit_asks w b k t ≡ Some r → (q : List ℕ) → Keeps q r
-  commit_keys b k (Looking keys) r e q = key_still q r (ap changed_keys (sym (some_is e)))
-  commit_keys b k (Reading cs f fs) r e q = key_still q r (ap changed_keys (sym (some_is e)))
   commit_keys b k (Publishing cs) r e q = subst (Keeps q) (some_is e) (key_put q _ _ _)
-  commit_keys b k (Checking p ps) r e q = key_still q r (ap changed_keys (sym (some_is e)))
   commit_keys b k (commits.Uploads f fs u) r e q = subst (Keeps q) (some_is e) (upload_keys k f u q)
-  commit_keys b k Storing r e q = key_still q r (ap changed_keys (sym (some_is e)))
-  commit_keys b k Renaming r e q = key_still q r (ap changed_keys (sym (some_is e)))
   commit_keys b k (TaskCommitOver end) r e q = absurd cc
+  commit_keys b k _ r e q = key_still q r (ap changed_keys (sym (some_is e)))
 
   -- a commit moves its own temporary file alone
   pub commit_paths : (b : Who) (k : Known) (t : TaskCommit) (r : Request) → task_commit_asks w b k t ≡ Some r → (q : List ℕ) → (q ≡ temporary_path w b → ⊥) → (q ≡ staged_set_path w.job b.task → ⊥) → KeepsPath q r
-  commit_paths b k (Looking keys) r e q ne no_set = path_still q r (ap changed_paths (sym (some_is e)))
-  commit_paths b k (Reading cs f fs) r e q ne no_set = path_still q r (ap changed_paths (sym (some_is e)))
-  commit_paths b k (Publishing cs) r e q ne no_set = path_still q r (ap changed_paths (sym (some_is e)))
-  commit_paths b k (Checking p ps) r e q ne no_set = path_still q r (ap changed_paths (sym (some_is e)))
   commit_paths b k (commits.Uploads f fs u) r e q ne no_set = subst (KeepsPath q) (some_is e) (upload_paths k f u q)
   commit_paths b k Storing r e q ne no_set = subst (KeepsPath q) (some_is e) (path_put q _ _)
   commit_paths b k Renaming r e q ne no_set =
       subst (KeepsPath q) (some_is e) (path_left q (ClusterRename (temporary_path w b) (staged_set_path w.job b.task)) (λ i. elim i [ inl is ↦ ne is | inr more ↦ elim more [ inl is ↦ no_set is | inr none ↦ none ] ]))
   commit_paths b k (TaskCommitOver end) r e q ne no_set = absurd cc
+  commit_paths b k _ r e q ne no_set = path_still q r (ap changed_paths (sym (some_is e)))
 
   -- an abort deletes keys of its own directory and its temporary file
   pub abort_keys : (b : Who) (k : Known) (t : TaskAbort) → FitsAbort w b k t → (r : Request) → task_abort_asks w b t ≡ Some r → (q : List ℕ) → begins (attempt_prefix w b) q ≡ false → Keeps q r
   abort_keys b k (Dropping x xs sent) h r e q out = subst (Keeps q) (some_is e) (key_left q (AbortUpload w.dest.bucket x.key x.upload) (λ b i. i))
-  abort_keys b k (Sweeping (Listing keys)) h r e q out = key_still q r (ap changed_keys (sym (some_is e)))
   abort_keys b k (Sweeping (Deleting p ps)) h r e q out = subst (Keeps q) (some_is e) (key_left q (DeleteObjects w.dest.bucket (take 1000 (p ∷ ps))) (λ b i. false_true out (h.1 q (taken_in 1000 (p ∷ ps) q i))))
-  abort_keys b k Removing h r e q out = key_still q r (ap changed_keys (sym (some_is e)))
   abort_keys b k (TaskAbortOver end) h r e q out = absurd cc
+  abort_keys b k _ h r e q out = key_still q r (ap changed_keys (sym (some_is e)))
 
   pub abort_paths : (b : Who) (t : TaskAbort) (r : Request) → task_abort_asks w b t ≡ Some r → (q : List ℕ) → (q ≡ temporary_path w b → ⊥) → KeepsPath q r
   abort_paths b (Dropping x xs sent) r e q ne = subst (KeepsPath q) (some_is e) (path_left q (AbortUpload w.dest.bucket x.key x.upload) (λ i. i))

@@ -3,7 +3,7 @@ use Rattle.std.proofs.Common.{◌≡◌, ℕ, inl, inr, ◌||◌, true, List, []
 use Rattle.s3_types.specs.declared.request.Request.{Request}
 use Rattle.s3_types.specs.declared.request.Request.TheVariants.{PutObject, ClusterRename}
 use Rattle.s3_types.specs.declared.request.Committer.{Committer}
-use Rattle.s3_types.specs.declared.request.Committer.TheVariants.{Magic, Directory, Partitioned}
+use Rattle.s3_types.specs.declared.request.Committer.TheVariants.{Magic}
 use Rattle.s3_types.specs.declared.journal.Outcome.{Outcome}
 use Rattle.job_model.specs.Attempts.{Who}
 use Rattle.job_model.specs.Legal.{IsLegal}
@@ -14,14 +14,14 @@ use Rattle.job_operations.specs.Outputs.{files}
 use Rattle.job_model.specs.Known.{Drawn, Known}
 use Rattle.job_operations.specs.Knowledge.{learn, is_set_key}
 use Rattle.job_operations.specs.Records.{files_set}
-use Rattle.list_walk.specs.Walks.{Listing, Deleting}
-use Rattle.job_operations.specs.Writes.{Write, Marking, Recording, WriteOver, write_start_by, write_start, write_asks}
+use Rattle.list_walk.specs.Walks.{Deleting}
+use Rattle.job_operations.specs.Writes.{Write, WriteOver, write_start_by, write_start, write_asks}
 use Rattle.job_operations.specs.Writes as writes
-use Rattle.job_operations.specs.TaskCommits.{TaskCommit, Looking, Reading, Publishing, Checking, Storing, Renaming, TaskCommitOver, to_check, task_commit_start_by, task_commit_start, task_commit_asks}
+use Rattle.job_operations.specs.TaskCommits.{TaskCommit, TaskCommitOver, to_check, task_commit_start_by, task_commit_start, task_commit_asks}
 use Rattle.job_operations.specs.TaskCommits as commits
-use Rattle.job_operations.specs.TaskAborts.{TaskAbort, Dropping, Sweeping, Removing, TaskAbortOver, task_abort_asks}
+use Rattle.job_operations.specs.TaskAborts.{TaskAbort, Sweeping, TaskAbortOver, task_abort_asks}
 use Rattle.job_operations.specs.JobCommits.{Sets, Commit, Fetching, Replacing, Completing, Marking as MarkingJob, Reverting, CommitOver, commit_start}
-use Rattle.job_operations.specs.Operations.{Setting, Operation, TheSetup, TheWrite, TheTaskCommit, TheTaskAbort, TheCommit, TheClean, asks}
+use Rattle.job_operations.specs.Operations.{Setting, Operation, TheWrite, TheTaskCommit, TheTaskAbort, asks}
 use Rattle.job_promise.specs.Seen.{is_magic, is_staging}
 use Rattle.request_frame.specs.Members.{IsIn}
 use Rattle.request_frame.proofs.Members.{some_is, none_some, false_true}
@@ -52,16 +52,14 @@ module _ (w : Script) (minimum : ℕ) (j : IsLegal w) (a : Who) where
     where
       by : (c : Committer) → w.committer ≡ c → FitsWrite w minimum a k (write_start_by c (files w a))
       by Magic h = fits_writing w minimum a k (files w a) (ap is_magic h) free (all_todo k.drawn e)
-      by Directory h = λ done. (free, subst (λ c. Wrote c w minimum a k.drawn) (sym h) (all_todo k.drawn e))
-      by Partitioned h = λ done. (free, subst (λ c. Wrote c w minimum a k.drawn) (sym h) (all_todo k.drawn e))
+      by _ h = λ done. (free, subst (λ c. Wrote c w minimum a k.drawn) (sym h) (all_todo k.drawn e))
 
   commit_begins : (k : Known) → FitsWrite w minimum a k (WriteOver tasks.Done) → FitsCommit w minimum a k (task_commit_start w a)
   commit_begins k f = by w.committer refl
     where
       by : (c : Committer) → w.committer ≡ c → FitsCommit w minimum a k (task_commit_start_by c w a)
       by Magic h = (ap is_magic h, subst (λ c. Wrote c w minimum a k.drawn) h (f refl).1, tt)
-      by Directory h = fits_checking w minimum a j k (to_check w a) (ap is_staging h) (f refl).0 (subst (λ c. Wrote c w minimum a k.drawn) h (f refl).1)
-      by Partitioned h = fits_checking w minimum a j k (to_check w a) (ap is_staging h) (f refl).0 (subst (λ c. Wrote c w minimum a k.drawn) h (f refl).1)
+      by _ h = fits_checking w minimum a j k (to_check w a) (ap is_staging h) (f refl).0 (subst (λ c. Wrote c w minimum a k.drawn) h (f refl).1)
 
 pub job_commit_begins : (w : Script) (minimum : ℕ) → IsLegal w → (m : Told) (missing : Option ℕ) → FitsJobCommit w minimum m.publish_sent m.drawn (commit_start w missing)
 job_commit_begins w minimum j m None = fits_fetching j minimum m.publish_sent m.drawn [] (λ t s e. absurd (none_some refl e))
@@ -83,36 +81,25 @@ learn_sent w a k _ o e = e
 
 module _ (w : Script) (minimum : ℕ) (a : Who) (m : Told) (sent : m.publish_sent a ≡ true) (o : Outcome) where
   write_frozen : (t : Write) → FitsWrite w minimum a (known m a) t → (r : Request) → write_asks w a (known m a) t ≡ Some r → (learn w a (known m a) r o).drawn ≡ m.drawn a
-  write_frozen (writes.Uploads f fs u) h r e = absurd (false_true h.1.0 sent)
-  write_frozen (Marking f fs) h r e = absurd (false_true h.1.0 sent)
-  write_frozen (Recording f fs) h r e = absurd (false_true h.1.0 sent)
   write_frozen (WriteOver end) h r e = absurd cc
+  write_frozen _ h r e = absurd (false_true h.1.0 sent)
 
   commit_frozen : (t : TaskCommit) → FitsCommit w minimum a (known m a) t → (r : Request) → task_commit_asks w a (known m a) t ≡ Some r → (learn w a (known m a) r o).drawn ≡ m.drawn a
-  commit_frozen (Looking keys) h r e = ap (λ q. (learn w a (known m a) q o).drawn) (sym (some_is e))
-  commit_frozen (Reading cs f fs) h r e = ap (λ q. (learn w a (known m a) q o).drawn) (sym (some_is e))
-  commit_frozen (Publishing cs) h r e = ap (λ q. (learn w a (known m a) q o).drawn) (sym (some_is e))
-  commit_frozen (Checking p ps) h r e = ap (λ q. (learn w a (known m a) q o).drawn) (sym (some_is e))
   commit_frozen (commits.Uploads f fs u) h r e = absurd (false_true h.1.0 sent)
-  commit_frozen Storing h r e = ap (λ q. (learn w a (known m a) q o).drawn) (sym (some_is e))
-  commit_frozen Renaming h r e = ap (λ q. (learn w a (known m a) q o).drawn) (sym (some_is e))
   commit_frozen (TaskCommitOver end) h r e = absurd cc
+  commit_frozen _ h r e = ap (λ q. (learn w a (known m a) q o).drawn) (sym (some_is e))
 
   abort_frozen : (t : TaskAbort) → (r : Request) → task_abort_asks w a t ≡ Some r → (learn w a (known m a) r o).drawn ≡ m.drawn a
-  abort_frozen (Dropping x xs b) r e = ap (λ q. (learn w a (known m a) q o).drawn) (sym (some_is e))
-  abort_frozen (Sweeping (Listing keys)) r e = ap (λ q. (learn w a (known m a) q o).drawn) (sym (some_is e))
   abort_frozen (Sweeping (Deleting q qs)) r e = ap (λ q. (learn w a (known m a) q o).drawn) (sym (some_is e))
-  abort_frozen Removing r e = ap (λ q. (learn w a (known m a) q o).drawn) (sym (some_is e))
   abort_frozen (TaskAbortOver end) r e = absurd cc
+  abort_frozen _ r e = ap (λ q. (learn w a (known m a) q o).drawn) (sym (some_is e))
 
 module _ (g : Setting) (m : Told) (a : Who) (op : Operation) (fits : Fits g.script g.minimum a m op) (r : Request) (e : asks g a (known m a) op ≡ Some r) (o : Outcome) where
   frozen_by : (op : Operation) → Fits g.script g.minimum a m op → asks g a (known m a) op ≡ Some r → m.publish_sent a ≡ true → (learn g.script a (known m a) r o).drawn ≡ m.drawn a
-  frozen_by (TheSetup t) h e sent = absurd h
   frozen_by (TheWrite t) h e sent = write_frozen g.script g.minimum a m sent o t.operation h.1 r e
   frozen_by (TheTaskCommit t) h e sent = commit_frozen g.script g.minimum a m sent o t.operation h.1 r e
   frozen_by (TheTaskAbort t) h e sent = abort_frozen g.script g.minimum a m sent o t.operation r e
-  frozen_by (TheCommit c) h e sent = absurd h
-  frozen_by (TheClean t) h e sent = absurd h
+  frozen_by _ h e sent = absurd h
 
   abbrev now : Told
   now = tell_attempt g.script m a r o

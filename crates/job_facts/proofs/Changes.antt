@@ -8,7 +8,7 @@ use Rattle.s3_types.specs.Moment.{effect, moment, after_all}
 use Rattle.s3_types.specs.declared.request.Actor.TheVariants.{Driver}
 use Rattle.s3_types.specs.declared.request.Request.{Request}
 use Rattle.s3_types.specs.declared.journal.Outcome.{Outcome}
-use Rattle.s3_types.specs.declared.journal.Outcome.TheVariants.{Answered, Slow, RequestLost, ReplyLost}
+use Rattle.s3_types.specs.declared.journal.Outcome.TheVariants.{Answered, Slow, RequestLost}
 use Rattle.s3_types.specs.declared.journal.Entry.{Entry}
 use Rattle.job_model.specs.Legal.{IsLegal}
 use Rattle.job_model.specs.JobScript.{Script}
@@ -97,10 +97,9 @@ module _ (w : Script) where
   -- a live upload keeps its key, whoever sends
   keys_stay : (s : Scene) → HasBucket s.content w.dest.bucket → ((id : ℕ) (x : Upload) → at_id w s.content id ≡ Some x → id < s.content.next) → (r : Request) (o : Outcome)
       → (id : ℕ) (u v : Upload) → at_id w s.content id ≡ Some u → at_id w (effect s r o).content id ≡ Some v → u.key ≡ v.key
-  keys_stay s there fresh r (Answered y) id u v e g = let x = stood_so w s there id (fresh id u e) r v g in ap (λ (z : Upload). z.key) (some_is (sym e ∙ x.stood)) ∙ x.key
   keys_stay s there fresh r Slow id u v e g = ap (λ (z : Upload). z.key) (some_is (sym e ∙ g))
   keys_stay s there fresh r RequestLost id u v e g = ap (λ (z : Upload). z.key) (some_is (sym e ∙ g))
-  keys_stay s there fresh r ReplyLost id u v e g = let x = stood_so w s there id (fresh id u e) r v g in ap (λ (z : Upload). z.key) (some_is (sym e ∙ x.stood)) ∙ x.key
+  keys_stay s there fresh r _ id u v e g = let x = stood_so w s there id (fresh id u e) r v g in ap (λ (z : Upload). z.key) (some_is (sym e ∙ x.stood)) ∙ x.key
 
 -- ---- runs
 
@@ -152,15 +151,11 @@ module _ (g : Setting) (k : Option ℕ) (opening : Content) (j : IsLegal g.scrip
 
   driver_content : (x : Stand) (n : ℕ) (r : Request) (o : Outcome) → (see w k x.seen (driver_entry n r o)).scene ≡ effect x.seen.scene r o
   driver_content x n r (Answered y) = refl
-  driver_content x n r Slow = refl
-  driver_content x n r RequestLost = refl
-  driver_content x n r ReplyLost = refl
+  driver_content x n r _ = refl
 
   attempt_content : (x : Stand) (a : Who) (n : ℕ) (r : Request) (o : Outcome) → (see w k x.seen (entry a n r o)).scene ≡ effect x.seen.scene r o
   attempt_content x a n r (Answered y) = refl
-  attempt_content x a n r Slow = refl
-  attempt_content x a n r RequestLost = refl
-  attempt_content x a n r ReplyLost = refl
+  attempt_content x a n r _ = refl
 
   after_is : (es : List Entry) (x : Stand) → Runs g k opening es x → x.seen.scene ≡ after_all (opening_scene opening) es
   after_is es x (run_begins c) = refl

@@ -11,7 +11,7 @@ use Rattle.s3_types.specs.declared.request.Request.{Request}
 use Rattle.s3_types.specs.declared.request.Request.TheVariants.{AbortUpload, DeleteObjects, ClusterList, ClusterDelete}
 use Rattle.s3_types.specs.declared.request.UploadRef.{UploadRef}
 use Rattle.s3_types.specs.declared.request.Committer.{Committer}
-use Rattle.s3_types.specs.declared.request.Committer.TheVariants.{Magic, Directory, Partitioned}
+use Rattle.s3_types.specs.declared.request.Committer.TheVariants.{Magic}
 use Rattle.s3_types.specs.declared.reply.Reply.{Reply}
 use Rattle.s3_types.specs.declared.reply.Reply.TheVariants.{Page, Uploads as UploadsPage}
 use Rattle.s3_types.specs.declared.reply.PageEntry.{PageEntry}
@@ -59,8 +59,7 @@ module _ (w : Script) where
 
   fits_aborted : (c : Committer) → FitsClean w true (aborted c)
   fits_aborted Magic = (refl, λ q i. absurd i)
-  fits_aborted Directory = refl
-  fits_aborted Partitioned = refl
+  fits_aborted _ = refl
 
   fits_aborting : (c : Committer) (us : List UploadRef) → AllBelow w us → FitsClean w true (aborting c us)
   fits_aborting c [] h = fits_aborted c
@@ -105,13 +104,9 @@ module _ (w : Script) (minimum : ℕ) (k : Option ℕ) (s : Seen) (m : Told) (n 
 
   -- it changes no key that is not below the magic directory
   pub clean_hides : (t : Clean) → FitsClean w m.cleaned t → (r : Request) → clean_asks w t ≡ Some r → HidesAll w r
-  clean_hides (Walking found) fits r e = subst (HidesAll w) (some_is e) (λ b q i. absurd i)
-  clean_hides (Aborting u us) fits r e = subst (HidesAll w) (some_is e) (λ b q i. absurd i)
-  clean_hides (Sweeping (Listing keys)) fits r e = subst (HidesAll w) (some_is e) (λ b q i. absurd i)
   clean_hides (Sweeping (Deleting q qs)) fits r e = subst (HidesAll w) (some_is e) (λ b x i. fits.1 x (taken_in 1000 (q ∷ qs) x i))
-  clean_hides Naming fits r e = subst (HidesAll w) (some_is e) (λ b q i. absurd i)
-  clean_hides (Removing p ps) fits r e = subst (HidesAll w) (some_is e) (λ b q i. absurd i)
   clean_hides (CleanOver end) fits r e = absurd cc
+  clean_hides _ fits r e = subst (HidesAll w) (some_is e) (λ b q i. absurd i)
 
   pub clean_shows : (t : Clean) → FitsClean w m.cleaned t → (r : Request) → clean_asks w t ≡ Some r → (o : Outcome) → Shows o r
   clean_shows t fits r e o = hidden_shows j s.scene r o h.there (clean_hides t fits r e)

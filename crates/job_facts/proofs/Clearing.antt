@@ -10,7 +10,7 @@ use Rattle.s3_types.specs.Answer.{answer, apply}
 use Rattle.s3_types.specs.Moment.{effect, IsHonestOutcome}
 use Rattle.s3_types.specs.Requests.{only_reads}
 use Rattle.s3_types.specs.declared.request.Committer.{Committer}
-use Rattle.s3_types.specs.declared.request.Committer.TheVariants.{Magic, Directory, Partitioned}
+use Rattle.s3_types.specs.declared.request.Committer.TheVariants.{Magic}
 use Rattle.s3_types.specs.declared.request.Request.{Request}
 use Rattle.s3_types.specs.declared.request.Request.TheVariants.{AbortUpload, DeleteObjects, ClusterList, ClusterDelete}
 use Rattle.s3_types.specs.declared.request.UploadRef.{UploadRef}
@@ -43,16 +43,14 @@ use Rattle.job_facts.proofs.Live.{find_in, last_more, page_covers, page_all}
 
 nothing_magic : (c : Committer) (w : Script) (s : Scene) → is_magic c ≡ true → NoneLive w s.content → OnlyThese w s.content [] → NothingLeft c w s
 nothing_magic Magic w s m none bare = (none, λ k x e. elim (true_or_false (begins (magic_prefix w.dest.key w.job) k)) [ inl b ↦ absurd (bare k x b refl e) | inr b ↦ b ])
-nothing_magic Directory w s m none bare = absurd cc
-nothing_magic Partitioned w s m none bare = absurd cc
+nothing_magic _ w s m none bare = absurd cc
 
 no_file : (w : Script) (s : Scene) → FilesIn w s [] → NoClusterFile w s
 no_file w s h p bytes e = elim (true_or_false (begins (cluster_prefix w.job) p)) [ inl b ↦ absurd (h p bytes e b) | inr b ↦ b ]
 
 nothing_staging : (c : Committer) (w : Script) (s : Scene) → is_staging c ≡ true → NoneLive w s.content → FilesIn w s [] → NothingLeft c w s
 nothing_staging Magic w s m none bare = absurd cc
-nothing_staging Directory w s m none bare = (none, no_file w s bare)
-nothing_staging Partitioned w s m none bare = (none, no_file w s bare)
+nothing_staging _ w s m none bare = (none, no_file w s bare)
 
 none_in : (w : Script) (c : Content) → LiveIn w c [] → NoneLive w c
 none_in w c h id u e = elim (true_or_false (begins (dest_prefix w) u.key)) [ inl b ↦ absurd (h id u e b) | inr b ↦ b ]
@@ -60,8 +58,7 @@ none_in w c h id u e = elim (true_or_false (begins (dest_prefix w) u.key)) [ inl
 module _ (w : Script) (s : Scene) where
   clears_aborted : (c : Committer) → c ≡ w.committer → HasBucket s.content w.dest.bucket → NoneLive w s.content → Clears w s (aborted c)
   clears_aborted Magic e there none = (ap is_magic (sym e), none, there, (λ q i. absurd i), sweep_begins w s.content)
-  clears_aborted Directory e there none = (ap is_staging (sym e), none)
-  clears_aborted Partitioned e there none = (ap is_staging (sym e), none)
+  clears_aborted _ e there none = (ap is_staging (sym e), none)
 
   clears_aborting : (us : List UploadRef) → HasBucket s.content w.dest.bucket → LiveIn w s.content us → Clears w s (aborting w.committer us)
   clears_aborting [] there h = clears_aborted w.committer refl there (none_in w s.content h)

@@ -3,11 +3,11 @@ use Rattle.std.proofs.Common.{◌≡◌, ℕ, ◌+◌, ◌<◌, inl, inr, nat_lt
 use Rattle.std.proofs.lemmas.Bool.{and_parts, or_parts, false≢true}
 use Rattle.s3_types.specs.Moment.{is_effective}
 use Rattle.s3_types.specs.declared.request.Committer.{Committer}
-use Rattle.s3_types.specs.declared.request.Committer.TheVariants.{Magic, Directory, Partitioned}
+use Rattle.s3_types.specs.declared.request.Committer.TheVariants.{Magic}
 use Rattle.s3_types.specs.declared.request.Request.{Request}
 use Rattle.s3_types.specs.declared.reply.Reply.{Reply}
 use Rattle.s3_types.specs.declared.journal.Outcome.{Outcome}
-use Rattle.s3_types.specs.declared.journal.Outcome.TheVariants.{Answered, Slow, RequestLost, ReplyLost}
+use Rattle.s3_types.specs.declared.journal.Outcome.TheVariants.{Answered, Slow}
 use Rattle.pending_json.specs.Pending.{Pending}
 use Rattle.pending_json.specs.declared.records.PendingSet.{PendingSet}
 use Rattle.job_model.specs.Attempts.{Who}
@@ -23,7 +23,6 @@ use Rattle.job_operations.specs.Records.{file_key, file_record}
 use Rattle.list_walk.specs.Walks.{Sweep, Listing, Deleting, sweep_asks, sweep_hears}
 use Rattle.job_operations.specs.Lanes.{Turn, nth, abort, deletion, again, follow, dealt, chosen, undo, in_turn, is_tried, is_unsent, revert}
 use Rattle.job_operations.specs.JobCommits.{Sets, all_commits, picks_of, Commit, Fetching, Replacing, Completing, Marking, Reverting, CommitOver, set_request, set_read, commit_asks, commit_hears, commit_misses, commit_tells, commit_start, completing, is_no_magic, replaced, replacing, decided, fetching, fetched, swept, reverting, worn_completion}
-use Rattle.job_operations.specs.Cleanups.{Clean, Walking, Aborting, Sweeping, Naming, Removing, CleanOver, clean_asks}
 use Rattle.job_promise.specs.Seen.{Seen, is_begun}
 use Rattle.job_operations.specs.LaneTable.{Tabled}
 use Rattle.job_operations.specs.Operations.{Setting, Operation, asks}
@@ -33,7 +32,7 @@ use Rattle.s3_types.specs.Store.{Scene}
 use Rattle.job_facts.specs.Told.{Told, known, ends, tell_driver, tell_attempt, at_event}
 use Rattle.job_facts.specs.Facts.{Facts, Hold, knowing}
 use Rattle.job_facts.specs.Fits.{Fits}
-use Rattle.job_facts.specs.Driver.{Reads, FitsClean, FitsJobCommit}
+use Rattle.job_facts.specs.Driver.{Reads, FitsJobCommit}
 use Rattle.job_facts.specs.Standing.{IsSent, Closed, EndsSent, Reverts}
 use Rattle.job_facts.proofs.Whose.{or_true}
 use Rattle.job_facts.proofs.Legible.{drawn_is}
@@ -107,9 +106,8 @@ module _ (w : Script) (sent : Who → Bool) (drawn : Who → List Drawn) where
   reverts_heard (Fetching sets n) h x = reverts_fetched sets (set_read x)
   reverts_heard (Replacing sets p ps s n) h x = reverts_swept sets p ps (sweep_hears (is_no_magic w) s x)
   reverts_heard (Completing sets y ys finished) h x = reverts_completing sets (ys ++ follow w.lanes (length (all_commits sets)) y.number) (y.number ∷ finished)
-  reverts_heard (Marking sets n) h x = tt
   reverts_heard (Reverting q qs n) h x = reverts_reverting qs h.1
-  reverts_heard (CommitOver end) h x = tt
+  reverts_heard _ h x = tt
 
   revert_ends : IsLegal w → (ps : List Pending) → All ps → (worn : ℕ) → worn < length ps → (xs : List Turn) (finished : List ℕ) → EndsSent sent drawn (revert ps worn xs finished)
   revert_ends j ps h worn low xs finished = (
@@ -144,14 +142,12 @@ module _ (w : Script) (sent : Who → Bool) (drawn : Who → List Drawn) where
   pub reverts_tells : IsLegal w → (c : Commit) → Reverts sent drawn c → Tabled w c → Holds c → (o : Outcome) → Reverts sent drawn (commit_tells w c o)
   reverts_tells j c h t all (Answered x) = reverts_heard c h x
   reverts_tells j c h t all Slow = reverts_missed j c h t all false
-  reverts_tells j c h t all RequestLost = reverts_missed j c h t all true
-  reverts_tells j c h t all ReplyLost = reverts_missed j c h t all true
+  reverts_tells j c h t all _ = reverts_missed j c h t all true
 
   -- what a commit asks next ends only such uploads
   read_ends : (c : Committer) (t : ℕ) → (id : ℕ) → ends (set_request c w t) id ≡ true → IsSent sent drawn id
   read_ends Magic t = ends_none
-  read_ends Directory t = ends_none
-  read_ends Partitioned t = ends_none
+  read_ends _ t = ends_none
 
   sweep_ends : (p : List ℕ) (s : Sweep) → (id : ℕ) → ends (sweep_asks w.dest.bucket p s) id ≡ true → IsSent sent drawn id
   sweep_ends p (Listing keys) = ends_none
@@ -188,10 +184,7 @@ module _ {w : Script} {minimum : ℕ} {s : Scene} {last : ℕ → Option ℕ} {m
       let same : sets ≡ sets' = cc in
       commits_sent sets' (subst (Reads w minimum m.publish_sent m.drawn) same h)
   commit_holds (Fetching sets n) h sets' x xs finished e = absurd cc
-  commit_holds (Replacing sets p ps t n) h sets' x xs finished e = absurd cc
-  commit_holds (Marking sets n) h sets' x xs finished e = absurd cc
-  commit_holds (Reverting q qs n) h sets' x xs finished e = absurd cc
-  commit_holds (CommitOver end) h sets' x xs finished e = absurd cc
+  commit_holds _ h sets' x xs finished e = absurd cc
 
 -- ---- entries
 
@@ -219,12 +212,8 @@ module _ (g : Setting) (m : Told) (a : Who) (op : Operation) (fits : Fits g.scri
   ends_now (q ∷ qs) h = (λ id x. sent_now id (h.0 id x), ends_now qs h.1)
 
   pub attempt_reverts : (c : Commit) → Reverts m.publish_sent m.drawn c → Reverts now.publish_sent now.drawn c
-  attempt_reverts (Fetching sets n) h = tt
-  attempt_reverts (Replacing sets p ps s n) h = tt
-  attempt_reverts (Completing sets x xs finished) h = tt
-  attempt_reverts (Marking sets n) h = tt
   attempt_reverts (Reverting q qs n) h = ends_now (q ∷ qs) h
-  attempt_reverts (CommitOver end) h = tt
+  attempt_reverts _ h = tt
 
 -- of the driver's commit
 pub commit_closes : (g : Setting) → IsLegal g.script → (s : Seen) (m : Told) → Hold g.script g.minimum s m → Closed m → (c : Commit) → FitsJobCommit g.script g.minimum m.publish_sent m.drawn c → Tabled g.script c → Reverts m.publish_sent m.drawn c

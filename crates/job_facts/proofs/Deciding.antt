@@ -5,7 +5,7 @@ use Rattle.s3_types.specs.Store.{Scene}
 use Rattle.s3_types.specs.declared.request.Request.{Request}
 use Rattle.s3_types.specs.declared.reply.Reply.{Reply}
 use Rattle.s3_types.specs.declared.journal.Outcome.{Outcome}
-use Rattle.s3_types.specs.declared.journal.Outcome.TheVariants.{Answered, Slow, RequestLost, ReplyLost}
+use Rattle.s3_types.specs.declared.journal.Outcome.TheVariants.{Answered, Slow}
 use Rattle.pending_json.specs.Pending.{Pending}
 use Rattle.pending_json.specs.declared.records.PendingSet.{PendingSet}
 use Rattle.proof_base.proofs.Numbers.{below_is}
@@ -72,9 +72,8 @@ module _ (w : Script) (minimum : ℕ) (sent : Who → Bool) (drawn : Who → Lis
   d_heard (Fetching sets n) h x = d_fetched sets (set_read x) h
   d_heard (Replacing sets p ps s n) h x = d_swept sets p ps (sweep_hears (is_no_magic w) s x) h
   d_heard (Completing sets y ys finished) h x = d_completing sets (ys ++ follow w.lanes (length (all_commits sets)) y.number) (y.number ∷ finished) h
-  d_heard (Marking sets n) h x = tt
   d_heard (Reverting q qs n) h x = d_reverting qs (λ r i. h r (inr i))
-  d_heard (CommitOver end) h x = tt
+  d_heard _ h x = tt
 
   either : (b : Bool) (c d : Commit) → D c → D d → D (cond b c d)
   either true c d h g = h
@@ -99,8 +98,7 @@ module _ (w : Script) (minimum : ℕ) (sent : Who → Bool) (drawn : Who → Lis
   d_tells : (c : Commit) → D c → Tabled w c → Holds c → (o : Outcome) → D (commit_tells w c o)
   d_tells c h t all (Answered x) = d_heard c h x
   d_tells c h t all Slow = d_missed c h t all false
-  d_tells c h t all RequestLost = d_missed c h t all true
-  d_tells c h t all ReplyLost = d_missed c h t all true
+  d_tells c h t all _ = d_missed c h t all true
 
 module _ {w : Script} {minimum : ℕ} {s : Scene} {last : ℕ → Option ℕ} {m : Told} (j : IsLegal w) (f : Facts w minimum s last m) where
   holds : (c : Commit) → FitsJobCommit w minimum m.publish_sent m.drawn c → Holds w minimum m.publish_sent m.drawn c
@@ -108,10 +106,7 @@ module _ {w : Script} {minimum : ℕ} {s : Scene} {last : ℕ → Option ℕ} {m
       let same : sets ≡ others = cc in
       λ p i. (of_sets j f others (subst (Reads w minimum m.publish_sent m.drawn) same h) p i).1.commit
   holds (Fetching sets n) h others x xs finished e = absurd cc
-  holds (Replacing sets p ps t n) h others x xs finished e = absurd cc
-  holds (Marking sets n) h others x xs finished e = absurd cc
-  holds (Reverting q qs n) h others x xs finished e = absurd cc
-  holds (CommitOver end) h others x xs finished e = absurd cc
+  holds _ h others x xs finished e = absurd cc
 
   pub decides_goes : (c : Commit) → FitsJobCommit w minimum m.publish_sent m.drawn c → Tabled w c → Decides w minimum m.publish_sent m.drawn c → (o : Outcome) → Decides w minimum m.publish_sent m.drawn (commit_tells w c o)
   decides_goes c fits t h o = d_tells w minimum m.publish_sent m.drawn c h t (holds c fits) o

@@ -86,9 +86,7 @@ module _ {w : Script} {minimum : ℕ} {last : ℕ → Option ℕ} {m : Told} (j 
 -- what is seen after an entry of the driver
 driver_sees : {w : Script} {minimum : ℕ} (k : Option ℕ) (s : Seen) (m : Told) (n : ℕ) (r : Request) (o : Outcome) → Facts w minimum (effect s.scene r o) s.last (tell_driver m r o) → Hold w minimum (see w k s (driver_entry n r o)) (tell w m (driver_entry n r o))
 driver_sees k s m n r (Answered x) f = told_at n f
-driver_sees k s m n r Slow f = told_at n f
-driver_sees k s m n r RequestLost f = told_at n f
-driver_sees k s m n r ReplyLost f = told_at n f
+driver_sees k s m n r _ f = told_at n f
 
 pub driving_keeps : (w : Script) (minimum : ℕ) (k : Option ℕ) (s : Seen) (m : Told) (n : ℕ) (r : Request) (o : Outcome) → IsLegal w → IsDriving w r → Hold w minimum s m → Hold w minimum (see w k s (driver_entry n r o)) (tell w m (driver_entry n r o))
 driving_keeps w minimum k s m n r o j d f = driver_sees k s m n r o (driving_effect j s.scene r d f o)

@@ -38,16 +38,14 @@ use Rattle.job_facts.proofs.Undone.{stood_before}
 -- ---- scenes
 
 pub still_there : (w : Script) (s : Scene) (r : Request) (o : Outcome) → HasBucket s.content w.dest.bucket → HasBucket (effect s r o).content w.dest.bucket
-still_there w s r (Answered x) h = (frame s w.dest.bucket r h).there h.0 h.1
 still_there w s r Slow h = h
 still_there w s r RequestLost h = h
-still_there w s r ReplyLost h = (frame s w.dest.bucket r h).there h.0 h.1
+still_there w s r _ h = (frame s w.dest.bucket r h).there h.0 h.1
 
 pub reads_same : (s : Scene) (r : Request) (o : Outcome) → only_reads r ≡ true → effect s r o ≡ s
-reads_same s r (Answered x) h = reads_nothing s r h
 reads_same s r Slow h = refl
 reads_same s r RequestLost h = refl
-reads_same s r ReplyLost h = reads_nothing s r h
+reads_same s r _ h = reads_nothing s r h
 
 -- ---- keys that are deleted
 

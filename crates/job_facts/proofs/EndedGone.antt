@@ -6,9 +6,9 @@ use Rattle.s3_types.specs.Answer.{apply}
 use Rattle.s3_types.specs.Moment.{effect, is_effective}
 use Rattle.s3_types.specs.declared.request.Request.{Request}
 use Rattle.s3_types.specs.declared.request.Committer.{Committer}
-use Rattle.s3_types.specs.declared.request.Committer.TheVariants.{Magic, Directory, Partitioned}
+use Rattle.s3_types.specs.declared.request.Committer.TheVariants.{Magic}
 use Rattle.s3_types.specs.declared.journal.Outcome.{Outcome}
-use Rattle.s3_types.specs.declared.journal.Outcome.TheVariants.{Answered, Slow, RequestLost, ReplyLost}
+use Rattle.s3_types.specs.declared.journal.Outcome.TheVariants.{Slow, RequestLost}
 use Rattle.pending_json.specs.Pending.{Pending}
 use Rattle.job_model.specs.Legal.{IsLegal}
 use Rattle.job_model.specs.JobScript.{Script}
@@ -37,16 +37,14 @@ module _ (w : Script) (s : Scene) (there : HasBucket s.content w.dest.bucket) (i
   applied r h = let later : s.content.next ≤ (apply s r).content.next = (frame s w.dest.bucket r there).later in let low = h.0 in (omega arith, gone_stays w s there id h.0 r h.1)
 
   pub stays_gone : (r : Request) (o : Outcome) → Out s → Out (effect s r o)
-  stays_gone r (Answered y) h = applied r h
   stays_gone r Slow h = h
   stays_gone r RequestLost h = h
-  stays_gone r ReplyLost h = applied r h
+  stays_gone r _ h = applied r h
 
 pub effective_is : (s : Scene) (r : Request) (o : Outcome) → is_effective o ≡ true → effect s r o ≡ apply s r
-effective_is s r (Answered y) e = refl
 effective_is s r Slow e = absurd (false≢true e)
 effective_is s r RequestLost e = absurd (false≢true e)
-effective_is s r ReplyLost e = refl
+effective_is s r _ e = refl
 
 module _ {w : Script} {minimum : ℕ} {s : Scene} {last : ℕ → Option ℕ} {m : Told} (j : IsLegal w) (f : Facts w minimum s last m) (gone : Gone w s.content m) where
   -- a request ends nothing, or it is about the upload of a set that was read
@@ -55,8 +53,7 @@ module _ {w : Script} {minimum : ℕ} {s : Scene} {last : ℕ → Option ℕ} {m
 
   read_kind : (c : Committer) (t : ℕ) → Kind (set_request c w t)
   read_kind Magic t = inl (λ id. refl)
-  read_kind Directory t = inl (λ id. refl)
-  read_kind Partitioned t = inl (λ id. refl)
+  read_kind _ t = inl (λ id. refl)
 
   sweep_kind : (p : List ℕ) (x : Sweep) → Kind (sweep_asks w.dest.bucket p x)
   sweep_kind p (Listing keys) = inl (λ id. refl)

@@ -25,12 +25,12 @@ use Rattle.job_model.specs.JobScript.{Script}
 use Rattle.job_model.specs.Known.{Known}
 use Rattle.job_model.specs.declared.ends.SetupEnd.TheVariants as setups
 use Rattle.job_operations.specs.Outputs.{Picks}
-use Rattle.job_operations.specs.Setup.{Setup, Heading, Checking, Clearing, Sweeping, SetupOver, setup_start, setup_asks, setup_after}
+use Rattle.job_operations.specs.Setup.{Setup, Heading, Sweeping, SetupOver, setup_start, setup_asks, setup_after}
 use Rattle.list_walk.specs.Walks.{Listing, Deleting}
 use Rattle.job_operations.specs.Writes.{write_start}
 use Rattle.job_operations.specs.TaskCommits.{task_commit_start}
 use Rattle.job_operations.specs.TaskAborts.{task_abort_start}
-use Rattle.job_operations.specs.Cleanups.{Clean, Walking, Aborting, Removing, Naming, CleanOver, clean_start, clean_asks, clean_after}
+use Rattle.job_operations.specs.Cleanups.{Clean, CleanOver, clean_asks}
 use Rattle.job_operations.specs.Cleanups as cleanups
 use Rattle.job_operations.specs.Operations.{Setting, Operation, TheSetup, TheWrite, TheTaskCommit, TheTaskAbort, TheCommit, TheClean, who, asks, tells}
 use Rattle.job_promise.specs.Entries.{AreOwn}
@@ -73,8 +73,7 @@ use Rattle.job_facts.proofs.Keeping.{kept_next, at_beside, shows_beside, other_f
 -- who has just set up has set up
 pub just_set : (d : Option Operation) → is_just_set d ≡ true → is_set d ≡ true
 just_set (Some (TheSetup t)) e = e
-just_set None e = absurd (false_true refl e)
-just_set (Some _) e = absurd (false_true refl e)
+just_set _ e = absurd (false_true refl e)
 
 -- ---- entries of the job alone
 
@@ -176,12 +175,9 @@ module _ (g : Setting) (k : Option ℕ) (opening : Content) (j : IsLegal g.scrip
   -- ---- an entry of the set-up
 
   pub setup_ends : (op : Setup) (r : Request) → setup_asks w op ≡ Some r → (u : ℕ) → ends r u ≡ false
-  setup_ends Heading r e u = ap (λ r. ends r u) (sym (some_is e))
-  setup_ends (Checking keys) r e u = ap (λ r. ends r u) (sym (some_is e))
-  setup_ends Clearing r e u = ap (λ r. ends r u) (sym (some_is e))
   setup_ends (Sweeping (Listing keys)) r e u = ap (λ r. ends r u) (sym (some_is e))
-  setup_ends (Sweeping (Deleting q qs)) r e u = ap (λ r. ends r u) (sym (some_is e))
   setup_ends (SetupOver end) r e u = absurd cc
+  setup_ends _ r e u = ap (λ r. ends r u) (sym (some_is e))
 
   setup_plain : (op : Setup) (r : Request) → setup_asks w op ≡ Some r → is_marking w r ≡ false
   setup_plain (Sweeping (Listing keys)) r e = ap (is_marking w) (sym (some_is e))
@@ -205,23 +201,20 @@ module _ (g : Setting) (k : Option ℕ) (opening : Content) (j : IsLegal g.scrip
     pub least : c.minimum ≡ g.minimum
 
   numbers : (s : Scene) (r : Request) (o : Outcome) → HasBucket s.content w.dest.bucket → Numbers s.content → Numbers (effect s r o).content
-  numbers s r (Answered y) there n = let f = frame s w.dest.bucket r there in record { fresh = f.fresh n.fresh; least = f.least ∙ n.least }
   numbers s r Slow there n = n
   numbers s r RequestLost there n = n
-  numbers s r ReplyLost there n = let f = frame s w.dest.bucket r there in record { fresh = f.fresh n.fresh; least = f.least ∙ n.least }
+  numbers s r _ there n = let f = frame s w.dest.bucket r there in record { fresh = f.fresh n.fresh; least = f.least ∙ n.least }
 
   read_numbers : (s : Scene) (r : Request) (o : Outcome) → only_reads r ≡ true → Numbers s.content → Numbers (effect s r o).content
-  read_numbers s r (Answered y) reads n = subst (λ (x : Scene). Numbers x.content) (sym (reads_nothing s r reads)) n
   read_numbers s r Slow reads n = n
   read_numbers s r RequestLost reads n = n
-  read_numbers s r ReplyLost reads n = subst (λ (x : Scene). Numbers x.content) (sym (reads_nothing s r reads)) n
+  read_numbers s r _ reads n = subst (λ (x : Scene). Numbers x.content) (sym (reads_nothing s r reads)) n
 
   setup_numbers : (s : Scene) (op : Setup) (r : Request) (o : Outcome) → SetsUp w s.content op → setup_asks w op ≡ Some r → Numbers s.content → Numbers (effect s r o).content
   setup_numbers s Heading r o h e n = read_numbers s r o (ap only_reads (sym (some_is e))) n
-  setup_numbers s (Checking keys) r o h e n = numbers s r o h n
-  setup_numbers s Clearing r o h e n = numbers s r o h n
   setup_numbers s (Sweeping t) r o h e n = numbers s r o h.0 n
   setup_numbers s (SetupOver end) r o h e n = absurd cc
+  setup_numbers s _ r o h e n = numbers s r o h n
 
   early_sends : (x : Stand) → Early g opening x → (t : Retried Setup) → SetsUp w x.seen.scene.content t.operation → (n : ℕ) (r : Request) → setup_asks w t.operation ≡ Some r → (is_begun k n ≡ false) × (is_begun x.told.cleans_at n ≡ false) → (o : Outcome) → IsHonestOutcome o (answer x.seen.scene r)
       → Early g opening (with_commit (with_driver (saw g k x (driver_entry n r o)) (TheSetup (step w.retries (setup_after w) t o))) x.commit)
@@ -329,9 +322,8 @@ module _ (g : Setting) (k : Option ℕ) (opening : Content) (j : IsLegal g.scrip
     where
       gone_by : (o : Outcome) → Gone w x.seen.scene.content x.told → Gone w (see w k x.seen (entry a n r o)).scene.content (tell_attempt w x.told a r o)
       gone_by (Answered y) h = others_gone w x.seen.scene l.hold.there x.told.ended h r (Answered y)
-      gone_by Slow h = h
-      gone_by RequestLost h = h
       gone_by ReplyLost h = others_gone w x.seen.scene l.hold.there x.told.ended h r ReplyLost
+      gone_by _ h = h
 
   -- ---- the driver
 
@@ -382,10 +374,9 @@ module _ (g : Setting) (k : Option ℕ) (opening : Content) (j : IsLegal g.scrip
       ]
 
       by : (o : Outcome) → Numbers (effect s r o).content
-      by (Answered y) = acts
       by Slow = n
       by RequestLost = n
-      by ReplyLost = acts
+      by _ = acts
 
   early_strays : (x : Stand) → Early g opening x → (n : ℕ) (r : Request) (o : Outcome) → IsForeign w x.told.drawn r → Early g opening (saw g k x (strange_entry n r o))
   early_strays x e n r o f =
@@ -616,9 +607,8 @@ module _ (g : Setting) (k : Option ℕ) (opening : Content) (j : IsLegal g.scrip
 
       by : (o : Outcome) → ((o : Outcome) → ClearsAlone w x.seen.scene (effect x.seen.scene r o)) → Untouched g opening (see w k x.seen (driver_entry n r o)).scene.content
       by (Answered y) c = at (apply x.seen.scene r) (c (Answered y))
-      by Slow c = v
-      by RequestLost c = v
       by ReplyLost c = at (apply x.seen.scene r) (c ReplyLost)
+      by _ c = v
 
   driver_shown : (x : Stand) → Good x → (op : Operation) → x.driver ≡ Some op → (n : ℕ) (r : Request) → asks g (who Driver) nothing_learnt op ≡ Some r → IsTimely k x.told.cleans_at n op → x.seen.scene.content.next ≤ 2 ^ 64 → (o : Outcome) → IsHonestOutcome o (answer x.seen.scene r)
       → Shows g opening (Some op) x.seen x.told x.commit → Shown (with_commit (with_driver (saw g k x (driver_entry n r o)) (tells g (who Driver) op o)) (commit_with op x.commit (driver_entry n r o)))

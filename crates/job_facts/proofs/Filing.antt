@@ -159,21 +159,15 @@ module _ {w : Script} {minimum : ℕ} {s : Scene} {last : ℕ → Option ℕ} {m
 
     pub fetching_stands : (sets : Sets) (n : ℕ) (told : Told) (now : Option Object) → NoneEnded told → now ≡ first → (o : Outcome) → Follows now told (commit_tells w (Fetching sets n) o)
     fetching_stands sets n told now none same (Answered y) fits wants = stands_fetched sets (set_read y) told now none same fits wants
-    fetching_stands sets n told now none same Slow fits wants = either now told.ended (nat_lt n w.retries) (Fetching sets (n + 1)) (CommitOver (ends_of.StoreFault stages.Read)) (λ e. same) (λ e. same)
-    fetching_stands sets n told now none same RequestLost fits wants = either now told.ended (nat_lt n w.retries) (Fetching sets (n + 1)) (CommitOver (ends_of.StoreFault stages.Read)) (λ e. same) (λ e. same)
-    fetching_stands sets n told now none same ReplyLost fits wants = either now told.ended (nat_lt n w.retries) (Fetching sets (n + 1)) (CommitOver (ends_of.StoreFault stages.Read)) (λ e. same) (λ e. same)
+    fetching_stands sets n told now none same _ fits wants = either now told.ended (nat_lt n w.retries) (Fetching sets (n + 1)) (CommitOver (ends_of.StoreFault stages.Read)) (λ e. same) (λ e. same)
 
     pub replacing_stands : (sets : Sets) (p : List ℕ) (ps : List (List ℕ)) (x : Sweep) (n : ℕ) (told : Told) (now : Option Object) → NoneEnded told → IsBefore first now → (o : Outcome) → Follows now told (commit_tells w (Replacing sets p ps x n) o)
     replacing_stands sets p ps x n told now none same (Answered y) fits wants = stands_swept sets p ps (sweep_hears (is_no_magic w) x y) told now none same fits wants
-    replacing_stands sets p ps x n told now none same Slow fits wants = either now told.ended (nat_lt n w.retries) (Replacing sets p ps x (n + 1)) (CommitOver (ends_of.StoreFault stages.Delete)) (λ e. same) (λ e. same)
-    replacing_stands sets p ps x n told now none same RequestLost fits wants = either now told.ended (nat_lt n w.retries) (Replacing sets p ps x (n + 1)) (CommitOver (ends_of.StoreFault stages.Delete)) (λ e. same) (λ e. same)
-    replacing_stands sets p ps x n told now none same ReplyLost fits wants = either now told.ended (nat_lt n w.retries) (Replacing sets p ps x (n + 1)) (CommitOver (ends_of.StoreFault stages.Delete)) (λ e. same) (λ e. same)
+    replacing_stands sets p ps x n told now none same _ fits wants = either now told.ended (nat_lt n w.retries) (Replacing sets p ps x (n + 1)) (CommitOver (ends_of.StoreFault stages.Delete)) (λ e. same) (λ e. same)
 
     pub marking_stands : (sets : Sets) (n : ℕ) (now : Option Object) (ended : ℕ → Bool) → now ≡ Some (whole_of b) → (o : Outcome) → Stands now ended (commit_tells w (Marking sets n) o)
     marking_stands sets n now ended h (Answered y) = h
-    marking_stands sets n now ended h Slow = either now ended (nat_lt n w.retries) (Marking sets (n + 1)) (CommitOver (ends_of.StoreFault stages.Success)) (λ e. h) (λ e. h)
-    marking_stands sets n now ended h RequestLost = either now ended (nat_lt n w.retries) (Marking sets (n + 1)) (CommitOver (ends_of.StoreFault stages.Success)) (λ e. h) (λ e. h)
-    marking_stands sets n now ended h ReplyLost = either now ended (nat_lt n w.retries) (Marking sets (n + 1)) (CommitOver (ends_of.StoreFault stages.Success)) (λ e. h) (λ e. h)
+    marking_stands sets n now ended h _ = either now ended (nat_lt n w.retries) (Marking sets (n + 1)) (CommitOver (ends_of.StoreFault stages.Success)) (λ e. h) (λ e. h)
 
 -- ---- a completion, and the requests of a revert
 
@@ -192,10 +186,9 @@ module _ {w : Script} {minimum : ℕ} {s : Scene} {last : ℕ → Option ℕ} {m
 
   -- where an entry leaves the key as it was
   same_after : (r : Request) → at_key w (apply s r).content at ≡ now → (o : Outcome) → after r o ≡ now
-  same_after r e (Answered y) = e
   same_after r e Slow = refl
   same_after r e RequestLost = refl
-  same_after r e ReplyLost = e
+  same_after r e _ = e
 
   module _ (sets : Sets) (x : Turn) (xs : List Turn) (finished : List ℕ) (reads : Reads w minimum m.publish_sent m.drawn sets) (t : Tabled w (Completing sets x xs finished)) (turns : Turned m.ended sets (x ∷ xs) finished) (d : AreDecided w sets)
       (wants : wanted_at w (picks_of sets) q ≡ Some b) (old : Clause j f q b first sets now m.ended) where
@@ -232,10 +225,9 @@ module _ {w : Script} {minimum : ℕ} {s : Scene} {last : ℕ → Option ℕ} {m
     Here o = ((told o).ended p.upload ≡ true → after (completion p) o ≡ Some (whole_of b)) × ((told o).ended p.upload ≡ false → IsBefore first (after (completion p) o))
 
     here : p.destination ≡ at → (o : Outcome) → Here o
-    here e (Answered y) = ((λ g. whole_now e), (λ g. absurd (false_true g ended_now)))
     here e Slow = let h = old p (nth_of all x.number low) e in ((λ g. h.0 (sym (or_false (m.ended p.upload)) ∙ g)), (λ g. h.1 (sym (or_false (m.ended p.upload)) ∙ g)))
     here e RequestLost = let h = old p (nth_of all x.number low) e in ((λ g. h.0 (sym (or_false (m.ended p.upload)) ∙ g)), (λ g. h.1 (sym (or_false (m.ended p.upload)) ∙ g)))
-    here e ReplyLost = ((λ g. whole_now e), (λ g. absurd (false_true g ended_now)))
+    here e _ = ((λ g. whole_now e), (λ g. absurd (false_true g ended_now)))
 
     -- another upload is as it was
     and_false : (v : Bool) → (v && false) ≡ false

@@ -8,7 +8,7 @@ use Rattle.s3_types.specs.declared.object.Object.{Object}
 use Rattle.s3_types.specs.declared.request.Request.{Request}
 use Rattle.s3_types.specs.declared.request.Request.TheVariants.{PutObject}
 use Rattle.s3_types.specs.declared.request.Committer.{Committer}
-use Rattle.s3_types.specs.declared.request.Committer.TheVariants.{Magic, Directory, Partitioned}
+use Rattle.s3_types.specs.declared.request.Committer.TheVariants.{Magic}
 use Rattle.s3_types.specs.declared.journal.Outcome.{Outcome}
 use Rattle.s3_types.specs.declared.journal.Outcome.TheVariants.{Answered, Slow, RequestLost, ReplyLost}
 use Rattle.s3_types.specs.declared.journal.Entry.{Entry}
@@ -72,19 +72,15 @@ module _ (g : Setting) (m : Told) (a : Who) (op : Operation) (fits : Fits g.scri
       }
 
   pub decides_beside : (c : Commit) → Decides g.script g.minimum m.publish_sent m.drawn c → Decides g.script g.minimum now.publish_sent now.drawn c
-  decides_beside (Fetching sets n) h = h
-  decides_beside (Replacing sets p ps x n) h = h
-  decides_beside (Completing sets x xs finished) h = h
-  decides_beside (Marking sets n) h = h
   decides_beside (Reverting q qs n) h = λ y i. let x = h y i in (x.0, commit_still x.0 x.1, x.2)
   decides_beside (CommitOver end) h = tt
+  decides_beside _ h = h
 
 -- where a request does not change a key
 pub stranger_same : (w : Script) (s : Scene) → HasBucket s.content w.dest.bucket → (r : Request) (o : Outcome) (k : List ℕ) → (bucket_of r ≡ w.dest.bucket → IsIn k (changed_keys r) → ⊥) → at_key w (effect s r o).content k ≡ at_key w s.content k
-stranger_same w s there r (Answered y) k free = (frame s w.dest.bucket r there).keys k free
 stranger_same w s there r Slow k free = refl
 stranger_same w s there r RequestLost k free = refl
-stranger_same w s there r ReplyLost k free = (frame s w.dest.bucket r there).keys k free
+stranger_same w s there r _ k free = (frame s w.dest.bucket r there).keys k free
 
 pub attempt_same : (g : Setting) → IsLegal g.script → (s : Seen) (m : Told) (a : Who) → Hold g.script g.minimum s m → IsAttempt g.script a → (op : Operation) → Fits g.script g.minimum a m op → (r : Request) → asks g a (known m a) op ≡ Some r → (o : Outcome)
     → (q : List ℕ) → is_open q ≡ true → at_key g.script (effect s.scene r o).content (below g.script.dest.key q) ≡ at_key g.script s.scene.content (below g.script.dest.key q)
@@ -119,15 +115,13 @@ module _ (g : Setting) (j : IsLegal g.script) (s : Seen) (m : Told) (n : ℕ) (f
   So c r o d = FileStands w q b first (es ++ driver_entry n r o ∷ []) (after r o) (tell_driver m r o).ended d
 
   reads_same : (r : Request) → only_reads r ≡ true → (o : Outcome) → after r o ≡ at_key w s.scene.content key
-  reads_same r h (Answered y) = ap (λ (x : Scene). at_key w x.content key) (reads_nothing s.scene r h)
   reads_same r h Slow = refl
   reads_same r h RequestLost = refl
-  reads_same r h ReplyLost = ap (λ (x : Scene). at_key w x.content key) (reads_nothing s.scene r h)
+  reads_same r h _ = ap (λ (x : Scene). at_key w x.content key) (reads_nothing s.scene r h)
 
   set_reads : (c : Committer) (t : ℕ) → only_reads (set_request c w t) ≡ true
   set_reads Magic t = refl
-  set_reads Directory t = refl
-  set_reads Partitioned t = refl
+  set_reads _ t = refl
 
   before_next : {u v : Option Object} → (v ≡ u) ⊎ (v ≡ None) → IsBefore first u → IsBefore first v
   before_next (inr e) h = inr e

@@ -5,7 +5,7 @@ use Rattle.s3_types.specs.Answer.{apply}
 use Rattle.s3_types.specs.Requests.{only_reads}
 use Rattle.s3_types.specs.declared.request.Request.{Request}
 use Rattle.s3_types.specs.declared.journal.Outcome.{Outcome}
-use Rattle.s3_types.specs.declared.journal.Outcome.TheVariants.{Answered, Slow, RequestLost, ReplyLost}
+use Rattle.s3_types.specs.declared.journal.Outcome.TheVariants.{Slow, RequestLost}
 use Rattle.job_model.specs.Attempts.{Who}
 use Rattle.job_model.specs.Legal.{IsLegal}
 use Rattle.job_model.specs.JobScript.{Script}
@@ -49,10 +49,9 @@ foreign_effect {w = w} {m = m} j s r g f = leaves_keep j (foreign_leaves w m.dra
 
 pub foreign_keeps : (w : Script) (minimum : ℕ) (k : Option ℕ) (s : Seen) (m : Told) (n : ℕ) (r : Request) (o : Outcome) → IsLegal w → IsForeign w m.drawn r
     → Hold w minimum s m → Hold w minimum (see w k s (strange_entry n r o)) (tell w m (strange_entry n r o))
-foreign_keeps w minimum k s m n r (Answered x) j g f = foreign_effect j s.scene r g f
 foreign_keeps w minimum k s m n r Slow j g f = f
 foreign_keeps w minimum k s m n r RequestLost j g f = f
-foreign_keeps w minimum k s m n r ReplyLost j g f = foreign_effect j s.scene r g f
+foreign_keeps w minimum k s m n r _ j g f = foreign_effect j s.scene r g f
 
 -- what only reads keeps them
 pub reads_effect : {w : Script} {minimum : ℕ} {last : ℕ → Option ℕ} {m : Told} (s : Scene) (r : Request) → only_reads r ≡ true → Facts w minimum s last m → Facts w minimum (apply s r) last m

@@ -12,15 +12,15 @@ use Rattle.s3_types.specs.declared.request.Request.{Request}
 use Rattle.s3_types.specs.declared.request.Request.TheVariants.{AbortUpload}
 use Rattle.s3_types.specs.declared.request.UploadRef.{UploadRef}
 use Rattle.s3_types.specs.declared.request.Committer.{Committer}
-use Rattle.s3_types.specs.declared.request.Committer.TheVariants.{Magic, Directory, Partitioned}
+use Rattle.s3_types.specs.declared.request.Committer.TheVariants.{Magic}
 use Rattle.s3_types.specs.declared.reply.Reply.{Reply}
 use Rattle.s3_types.specs.declared.reply.Reply.TheVariants.{Uploads as UploadsPage}
 use Rattle.s3_types.specs.declared.journal.Outcome.{Outcome}
-use Rattle.s3_types.specs.declared.journal.Outcome.TheVariants.{Answered, Slow, RequestLost, ReplyLost}
+use Rattle.s3_types.specs.declared.journal.Outcome.TheVariants.{Answered, Slow, RequestLost}
 use Rattle.sendings.specs.Retries.{Retried, step}
 use Rattle.job_model.specs.JobScript.{Script}
 use Rattle.job_operations.specs.Setup.{dest_prefix}
-use Rattle.list_walk.specs.Walks.{Sweep, Listing, Deleting, walked_by, walked_uploads, last_ref, uploads_after, sweep_hears, all_go}
+use Rattle.list_walk.specs.Walks.{Sweep, Listing, walked_by, walked_uploads, last_ref, uploads_after, sweep_hears, all_go}
 use Rattle.job_operations.specs.Cleanups.{Clean, Walking, Aborting, Sweeping, Naming, Removing, CleanOver, clean_asks, clean_after, clean_hears, aborted, aborting, walking, sweeping, removing, naming}
 use Rattle.request_frame.specs.Held.{HasBucket}
 use Rattle.request_frame.proofs.Members.{some_is, false_true, eq_nat, text_true, in_append}
@@ -46,18 +46,14 @@ module _ (w : Script) (s : Scene) (there : HasBucket s.content w.dest.bucket) wh
       (omega arith, λ u e. let z = stood_so w s there q.upload h.0 r u e in sym z.key ∙ h.1 z.one z.stood)
 
   key_stays : (q : UploadRef) (r : Request) (o : Outcome) → HasItsKey w s.content q → HasItsKey w (effect s r o).content q
-  key_stays q r (Answered x) h = key_applied q r h
   key_stays q r Slow h = h
   key_stays q r RequestLost h = h
-  key_stays q r ReplyLost h = key_applied q r h
+  key_stays q r _ h = key_applied q r h
 
   pub keys_stay : (t : Clean) (r : Request) (o : Outcome) → FoundWithKeys w s.content t → FoundWithKeys w (effect s r o).content t
   keys_stay (Walking found) r o h = λ q i. key_stays q r o (h q i)
   keys_stay (Aborting u us) r o h = λ q i. key_stays q r o (h q i)
-  keys_stay (Sweeping t) r o h = tt
-  keys_stay Naming r o h = tt
-  keys_stay (Removing p ps) r o h = tt
-  keys_stay (CleanOver end) r o h = tt
+  keys_stay _ r o h = tt
 
   -- an abort of one that was found leaves it gone
   abort_gone : (q : UploadRef) → HasItsKey w s.content q → at_id w (apply s (AbortUpload w.dest.bucket q.key q.upload)).content q.upload ≡ None
@@ -71,8 +67,7 @@ module _ (w : Script) (s : Scene) (there : HasBucket s.content w.dest.bucket) wh
 
 found_aborted : (w : Script) (c : Content) (x : Committer) → FoundWithKeys w c (aborted x)
 found_aborted w c Magic = tt
-found_aborted w c Directory = tt
-found_aborted w c Partitioned = tt
+found_aborted w c _ = tt
 
 found_aborting : (w : Script) (c : Content) (us : List UploadRef) → AllHaveKeys w c us → FoundWithKeys w c (aborting w.committer us)
 found_aborting w c [] h = found_aborted w c w.committer
@@ -146,10 +141,8 @@ module _ (w : Script) (s : Scene) (there : HasBucket s.content w.dest.bucket) (f
           subst (λ v. Out (apply s v)) is (subst (λ v. (v < (apply s (AbortUpload w.dest.bucket u.key u.upload)).content.next) × (at_id w (apply s (AbortUpload w.dest.bucket u.key u.upload)).content v ≡ None)) (sym same)
           ((key_applied w s there u (AbortUpload w.dest.bucket u.key u.upload) (h u (inl refl))).0, abort_gone w s there u (h u (inl refl))))
       ends_now (Sweeping (Listing keys)) h e x = absurd (false_true (ap (λ v. ends v id) (sym (some_is e))) x)
-      ends_now (Sweeping (Deleting q qs)) h e x = absurd (false_true (ap (λ v. ends v id) (sym (some_is e))) x)
-      ends_now Naming h e x = absurd (false_true (ap (λ v. ends v id) (sym (some_is e))) x)
-      ends_now (Removing p ps) h e x = absurd (false_true (ap (λ v. ends v id) (sym (some_is e))) x)
       ends_now (CleanOver end) h e x = absurd cc
+      ends_now _ h e x = absurd (false_true (ap (λ v. ends v id) (sym (some_is e))) x)
 
       by : (b : Bool) → m.ended id ≡ b → Out (effect s r o)
       by true old = stays_gone w s there id r o (gone id old)

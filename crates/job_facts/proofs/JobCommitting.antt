@@ -22,7 +22,7 @@ use Rattle.request_frame.proofs.Flat.{page_begins}
 use Rattle.job_operations.specs.Conflicts.{partitions}
 use Rattle.job_operations.specs.TaskCommits.{partition_prefix}
 use Rattle.s3_types.specs.declared.journal.Outcome.{Outcome}
-use Rattle.s3_types.specs.declared.journal.Outcome.TheVariants.{Answered, Slow, RequestLost, ReplyLost}
+use Rattle.s3_types.specs.declared.journal.Outcome.TheVariants.{Answered, Slow}
 use Rattle.magic_paths.specs.Layout.{magic_prefix}
 use Rattle.magic_paths.specs.Places.{FilePlace, SuccessPlace, is_open}
 use Rattle.magic_paths.proofs.Tails.{key_magic}
@@ -43,7 +43,7 @@ use Rattle.job_model.specs.Known.{Drawn}
 use Rattle.job_operations.specs.Knowledge.{drawn_for}
 use Rattle.job_operations.specs.Records.{file_key, file_record, files_set}
 use Rattle.job_operations.specs.Setup.{dest_prefix}
-use Rattle.list_walk.specs.Walks.{Sweep, Listing, Deleting, Walked, More, Whole, walked, walked_by, last_of, keys_on, sweep_start, sweep_asks, sweep_hears, deleting, page_after}
+use Rattle.list_walk.specs.Walks.{Sweep, Listing, Deleting, walked, walked_by, last_of, keys_on, sweep_asks, sweep_hears, deleting, page_after}
 use Rattle.list_walk.specs.Walks as walks
 use Rattle.job_operations.specs.Lanes.{Turn, nth, nothing_pending, completion, abort, deletion, again, follow, dealt, chosen, undo, in_turn, is_tried, is_unsent, revert}
 use Rattle.job_operations.specs.JobCommits.{Sets, all_commits, picks_of, Commit, Fetching, Replacing, Completing, Marking, Reverting, CommitOver, set_request, set_read, commit_asks, commit_hears, commit_misses, commit_tells, completing, is_no_magic, replaced, replacing, decided, fetching, fetched, swept, reverting, worn_completion}
@@ -343,13 +343,11 @@ module _ (w : Script) (minimum : ℕ) (k : Option ℕ) (s : Seen) (m : Told) (n 
   fits_answered (Fetching sets y) f few r e x honest = fits_fetched sets f.0 f.1 few x (honest ∙ ap (answer s.scene) (sym (some_is e)))
   fits_answered (Replacing sets p ps y z) f few r e x honest = fits_swept j minimum m.publish_sent m.drawn sets p ps (sweep_hears (is_no_magic w) y x) f.0 f.1 (fits_heard w s.scene h.there p (f.1 p (inl refl)) y f.2 x (honest ∙ ap (answer s.scene) (sym (some_is e))))
   fits_answered (Completing sets y ys finished) f few r e x honest = fits_completing j minimum m.publish_sent m.drawn sets (ys ++ follow w.lanes (length (all_commits sets)) y.number) (y.number ∷ finished) f
-  fits_answered (Marking sets y) f few r e x honest = tt
   fits_answered (Reverting q qs y) f few r e x honest = fits_reverting j minimum m.publish_sent m.drawn qs f.1
-  fits_answered (CommitOver end) f few r e x honest = tt
+  fits_answered _ f few r e x honest = tt
 
   -- it holds the sets as it read them, and goes on as it should
   pub commit_fits : (c : Commit) → Fits c → s.scene.content.next ≤ 2 ^ 64 → (r : Request) → commit_asks w c ≡ Some r → (o : Outcome) → IsHonestOutcome o (answer s.scene r) → Fits (commit_tells w c o)
   commit_fits c f few r e (Answered x) honest = fits_answered c f few r e x honest
   commit_fits c f few r e Slow honest = fits_missed j minimum m.publish_sent m.drawn c false f
-  commit_fits c f few r e RequestLost honest = fits_missed j minimum m.publish_sent m.drawn c true f
-  commit_fits c f few r e ReplyLost honest = fits_missed j minimum m.publish_sent m.drawn c true f
+  commit_fits c f few r e _ honest = fits_missed j minimum m.publish_sent m.drawn c true f

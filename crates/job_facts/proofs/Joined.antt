@@ -52,14 +52,12 @@ all_joined m n (t ∷ ts) (b ∷ bs) h =
 
 -- all but the last have the minimum
 abbrev AllLarge : ℕ → List (List ℕ) → Type 0
-AllLarge minimum [] = Unit {0}
-AllLarge minimum (b ∷ []) = Unit {0}
 AllLarge minimum (b ∷ c ∷ bs) = (minimum ≤ length b) × AllLarge minimum (c ∷ bs)
+AllLarge minimum _ = Unit {0}
 
 from_places : (minimum : ℕ) (bs : List (List ℕ)) → ((i : ℕ) (b : List ℕ) → slice_get bs i ≡ Some b → suc i < length bs → minimum ≤ length b) → AllLarge minimum bs
-from_places minimum [] h = tt
-from_places minimum (b ∷ []) h = tt
 from_places minimum (b ∷ c ∷ bs) h = (h zero b refl (omega arith), from_places minimum (c ∷ bs) (λ i x e l. h (suc i) x e (omega arith)))
+from_places minimum _ h = tt
 
 length-named : (n : ℕ) (ts : List Spelled) → length (named_from n ts) ≡ length ts
 length-named n [] = refl

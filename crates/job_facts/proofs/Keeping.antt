@@ -5,7 +5,7 @@ use Rattle.s3_types.specs.Store.{Content}
 use Rattle.s3_types.specs.Pages.{begins}
 use Rattle.s3_types.specs.declared.request.Request.{Request}
 use Rattle.s3_types.specs.declared.journal.Outcome.{Outcome}
-use Rattle.s3_types.specs.declared.journal.Outcome.TheVariants.{Answered, Slow, RequestLost, ReplyLost}
+use Rattle.s3_types.specs.declared.journal.Outcome.TheVariants.{Answered, ReplyLost}
 use Rattle.s3_types.specs.declared.journal.Entry.{Entry}
 use Rattle.path_keys.specs.Paths.{below}
 use Rattle.magic_paths.specs.Layout.{magic_prefix, success_key}
@@ -20,7 +20,7 @@ use Rattle.job_model.specs.declared.ends.Stage.TheVariants as stages
 use Rattle.job_operations.specs.Outputs.{Picks}
 use Rattle.job_operations.specs.Knowledge.{learn}
 use Rattle.job_operations.specs.View.{view, is_file_path}
-use Rattle.job_operations.specs.JobCommits.{picks_of, is_no_magic, Commit, Fetching, Replacing, Completing, Marking, Reverting, CommitOver, commit_start}
+use Rattle.job_operations.specs.JobCommits.{picks_of, is_no_magic, Commit, Replacing, Marking, CommitOver, commit_start}
 use Rattle.job_operations.specs.Operations.{Setting, Operation, TheSetup, TheWrite, TheTaskCommit, TheTaskAbort, TheCommit, TheClean, asks}
 use Rattle.job_operations.proofs.LaneTables.{tabled_start}
 use Rattle.job_promise.specs.Headline.{Same, Between, Whole, Kept}
@@ -59,9 +59,8 @@ pub record Quiet (w : Script) (s u : Seen) : Type 0 where
 
 pub attempt_quiet : (w : Script) (k : Option ℕ) (s : Seen) (a : Who) (n : ℕ) (r : Request) → HasBucket s.scene.content w.dest.bucket → HidesAll w r → (o : Outcome) → Quiet w s (see w k s (entry a n r o))
 attempt_quiet w k s a n r there h (Answered y) = record { keys = hidden_same w s.scene there r h (Answered y); picks = refl; mark = refl; begun = refl }
-attempt_quiet w k s a n r there h Slow = record { keys = λ q e. refl; picks = refl; mark = refl; begun = refl }
-attempt_quiet w k s a n r there h RequestLost = record { keys = λ q e. refl; picks = refl; mark = refl; begun = refl }
 attempt_quiet w k s a n r there h ReplyLost = record { keys = hidden_same w s.scene there r h ReplyLost; picks = refl; mark = refl; begun = refl }
+attempt_quiet w k s a n r there h _ = record { keys = λ q e. refl; picks = refl; mark = refl; begun = refl }
 
 module _ (g : Setting) (j : IsLegal g.script) (opening : Content) (s u : Seen) (q : Quiet g.script s u) where
   abbrev w : Script
@@ -82,20 +81,12 @@ module _ (g : Setting) (j : IsLegal g.script) (opening : Content) (s u : Seen) (
   left_still : (p : Picks) (put : Bool) (end : CommitEnd) → MarkLeft g opening s.scene.content p put end → MarkLeft g opening u.scene.content p put end
   left_still p put commits.Committed h = says_still p put h
   left_still p put (commits.StoreFault stages.Success) h = says_still p put h
-  left_still p put (commits.StoreFault stages.Read) h = h
-  left_still p put (commits.StoreFault stages.Delete) h = h
-  left_still p put (commits.StoreFault stages.Complete) h = h
-  left_still p put (commits.Missing t) h = h
-  left_still p put (commits.SamePath x t v) h = h
-  left_still p put commits.NoMemory h = h
+  left_still p put _ h = h
 
   marks_still : (p : Picks) (put : Bool) (d : Commit) → Marks g opening s.scene.content p put d → Marks g opening u.scene.content p put d
-  marks_still p put (Fetching sets n) h = h
-  marks_still p put (Replacing sets x xs y n) h = h
-  marks_still p put (Completing sets x xs finished) h = h
   marks_still p put (Marking sets n) h = says_still p put h
-  marks_still p put (Reverting r rs n) h = h
   marks_still p put (CommitOver end) h = left_still p put end h
+  marks_still p put _ h = h
 
   pub idle_still : (m n : Told) → ((id : ℕ) → n.ended id ≡ m.ended id) → n.cleaned ≡ m.cleaned → Idle g opening s m → Idle g opening u n
   idle_still m n ended cleaned i = record {
@@ -121,12 +112,8 @@ module _ (g : Setting) (j : IsLegal g.script) (opening : Content) (s u : Seen) (
   sweep_still prefix (Deleting k ks) h = only_still prefix (k ∷ ks) h
 
   empty_still : (d : Commit) → Empty g opening s.scene.content d → Empty g opening u.scene.content d
-  empty_still (Fetching sets n) h = tt
   empty_still (Replacing sets x xs t n) h = record { behind = h.behind; parts = h.parts; clear = λ k i. only_still k [] (h.clear k i); under = h.under; sweeps = sweep_still x t h.sweeps }
-  empty_still (Completing sets x xs finished) h = tt
-  empty_still (Marking sets n) h = tt
-  empty_still (Reverting r rs n) h = tt
-  empty_still (CommitOver end) h = tt
+  empty_still _ h = tt
 
 -- what a reader is shown goes on so, where nothing that is shown changes
 pub kept_next : (g : Setting) (opening : Content) (s u : Seen) → Same (view g.script.dest u.scene.content) (view g.script.dest s.scene.content) → at_key g.script u.scene.content (success_key g.script.dest.key) ≡ at_key g.script s.scene.content (success_key g.script.dest.key)
@@ -181,12 +168,8 @@ module _ (g : Setting) (j : IsLegal g.script) (opening : Content) (k : Option �
   })
     where
       turns_beside : (c : Commit) → Turns m c → Turns told c
-      turns_beside (Fetching sets y) t = t
-      turns_beside (Replacing sets p ps x y) t = t
-      turns_beside (Completing sets x xs finished) t = t
-      turns_beside (Marking sets y) t = t
-      turns_beside (Reverting q qs y) t = t
       turns_beside (CommitOver end) t = tt
+      turns_beside _ t = t
 
   pub at_beside : (d : Option Operation) → At g opening d s m → At g opening d next told
   at_beside (Some (TheSetup t)) y = (y.0, idle_still g j opening s next quiet m told (λ id. refl) refl y.1)
@@ -211,9 +194,8 @@ module _ (g : Setting) (j : IsLegal g.script) (opening : Content) (k : Option �
     where
       shows_by : (o : Outcome) → Same (view g.script.dest (see g.script k s (entry a n r o)).scene.content) (view g.script.dest s.scene.content)
       shows_by (Answered x) = hidden_shows j s.scene r (Answered x) h.there hides
-      shows_by Slow = λ p. refl
-      shows_by RequestLost = λ p. refl
       shows_by ReplyLost = hidden_shows j s.scene r ReplyLost h.there hides
+      shows_by _ = λ p. refl
   shows_beside (Some _) v = absurd v
 
   -- other attempts know what they knew
@@ -231,12 +213,10 @@ module _ (g : Setting) (j : IsLegal g.script) (opening : Content) (k : Option �
       undone_same = who_other m.undone a _ b ne
 
       by : (mine : Operation) → Fits g.script g.minimum b m mine → Fits g.script g.minimum b told mine
-      by (TheSetup t) f = f
       by (TheWrite t) f = (undone_same ∙ f.0, subst (λ v. FitsWrite g.script g.minimum b v t.operation) same f.1)
       by (TheTaskCommit t) f = (undone_same ∙ f.0, subst (λ v. FitsCommit g.script g.minimum b v t.operation) same f.1)
       by (TheTaskAbort t) f = subst (λ v. FitsAbort g.script b v t.operation) same f
-      by (TheCommit c) f = f
-      by (TheClean t) f = f
+      by _ f = f
 
   pub other_known : (b : Who) → (b ≡ a → ⊥) → known told b ≡ known m b
   other_known b ne = λ i. record {

@@ -25,8 +25,6 @@ module _ (w : Script) (a : Who) where
       ap (λ (x : ℕ). attempt x a.attempt) (sym (eq_nat t a.task p.0)) ∙ ap (λ (x : ℕ). attempt t x) (sym (eq_nat n a.attempt p.1))
 
   learnt : (m : Told) (x : Actor) (n : ℕ) (r : Request) (o : Outcome) → known (tell_by w m n r o x) a ≡ cond (same_actor x (actor_of a)) (learn w a (known m a) r o) (known m a)
-  learnt m Driver v r o = refl
-  learnt m Shell v r o = refl
   learnt m (Attempt t n) v r o = elim (same_or_another a (attempt t n)) [
     | inl is ↦
         let now = learn w (attempt t n) (known m (attempt t n)) r o in
@@ -47,6 +45,7 @@ module _ (w : Script) (a : Who) where
         } in
         here ∙ sym (ap (λ b. cond b (learn w a (known m a) r o) (known m a)) other)
   ]
+  learnt m _ v r o = refl
 
   pub known_is : (es : List Entry) (m : Told) → known (tell_all w m es) a ≡ knows_from w a (known m a) (by_actor (actor_of a) es)
   known_is [] m = refl

@@ -5,7 +5,7 @@ use Rattle.std.specs.Option.{unwrap_or, option_map}
 use Rattle.std.proofs.lemmas.Bool.{and_parts, leb-true, false≢true}
 use Rattle.proof_base.specs.Order.{text_eq}
 use Rattle.s3_types.specs.declared.request.Committer.{Committer}
-use Rattle.s3_types.specs.declared.request.Committer.TheVariants.{Magic, Directory, Partitioned}
+use Rattle.s3_types.specs.declared.request.Committer.TheVariants.{Magic}
 use Rattle.s3_types.specs.declared.request.Mode.{Mode}
 use Rattle.s3_types.specs.Names.{is_job_id}
 use Rattle.magic_paths.specs.Places.{is_record}
@@ -145,8 +145,7 @@ given_of {w = w} j a f i = let g = from_script w a f i in given_in [] (written w
 
 plain_names : (c : Committer) (m : Mode) (u : Bool) → is_magic c ≡ true → FitsMagic c m u → u ≡ false
 plain_names Magic m u h f = f.1
-plain_names Directory m u h f = absurd (false≢true h)
-plain_names Partitioned m u h f = absurd (false≢true h)
+plain_names _ m u h f = absurd (false≢true h)
 
 pub given : {w : Script} → IsLegal w → is_magic w.committer ≡ true → (a : Who) (f : File) → IsIn f (files w a) → IsGiven f.0
 given {w = w} j magic a f i =

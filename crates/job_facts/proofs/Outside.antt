@@ -9,9 +9,9 @@ use Rattle.s3_types.specs.Answer.{apply, apply_at, bucket_of}
 use Rattle.s3_types.specs.Moment.{effect}
 use Rattle.s3_types.specs.declared.request.Request.{Request}
 use Rattle.s3_types.specs.declared.request.NamedPart.{NamedPart}
-use Rattle.s3_types.specs.declared.request.Request.TheVariants.{MakeBucket, PutObject, GetObject, HeadObject, DeleteObject, DeleteObjects, CopyObject, ListPage, CreateUpload, UploadPart, CompleteUpload, AbortUpload, ListParts, ListUploads, ClusterPut, ClusterRename, ClusterGet, ClusterDelete, ClusterList}
+use Rattle.s3_types.specs.declared.request.Request.TheVariants.{MakeBucket, PutObject, GetObject, HeadObject, DeleteObject, DeleteObjects, CopyObject, ListPage, CreateUpload, UploadPart, CompleteUpload, AbortUpload, ListParts, ListUploads}
 use Rattle.s3_types.specs.declared.journal.Outcome.{Outcome}
-use Rattle.s3_types.specs.declared.journal.Outcome.TheVariants.{Answered, Slow, RequestLost, ReplyLost}
+use Rattle.s3_types.specs.declared.journal.Outcome.TheVariants.{Slow, RequestLost}
 use Rattle.job_model.specs.JobScript.{Script}
 use Rattle.job_operations.specs.Setup.{dest_prefix}
 use Rattle.job_promise.specs.Scope.{SameOutsideUpload, SameOutside}
@@ -177,17 +177,12 @@ module _ (w : Script) (s : Scene) (there : HasBucket s.content w.dest.bucket) wh
   within_leaves fresh (ListPage n p d after limit) h = idle w s _ (ap (λ (x : Scene). x.content) (reads_nothing s (ListPage n p d after limit) refl))
   within_leaves fresh (ListParts n k id) h = idle w s _ (ap (λ (x : Scene). x.content) (reads_nothing s (ListParts n k id) refl))
   within_leaves fresh (ListUploads n p after limit) h = idle w s _ (ap (λ (x : Scene). x.content) (reads_nothing s (ListUploads n p after limit) refl))
-  within_leaves fresh (ClusterPut path bytes) h = idle w s _ refl
-  within_leaves fresh (ClusterRename source target) h = idle w s _ refl
-  within_leaves fresh (ClusterGet path) h = idle w s _ refl
-  within_leaves fresh (ClusterDelete path) h = idle w s _ refl
-  within_leaves fresh (ClusterList p) h = idle w s _ refl
+  within_leaves fresh _ h = idle w s _ refl
 
   pub within_outside : ((id : ℕ) (x : Upload) → at_id w s.content id ≡ Some x → id < s.content.next) → (r : Request) → IsWithin w r → (o : Outcome) → SameOutside w s.content (effect s r o).content
-  within_outside fresh r h (Answered y) = within_leaves fresh r h
   within_outside fresh r h Slow = idle w s s.content refl
   within_outside fresh r h RequestLost = idle w s s.content refl
-  within_outside fresh r h ReplyLost = within_leaves fresh r h
+  within_outside fresh r h _ = within_leaves fresh r h
 
 -- and it is no copy
 pub within_uncopied : (w : Script) (r : Request) → IsWithin w r → is_copy r ≡ false

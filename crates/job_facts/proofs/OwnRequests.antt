@@ -20,21 +20,21 @@ use Rattle.job_model.specs.Files.{File}
 use Rattle.job_model.specs.Legal.{IsLegal}
 use Rattle.job_model.specs.JobScript.{Script}
 use Rattle.job_model.specs.Known.{Known}
-use Rattle.job_operations.specs.Setup.{dest_prefix, Setup, Heading, Checking, Clearing, Sweeping, SetupOver, setup_asks}
+use Rattle.job_operations.specs.Setup.{dest_prefix, Setup, Clearing, Sweeping, SetupOver, setup_asks}
 use Rattle.job_operations.specs.Uploading.{Uploading, Creating, Sending, upload_asks}
 use Rattle.list_walk.specs.Walks.{Listing, Deleting, page_after}
-use Rattle.job_operations.specs.Writes.{Write, Marking, Recording, WriteOver, write_asks}
+use Rattle.job_operations.specs.Writes.{Write, WriteOver, write_asks}
 use Rattle.job_operations.specs.Writes as writes
-use Rattle.job_operations.specs.TaskCommits.{TaskCommit, Looking, Reading, Publishing, Storing, Renaming, TaskCommitOver, task_commit_asks}
+use Rattle.job_operations.specs.TaskCommits.{TaskCommit, Publishing, TaskCommitOver, task_commit_asks}
 use Rattle.job_operations.specs.TaskCommits as tasks
 use Rattle.job_operations.specs.TaskAborts.{TaskAbort, Dropping, TaskAbortOver, task_abort_asks}
 use Rattle.job_operations.specs.TaskAborts as aborts
 use Rattle.job_operations.specs.Lanes.{nth, abort}
-use Rattle.job_operations.specs.JobCommits.{Sets, all_commits, Commit, Fetching, Replacing, Completing, Reverting, CommitOver, set_request, commit_asks}
+use Rattle.job_operations.specs.JobCommits.{all_commits, Commit, Fetching, Replacing, Completing, Reverting, CommitOver, set_request, commit_asks}
 use Rattle.job_operations.specs.JobCommits as commits
-use Rattle.job_operations.specs.Cleanups.{Clean, Walking, Aborting, Naming, Removing, CleanOver, clean_asks}
+use Rattle.job_operations.specs.Cleanups.{Clean, Aborting, CleanOver, clean_asks}
 use Rattle.job_operations.specs.Cleanups as cleanups
-use Rattle.job_operations.specs.Operations.{Setting, Operation, TheSetup, TheWrite, TheTaskCommit, TheTaskAbort, TheCommit, TheClean, asks}
+use Rattle.job_operations.specs.Operations.{Setting, Operation, TheWrite, TheTaskCommit, TheTaskAbort, asks}
 use Rattle.job_operations.specs.View.{view}
 use Rattle.job_promise.specs.Entries.{IsZeroRename, is_copy, sends_data, may_show}
 use Rattle.job_promise.specs.Scope.{SameOutside}
@@ -86,19 +86,14 @@ module _ {w : Script} (j : IsLegal w) where
 
     write_within : (t : Write) → write_asks w a (known m a) t ≡ Some r → IsWithin w r
     write_within (writes.Uploads f fs u) e = subst (IsWithin w) (some_is e) (upload_within (known m a) f u)
-    write_within (Marking f fs) e = put_within _ _ _ (sym (some_is e))
-    write_within (Recording f fs) e = put_within _ _ _ (sym (some_is e))
     write_within (WriteOver end) e = absurd cc
+    write_within _ e = put_within _ _ _ (sym (some_is e))
 
     commit_task_within : (t : TaskCommit) → task_commit_asks w a (known m a) t ≡ Some r → IsWithin w r
-    commit_task_within (Looking keys) e = subst (IsWithin w) (some_is e) tt
-    commit_task_within (Reading cs f fs) e = subst (IsWithin w) (some_is e) tt
     commit_task_within (Publishing cs) e = put_within _ _ _ (sym (some_is e))
-    commit_task_within (tasks.Checking d ds) e = subst (IsWithin w) (some_is e) tt
     commit_task_within (tasks.Uploads f fs u) e = subst (IsWithin w) (some_is e) (upload_within (known m a) f u)
-    commit_task_within Storing e = subst (IsWithin w) (some_is e) tt
-    commit_task_within Renaming e = subst (IsWithin w) (some_is e) tt
     commit_task_within (TaskCommitOver end) e = absurd cc
+    commit_task_within _ e = subst (IsWithin w) (some_is e) tt
 
     abort_within : {minimum : ℕ} {s : Scene} {last : ℕ → Option ℕ} → Facts w minimum s last m → (t : TaskAbort) → FitsAbort w a (known m a) t → task_abort_asks w a t ≡ Some r → IsWithin w r
     abort_within f (Dropping d ds b) h e =
@@ -112,12 +107,10 @@ module _ {w : Script} (j : IsLegal w) where
     abort_within f (TaskAbortOver end) h e = absurd cc
 
   operation_within : {minimum : ℕ} {s : Scene} {last : ℕ → Option ℕ} (g : Setting) (is : g.script ≡ w) (m : Told) → Facts w minimum s last m → (a : Who) (r : Request) → IsOwn w (m.drawn a) r → (op : Operation) → Fits w minimum a m op → asks (record { script = w; minimum = g.minimum }) a (known m a) op ≡ Some r → IsWithin w r
-  operation_within g is m f a r own (TheSetup t) h e = absurd h
   operation_within g is m f a r own (TheWrite t) h e = write_within m a r own t.operation e
   operation_within g is m f a r own (TheTaskCommit t) h e = commit_task_within m a r own t.operation e
   operation_within g is m f a r own (TheTaskAbort t) h e = abort_within m a r own f t.operation h e
-  operation_within g is m f a r own (TheCommit c) h e = absurd h
-  operation_within g is m f a r own (TheClean t) h e = absurd h
+  operation_within g is m f a r own _ h e = absurd h
 
 -- ---- entries
 
@@ -152,27 +145,22 @@ reads_show w s r h p = ap (λ (x : Scene). view w.dest x.content p) (reads_nothi
 
 module _ (w : Script) (j : IsLegal w) (s : Scene) where
   setup_plain : (t : Setup) (r : Request) → setup_asks w t ≡ Some r → (sends_data r ≡ false) × (is_copy r ≡ false)
-  setup_plain Heading r e = (ap sends_data (sym (some_is e)), ap is_copy (sym (some_is e)))
-  setup_plain (Checking keys) r e = (ap sends_data (sym (some_is e)), ap is_copy (sym (some_is e)))
-  setup_plain Clearing r e = (ap sends_data (sym (some_is e)), ap is_copy (sym (some_is e)))
   setup_plain (Sweeping (Listing keys)) r e = (ap sends_data (sym (some_is e)), ap is_copy (sym (some_is e)))
-  setup_plain (Sweeping (Deleting q qs)) r e = (ap sends_data (sym (some_is e)), ap is_copy (sym (some_is e)))
   setup_plain (SetupOver end) r e = absurd cc
+  setup_plain _ r e = (ap sends_data (sym (some_is e)), ap is_copy (sym (some_is e)))
 
   outside_by : (r : Request) (o : Outcome) → SameOutside w s.content (apply s r).content → SameOutside w s.content (effect s r o).content
-  outside_by r (Answered y) h = h
   outside_by r Slow h = idle w s s.content refl
   outside_by r RequestLost h = idle w s s.content refl
-  outside_by r ReplyLost h = h
+  outside_by r _ h = h
 
   setup_outside : (t : Setup) → SetsUp w s.content t → (r : Request) → setup_asks w t ≡ Some r → SameOutside w s.content (apply s r).content
-  setup_outside Heading h r e = idle w s _ (ap (λ (x : Scene). x.content) (reads_nothing s r (ap only_reads (sym (some_is e)))))
-  setup_outside (Checking keys) h r e = idle w s _ (ap (λ (x : Scene). x.content) (reads_nothing s r (ap only_reads (sym (some_is e)))))
   setup_outside Clearing h r e = subst (λ q. SameOutside w s.content (apply s q).content) (some_is e) (delete_leaves w s h (success_key w.dest.key) (success_below j))
   setup_outside (Sweeping (Listing keys)) h r e = idle w s _ (ap (λ (x : Scene). x.content) (reads_nothing s r (ap only_reads (sym (some_is e)))))
   setup_outside (Sweeping (Deleting q qs)) h r e =
       subst (λ x. SameOutside w s.content (apply s x).content) (some_is e) (batch_leaves w s h.0 (take 1000 (q ∷ qs)) (λ k i. magic_below j k (h.1 k (taken_in 1000 (q ∷ qs) k i))))
   setup_outside (SetupOver end) h r e = absurd cc
+  setup_outside _ h r e = idle w s _ (ap (λ (x : Scene). x.content) (reads_nothing s r (ap only_reads (sym (some_is e)))))
 
 pub setup_changes : (w : Script) → IsLegal w → (s : Scene) (t : Setup) → SetsUp w s.content t → (r : Request) → setup_asks w t ≡ Some r → (n : ℕ) (o : Outcome) → IsZeroRename w (driver_entry n r o) s.content (effect s r o).content
 setup_changes w j s t h r e n o = record {
@@ -186,13 +174,10 @@ setup_changes w j s t h r e n o = record {
 
 module _ (w : Script) (j : IsLegal w) (m : Told) where
   clean_within : (t : Clean) → FitsClean w m.cleaned t → (r : Request) → clean_asks w t ≡ Some r → IsWithin w r × (sends_data r ≡ false)
-  clean_within (Walking found) h r e = (subst (IsWithin w) (some_is e) tt, ap sends_data (sym (some_is e)))
   clean_within (Aborting u us) h r e = (subst (IsWithin w) (some_is e) (refl, h.1 u (inl refl)), ap sends_data (sym (some_is e)))
-  clean_within (cleanups.Sweeping (Listing keys)) h r e = (subst (IsWithin w) (some_is e) tt, ap sends_data (sym (some_is e)))
   clean_within (cleanups.Sweeping (Deleting q qs)) h r e = (subst (IsWithin w) (some_is e) (refl, λ k i. magic_below j k (h.1 k (taken_in 1000 (q ∷ qs) k i))), ap sends_data (sym (some_is e)))
-  clean_within Naming h r e = (subst (IsWithin w) (some_is e) tt, ap sends_data (sym (some_is e)))
-  clean_within (Removing p ps) h r e = (subst (IsWithin w) (some_is e) tt, ap sends_data (sym (some_is e)))
   clean_within (CleanOver end) h r e = absurd cc
+  clean_within _ h r e = (subst (IsWithin w) (some_is e) tt, ap sends_data (sym (some_is e)))
 
 pub clean_changes : (g : Setting) → IsLegal g.script → (s : Seen) (m : Told) → Hold g.script g.minimum s m → (t : Clean) → FitsClean g.script m.cleaned t → (r : Request) → clean_asks g.script t ≡ Some r → (n : ℕ) (o : Outcome)
     → IsZeroRename g.script (driver_entry n r o) s.scene.content (effect s.scene r o).content

@@ -16,10 +16,10 @@ use Rattle.list_walk.specs.Walks.{Listing, Deleting}
 use Rattle.job_operations.specs.Uploading.{Uploading, Creating, Sending, upload_asks}
 use Rattle.job_operations.specs.Writes.{Write, Marking, Recording, WriteOver, write_asks}
 use Rattle.job_operations.specs.Writes as writes
-use Rattle.job_operations.specs.TaskCommits.{TaskCommit, Looking, Reading, Publishing, Checking, Storing, Renaming, TaskCommitOver, task_commit_asks, attempt_prefix}
+use Rattle.job_operations.specs.TaskCommits.{TaskCommit, Publishing, Storing, Renaming, TaskCommitOver, task_commit_asks, attempt_prefix}
 use Rattle.job_operations.specs.TaskCommits as commits
 use Rattle.job_operations.specs.TaskAborts.{TaskAbort, Dropping, Sweeping, Removing, TaskAbortOver, task_abort_asks}
-use Rattle.job_operations.specs.Operations.{Setting, Operation, TheSetup, TheWrite, TheTaskCommit, TheTaskAbort, TheCommit, TheClean, asks}
+use Rattle.job_operations.specs.Operations.{Setting, Operation, TheWrite, TheTaskCommit, TheTaskAbort, asks}
 use Rattle.request_frame.specs.Members.{IsIn}
 use Rattle.request_frame.specs.Frame.{changed_keys, changed_upload, changed_paths}
 use Rattle.request_frame.proofs.Members.{some_is, none_some, false_true}
@@ -87,10 +87,7 @@ module _ (w : Script) (minimum : ℕ) (a : Who) (j : IsLegal w) (d : IsAttempt w
   write_own (WriteOver end) h r e = absurd cc
 
   commit_own : (t : TaskCommit) → FitsCommit w minimum a (known m a) t → (r : Request) → task_commit_asks w a (known m a) t ≡ Some r → IsOwn w (m.drawn a) r
-  commit_own (Looking keys) h r e = subst (IsOwn w (m.drawn a)) (some_is e) (names_nothing (m.drawn a) _ refl refl refl)
-  commit_own (Reading cs f fs) h r e = subst (IsOwn w (m.drawn a)) (some_is e) (names_nothing (m.drawn a) _ refl refl refl)
   commit_own (Publishing cs) h r e = subst (IsOwn w (m.drawn a)) (some_is e) (names_key (m.drawn a) _ _ _ (set_magic j a.task d.task))
-  commit_own (Checking p ps) h r e = subst (IsOwn w (m.drawn a)) (some_is e) (names_nothing (m.drawn a) _ refl refl refl)
   commit_own (commits.Uploads f fs u) h r e = subst (IsOwn w (m.drawn a)) (some_is e) (upload_own (m.drawn a) minimum a (known m a) f fs u refl h.2)
   commit_own Storing h r e = subst (IsOwn w (m.drawn a)) (some_is e) (record {
     bucket = λ k i. absurd i;
@@ -108,6 +105,7 @@ module _ (w : Script) (minimum : ℕ) (a : Who) (j : IsLegal w) (d : IsAttempt w
     ];
   })
   commit_own (TaskCommitOver end) h r e = absurd cc
+  commit_own _ h r e = subst (IsOwn w (m.drawn a)) (some_is e) (names_nothing (m.drawn a) _ refl refl refl)
 
   abort_own : (t : TaskAbort) → FitsAbort w a (known m a) t → (r : Request) → task_abort_asks w a t ≡ Some r → IsOwn w (m.drawn a) r
   abort_own (Dropping x xs sent) h r e = subst (IsOwn w (m.drawn a)) (some_is e) (names_upload (m.drawn a) (AbortUpload w.dest.bucket x.key x.upload) x (h.1 x (inl refl)) refl refl refl)
@@ -128,24 +126,19 @@ module _ (w : Script) (minimum : ℕ) (a : Who) (j : IsLegal w) (d : IsAttempt w
 
   -- an abort that asks has not published
   abort_unsent : (t : TaskAbort) → FitsAbort w a (known m a) t → (r : Request) → task_abort_asks w a t ≡ Some r → m.publish_sent a ≡ false
-  abort_unsent (Dropping x xs sent) h r e = h.0
-  abort_unsent (Sweeping s) h r e = h.0
   abort_unsent Removing h r e = h
   abort_unsent (TaskAbortOver end) h r e = absurd cc
+  abort_unsent _ h r e = h.0
 
 module _ (g : Setting) (j : IsLegal g.script) (m : Told) (a : Who) (d : IsAttempt g.script a) where
   pub operation_own : (op : Operation) → Fits g.script g.minimum a m op → (r : Request) → asks g a (known m a) op ≡ Some r → IsOwn g.script (m.drawn a) r
-  operation_own (TheSetup t) h r e = absurd h
   operation_own (TheWrite t) h r e = write_own g.script g.minimum a j d m t.operation h.1 r e
   operation_own (TheTaskCommit t) h r e = commit_own g.script g.minimum a j d m t.operation h.1 r e
   operation_own (TheTaskAbort t) h r e = abort_own g.script g.minimum a j d m t.operation h r e
-  operation_own (TheCommit c) h r e = absurd h
-  operation_own (TheClean t) h r e = absurd h
+  operation_own _ h r e = absurd h
 
   pub operation_adds : (op : Operation) → Fits g.script g.minimum a m op → (r : Request) → asks g a (known m a) op ≡ Some r → m.publish_sent a ≡ true → undoes r ≡ false
-  operation_adds (TheSetup t) h r e sent = absurd h
   operation_adds (TheWrite t) h r e sent = write_adds g.script a (known m a) t.operation r e
   operation_adds (TheTaskCommit t) h r e sent = commit_adds g.script a (known m a) t.operation r e
   operation_adds (TheTaskAbort t) h r e sent = absurd (false_true (abort_unsent g.script g.minimum a j d m t.operation h r e) sent)
-  operation_adds (TheCommit c) h r e sent = absurd h
-  operation_adds (TheClean t) h r e sent = absurd h
+  operation_adds _ h r e sent = absurd h

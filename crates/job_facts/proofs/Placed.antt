@@ -29,8 +29,7 @@ use Rattle.job_facts.proofs.Legal.{some_dest, is_attempt, no_record, same_file, 
 
 pub not_both : (c : Committer) → is_magic c ≡ true → is_staging c ≡ true → ⊥
 not_both Magic h g = false≢true g
-not_both Directory h g = false≢true h
-not_both Partitioned h g = false≢true h
+not_both _ h g = false≢true h
 
 -- ---- places in the store
 
@@ -38,18 +37,15 @@ pub record_place : {w : Script} → IsLegal w → is_magic w.committer ≡ true 
 record_place j magic a f i = let s = small_attempt j a (is_attempt j a f i) in (s.0, s.1, no_record j magic a f i)
 
 pub own_place : {w : Script} → IsLegal w → is_magic w.committer ≡ true → (p : Place) → IsOwnPlace w p → IsPlace p
-own_place j magic (FilePlace p) h = absurd h
 own_place j magic (MarkerPlace t a p) h = let s = small_attempt j (attempt t a) (is_attempt j (attempt t a) h.0 h.1) in (s.0, s.1, ap is_record h.2 ∙ no_record j magic (attempt t a) h.0 h.1)
 own_place j magic (RecordPlace t a p) h = let s = small_attempt j (attempt t a) (is_attempt j (attempt t a) h.0 h.1) in (s.0, s.1, ap is_record h.2 ∙ no_record j magic (attempt t a) h.0 h.1)
 own_place j magic (SetPlace t) h = small_task j t h
-own_place j magic SuccessPlace h = absurd h
+own_place j magic _ h = absurd h
 
 own_is : (w : Script) (p : Place) → IsOwnPlace w p → is_magic_place p ≡ true
 own_is w (FilePlace p) h = absurd h
-own_is w (MarkerPlace t a p) h = refl
-own_is w (RecordPlace t a p) h = refl
-own_is w (SetPlace t) h = refl
 own_is w SuccessPlace h = absurd h
+own_is w _ h = refl
 
 -- the key of such a place is below the magic directory
 pub own_magic : {w : Script} → IsLegal w → is_magic w.committer ≡ true → (p : Place) → IsOwnPlace w p → begins (magic_prefix w.dest.key w.job) (key_at w.dest.key w.job p) ≡ true
@@ -98,18 +94,15 @@ one_path {w = w} j p q g h e = (paths_apart w.job w.job p q j.job j.job g h e).0
 
 pub magic_set : (c : Committer) (w : Script) (s : Scene) (t : ℕ) → is_magic c ≡ true → set_at c w s t ≡ option_map (λ o. o.bytes) (at_place w s.content (SetPlace t))
 magic_set Magic w s t h = refl
-magic_set Directory w s t h = absurd (false≢true h)
-magic_set Partitioned w s t h = absurd (false≢true h)
+magic_set _ w s t h = absurd (false≢true h)
 
 pub staged_set : (c : Committer) (w : Script) (s : Scene) (t : ℕ) → is_staging c ≡ true → set_at c w s t ≡ at_path w s (StagedSetPlace t)
 staged_set Magic w s t h = absurd (false≢true h)
-staged_set Directory w s t h = refl
-staged_set Partitioned w s t h = refl
+staged_set _ w s t h = refl
 
 pub set_same : (c : Committer) (w : Script) (s u : Scene) (t : ℕ) → at_place w u.content (SetPlace t) ≡ at_place w s.content (SetPlace t) → at_path w u (StagedSetPlace t) ≡ at_path w s (StagedSetPlace t) → set_at c w u t ≡ set_at c w s t
 set_same Magic w s u t e f = ap (option_map (λ o. o.bytes)) e
-set_same Directory w s u t e f = f
-set_same Partitioned w s u t e f = f
+set_same _ w s u t e f = f
 
 -- what stands stood before
 pub set_stood : (c : Committer) (w : Script) (s u : Scene) (t : ℕ) (b : List ℕ) → ((x : Object) → at_place w u.content (SetPlace t) ≡ Some x → at_place w s.content (SetPlace t) ≡ Some x)

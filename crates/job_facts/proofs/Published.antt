@@ -89,12 +89,9 @@ module _ (g : Setting) (k : Option ℕ) (opening : Content) (j : IsLegal g.scrip
   StandsBy P s a (TheClean t) = Unit {0}
 
   stands_on : {P Q : Type 0} {s u : Seen} {a : Who} → Stood w a s u → (P → Q) → (op : Operation) → StandsBy P s a op → StandsBy Q u a op
-  stands_on h keeps (TheSetup t) y = tt
   stands_on h keeps (TheWrite t) y = write_kept h t.operation y
   stands_on h keeps (TheTaskCommit t) y = commit_kept_by h keeps t.repeated t.operation y
-  stands_on h keeps (TheTaskAbort t) y = tt
-  stands_on h keeps (TheCommit c) y = tt
-  stands_on h keeps (TheClean t) y = tt
+  stands_on h keeps _ y = tt
 
   pub record Standing (es : List Entry) (x : Stand) : Type 0 where
     pub closed : Closed x.told
@@ -161,8 +158,7 @@ module _ (g : Setting) (k : Option ℕ) (opening : Content) (j : IsLegal g.scrip
       commit_stands w g.minimum k x.seen x.told a n j l.hold h.closed before fits.0 w.retries t.spare t.repeated (Own es a) (λ q v. Own (es ++ entry a n q v ∷ []) a)
       (λ q v. own_more es (entry a n q v) a) (λ q p v took. own_new es x run a n q v p took) t.operation fits.1 y r asked o honest
   own_stands es x run h before l a (TheTaskAbort t) fits y n r asked o honest = tt
-  own_stands es x run h before l a (TheCommit c) fits y n r asked o honest = absurd fits
-  own_stands es x run h before l a (TheClean t) fits y n r asked o honest = absurd fits
+  own_stands es x run h before l a _ fits y n r asked o honest = absurd fits
 
   begins_stands : (es : List Entry) (x : Stand) → Standing es x → (a : Who) (op : Operation) → (x.told.cleaned ≡ false → StandsBy (Own es a) x.seen a op) → Standing es (with_attempt x a op)
   begins_stands es x h a op here = record {

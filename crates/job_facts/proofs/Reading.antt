@@ -4,7 +4,7 @@ use Rattle.std.specs.Option.{option_map}
 use Rattle.s3_types.specs.Store.{Scene}
 use Rattle.s3_types.specs.Answer.{answer}
 use Rattle.s3_types.specs.declared.request.Committer.{Committer}
-use Rattle.s3_types.specs.declared.request.Committer.TheVariants.{Magic, Directory, Partitioned}
+use Rattle.s3_types.specs.declared.request.Committer.TheVariants.{Magic}
 use Rattle.s3_types.specs.declared.reply.Reply.{Reply}
 use Rattle.magic_paths.specs.Layout as layout
 use Rattle.magic_paths.specs.Places.{SetPlace, StagedSetPlace}
@@ -49,16 +49,14 @@ module _ {w : Script} (j : IsLegal w) where
 
   reads_by : (c : Committer) → w.committer ≡ c → (t : ℕ) → is_reading w t (set_request c w t) ≡ true
   reads_by Magic e t = and_true _ _ _ (ap is_magic e) (text_true w.dest.bucket w.dest.bucket refl) (text_true (layout.set_key w.dest.key w.job t) (layout.set_key w.dest.key w.job t) refl)
-  reads_by Directory e t = and_two _ _ (ap is_staging e) (text_true (layout.staged_set_path w.job t) (layout.staged_set_path w.job t) refl)
-  reads_by Partitioned e t = and_two _ _ (ap is_staging e) (text_true (layout.staged_set_path w.job t) (layout.staged_set_path w.job t) refl)
+  reads_by _ e t = and_two _ _ (ap is_staging e) (text_true (layout.staged_set_path w.job t) (layout.staged_set_path w.job t) refl)
 
   pub reads_it : (t : ℕ) → is_reading w t (set_request w.committer w t) ≡ true
   reads_it t = reads_by w.committer refl t
 
   other_by : (c : Committer) → (t u : ℕ) → t < w.tasks → u < w.tasks → (t ≡ u → ⊥) → is_reading w t (set_request c w u) ≡ false
   other_by Magic t u l k ne = and_last _ _ _ (text_false _ _ (λ e. ne (sym (set_task (one_place j (SetPlace u) (SetPlace t) (small_task j u k) (small_task j t l) e)))))
-  other_by Directory t u l k ne = and_end _ _ (text_false _ _ (λ e. ne (sym (staged_task (one_path j (StagedSetPlace u) (StagedSetPlace t) (small_task j u k) (small_task j t l) e)))))
-  other_by Partitioned t u l k ne = and_end _ _ (text_false _ _ (λ e. ne (sym (staged_task (one_path j (StagedSetPlace u) (StagedSetPlace t) (small_task j u k) (small_task j t l) e)))))
+  other_by _ t u l k ne = and_end _ _ (text_false _ _ (λ e. ne (sym (staged_task (one_path j (StagedSetPlace u) (StagedSetPlace t) (small_task j u k) (small_task j t l) e)))))
 
   pub reads_other : (t u : ℕ) → t < w.tasks → u < w.tasks → (t ≡ u → ⊥) → is_reading w t (set_request w.committer w u) ≡ false
   reads_other t u l k ne = other_by w.committer t u l k ne

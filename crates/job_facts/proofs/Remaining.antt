@@ -11,7 +11,7 @@ use Rattle.s3_types.specs.Answer.{answer, apply, found, rename_answer}
 use Rattle.s3_types.specs.Moment.{is_effective, IsHonestOutcome}
 use Rattle.s3_types.specs.declared.object.Object.{Object}
 use Rattle.s3_types.specs.declared.request.Committer.{Committer}
-use Rattle.s3_types.specs.declared.request.Committer.TheVariants.{Magic, Directory, Partitioned}
+use Rattle.s3_types.specs.declared.request.Committer.TheVariants.{Magic}
 use Rattle.s3_types.specs.declared.request.Request.{Request}
 use Rattle.s3_types.specs.declared.request.Request.TheVariants.{GetObject, UploadPart}
 use Rattle.s3_types.specs.declared.reply.Reply.{Reply}
@@ -78,20 +78,14 @@ module _ {w : Script} {a : Who} {s t : Seen} (h : Stood w a s t) where
   pub commit_kept_by : {P Q : Type 0} → (P → Q) → (b : Bool) (op : TaskCommit) → CommitStandsBy P w s a b op → CommitStandsBy Q w t a b op
   commit_kept_by keeps b (Looking keys) g = (records_kept [] g.0, g.1)
   commit_kept_by keeps b (Reading cs f fs) g = (records_kept [] g.0, g.1)
-  commit_kept_by keeps b (Publishing cs) g = tt
-  commit_kept_by keeps b (Checking p ps) g = tt
-  commit_kept_by keeps b (commits.Uploads f fs u) g = tt
-  commit_kept_by keeps b Storing g = tt
   commit_kept_by keeps b Renaming g = elim g [ inl x ↦ inl (h.temporary x) | inr x ↦ inr (x.0, keeps x.1) ]
   commit_kept_by keeps b (TaskCommitOver end) g = (g.0, λ e. keeps (g.1 e))
+  commit_kept_by keeps b _ g = tt
 
   pub stands_kept : (op : Operation) → Stands w s a op → Stands w t a op
-  stands_kept (TheSetup x) g = tt
   stands_kept (TheWrite x) g = write_kept x.operation g
   stands_kept (TheTaskCommit x) g = commit_kept_by (h.last a.task) x.repeated x.operation g
-  stands_kept (TheTaskAbort x) g = tt
-  stands_kept (TheCommit c) g = tt
-  stands_kept (TheClean x) g = tt
+  stands_kept _ g = tt
 
 -- ---- entries of others
 
@@ -102,10 +96,9 @@ some_last false v o h = h
 -- an attempt's, whose effect leaves these
 stood_by : (w : Script) (k : Option ℕ) (s : Seen) (a b : Who) (n : ℕ) (r : Request) → ((f : File) → IsIn f (files w a) → HasKey w s.scene (record_key w a f) → HasKey w (apply s.scene r) (record_key w a f))
     → (HasPath s.scene (temporary_path w a) → HasPath (apply s.scene r) (temporary_path w a)) → (o : Outcome) → Stood w a s (see w k s (entry b n r o))
-stood_by w k s a b n r keys path (Answered x) = record { records = keys; temporary = path; last = λ t h. some_last (nat_eq t b.task && is_publishing w s.scene b.task r) b.attempt (s.last t) h }
 stood_by w k s a b n r keys path Slow = record { records = λ f i h. h; temporary = λ h. h; last = λ t h. h }
 stood_by w k s a b n r keys path RequestLost = record { records = λ f i h. h; temporary = λ h. h; last = λ t h. h }
-stood_by w k s a b n r keys path ReplyLost = record { records = keys; temporary = path; last = λ t h. some_last (nat_eq t b.task && is_publishing w s.scene b.task r) b.attempt (s.last t) h }
+stood_by w k s a b n r keys path _ = record { records = keys; temporary = path; last = λ t h. some_last (nat_eq t b.task && is_publishing w s.scene b.task r) b.attempt (s.last t) h }
 
 pub other_stood : (g : Setting) → IsLegal g.script → (k : Option ℕ) (s : Seen) (m : Told) (a b : Who) (n : ℕ) → HasBucket s.scene.content g.script.dest.bucket → IsAttempt g.script a → IsAttempt g.script b → (a ≡ b → ⊥)
     → (op : Operation) → Fits g.script g.minimum b m op → (r : Request) → asks g b (known m b) op ≡ Some r → (o : Outcome) → Stood g.script a s (see g.script k s (entry b n r o))
@@ -132,10 +125,9 @@ module _ (w : Script) (j : IsLegal w) (k : Option ℕ) (s : Seen) (a : Who) (n :
       path = path_left w s.scene there (temporary_path w a) r (λ x. false_true (d.paths (temporary_path w a) x) (path_below w (TemporaryPlace a.task a.attempt)))
 
       by : (o : Outcome) → Stood w a s (see w k s (driver_entry n r o))
-      by (Answered x) = record { records = keys; temporary = path; last = λ t h. h }
       by Slow = record { records = λ f i h. h; temporary = λ h. h; last = λ t h. h }
       by RequestLost = record { records = λ f i h. h; temporary = λ h. h; last = λ t h. h }
-      by ReplyLost = record { records = keys; temporary = path; last = λ t h. h }
+      by _ = record { records = keys; temporary = path; last = λ t h. h }
 
   pub strange_stood : (drawn : Who → List Drawn) → IsForeign w drawn r → (o : Outcome) → Stood w a s (see w k s (strange_entry n r o))
   strange_stood drawn d o = by o
@@ -147,10 +139,9 @@ module _ (w : Script) (j : IsLegal w) (k : Option ℕ) (s : Seen) (a : Who) (n :
       path = path_left w s.scene there (temporary_path w a) r (λ x. false_true (d.paths (temporary_path w a) x) (path_below w (TemporaryPlace a.task a.attempt)))
 
       by : (o : Outcome) → Stood w a s (see w k s (strange_entry n r o))
-      by (Answered x) = record { records = keys; temporary = path; last = λ t h. h }
       by Slow = record { records = λ f i h. h; temporary = λ h. h; last = λ t h. h }
       by RequestLost = record { records = λ f i h. h; temporary = λ h. h; last = λ t h. h }
-      by ReplyLost = record { records = keys; temporary = path; last = λ t h. h }
+      by _ = record { records = keys; temporary = path; last = λ t h. h }
 
 -- ---- a step under retries, by whether a sending of the request was lost
 
@@ -176,9 +167,8 @@ step_stands P retries after t ReplyLost heard slow lost worn = by t.spare
 -- ---- uploads are not gone
 
 abbrev StillThere : Uploaded → Type 0
-StillThere (GoesOn u) = Unit {0}
-StillThere AllSent = Unit {0}
 StillThere IsGone = ⊥
+StillThere _ = Unit {0}
 
 sending_there : (ps : List (List ℕ)) → StillThere (sending ps)
 sending_there [] = tt
@@ -220,8 +210,7 @@ write_begins w s a = by w.committer refl
   where
     by : (c : Committer) → w.committer ≡ c → WriteStands w s a (write_start_by c (files w a))
     by Magic e = writing_stands w s a (files w a) (λ f i. inl i)
-    by Directory e = (tt, λ d m. absurd (false≢true (sym (ap is_magic e) ∙ m)))
-    by Partitioned e = (tt, λ d m. absurd (false≢true (sym (ap is_magic e) ∙ m)))
+    by _ e = (tt, λ d m. absurd (false≢true (sym (ap is_magic e) ∙ m)))
 
 storing_stands : (P : Type 0) (w : Script) (s : Seen) (a : Who) (fs : List File) → CommitStandsBy P w s a false (storing fs)
 storing_stands P w s a [] = tt
@@ -236,8 +225,7 @@ commit_begins P w j s a h = by w.committer refl
   where
     by : (c : Committer) → w.committer ≡ c → CommitStandsBy P w s a false (task_commit_start_by c w a)
     by Magic e = (h.1 refl (ap is_magic e), λ f i. inr (magic_some w.dest.key _ (record_key w a f) (record_below j a f)))
-    by Directory e = checking_stands P w s a (to_check w a)
-    by Partitioned e = checking_stands P w s a (to_check w a)
+    by _ e = checking_stands P w s a (to_check w a)
 
 -- ---- listings
 
@@ -261,9 +249,8 @@ reading_stands P w s a cs (f ∷ fs) h mine = (h, mine)
 
 module _ (w : Script) (s : Seen) (a : Who) where
   written_stands : (f : File) (fs : List File) (u : Uploaded) → StillThere u → HasRecords w s a (f ∷ fs) → WriteStands w s a (writes.uploaded w f fs u)
-  written_stands f fs (GoesOn u) h g = g
-  written_stands f fs AllSent h g = g
   written_stands f fs IsGone h g = absurd h
+  written_stands f fs _ h g = g
 
 module _ (P : Type 0) (w : Script) (s : Seen) (a : Who) where
   looked_stands : (keys : List (List ℕ)) → HasRecords w s a [] → (more : Bool) → Listed w a keys → (more ≡ false → (f : File) → IsIn f (files w a) → IsIn (record_key w a f) keys) → CommitStandsBy P w s a false (looked w a (walked_by more keys))
@@ -338,10 +325,9 @@ module _ (w : Script) (minimum : ℕ) (k : Option ℕ) (s : Seen) (m : Told) (a 
       stands = elim (h f i) [ inl none ↦ absurd none | inr x ↦ x ]
 
       by : (o : Outcome) → HasRecord w (now r o) a f
-      by (Answered x) = commit_keys w s.scene facts.there a (known m a) op r e (record_key w a f) stands
       by Slow = stands
       by RequestLost = stands
-      by ReplyLost = commit_keys w s.scene facts.there a (known m a) op r e (record_key w a f) stands
+      by _ = commit_keys w s.scene facts.there a (known m a) op r e (record_key w a f) stands
 
   module _ (P : Type 0) (Q : Request → Outcome → Type 0) (keeps : (r : Request) (v : Outcome) → P → Q r v) (published : (r : Request) → is_publishing w s.scene a.task r ≡ true → (v : Outcome) → is_effective v ≡ true → Q r v) where
     -- all but the rename
@@ -440,48 +426,35 @@ module _ (w : Script) (k : Option ℕ) (s : Seen) (a : Who) (n : ℕ) where
   seen_now r o = see w k s (entry a n r o)
 
   last_kept : (r : Request) (v : Outcome) → HasPublished s a.task → HasPublished (seen_now r v) a.task
-  last_kept r (Answered x) h = some_last (nat_eq a.task a.task && is_publishing w s.scene a.task r) a.attempt (s.last a.task) h
   last_kept r Slow h = h
   last_kept r RequestLost h = h
-  last_kept r ReplyLost h = some_last (nat_eq a.task a.task && is_publishing w s.scene a.task r) a.attempt (s.last a.task) h
+  last_kept r _ h = some_last (nat_eq a.task a.task && is_publishing w s.scene a.task r) a.attempt (s.last a.task) h
 
   last_published : (r : Request) → is_publishing w s.scene a.task r ≡ true → (i : ℕ) × (last_by w s.scene s.last a.task a.attempt r a.task ≡ Some i)
   last_published r e = (a.attempt, ap (λ b. cond b (Some a.attempt) (s.last a.task)) (ap (λ b. nat_eq a.task a.task && b) e ∙ ap (λ b. b && true) (nat_true a.task a.task refl)))
 
   publishes_last : (r : Request) → is_publishing w s.scene a.task r ≡ true → (v : Outcome) → is_effective v ≡ true → HasPublished (seen_now r v) a.task
-  publishes_last r e (Answered x) took = last_published r e
   publishes_last r e Slow took = absurd (false≢true took)
   publishes_last r e RequestLost took = absurd (false≢true took)
-  publishes_last r e ReplyLost took = last_published r e
+  publishes_last r e _ took = last_published r e
 
 -- ---- all operations
 
 pub own_stands : (g : Setting) → IsLegal g.script → (k : Option ℕ) (s : Seen) (m : Told) (a : Who) (n : ℕ) → Hold g.script g.minimum s m → Closed m → m.cleaned ≡ false → (op : Operation) → Fits g.script g.minimum a m op → Stands g.script s a op
     → (r : Request) → asks g a (known m a) op ≡ Some r → (o : Outcome) → IsHonestOutcome o (answer s.scene r) → Stands g.script (see g.script k s (entry a n r o)) a (tells g a op o)
-own_stands g j k s m a n facts closed before (TheSetup t) fits h r e o honest = tt
 own_stands g j k s m a n facts closed before (TheWrite t) fits h r e o honest = write_stands g.script g.minimum k s m a n j facts closed before fits.0 g.script.retries t.spare t.repeated t.operation fits.1 h r e o honest
 own_stands g j k s m a n facts closed before (TheTaskCommit t) fits h r e o honest = commit_stands g.script g.minimum k s m a n j facts closed before fits.0 g.script.retries t.spare t.repeated (HasPublished s a.task) (λ q v. HasPublished (seen_now g.script k s a n q v) a.task) (last_kept g.script k s a n) (publishes_last g.script k s a n) t.operation fits.1 h r e o honest
-own_stands g j k s m a n facts closed before (TheTaskAbort t) fits h r e o honest = tt
-own_stands g j k s m a n facts closed before (TheCommit c) fits h r e o honest = tt
-own_stands g j k s m a n facts closed before (TheClean t) fits h r e o honest = tt
+own_stands g j k s m a n facts closed before _ fits h r e o honest = tt
 
 -- ---- and as they end
 
 pub write_never : (w : Script) (s : Seen) (a : Who) (op : Write) (name : List ℕ) → WriteStands w s a op → write_over op ≡ Some (tasks.Gone name) → ⊥
-write_never w s a (writes.Uploads f fs u) name h e = absurd cc
-write_never w s a (Marking f fs) name h e = absurd cc
-write_never w s a (Recording f fs) name h e = absurd cc
 write_never w s a (WriteOver end) name h e = subst NotGone (some_is e) h.0
+write_never w s a _ name h e = absurd cc
 
 pub commit_never : (w : Script) (s : Seen) (a : Who) (b : Bool) (op : TaskCommit) (name : List ℕ) → CommitStands w s a b op → task_commit_over op ≡ Some (tasks.Gone name) → ⊥
-commit_never w s a b (Looking keys) name h e = absurd cc
-commit_never w s a b (Reading cs f fs) name h e = absurd cc
-commit_never w s a b (Publishing cs) name h e = absurd cc
-commit_never w s a b (Checking p ps) name h e = absurd cc
-commit_never w s a b (commits.Uploads f fs u) name h e = absurd cc
-commit_never w s a b Storing name h e = absurd cc
-commit_never w s a b Renaming name h e = absurd cc
 commit_never w s a b (TaskCommitOver end) name h e = subst NotGone (some_is e) h.0
+commit_never w s a b _ name h e = absurd cc
 
 pub commit_done : (w : Script) (minimum : ℕ) (s : Seen) (m : Told) (a : Who) (b : Bool) → Hold w minimum s m → m.cleaned ≡ false → IsAttempt w a → CommitStands w s a b (TaskCommitOver tasks.Done) → (bytes : List ℕ) × (sets_at w s.scene a.task ≡ Some bytes) × IsSet w minimum s.last m.publish_sent m.drawn a.task bytes
 commit_done w minimum s m a b facts before d h =

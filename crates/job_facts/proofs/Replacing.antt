@@ -13,7 +13,7 @@ use Rattle.s3_types.specs.declared.request.Request.{Request}
 use Rattle.s3_types.specs.declared.request.Request.TheVariants.{DeleteObjects}
 use Rattle.s3_types.specs.declared.reply.Reply.{Reply}
 use Rattle.s3_types.specs.declared.journal.Outcome.{Outcome}
-use Rattle.s3_types.specs.declared.journal.Outcome.TheVariants.{Answered, Slow, RequestLost, ReplyLost}
+use Rattle.s3_types.specs.declared.journal.Outcome.TheVariants.{Answered, Slow, RequestLost}
 use Rattle.path_keys.specs.Paths.{below}
 use Rattle.magic_paths.proofs.Tails.{begins_behind, below_is}
 use Rattle.pending_json.specs.declared.records.PendingSet.{PendingSet}
@@ -210,14 +210,12 @@ module _ (g : Setting) (j : IsLegal g.script) (opening : Content) where
       by None = left_replaces sets (h.0 ++ p ∷ []) ps (append_assoc h.0 (p ∷ []) ps ∙ h.1)
   heard_replaces (Completing sets x xs finished) h y = all_completed sets (xs ++ follow w.lanes (length (all_commits sets)) x.number) (x.number ∷ finished)
   heard_replaces (Reverting r rs n) h x = all_reverted rs
-  heard_replaces (Marking sets n) h x = tt
-  heard_replaces (CommitOver end) h x = tt
+  heard_replaces _ h x = tt
 
   pub replaces_tells : (d : Commit) → R d → (o : Outcome) → R (commit_tells w d o)
   replaces_tells d h (Answered x) = heard_replaces d h x
   replaces_tells d h Slow = missed_replaces d h false
-  replaces_tells d h RequestLost = missed_replaces d h true
-  replaces_tells d h ReplyLost = missed_replaces d h true
+  replaces_tells d h _ = missed_replaces d h true
 
   -- ---- a request of a sweep
 
@@ -231,10 +229,9 @@ module _ (g : Setting) (j : IsLegal g.script) (opening : Content) where
     stood_by (Deleting q qs) k y e = (deletes_drop w s (take 1000 (q ∷ qs)) there).objects k y e
 
     stood_after : (o : Outcome) (k : List ℕ) (y : Object) → at_key w (effect s r o).content k ≡ Some y → at_key w s.content k ≡ Some y
-    stood_after (Answered z) k y e = stood_by x k y e
     stood_after Slow k y e = e
     stood_after RequestLost k y e = e
-    stood_after ReplyLost k y e = stood_by x k y e
+    stood_after _ k y e = stood_by x k y e
 
     pub still_clear : (o : Outcome) (d : List ℕ) → OnlyThose w d (is_no_magic w) s.content [] → OnlyThose w d (is_no_magic w) (effect s r o).content []
     still_clear o d h k y b go e = h k y b go (stood_after o k y e)
@@ -248,7 +245,6 @@ module _ (g : Setting) (j : IsLegal g.script) (opening : Content) where
     ]
 
     pub taken_after : SweepsUnder p x → (o : Outcome) (k : List ℕ) → (at_key w (effect s r o).content k ≡ at_key w s.content k) ⊎ ((at_key w (effect s r o).content k ≡ None) × (begins p k ≡ true))
-    taken_after under (Answered z) k = taken x under k
     taken_after under Slow k = inl refl
     taken_after under RequestLost k = inl refl
-    taken_after under ReplyLost k = taken x under k
+    taken_after under _ k = taken x under k

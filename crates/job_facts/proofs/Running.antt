@@ -70,40 +70,27 @@ module _ (g : Setting) (opening : Content) where
   MarkLeft c picks put _ = put ≡ false
 
   abbrev pub Marks : Content → Picks → Bool → Commit → Type 0
-  Marks c picks put (Fetching sets n) = put ≡ false
-  Marks c picks put (Replacing sets p ps s n) = put ≡ false
-  Marks c picks put (Completing sets x xs finished) = put ≡ false
   Marks c picks put (Marking sets n) = MarkSays c picks put
-  Marks c picks put (Reverting r rs n) = put ≡ false
   Marks c picks put (CommitOver end) = MarkLeft c picks put end
+  Marks c picks put _ = put ≡ false
 
   -- one that was not put has no such stage
   false_left : (x : Content) (p : Picks) (put : Bool) → put ≡ false → (end : CommitEnd) → MarkLeft x p put end
   false_left x p put e commits.Committed = λ y. absurd (false_true e y)
   false_left x p put e (commits.StoreFault stages.Success) = λ y. absurd (false_true e y)
-  false_left x p put e (commits.StoreFault stages.Read) = e
-  false_left x p put e (commits.StoreFault stages.Delete) = e
-  false_left x p put e (commits.StoreFault stages.Complete) = e
-  false_left x p put e (commits.Missing t) = e
-  false_left x p put e (commits.SamePath q t v) = e
-  false_left x p put e commits.NoMemory = e
+  false_left x p put e _ = e
 
   pub false_marks : (x : Content) (p : Picks) (put : Bool) → put ≡ false → (d : Commit) → Marks x p put d
-  false_marks x p put e (Fetching sets y) = e
-  false_marks x p put e (Replacing sets q ps y z) = e
-  false_marks x p put e (Completing sets y ys finished) = e
   false_marks x p put e (Marking sets y) = λ z. absurd (false_true e z)
-  false_marks x p put e (Reverting q qs y) = e
   false_marks x p put e (CommitOver end) = false_left x p put e end
+  false_marks x p put e _ = e
 
   -- what the picks want the commit wants
   pub wants_of : (p : Picks) (q b : List ℕ) → wanted_at w p q ≡ Some b → (d : Commit) → Agrees w p d → Wants w q b d
-  wants_of p q b e (Fetching sets x) a = tt
   wants_of p q b e (Replacing sets o os x z) a = ap (λ l. lookup (text_eq q) l) (sym (same_wanted w (picks_of sets) p a)) ∙ e
   wants_of p q b e (Completing sets x xs finished) a = ap (λ l. lookup (text_eq q) l) (sym (same_wanted w (picks_of sets) p a)) ∙ e
   wants_of p q b e (Marking sets x) a = ap (λ l. lookup (text_eq q) l) (sym (same_wanted w (picks_of sets) p a)) ∙ e
-  wants_of p q b e (Reverting z zs x) a = tt
-  wants_of p q b e (CommitOver end) a = tt
+  wants_of p q b e _ a = tt
 
   -- what is not wanted stands as at the opening where the mode keeps it, and else not
   abbrev pub Cleared : Picks → List ℕ → Option Object → Type 0
@@ -123,10 +110,8 @@ module _ (g : Setting) (opening : Content) where
   abbrev pub OtherStands : Picks → List ℕ → Option Object → Commit → Type 0
   OtherStands picks q now (Fetching sets n) = now ≡ first_at q
   OtherStands picks q now (Replacing sets p ps s n) = Clearing picks q now
-  OtherStands picks q now (Completing sets x xs finished) = Cleared picks q now
-  OtherStands picks q now (Marking sets n) = Cleared picks q now
-  OtherStands picks q now (Reverting r rs n) = Cleared picks q now
   OtherStands picks q now (CommitOver end) = OtherLeft picks q now end
+  OtherStands picks q now _ = Cleared picks q now
 
   -- what is wanted stands as the commit says, and so does what is not
   pub record Files (c : Content) (picks : Picks) (ended : ℕ → Bool) (es : List Entry) (op : Commit) : Type 0 where
@@ -142,12 +127,8 @@ module _ (g : Setting) (opening : Content) where
     pub sweeps : EmptiesBy w p (is_no_magic w) c t
 
   abbrev pub Empty : Content → Commit → Type 0
-  Empty c (Fetching sets n) = Unit {0}
   Empty c (Replacing sets p ps t n) = Emptying c sets p ps t
-  Empty c (Completing sets x xs finished) = Unit {0}
-  Empty c (Marking sets n) = Unit {0}
-  Empty c (Reverting r rs n) = Unit {0}
-  Empty c (CommitOver end) = Unit {0}
+  Empty c _ = Unit {0}
 
   -- ---- how far a run has come, among strangers
 
@@ -292,21 +273,13 @@ module _ (g : Setting) (opening : Content) where
         same (commits.Missing t) b y f = f
         same (commits.SamePath x t u) b y f = f
         same (commits.StoreFault stages.Read) b y f = f
-        same (commits.StoreFault stages.Delete) b y f = absurd (false_true refl y)
-        same (commits.StoreFault stages.Complete) b y f = absurd (false_true refl y)
-        same (commits.StoreFault stages.Success) b y f = absurd (false_true refl y)
-        same commits.Committed b y f = absurd (false_true refl y)
-        same commits.NoMemory b y f = absurd (false_true refl y)
+        same _ b y f = absurd (false_true refl y)
 
         other : (e : CommitEnd) → is_untouched e ≡ true → OtherLeft picks q (now_at c q) e → now_at c q ≡ first_at q
         other (commits.Missing t) y f = f
         other (commits.SamePath x t u) y f = f
         other (commits.StoreFault stages.Read) y f = f
-        other (commits.StoreFault stages.Delete) y f = absurd (false_true refl y)
-        other (commits.StoreFault stages.Complete) y f = absurd (false_true refl y)
-        other (commits.StoreFault stages.Success) y f = absurd (false_true refl y)
-        other commits.Committed y f = absurd (false_true refl y)
-        other commits.NoMemory y f = absurd (false_true refl y)
+        other _ y f = absurd (false_true refl y)
 
         by : (o : Option (List ℕ)) → wanted_at w picks q ≡ o → now_at c q ≡ first_at q
         by None y = other end before (subst (OtherStands picks q (now_at c q)) (sym is) (shows.files.others q p y))
@@ -349,18 +322,13 @@ module _ (g : Setting) (opening : Content) where
     left_clearing q (commits.StoreFault stages.Success) f = cleared_clearing q f
     left_clearing q (commits.StoreFault stages.Complete) f = cleared_clearing q f
     left_clearing q (commits.StoreFault stages.Delete) f = f
-    left_clearing q (commits.StoreFault stages.Read) f = inl f
-    left_clearing q (commits.Missing t) f = inl f
-    left_clearing q (commits.SamePath p t u) f = inl f
-    left_clearing q commits.NoMemory f = inl f
+    left_clearing q _ f = inl f
 
     other_clearing : (q : List ℕ) (d : Commit) → OtherStands picks q (now_at c q) d → Clearing picks q (now_at c q)
     other_clearing q (Fetching sets n) f = inl f
     other_clearing q (Replacing sets p ps x n) f = f
-    other_clearing q (Completing sets x xs finished) f = cleared_clearing q f
-    other_clearing q (Marking sets n) f = cleared_clearing q f
-    other_clearing q (Reverting r rs n) f = cleared_clearing q f
     other_clearing q (CommitOver end) f = left_clearing q end f
+    other_clearing q _ f = cleared_clearing q f
 
     clearing : (q : List ℕ) → is_file_path q ≡ true → wanted_at w picks q ≡ None → Clearing picks q (now_at c q)
     clearing q p e = other_clearing q op (shows.files.others q p e)
@@ -438,21 +406,15 @@ module _ (g : Setting) (opening : Content) where
     whole_left (commits.StoreFault stages.Success) is e =
         whole_now ((subst (Agrees w picks) (sym is) i.agrees) refl) (subst (Marks c picks s.put_mark) (sym is) shows.marks) (λ q p y. subst (OtherStands picks q (now_at c q)) (sym is) (shows.files.others q p y)) (λ q b y. subst (FileStands w q b (first_at q) es (now_at c q) m.ended) (sym is) (shows.files.wanted q (shown_path q b y) b y)) e
     whole_left (commits.StoreFault stages.Complete) is e = absurd (unmarked_not s (subst (Marks c picks s.put_mark) (sym is) shows.marks) e)
-    whole_left (commits.StoreFault stages.Delete) is e = absurd (unmarked_not s (subst (Marks c picks s.put_mark) (sym is) shows.marks) e)
-    whole_left (commits.StoreFault stages.Read) is e = absurd (unmarked_not s (subst (Marks c picks s.put_mark) (sym is) shows.marks) e)
-    whole_left (commits.Missing t) is e = absurd (unmarked_not s (subst (Marks c picks s.put_mark) (sym is) shows.marks) e)
-    whole_left (commits.SamePath p t u) is e = absurd (unmarked_not s (subst (Marks c picks s.put_mark) (sym is) shows.marks) e)
-    whole_left commits.NoMemory is e = absurd (unmarked_not s (subst (Marks c picks s.put_mark) (sym is) shows.marks) e)
+    whole_left _ is e = absurd (unmarked_not s (subst (Marks c picks s.put_mark) (sym is) shows.marks) e)
 
     whole_by : (d : Commit) → d ≡ op → is_marked w s ≡ true → Whole w (view w.dest opening) picks c
     whole_by (Fetching sets n) is e = absurd (unmarked_not s (subst (Marks c picks s.put_mark) (sym is) shows.marks) e)
-    whole_by (Replacing sets p ps x n) is e = absurd (unmarked_not s (subst (Marks c picks s.put_mark) (sym is) shows.marks) e)
-    whole_by (Completing sets x xs finished) is e = absurd (unmarked_not s (subst (Marks c picks s.put_mark) (sym is) shows.marks) e)
-    whole_by (Reverting r rs n) is e = absurd (unmarked_not s (subst (Marks c picks s.put_mark) (sym is) shows.marks) e)
     whole_by (Marking sets n) is e =
         whole_now (decided_so w picks sets (subst (Decides w g.minimum m.publish_sent m.drawn) (sym is) i.decides) (subst (Agrees w picks) (sym is) i.agrees)) (subst (Marks c picks s.put_mark) (sym is) shows.marks) (λ q p y. subst (OtherStands picks q (now_at c q)) (sym is) (shows.files.others q p y))
         (λ q b y. subst (FileStands w q b (first_at q) es (now_at c q) m.ended) (sym is) (shows.files.wanted q (shown_path q b y) b y)) e
     whole_by (CommitOver end) is e = whole_left end is e
+    whole_by _ is e = absurd (unmarked_not s (subst (Marks c picks s.put_mark) (sym is) shows.marks) e)
 
     pub kept_commit : Kept w opening s
     kept_commit = record { before = λ e. untouched_shows c (shows.early e); between = λ e. between_now; whole = whole_by op refl }

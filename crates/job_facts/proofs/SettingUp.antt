@@ -89,8 +89,7 @@ sets_if w c x next h = if_bucket_so (SetsUp w c) x next (λ d. absurd cc) h
 
 magic_is : (k : Committer) → is_magic k ≡ true → k ≡ Magic
 magic_is Magic e = refl
-magic_is Directory e = absurd (false≢true e)
-magic_is Partitioned e = absurd (false≢true e)
+magic_is _ e = absurd (false≢true e)
 
 module _ (w : Script) (s : Scene) where
   abbrev head_request : Request
@@ -161,10 +160,9 @@ alone_same w s = record { shows = λ p. refl; keys = λ k b ne. refl; uploads = 
 
 -- where a request clears where it takes effect, it clears whatever becomes of it
 alone_by : (w : Script) (s : Scene) (r : Request) (o : Outcome) → ClearsAlone w s (apply s r) → ClearsAlone w s (effect s r o)
-alone_by w s r (Answered x) h = h
 alone_by w s r Slow h = alone_same w s
 alone_by w s r RequestLost h = alone_same w s
-alone_by w s r ReplyLost h = h
+alone_by w s r _ h = h
 
 module _ (w : Script) (j : IsLegal w) (s : Scene) where
   reads_alone : (r : Request) → only_reads r ≡ true → (o : Outcome) → ClearsAlone w s (effect s r o)
@@ -211,10 +209,9 @@ module _ (w : Script) (j : IsLegal w) (s : Scene) where
 setup_same : (w : Script) (c d : Content) → (HasBucket c w.dest.bucket → HasBucket d w.dest.bucket) → (HasBucket c w.dest.bucket → (k : List ℕ) → begins (magic_prefix w.dest.key w.job) k ≡ true → at_key w d k ≡ at_key w c k)
     → (op : Setup) → SetsUp w c op → SetsUp w d op
 setup_same w c d there same Heading h = tt
-setup_same w c d there same (Checking keys) h = there h
-setup_same w c d there same Clearing h = there h
 setup_same w c d there same (Sweeping t) h = (there h.0, h.1, sweep_same w c d t (same h.0) h.2)
 setup_same w c d there same (SetupOver end) h = λ e. let g = h e in (there g.0, λ m k x b go y. g.1 m k x b go (sym (same g.0 k b) ∙ y))
+setup_same w c d there same _ h = there h
 
 pub setup_beside : (w : Script) (drawn : Who → List Drawn) (s : Scene) (op : Setup) → SetsUp w s.content op → (r : Request) → IsForeign w drawn r → (o : Outcome) → SetsUp w (effect s r o).content op
 setup_beside w drawn s op h r f o = by o
@@ -223,10 +220,9 @@ setup_beside w drawn s op h r f o = by o
     acts = setup_same w s.content (apply s r).content (λ there. (frame s w.dest.bucket r there).there there.0 there.1) (λ there k b. (frame s w.dest.bucket r there).keys k (λ e i. false_true (f.keys e k i) b)) op h
 
     by : (o : Outcome) → SetsUp w (effect s r o).content op
-    by (Answered x) = acts
     by Slow = h
     by RequestLost = h
-    by ReplyLost = acts
+    by _ = acts
 
 pub setup_done : (w : Script) (s : Scene) → SetsUp w s.content (SetupOver ends.Done) → (is_staging w.committer ≡ true → NoClusterFile w s) → HasBucket s.content w.dest.bucket × IsBare w s
 setup_done w s h none =
@@ -271,7 +267,6 @@ strange_no_file w drawn s r f o h = by o
     ]
 
     by : (o : Outcome) → NoClusterFile w (effect s r o)
-    by (Answered x) = acts
     by Slow = h
     by RequestLost = h
-    by ReplyLost = acts
+    by _ = acts

@@ -10,7 +10,7 @@ use Rattle.s3_types.specs.Moment.{effect}
 use Rattle.s3_types.specs.declared.object.Object.{Object}
 use Rattle.s3_types.specs.declared.request.Request.{Request}
 use Rattle.s3_types.specs.declared.journal.Outcome.{Outcome}
-use Rattle.s3_types.specs.declared.journal.Outcome.TheVariants.{Answered, Slow, RequestLost, ReplyLost}
+use Rattle.s3_types.specs.declared.journal.Outcome.TheVariants.{Slow, RequestLost}
 use Rattle.path_keys.specs.Paths.{below}
 use Rattle.magic_paths.specs.Layout.{magic_prefix}
 use Rattle.magic_paths.proofs.Tails.{begins_behind, below_is}
@@ -59,7 +59,6 @@ hides : {w : Script} → IsLegal w → (s : Scene) (r : Request) → HasBucket s
 hides {w = w} j s r there h = view_same j s.content (apply s r).content (λ k n. (frame s w.dest.bucket r there).keys k (λ e i. false_true n (h e k i)))
 
 pub hidden_shows : {w : Script} → IsLegal w → (s : Scene) (r : Request) (o : Outcome) → HasBucket s.content w.dest.bucket → HidesAll w r → Same (view w.dest (effect s r o).content) (view w.dest s.content)
-hidden_shows j s r (Answered x) there h = hides j s r there h
 hidden_shows j s r Slow there h = λ p. refl
 hidden_shows j s r RequestLost there h = λ p. refl
-hidden_shows j s r ReplyLost there h = hides j s r there h
+hidden_shows j s r _ there h = hides j s r there h

@@ -8,10 +8,10 @@ use Rattle.s3_types.specs.Requests.{only_reads}
 use Rattle.s3_types.specs.declared.request.Actor.{Actor}
 use Rattle.s3_types.specs.declared.request.Actor.TheVariants.{Driver, Attempt, Shell}
 use Rattle.s3_types.specs.declared.request.Committer.{Committer}
-use Rattle.s3_types.specs.declared.request.Committer.TheVariants.{Magic, Directory, Partitioned}
+use Rattle.s3_types.specs.declared.request.Committer.TheVariants.{Magic}
 use Rattle.s3_types.specs.declared.journal.Entry.{Entry}
 use Rattle.s3_types.specs.declared.journal.Outcome.{Outcome}
-use Rattle.s3_types.specs.declared.journal.Outcome.TheVariants.{Answered, Slow, RequestLost, ReplyLost}
+use Rattle.s3_types.specs.declared.journal.Outcome.TheVariants.{Slow, RequestLost}
 use Rattle.s3_types.specs.declared.object.Object.{Object}
 use Rattle.magic_paths.specs.Places.{SetPlace, TemporaryPlace, StagedSetPlace}
 use Rattle.job_model.specs.Legal.{IsLegal}
@@ -32,8 +32,7 @@ use Rattle.job_facts.proofs.Driving.{driving_keeps, reads_drive}
 -- where nothing of the job's own stands, no set does
 no_set : (c : Committer) (w : Script) (s : Scene) (t : ℕ) (b : List ℕ) → (is_magic c ≡ true → at_place w s.content (SetPlace t) ≡ None) → (is_staging c ≡ true → at_path w s (StagedSetPlace t) ≡ None) → set_at c w s t ≡ Some b → ⊥
 no_set Magic w s t b h g e = none_some (ap (λ o. option_map (λ (x : Object). x.bytes) o) (h refl)) e
-no_set Directory w s t b h g e = none_some (g refl) e
-no_set Partitioned w s t b h g e = none_some (g refl) e
+no_set _ w s t b h g e = none_some (g refl) e
 
 pub facts_begin : (w : Script) (minimum : ℕ) (s : Scene) (last : ℕ → Option ℕ) → IsLegal w → HasBucket s.content w.dest.bucket → s.content.minimum ≡ minimum → ((id : ℕ) (x : Upload) → at_id w s.content id ≡ Some x → id < s.content.next) → IsBare w s → ((t : ℕ) → last t ≡ None)
     → (v : Option ℕ) → Facts w minimum s last (nothing_told v)
@@ -61,7 +60,6 @@ idle_keeps w minimum k s m e j reads honest f = by e.actor
     by Shell = strange e.outcome
       where
         strange : (o : Outcome) → let x : Entry = record { event = e.event; actor = Shell; request = e.request; outcome = o } in Hold w minimum (see w k s x) (tell w m x)
-        strange (Answered y) = reads_effect s.scene e.request reads f
         strange Slow = f
         strange RequestLost = f
-        strange ReplyLost = reads_effect s.scene e.request reads f
+        strange _ = reads_effect s.scene e.request reads f

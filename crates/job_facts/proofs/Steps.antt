@@ -8,7 +8,7 @@ use Rattle.s3_types.specs.declared.object.Object.{Object}
 use Rattle.s3_types.specs.declared.request.Request.{Request}
 use Rattle.s3_types.specs.declared.request.Request.TheVariants.{PutObject}
 use Rattle.s3_types.specs.declared.request.Committer.{Committer}
-use Rattle.s3_types.specs.declared.request.Committer.TheVariants.{Magic, Directory, Partitioned}
+use Rattle.s3_types.specs.declared.request.Committer.TheVariants.{Magic}
 use Rattle.s3_types.specs.declared.reply.Reply.{Reply}
 use Rattle.s3_types.specs.declared.journal.Outcome.{Outcome}
 use Rattle.s3_types.specs.declared.journal.Outcome.TheVariants.{Answered, Slow, RequestLost, ReplyLost}
@@ -80,8 +80,7 @@ module _ (g : Setting) (j : IsLegal g.script) (opening : Content) (k : Option �
 
   read_plain : (x : Committer) (t : ℕ) → (is_marking w (set_request x w t) ≡ false) × (changed_keys (set_request x w t) ≡ [])
   read_plain Magic t = (refl, refl)
-  read_plain Directory t = (refl, refl)
-  read_plain Partitioned t = (refl, refl)
+  read_plain _ t = (refl, refl)
 
   sweep_plain : (p : List ℕ) (x : Sweep) → (is_marking w (sweep_asks w.dest.bucket p x) ≡ false) × ((t : ℕ) → is_reading w t (sweep_asks w.dest.bucket p x) ≡ false)
   sweep_plain p (Listing keys) = (refl, (λ t. refl))
@@ -111,10 +110,9 @@ module _ (g : Setting) (j : IsLegal g.script) (opening : Content) (k : Option �
   no_read_by : (d : Commit) → is_read_stage d ≡ false → Agrees w s.picks d → Decides w g.minimum m.publish_sent m.drawn d → commit_asks w d ≡ Some r → (t : ℕ) → is_reading w t r ≡ false
   no_read_by (Fetching sets x) z a d e t = absurd (false_true z refl)
   no_read_by (Replacing sets p ps x y) z a d e t = ap (is_reading w t) (sym (some_is e)) ∙ (sweep_plain p x).1 t
-  no_read_by (Completing sets x xs finished) z a d e t = ap (is_reading w t) (sym (some_is e))
-  no_read_by (Marking sets x) z a d e t = ap (is_reading w t) (sym (some_is e))
   no_read_by (Reverting q qs x) z a d e t = ap (is_reading w t) (sym (some_is e)) ∙ elim (d q (inl refl)).2 [ inl y ↦ ap (is_reading w t) y | inr y ↦ ap (is_reading w t) y ]
   no_read_by (CommitOver end) z a d e t = absurd cc
+  no_read_by _ z a d e t = ap (is_reading w t) (sym (some_is e))
 
   -- keys of one path
   same_path_so : (q v b : List ℕ) → below w.dest.key q ≡ below w.dest.key v → wanted_at w s.picks v ≡ Some b → wanted_at w s.picks q ≡ None → ⊥
@@ -146,15 +144,11 @@ module _ (g : Setting) (j : IsLegal g.script) (opening : Content) (k : Option �
 
   scene_is : (o : Outcome) → (u o).scene ≡ effect s.scene r o
   scene_is (Answered y) = refl
-  scene_is Slow = refl
-  scene_is RequestLost = refl
-  scene_is ReplyLost = refl
+  scene_is _ = refl
 
   begun_is : (o : Outcome) → (u o).begun ≡ true
   begun_is (Answered y) = has_begun
-  begun_is Slow = has_begun
-  begun_is RequestLost = has_begun
-  begun_is ReplyLost = has_begun
+  begun_is _ = has_begun
 
   and_false : (b : Bool) → (b && false) ≡ false
   and_false true = refl
@@ -166,24 +160,18 @@ module _ (g : Setting) (j : IsLegal g.script) (opening : Content) (k : Option �
       at : (t : ℕ) → picks_by w begun_now s.last s.picks r t ≡ s.picks t
       at t = ap (λ b. cond (begun_now && b) (s.last t) (s.picks t)) (no_read_by c z i.agrees i.decides asked t) ∙ ap (λ b. cond b (s.last t) (s.picks t)) (and_false begun_now)
   picks_same z Slow = refl
-  picks_same z RequestLost = refl
-  picks_same z ReplyLost = refl
+  picks_same z _ = refl
 
   mark_same_by : is_marking w r ≡ false → (o : Outcome) → (u o).put_mark ≡ s.put_mark
-  mark_same_by z (Answered y) = ap (λ b. s.put_mark || b) z ∙ or_false s.put_mark
   mark_same_by z Slow = refl
   mark_same_by z RequestLost = refl
-  mark_same_by z ReplyLost = ap (λ b. s.put_mark || b) z ∙ or_false s.put_mark
+  mark_same_by z _ = ap (λ b. s.put_mark || b) z ∙ or_false s.put_mark
 
   -- ---- the picks agree with the sets
 
   never_read : (d : Commit) → is_read_stage d ≡ false → (o : Outcome) → IsRead w s.picks j h d o → ⊥
   never_read (Fetching sets x) z o y = false_true z refl
-  never_read (Replacing sets p ps x v) z o y = y
-  never_read (Completing sets x xs finished) z o y = y
-  never_read (Marking sets x) z o y = y
-  never_read (Reverting q qs x) z o y = y
-  never_read (CommitOver end) z o y = y
+  never_read _ z o y = y
 
   unanswered : (o : Outcome) → (IsRead w s.picks j h c o → ⊥) → (u o).picks ≡ s.picks → Agrees w (u o).picks (commit_tells w c o)
   unanswered o none same = subst (λ p. Agrees w p (commit_tells w c o)) (sym same) (agrees_tells w s.picks j h c i.fits i.tabled i.decides i.agrees o none)
@@ -234,9 +222,7 @@ module _ (g : Setting) (j : IsLegal g.script) (opening : Content) (k : Option �
 
     marking_marks : (sets : Sets) (v : ℕ) (x : Content) (p : Picks) (put : Bool) → MarkSays g opening x p put → (o : Outcome) → Marks g opening x p put (commit_tells w (Marking sets v) o)
     marking_marks sets v x p put says (Answered y) = says
-    marking_marks sets v x p put says Slow = marks_either x p put (nat_lt v w.retries) (Marking sets (v + 1)) (CommitOver (commits.StoreFault stages.Success)) says says
-    marking_marks sets v x p put says RequestLost = marks_either x p put (nat_lt v w.retries) (Marking sets (v + 1)) (CommitOver (commits.StoreFault stages.Success)) says says
-    marking_marks sets v x p put says ReplyLost = marks_either x p put (nat_lt v w.retries) (Marking sets (v + 1)) (CommitOver (commits.StoreFault stages.Success)) says says
+    marking_marks sets v x p put says _ = marks_either x p put (nat_lt v w.retries) (Marking sets (v + 1)) (CommitOver (commits.StoreFault stages.Success)) says says
 
     unmarked_next : (d : Commit) → is_mark_stage c ≡ false → s.put_mark ≡ false → (o : Outcome) → Marks g opening (u o).scene.content (u o).picks (u o).put_mark d
     unmarked_next d z e o = false_marks g opening (u o).scene.content (u o).picks (u o).put_mark (mark_same_by (no_mark_by c z i.agrees i.decides asked) o ∙ e) d
@@ -269,9 +255,8 @@ module _ (g : Setting) (j : IsLegal g.script) (opening : Content) (k : Option �
 
         says : (o : Outcome) → MarkSays g opening (u o).scene.content (u o).picks (u o).put_mark
         says (Answered y) = λ e o z. says_now o z ∙ ap (mark_text w) (sym (same (Answered y)))
-        says Slow = old
-        says RequestLost = old
         says ReplyLost = λ e o z. says_now o z
+        says _ = old
 
     -- ---- files
 

@@ -6,7 +6,7 @@ use Rattle.s3_types.specs.Blocks.{named_from}
 use Rattle.s3_types.specs.Tags.{joined_tag}
 use Rattle.s3_types.specs.Moment.{is_effective}
 use Rattle.s3_types.specs.declared.request.Committer.{Committer}
-use Rattle.s3_types.specs.declared.request.Committer.TheVariants.{Magic, Directory, Partitioned}
+use Rattle.s3_types.specs.declared.request.Committer.TheVariants.{Magic}
 use Rattle.s3_types.specs.declared.request.Request.{Request}
 use Rattle.s3_types.specs.declared.reply.Reply.{Reply}
 use Rattle.s3_types.specs.declared.reply.Reply.TheVariants.{Completed}
@@ -111,8 +111,7 @@ still_none m r o no_end h id = ap (λ b. b || (is_effective o && ends r id)) (h 
 
 pub read_none : (c : Committer) (w : Script) (t id : ℕ) → ends (set_request c w t) id ≡ false
 read_none Magic w t id = refl
-read_none Directory w t id = refl
-read_none Partitioned w t id = refl
+read_none _ w t id = refl
 
 pub sweep_none : (w : Script) (p : List ℕ) (s : Sweep) (id : ℕ) → ends (sweep_asks w.dest.bucket p s) id ≡ false
 sweep_none w p (Listing keys) id = refl
@@ -196,27 +195,19 @@ module _ (w : Script) (minimum : ℕ) (s : Seen) (m : Told) (j : IsLegal w) (f :
 -- before the first completion, and after the last
 fetching_turns : (w : Script) (m : Told) → NoneEnded m → (sets : Sets) (n : ℕ) (o : Outcome) → Turns m (commit_tells w (Fetching sets n) o)
 fetching_turns w m h sets n (Answered x) = none_fetched w m h sets (set_read x)
-fetching_turns w m h sets n Slow = either m (nat_lt n w.retries) (Fetching sets (n + 1)) (CommitOver (ends_of.StoreFault stages.Read)) h tt
-fetching_turns w m h sets n RequestLost = either m (nat_lt n w.retries) (Fetching sets (n + 1)) (CommitOver (ends_of.StoreFault stages.Read)) h tt
-fetching_turns w m h sets n ReplyLost = either m (nat_lt n w.retries) (Fetching sets (n + 1)) (CommitOver (ends_of.StoreFault stages.Read)) h tt
+fetching_turns w m h sets n _ = either m (nat_lt n w.retries) (Fetching sets (n + 1)) (CommitOver (ends_of.StoreFault stages.Read)) h tt
 
 replacing_turns : (w : Script) (m : Told) → NoneEnded m → (sets : Sets) (p : List ℕ) (ps : List (List ℕ)) (s : Sweep) (n : ℕ) (o : Outcome) → Turns m (commit_tells w (Replacing sets p ps s n) o)
 replacing_turns w m h sets p ps s n (Answered x) = none_swept w m h sets p ps (sweep_hears (is_no_magic w) s x)
-replacing_turns w m h sets p ps s n Slow = either m (nat_lt n w.retries) (Replacing sets p ps s (n + 1)) (CommitOver (ends_of.StoreFault stages.Delete)) h tt
-replacing_turns w m h sets p ps s n RequestLost = either m (nat_lt n w.retries) (Replacing sets p ps s (n + 1)) (CommitOver (ends_of.StoreFault stages.Delete)) h tt
-replacing_turns w m h sets p ps s n ReplyLost = either m (nat_lt n w.retries) (Replacing sets p ps s (n + 1)) (CommitOver (ends_of.StoreFault stages.Delete)) h tt
+replacing_turns w m h sets p ps s n _ = either m (nat_lt n w.retries) (Replacing sets p ps s (n + 1)) (CommitOver (ends_of.StoreFault stages.Delete)) h tt
 
 marking_turns : (w : Script) (m : Told) (sets : Sets) (n : ℕ) (o : Outcome) → Turns m (commit_tells w (Marking sets n) o)
 marking_turns w m sets n (Answered x) = tt
-marking_turns w m sets n Slow = either m (nat_lt n w.retries) (Marking sets (n + 1)) (CommitOver (ends_of.StoreFault stages.Success)) tt tt
-marking_turns w m sets n RequestLost = either m (nat_lt n w.retries) (Marking sets (n + 1)) (CommitOver (ends_of.StoreFault stages.Success)) tt tt
-marking_turns w m sets n ReplyLost = either m (nat_lt n w.retries) (Marking sets (n + 1)) (CommitOver (ends_of.StoreFault stages.Success)) tt tt
+marking_turns w m sets n _ = either m (nat_lt n w.retries) (Marking sets (n + 1)) (CommitOver (ends_of.StoreFault stages.Success)) tt tt
 
 revert_turns : (w : Script) (m : Told) (q : Request) (qs : List Request) (n : ℕ) (o : Outcome) → Turns m (commit_tells w (Reverting q qs n) o)
 revert_turns w m q qs n (Answered x) = turns_reverting m qs
-revert_turns w m q qs n Slow = either m (nat_lt n w.retries) (Reverting q qs (n + 1)) (reverting qs) tt (turns_reverting m qs)
-revert_turns w m q qs n RequestLost = either m (nat_lt n w.retries) (Reverting q qs (n + 1)) (reverting qs) tt (turns_reverting m qs)
-revert_turns w m q qs n ReplyLost = either m (nat_lt n w.retries) (Reverting q qs (n + 1)) (reverting qs) tt (turns_reverting m qs)
+revert_turns w m q qs n _ = either m (nat_lt n w.retries) (Reverting q qs (n + 1)) (reverting qs) tt (turns_reverting m qs)
 
 pub commit_turns : (g : Setting) → IsLegal g.script → (s : Seen) (m : Told) → Hold g.script g.minimum s m → (c : Commit) → FitsJobCommit g.script g.minimum m.publish_sent m.drawn c → Tabled g.script c → Turns m c
     → (r : Request) → commit_asks g.script c ≡ Some r → (o : Outcome) → Turns (tell_driver m r o) (commit_tells g.script c o)

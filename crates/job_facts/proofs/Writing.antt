@@ -6,7 +6,7 @@ use Rattle.s3_types.specs.Moment.{IsHonestOutcome}
 use Rattle.s3_types.specs.declared.request.Request.{Request}
 use Rattle.s3_types.specs.declared.request.Request.TheVariants.{PutObject}
 use Rattle.s3_types.specs.declared.request.Committer.{Committer}
-use Rattle.s3_types.specs.declared.request.Committer.TheVariants.{Magic, Directory, Partitioned}
+use Rattle.s3_types.specs.declared.request.Committer.TheVariants.{Magic}
 use Rattle.s3_types.specs.declared.journal.Outcome.{Outcome}
 use Rattle.sendings.specs.Retries.{Retried, step}
 use Rattle.magic_paths.specs.Places.{Place, MarkerPlace, RecordPlace, SetPlace, key_at}
@@ -17,7 +17,7 @@ use Rattle.job_model.specs.JobScript.{Script}
 use Rattle.job_model.specs.Known.{Drawn, Known}
 use Rattle.job_operations.specs.Knowledge.{learn, first_drawn}
 use Rattle.job_operations.specs.Records.{marker_key, record_key, record_text}
-use Rattle.job_operations.specs.Uploading.{Uploading, Creating, Sending, Uploaded, GoesOn, AllSent, IsGone, upload_asks, upload_hears}
+use Rattle.job_operations.specs.Uploading.{Uploading, Creating, Sending, Uploaded, IsGone, upload_asks, upload_hears}
 use Rattle.job_operations.specs.Writes.{Write, Uploads, Marking, Recording, WriteOver, writing, write_asks, write_after, uploaded}
 use Rattle.job_promise.specs.Seen.{Seen, see, is_magic}
 use Rattle.request_frame.proofs.Members.{some_is}
@@ -32,8 +32,7 @@ use Rattle.job_facts.proofs.Going.{step_so, unlearnt}
 -- a write is all that the magic committer's attempts do before their commit
 wrote_magic : (c : Committer) (w : Script) (minimum : ℕ) (a : Who) (ds : List Drawn) → is_magic c ≡ true → AllWritten w minimum a ds → Wrote c w minimum a ds
 wrote_magic Magic w minimum a ds h all = all
-wrote_magic Directory w minimum a ds h all = absurd (false≢true h)
-wrote_magic Partitioned w minimum a ds h all = absurd (false≢true h)
+wrote_magic _ w minimum a ds h all = absurd (false≢true h)
 
 module _ (w : Script) (minimum : ℕ) (a : Who) where
   pub fits_writing : (k : Known) (fs : List File) → is_magic w.committer ≡ true → IsOpen k → Todo w minimum a k.drawn fs → FitsWrite w minimum a k (writing fs)
@@ -41,9 +40,8 @@ module _ (w : Script) (minimum : ℕ) (a : Who) where
   fits_writing k (f ∷ fs) magic free t = (magic, free, t)
 
   fits_uploaded : (k : Known) (f : File) (fs : List File) (u : Uploaded) → is_magic w.committer ≡ true → IsOpen k → FitsUploaded w minimum a k f fs u → FitsWrite w minimum a k (uploaded w f fs u)
-  fits_uploaded k f fs (GoesOn u) magic free h = (magic, free, h)
-  fits_uploaded k f fs AllSent magic free h = (magic, free, h)
   fits_uploaded k f fs IsGone magic free h = λ e. absurd cc
+  fits_uploaded k f fs _ magic free h = (magic, free, h)
 
   -- only the uploads that it knows, and what it has sent, matter
   pub fits_upload_same : (k more : Known) (f : File) (fs : List File) (u : Uploading) → more.drawn ≡ k.drawn → FitsUpload w minimum a k f fs u → FitsUpload w minimum a more f fs u

@@ -7,9 +7,8 @@ use Rattle.s3_types.specs.declared.request.Actor.TheVariants.{Driver, Attempt, S
 use Rattle.job_promise.specs.States.{same_actor, put}
 
 same_itself : (a : Actor) → same_actor a a ≡ true
-same_itself Driver = refl
 same_itself (Attempt t n) = rw (nat_true t t refl, nat_true n n refl) refl
-same_itself Shell = refl
+same_itself _ = refl
 
 pub same_true : (a b : Actor) → a ≡ b → same_actor a b ≡ true
 same_true a b e = ap (same_actor a) (sym e) ∙ same_itself a

@@ -11,7 +11,7 @@ use Rattle.job_model.specs.Legal.{HasOp, IsEvent, AreEvents}
 use Rattle.job_model.specs.declared.events.Op.{Op}
 use Rattle.job_model.specs.declared.events.Op.TheVariants as ops
 use Rattle.job_model.specs.declared.events.Event.{Event}
-use Rattle.job_model.specs.declared.events.Event.TheVariants.{Do, Start, Step, Run, Kill, Mix, Restart, Recover}
+use Rattle.job_model.specs.declared.events.Event.TheVariants.{Do, Start, Step, Run, Mix}
 use Rattle.job_model.specs.declared.ends.SetupEnd.{SetupEnd}
 use Rattle.job_model.specs.declared.ends.SetupEnd.TheVariants as setups
 use Rattle.job_model.specs.declared.ends.TaskEnd.{TaskEnd}
@@ -24,11 +24,11 @@ use Rattle.job_model.specs.declared.ends.OpEnd.{OpEnd}
 use Rattle.job_model.specs.declared.ends.OpEnd.TheVariants as ends
 use Rattle.job_model.specs.declared.ends.ActorEnd.{ActorEnd}
 use Rattle.job_model.specs.declared.ends.EventEnd.{EventEnd}
-use Rattle.job_model.specs.declared.ends.EventEnd.TheVariants.{Done, Ended, Mixed, Refused}
+use Rattle.job_model.specs.declared.ends.EventEnd.TheVariants.{Refused}
 use Rattle.job_model.specs.declared.ends.EventFault.{EventFault}
 use Rattle.job_model.specs.declared.ends.EventFault.TheVariants as faults
 use Rattle.job_model.specs.declared.states.Life.{Life}
-use Rattle.job_model.specs.declared.states.Life.TheVariants.{Idle, Busy, Dead}
+use Rattle.job_model.specs.declared.states.Life.TheVariants.{Idle, Busy}
 use Rattle.job_model.specs.declared.states.ActorStage.{ActorStage}
 use Rattle.job_model.specs.declared.states.ActorState.{ActorState}
 use Rattle.job_operations.specs.Operations.{Setting, Operation, start_of}
@@ -45,10 +45,8 @@ past_more w p (e ∷ es) [] ev x h = ap (λ v. after_event w p v x) (some_is h)
 past_more w p (e ∷ es) (y ∷ ys) ev x h = past_more w (after_event w p e y) es ys ev x h
 
 pub after_is : (w : Script) (p : Past) (ev : Event) (end : EventEnd) → ((f : EventFault) → end ≡ Refused f → ⊥) → after_event w p ev end ≡ count (end_ops (open_event w p ev) (told ev end))
-after_is w p ev Done n = refl
-after_is w p ev (Ended e) n = refl
-after_is w p ev (Mixed xs) n = refl
 after_is w p ev (Refused f) n = absurd (n f refl)
+after_is w p ev _ n = refl
 
 pub ends_more : (p : Past) (xs : List ActorEnd) (y : ActorEnd) → end_ops p (xs ++ y ∷ []) ≡ end_op (end_ops p xs) y
 ends_more p [] y = refl
@@ -56,13 +54,7 @@ ends_more p (x ∷ xs) y = ends_more (end_op p x) xs y
 
 pub opening_counts : (w : Script) (p : Past) (ev : Event) → (open_event w p ev).events ≡ p.events
 opening_counts w p (Do a op) = refl
-opening_counts w p (Start a op) = refl
-opening_counts w p (Step a n) = refl
-opening_counts w p (Run a) = refl
-opening_counts w p (Kill a) = refl
-opening_counts w p (Mix seed) = refl
-opening_counts w p Restart = refl
-opening_counts w p (Recover a) = refl
+opening_counts w p _ = refl
 
 -- ---- lives
 
@@ -71,39 +63,26 @@ busy_so l e = ap is_busy e
 
 pub busy_is : (l : Life) → is_busy l ≡ true → l ≡ Busy
 busy_is Busy h = refl
-busy_is Idle h = absurd (false_true refl h)
-busy_is Dead h = absurd (false_true refl h)
+busy_is _ h = absurd (false_true refl h)
 
 pub busy_not : (l : Life) → l ≡ Busy → is_busy l ≡ false → ⊥
 busy_not l e h = false_true h (busy_so l e)
 
 setup_idle : (e : SetupEnd) (s : ActorStage) → is_busy (setup_ended e s).life ≡ false
 setup_idle setups.Done s = refl
-setup_idle (setups.Conflict p) s = refl
-setup_idle setups.DestIsFile s = refl
-setup_idle setups.NoSuchBucket s = refl
-setup_idle setups.StoreFault s = refl
-setup_idle setups.NoMemory s = refl
+setup_idle _ s = refl
 
 commit_idle : (e : CommitEnd) (s : ActorStage) → is_busy (commit_ended e s).life ≡ false
 commit_idle commits.Committed s = refl
-commit_idle (commits.Missing t) s = refl
-commit_idle (commits.SamePath p t u) s = refl
-commit_idle (commits.StoreFault x) s = refl
-commit_idle commits.NoMemory s = refl
+commit_idle _ s = refl
 
 clean_idle : (e : CleanEnd) (s : ActorStage) → is_busy (clean_ended e s).life ≡ false
 clean_idle cleans.Done s = refl
-clean_idle cleans.StoreFault s = refl
-clean_idle cleans.NoMemory s = refl
+clean_idle _ s = refl
 
 task_idle : (e : TaskEnd) (s : ActorStage) → is_busy (task_ended e s).life ≡ false
 task_idle tasks.Done s = refl
-task_idle (tasks.Conflict p) s = refl
-task_idle tasks.Kept s = refl
-task_idle (tasks.Gone n) s = refl
-task_idle tasks.StoreFault s = refl
-task_idle tasks.NoMemory s = refl
+task_idle _ s = refl
 
 -- who ended is not busy
 pub ended_idle : (e : OpEnd) (s : ActorStage) → is_busy (ended e s).life ≡ false
@@ -120,24 +99,15 @@ turns_refused w st ev end es f t e = never ev (subst (λ v. Turns w st ev v es) 
   where
     never : (v : Event) → Turns w st v (Refused f) es → ⊥
     never (Do a op) h = h
-    never (Start a op) h = h
-    never (Step a n) h = h
-    never (Run a) h = h
-    never (Kill a) h = h
-    never (Mix seed) h = h
-    never Restart h = h
-    never (Recover a) h = h
+    never _ h = h
 
 -- an event may have no entry yet
 pub turns_open : (w : Script) (st : Actor → ActorState) (ev : Event) → OpenTurns w st ev []
 turns_open w st (Do a op) = tt
-turns_open w st (Start a op) = refl
 turns_open w st (Step a n) = let l : 0 ≤ n = omega arith in (tt, l)
 turns_open w st (Run a) = tt
-turns_open w st (Kill a) = refl
 turns_open w st (Mix seed) = ([], busy_actors w st, mix_begins)
-turns_open w st Restart = refl
-turns_open w st (Recover a) = refl
+turns_open w st _ = refl
 
 -- ---- operations that begin
 
@@ -149,12 +119,7 @@ Starts g a op = (missing : Option ℕ) (k : Known) → (o : Operation) × (start
 abbrev pub Begins : Setting → Event → Type 0
 Begins g (Do a op) = Starts g a op
 Begins g (Start a op) = Starts g a op
-Begins g (Step a n) = Unit {0}
-Begins g (Run a) = Unit {0}
-Begins g (Kill a) = Unit {0}
-Begins g (Mix seed) = Unit {0}
-Begins g Restart = Unit {0}
-Begins g (Recover a) = Unit {0}
+Begins g _ = Unit {0}
 
 has_starts : (g : Setting) (a : Actor) (op : Op) → HasOp a op → Starts g a op
 has_starts g Driver ops.Setup h m k = (_, refl)
@@ -189,8 +154,7 @@ op_none false false h = absurd (none_some h refl)
 
 begin_none : (l : Life) (r : Option EventFault) → refuse_begin l r ≡ None → r ≡ None
 begin_none Idle r h = h
-begin_none Busy r h = absurd (none_some h refl)
-begin_none Dead r h = absurd (none_some h refl)
+begin_none _ r h = absurd (none_some h refl)
 
 fine_starts : (g : Setting) (a : Actor) (op : Op) (st : Actor → ActorState) → refuse_begin (st a).life (refuse_op (st Driver).stage a op (st a).stage) ≡ None → Starts g a op
 fine_starts g a op st h = has_starts g a op (may_has a op (st a).stage (op_none _ (may a op (st a).stage) (begin_none (st a).life _ h)))
@@ -199,23 +163,13 @@ fine_starts g a op st h = has_starts g a op (may_has a op (st a).stage (op_none 
 pub fine_begins : (g : Setting) (st : Actor → ActorState) (ev : Event) → refusal st ev ≡ None → Begins g ev
 fine_begins g st (Do a op) h = fine_starts g a op st h
 fine_begins g st (Start a op) h = fine_starts g a op st h
-fine_begins g st (Step a n) h = tt
-fine_begins g st (Run a) h = tt
-fine_begins g st (Kill a) h = tt
-fine_begins g st (Mix seed) h = tt
-fine_begins g st Restart h = tt
-fine_begins g st (Recover a) h = tt
+fine_begins g st _ h = tt
 
 -- so does each event of a legal script
 pub legal_begins : (g : Setting) (attempts : List Declared) (ev : Event) → IsEvent attempts ev → Begins g ev
 legal_begins g attempts (Do a op) h = has_starts g a op h.1
 legal_begins g attempts (Start a op) h = has_starts g a op h.1
-legal_begins g attempts (Step a n) h = tt
-legal_begins g attempts (Run a) h = tt
-legal_begins g attempts (Kill a) h = tt
-legal_begins g attempts (Mix seed) h = tt
-legal_begins g attempts Restart h = tt
-legal_begins g attempts (Recover a) h = tt
+legal_begins g attempts _ h = tt
 
 pub event_at : (attempts : List Declared) (evs : List Event) (k : ℕ) (ev : Event) → AreEvents attempts evs → slice_get evs k ≡ Some ev → IsEvent attempts ev
 event_at attempts [] k ev all h = absurd (none_some refl h)

@@ -4,7 +4,7 @@ use Rattle.std.specs.Option.{option_map}
 use Rattle.std.proofs.lemmas.Bool.{and_parts, or_cases}
 use Rattle.s3_types.specs.Store.{Content}
 use Rattle.s3_types.specs.declared.request.Actor.{Actor}
-use Rattle.s3_types.specs.declared.request.Actor.TheVariants.{Driver, Attempt, Shell}
+use Rattle.s3_types.specs.declared.request.Actor.TheVariants.{Driver, Attempt}
 use Rattle.s3_types.specs.declared.journal.Outcome.{Outcome}
 use Rattle.s3_types.specs.declared.journal.Outcome.TheVariants.{Answered, Slow, RequestLost, ReplyLost}
 use Rattle.s3_types.specs.declared.journal.Entry.{Entry}
@@ -13,7 +13,7 @@ use Rattle.job_model.specs.Attempts.{Who, actor_of}
 use Rattle.job_model.specs.Legal.{IsLegal}
 use Rattle.job_model.specs.JobScript.{Script}
 use Rattle.job_model.specs.declared.events.Event.{Event}
-use Rattle.job_model.specs.declared.events.Event.TheVariants.{Do, Start, Step, Run, Kill, Mix, Restart, Recover}
+use Rattle.job_model.specs.declared.events.Event.TheVariants.{Restart}
 use Rattle.job_model.specs.declared.ends.TaskEnd.{TaskEnd}
 use Rattle.job_model.specs.declared.ends.TaskEnd.TheVariants as tasks
 use Rattle.job_model.specs.declared.ends.OpEnd.{OpEnd}
@@ -24,7 +24,7 @@ use Rattle.job_model.specs.declared.states.Life.TheVariants.{Busy}
 use Rattle.job_model.specs.declared.states.ActorStage.{ActorStage}
 use Rattle.sendings.specs.Retries.{Retried}
 use Rattle.job_operations.specs.TaskCommits.{TaskCommit, TaskCommitOver, task_commit_over}
-use Rattle.job_operations.specs.Operations.{Setting, Operation, TheSetup, TheWrite, TheTaskCommit, TheTaskAbort, TheCommit, TheClean, Running, over}
+use Rattle.job_operations.specs.Operations.{Setting, Operation, TheSetup, TheTaskCommit, Running, over}
 use Rattle.job_promise.specs.Seen.{Seen, see, see_all, nothing_seen, see_by, seen, is_begun, is_publishing}
 use Rattle.job_promise.specs.States.{first_not, report, is_done, is_committing, open_event, commit_event, clean_event}
 use Rattle.job_promise.specs.Turns.{is_memory}
@@ -52,8 +52,7 @@ tell_keeps w m e h = by e.actor
   where
     by : (a : Actor) → (tell_by w m e.event e.request e.outcome a).cleaned ≡ true
     by Driver = or_more m.cleaned (is_begun m.cleans_at e.event) h
-    by (Attempt t n) = h
-    by Shell = h
+    by _ = h
 
 cleaned_more : (w : Script) (m : Told) (es : List Entry) (e : Entry) → (tell_all w m es).cleaned ≡ true → (tell_all w m (es ++ e ∷ [])).cleaned ≡ true
 cleaned_more w m [] e h = tell_keeps w m e h
@@ -131,8 +130,6 @@ done_is (ends.Task tasks.Done) h = refl
 done_is _ h = absurd (false_true refl h)
 
 reports : (a : Actor) (s : ActorStage) (e : OpEnd) (p : ℕ → Bool) (t : ℕ) → report a s e p t ≡ true → (p t ≡ true) ⊎ Reports a s e t
-reports Driver s e p t h = inl h
-reports Shell s e p t h = inl h
 reports (Attempt u n) s e p t h = elim (or_cases (p t) (nat_eq t u && (is_committing s && is_done e)) h) [
   | inl old ↦ inl old
   | inr now ↦
@@ -140,6 +137,7 @@ reports (Attempt u n) s e p t h = elim (or_cases (p t) (nat_eq t u && (is_commit
       let y = and_parts (is_committing s) (is_done e) x.1 in
       inr (record { by = record { task = u; attempt = n }; task = sym (eq_nat t u x.0); actor = refl; stage = y.0; done = done_is e y.1 })
 ]
+reports _ s e p t h = inl h
 
 -- the task's commit that is done
 record IsDoneCommit (op : Operation) : Type 0 where
@@ -157,10 +155,7 @@ done_commit (TheTaskCommit t) h o = record { commit = t; is = refl; over = over_
     done_of (Some end) e = let is : end ≡ tasks.Done = task_is end (some_is e) in ap Some is
     done_of None e = absurd (none_some refl e)
 done_commit (TheSetup t) h o = absurd h
-done_commit (TheWrite t) h o = absurd h
-done_commit (TheTaskAbort t) h o = absurd h
-done_commit (TheCommit c) h o = absurd h
-done_commit (TheClean t) h o = absurd h
+done_commit _ h o = absurd h
 
 -- ---- every run
 
@@ -183,14 +178,8 @@ module _ (g : Setting) (opening : Content) (j : IsLegal g.script) (is_opening : 
     pub past : AllReported x.past.reported (seen_of x)
 
   opened : (y : Play) (ev : Event) → AllReported y.past.reported (seen_of y) → AllReported (open_event w y.past ev).reported (seen_of y)
-  opened y (Do a op) old = old
-  opened y (Start a op) old = old
-  opened y (Step a n) old = old
-  opened y (Run a) old = old
-  opened y (Kill a) old = old
-  opened y (Mix seed) old = old
   opened y Restart old = λ t h. absurd (false_true refl h)
-  opened y (Recover a) old = old
+  opened y _ old = old
 
   -- a task that has a last publisher has one ever after
   pub later : (y : Play) (e : Entry) (t : ℕ) → HasPublished (seen_of y) t → HasPublished (see_all w k (nothing_seen opening) (y.journal ++ e ∷ [])) t

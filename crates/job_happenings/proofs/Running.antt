@@ -14,7 +14,7 @@ use Rattle.job_model.specs.JobScript.{Script}
 use Rattle.job_model.specs.declared.events.Op.{Op}
 use Rattle.job_model.specs.declared.events.Op.TheVariants.{Setup, Write, Commit, Abort, Clean}
 use Rattle.job_model.specs.declared.events.Event.{Event}
-use Rattle.job_model.specs.declared.events.Event.TheVariants.{Do, Start, Step, Run, Kill, Mix, Restart, Recover}
+use Rattle.job_model.specs.declared.events.Event.TheVariants.{Do, Start, Kill, Restart, Recover}
 use Rattle.job_model.specs.declared.ends.OpEnd.{OpEnd}
 use Rattle.job_model.specs.declared.ends.ActorEnd.{ActorEnd}
 use Rattle.job_model.specs.declared.ends.EventEnd.{EventEnd}
@@ -75,13 +75,7 @@ not_refused w st ev end es t = by end ev t
   where
     never : (f : EventFault) (ev : Event) → Turns w st ev (Refused f) es → ⊥
     never f (Do a op) t = t
-    never f (Start a op) t = t
-    never f (Step a n) t = t
-    never f (Run a) t = t
-    never f (Kill a) t = t
-    never f (Mix seed) t = t
-    never f Restart t = t
-    never f (Recover a) t = t
+    never f _ t = t
 
     by : (end : EventEnd) (ev : Event) → Turns w st ev end es → is_refused end ≡ false
     by (Refused f) ev t = absurd (never f ev t)
@@ -116,15 +110,13 @@ module _ (g : Setting) (opening : Content) (j : IsLegal g.script) (is_opening : 
   begun_so k b x h (Start a op) e legal =
       subst (λ c. Along g opening k c x.journal (open_running g x (Start a op)) (open_event w x.past (Start a op)).state) (start_same b a op)
       (begins g opening k j is_opening b x.journal x.running x.past.state h a op (missing w x.past.reported) (begins_so (x.past.state Driver).stage a op (x.past.state a).life (x.past.state a).stage e) legal.0 legal.1)
-  begun_so k b x h (Step a n) e legal = still g opening k j is_opening b x.journal x.running x.past.state h
-  begun_so k b x h (Run a) e legal = still g opening k j is_opening b x.journal x.running x.past.state h
   begun_so k b x h (Kill a) e legal = still g opening k j is_opening b x.journal x.running (put x.past.state a (dead (x.past.state a).stage)) (killed k b x.journal x.running x.past.state h a)
-  begun_so k b x h (Mix seed) e legal = still g opening k j is_opening b x.journal x.running x.past.state h
   begun_so k b x h Restart e legal =
       let s = x.past.state Driver in
       still g opening k j is_opening b x.journal x.running (put x.past.state Driver (idle (restarted s.stage)))
       (driver_state g opening k j is_opening b x.journal x.running x.past.state h (idle (restarted s.stage)) (driver_restarts s.stage s.life (operation_of (x.running Driver)) h.driver_at) (restarted_new s.stage))
   begun_so k b x h (Recover a) e legal = absurd cc
+  begun_so k b x h _ e legal = still g opening k j is_opening b x.journal x.running x.past.state h
 
   -- between events, by the number of the last one and the states then
   between : (k : Times) (x : Play) → Carried g opening k x → x.now ≡ None → Along g opening k (begun_at k (length x.ends)) x.journal x.running x.past.state

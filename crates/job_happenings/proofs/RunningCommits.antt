@@ -11,7 +11,7 @@ use Rattle.job_model.specs.Legal.{IsLegal}
 use Rattle.job_model.specs.declared.events.Op.{Op}
 use Rattle.job_model.specs.declared.events.Op.TheVariants as ops
 use Rattle.job_model.specs.declared.events.Event.{Event}
-use Rattle.job_model.specs.declared.events.Event.TheVariants.{Do, Start, Step, Run, Kill, Mix, Restart, Recover}
+use Rattle.job_model.specs.declared.events.Event.TheVariants.{Do, Start, Kill}
 use Rattle.job_model.specs.declared.ends.SetupEnd.{SetupEnd}
 use Rattle.job_model.specs.declared.ends.SetupEnd.TheVariants as setups
 use Rattle.job_model.specs.declared.ends.CommitEnd.{CommitEnd}
@@ -29,7 +29,7 @@ use Rattle.job_model.specs.declared.states.Life.TheVariants.{Idle, Busy, Dead}
 use Rattle.job_model.specs.declared.states.ActorStage.{ActorStage}
 use Rattle.job_model.specs.declared.states.ActorStage.TheVariants as stage
 use Rattle.job_model.specs.declared.states.ActorState.{ActorState}
-use Rattle.job_operations.specs.TaskCommits.{TaskCommit, Looking, Reading, Publishing, Checking, Uploads, Storing, Renaming, TaskCommitOver, task_commit_over, least_missing, in_order, reading, looked_at, looked, read_record, storing, checking, checked, to_check, uploaded, renamed, task_commit_start_by, task_commit_start, task_commit_hears, task_commit_after}
+use Rattle.job_operations.specs.TaskCommits.{TaskCommit, Looking, Reading, Checking, Uploads, Renaming, TaskCommitOver, task_commit_over, least_missing, in_order, reading, looked_at, looked, read_record, storing, checking, checked, to_check, uploaded, renamed, task_commit_start_by, task_commit_start, task_commit_hears, task_commit_after}
 use Rattle.job_operations.specs.Operations.{Setting, Operation, TheSetup, TheWrite, TheTaskCommit, TheTaskAbort, TheCommit, TheClean, Running, tells, start_of, over}
 use Rattle.job_promise.specs.States.{Past, put, missing, stage_begun, stage_done, dead, setup_ended, commit_ended, clean_ended, task_ended, ended, is_committing, open_event, commit_event}
 use Rattle.request_frame.proofs.Members.{some_is, none_some, true_or_false}
@@ -41,7 +41,7 @@ use Rattle.job_happenings.proofs.Told.{told_all}
 use Rattle.job_happenings.proofs.RunningStages.{begins_so, memory_dies, may_end, mapped}
 use Rattle.job_happenings.proofs.Running.{is_run}
 use Rattle.s3_types.specs.declared.request.Committer.{Committer}
-use Rattle.s3_types.specs.declared.request.Committer.TheVariants.{Magic, Directory, Partitioned}
+use Rattle.s3_types.specs.declared.request.Committer.TheVariants.{Magic}
 use Rattle.s3_types.specs.declared.reply.Reply.{Reply}
 use Rattle.s3_types.specs.declared.reply.Reply.TheVariants.{Page, Refused}
 use Rattle.s3_types.specs.declared.reply.Refusal.TheVariants.{NoSuchKey, NoSuchFile}
@@ -50,7 +50,7 @@ use Rattle.job_model.specs.Files.{File}
 use Rattle.job_model.specs.JobScript.{Script}
 use Rattle.job_operations.specs.Outputs.{files}
 use Rattle.job_operations.specs.Records.{record_key}
-use Rattle.job_operations.specs.Uploading.{Uploaded, GoesOn, AllSent, IsGone, upload_hears}
+use Rattle.job_operations.specs.Uploading.{Uploaded, AllSent, upload_hears}
 use Rattle.list_walk.specs.Walks.{Walked, More, Whole, walked}
 use Rattle.job_operations.specs.Writes.{write_start}
 use Rattle.job_operations.specs.TaskAborts.{task_abort_start}
@@ -66,23 +66,13 @@ NotKept _ = Unit {0}
 
 -- it has not ended Kept
 abbrev HasEnded : TaskCommit → Type 0
-HasEnded (Looking keys) = Unit {0}
-HasEnded (Reading cs f fs) = Unit {0}
-HasEnded (Publishing cs) = Unit {0}
-HasEnded (Checking d ds) = Unit {0}
-HasEnded (Uploads f fs u) = Unit {0}
-HasEnded Storing = Unit {0}
-HasEnded Renaming = Unit {0}
 HasEnded (TaskCommitOver end) = NotKept end
+HasEnded _ = Unit {0}
 
 -- so it has not where it is a task's commit
 abbrev CommitEnded : Who → Operation → Type 0
 CommitEnded a (TheTaskCommit t) = HasEnded t.operation
-CommitEnded a (TheSetup t) = Unit {0}
-CommitEnded a (TheWrite t) = Unit {0}
-CommitEnded a (TheTaskAbort t) = Unit {0}
-CommitEnded a (TheCommit c) = Unit {0}
-CommitEnded a (TheClean t) = Unit {0}
+CommitEnded a _ = Unit {0}
 
 module _ (w : Script) (a : Who) where
   ended_reading : (cs fs : List File) → HasEnded (reading cs fs)
@@ -115,9 +105,8 @@ module _ (w : Script) (a : Who) where
   ended_checked d ds _ = tt
 
   ended_uploaded : (f : File) (fs : List File) (u : Uploaded) → HasEnded (uploaded w f fs u)
-  ended_uploaded f fs (GoesOn u) = tt
   ended_uploaded f fs AllSent = ended_storing fs
-  ended_uploaded f fs IsGone = tt
+  ended_uploaded f fs _ = tt
 
   ended_renamed : (x : Reply) (repeated : Bool) → HasEnded (renamed w a x repeated)
   ended_renamed (Refused NoSuchFile) true = tt
@@ -127,12 +116,11 @@ module _ (w : Script) (a : Who) where
   ended_heard : (minimum : ℕ) (t : TaskCommit) (x : Reply) (repeated : Bool) → HasEnded t → HasEnded (task_commit_hears w minimum a t x repeated)
   ended_heard minimum (Looking keys) x repeated h = ended_looked (walked keys x)
   ended_heard minimum (Reading cs f fs) x repeated h = ended_read cs f fs x
-  ended_heard minimum (Publishing cs) x repeated h = tt
   ended_heard minimum (Checking d ds) x repeated h = ended_checked d ds x
   ended_heard minimum (Uploads f fs u) x repeated h = ended_uploaded f fs (upload_hears w minimum f u x)
-  ended_heard minimum Storing x repeated h = tt
   ended_heard minimum Renaming x repeated h = ended_renamed x repeated
   ended_heard minimum (TaskCommitOver end) x repeated h = h
+  ended_heard minimum _ x repeated h = tt
 
   ended_goes : (minimum retries : ℕ) (t : Retried TaskCommit) (o : Outcome) → HasEnded t.operation → HasEnded (step retries (task_commit_after w minimum a) t o).operation
   ended_goes minimum retries t o h = step_so retries (task_commit_after w minimum a) t o HasEnded (λ x is. ended_heard minimum t.operation x t.repeated h) (λ none. h) (λ none. tt)
@@ -142,16 +130,11 @@ module _ (w : Script) (a : Who) where
     where
       by : (c : Committer) → HasEnded (task_commit_start_by c w a)
       by Magic = tt
-      by Directory = ended_checking (to_check w a)
-      by Partitioned = ended_checking (to_check w a)
+      by _ = ended_checking (to_check w a)
 
 ended_tells : (g : Setting) (a : Who) (op : Operation) (o : Outcome) → CommitEnded a op → CommitEnded a (tells g a op o)
 ended_tells g a (TheTaskCommit t) o h = ended_goes g.script a g.minimum g.script.retries t o h
-ended_tells g a (TheSetup t) o h = tt
-ended_tells g a (TheWrite t) o h = tt
-ended_tells g a (TheTaskAbort t) o h = tt
-ended_tells g a (TheCommit c) o h = tt
-ended_tells g a (TheClean t) o h = tt
+ended_tells g a _ o h = tt
 
 begin_ended : (g : Setting) (y : Stand) (b : Beginning) → ((a : Who) (op : Operation) → y.attempts a ≡ Some op → CommitEnded a op) → (a : Who) (op : Operation) → (begin g y b).attempts a ≡ Some op → CommitEnded a op
 begin_ended g y (BeginWrite b) old a op e = put_at CommitEnded y.attempts b (TheWrite (fresh g.script.retries (write_start g.script b))) tt old a op e
@@ -169,9 +152,8 @@ never_kept g k opening es x (strays fs y n r o run f) a op e = never_kept g k op
 -- ---- what it is at
 
 abbrev pub IsTaskCommit : Option Operation → Type 0
-IsTaskCommit None = ⊥
 IsTaskCommit (Some (TheTaskCommit t)) = Unit {0}
-IsTaskCommit (Some _) = ⊥
+IsTaskCommit _ = ⊥
 
 -- at the stage of its commit an attempt is busy with that, or dead
 abbrev pub StageBy : Bool → Life → Option Operation → Type 0
@@ -193,11 +175,10 @@ dead_at true d = tt
 
 begun_at : (g : Setting) (b : Who) (op : Op) (missing : Option ℕ) (k : Known) (s : ActorStage) (d : Option Operation) → StageBy (is_committing s) Idle d
     → StageBy (is_committing (stage_begun (actor_of b) op s)) Busy (operation_of (begun (start_of g (actor_of b) op missing k) k))
-begun_at g b ops.Setup missing k s d h = idle_begins (is_committing s) d None h
 begun_at g b ops.Write missing k s d h = tt
 begun_at g b ops.Commit missing k s d h = tt
 begun_at g b ops.Abort missing k s d h = idle_begins (is_committing s) d _ h
-begun_at g b ops.Clean missing k s d h = idle_begins (is_committing s) d None h
+begun_at g b _ missing k s d h = idle_begins (is_committing s) d None h
 
 hears_at : (g : Setting) (b : Who) (c : Bool) (op : Operation) (o : Outcome) → StageBy c Busy (Some op) → StageBy c Busy (Some (tells g b op o))
 hears_at g b false op o h = tt
@@ -212,13 +193,7 @@ hears_at g b true (TheClean t) o h = absurd h
 
 done_else : (s : ActorStage) → is_committing (stage_done s) ≡ false
 done_else stage.New = refl
-done_else stage.Set = refl
-done_else stage.Writing = refl
-done_else stage.Written = refl
-done_else stage.Committing = refl
-done_else stage.Committed = refl
-done_else stage.Failed = refl
-done_else stage.Aborted = refl
+done_else _ = refl
 
 -- at another stage no end leads to that of its commit
 setup_else : (e : SetupEnd) (s : ActorStage) → is_committing s ≡ false → is_committing (setup_ended e s).stage ≡ false
@@ -253,20 +228,12 @@ task_left : (e : TaskEnd) (s : ActorStage) (d : Option Operation) → NotKept e 
 task_left tasks.Done s d h = subst (λ c. StageBy c Idle d) (sym (done_else s)) tt
 task_left tasks.Kept s d h = absurd h
 task_left tasks.NoMemory s d h = dead_at (is_committing s) d
-task_left (tasks.Conflict p) s d h = tt
-task_left (tasks.Gone p) s d h = tt
-task_left tasks.StoreFault s d h = tt
+task_left _ s d h = tt
 
 -- the end that a task's commit has
 pub over_is : (t : TaskCommit) (e : TaskEnd) → task_commit_over t ≡ Some e → t ≡ TaskCommitOver e
 over_is (TaskCommitOver end) e o = ap TaskCommitOver (some_is o)
-over_is (Looking keys) e o = absurd (none_some refl o)
-over_is (Reading cs f fs) e o = absurd (none_some refl o)
-over_is (Publishing cs) e o = absurd (none_some refl o)
-over_is (Checking d ds) e o = absurd (none_some refl o)
-over_is (Uploads f fs u) e o = absurd (none_some refl o)
-over_is Storing e o = absurd (none_some refl o)
-over_is Renaming e o = absurd (none_some refl o)
+over_is _ e o = absurd (none_some refl o)
 
 module _ (g : Setting) (b : Who) (e : OpEnd) (s : ActorStage) where
   commit_ends : (op : Operation) → CommitEnded b op → IsTaskCommit (Some op) → over op ≡ Some e → CommitAt (ended e s) (Some op)
@@ -275,10 +242,7 @@ module _ (g : Setting) (b : Who) (e : OpEnd) (s : ActorStage) where
       let has = subst HasEnded (over_is t.operation m.0 m.1) own in
       subst (λ v. CommitAt (ended v s) (Some (TheTaskCommit t))) m.2 (task_left m.0 s (Some (TheTaskCommit t)) has)
   commit_ends (TheSetup t) own h o = absurd h
-  commit_ends (TheWrite t) own h o = absurd h
-  commit_ends (TheTaskAbort t) own h o = absurd h
-  commit_ends (TheCommit c) own h o = absurd h
-  commit_ends (TheClean t) own h o = absurd h
+  commit_ends _ own h o = absurd h
 
   ends_at : (op : Operation) → CommitEnded b op → StageBy (is_committing s) Busy (Some op) → over op ≡ Some e → CommitAt (ended e s) (Some op)
   ends_at op own h o = elim (true_or_false (is_committing s)) [
@@ -325,12 +289,8 @@ module _ (g : Setting) (opening : Content) (j : IsLegal g.script) (is_opening : 
   opens : (y : Play) (ev : Event) → MayOpen g y ev None → AllCommitAt y.past.state y.running → AllCommitAt (open_event g.script y.past ev).state (open_running g y ev)
   opens y (Do c op) may old = begins y c op (begins_so (y.past.state Driver).stage c op (y.past.state c).life (y.past.state c).stage may.refusal_is).idle old
   opens y (Start c op) may old = begins y c op (begins_so (y.past.state Driver).stage c op (y.past.state c).life (y.past.state c).stage may.refusal_is).idle old
-  opens y (Step c n) may old = old
-  opens y (Run c) may old = old
   opens y (Kill c) may old = λ b. one_put (λ s. At s (y.running (actor_of b))) y.past.state c (dead (y.past.state c).stage) (actor_of b) (λ s. dead_at (is_committing (y.past.state c).stage) (operation_of (y.running (actor_of b)))) (old b)
-  opens y (Mix seed) may old = old
-  opens y Restart may old = old
-  opens y (Recover c) may old = old
+  opens y _ may old = old
 
   -- a request is sent
   sends : (y : Play) (e : Entry) → MaySend g opening y e → AllCommitAt y.live.state y.running → AllCommitAt y.live.state (happen g y (Sends e)).running

@@ -45,8 +45,7 @@ use Rattle.job_happenings.specs.Happenings.{Play, MayFinish}
 
 idle_begins : (l : Life) (r : Option EventFault) → refuse_begin l r ≡ None → (l ≡ Idle) × (r ≡ None)
 idle_begins Idle r e = (refl, e)
-idle_begins Busy r e = absurd cc
-idle_begins Dead r e = absurd cc
+idle_begins _ r e = absurd cc
 
 let_by : (unset may : Bool) → (if unset then Some faults.NotSet else (if may then None else Some faults.WrongState)) ≡ None → (unset ≡ false) × (may ≡ true)
 let_by true may e = absurd cc
@@ -69,31 +68,19 @@ begins_so driver a op life s e =
 
 of_setup : (e : SetupEnd) (s : ActorStage) → is_memory (ends.Setup e) ≡ true → setup_ended e s ≡ dead s
 of_setup setups.NoMemory s h = refl
-of_setup setups.Done s h = absurd (false_true refl h)
-of_setup (setups.Conflict p) s h = absurd (false_true refl h)
-of_setup setups.DestIsFile s h = absurd (false_true refl h)
-of_setup setups.NoSuchBucket s h = absurd (false_true refl h)
-of_setup setups.StoreFault s h = absurd (false_true refl h)
+of_setup _ s h = absurd (false_true refl h)
 
 of_commit : (e : CommitEnd) (s : ActorStage) → is_memory (ends.Commit e) ≡ true → commit_ended e s ≡ dead s
 of_commit commits.NoMemory s h = refl
-of_commit commits.Committed s h = absurd (false_true refl h)
-of_commit (commits.Missing t) s h = absurd (false_true refl h)
-of_commit (commits.SamePath p t u) s h = absurd (false_true refl h)
-of_commit (commits.StoreFault t) s h = absurd (false_true refl h)
+of_commit _ s h = absurd (false_true refl h)
 
 of_clean : (e : CleanEnd) (s : ActorStage) → is_memory (ends.Clean e) ≡ true → clean_ended e s ≡ dead s
 of_clean cleans.NoMemory s h = refl
-of_clean cleans.Done s h = absurd (false_true refl h)
-of_clean cleans.StoreFault s h = absurd (false_true refl h)
+of_clean _ s h = absurd (false_true refl h)
 
 of_task : (e : TaskEnd) (s : ActorStage) → is_memory (ends.Task e) ≡ true → ended (ends.Task e) s ≡ dead s
 of_task tasks.NoMemory s h = refl
-of_task tasks.Done s h = absurd (false_true refl h)
-of_task (tasks.Conflict p) s h = absurd (false_true refl h)
-of_task tasks.Kept s h = absurd (false_true refl h)
-of_task (tasks.Gone p) s h = absurd (false_true refl h)
-of_task tasks.StoreFault s h = absurd (false_true refl h)
+of_task _ s h = absurd (false_true refl h)
 
 wanting_memory : (a : Actor) (op : Op) (e : OpEnd) → is_wanting a op e ≡ true → is_memory e ≡ true
 wanting_memory a op ends.NoMemory h = refl
@@ -130,49 +117,29 @@ IsSettingUp (Some _) = ⊥
 
 -- its commit, or an abort or clean of the job
 abbrev pub IsBehind : Option Operation → Type 0
-IsBehind None = ⊥
 IsBehind (Some (TheCommit c)) = Unit {0}
 IsBehind (Some (TheClean t)) = Unit {0}
-IsBehind (Some _) = ⊥
+IsBehind _ = ⊥
 
 abbrev pub DriverAt : ActorStage → Life → Option Operation → Type 0
 DriverAt stage.New l d = IsSettingUp d
 DriverAt stage.Set l d = (is_busy l ≡ false) × (is_just_set d ≡ true)
-DriverAt stage.Writing l d = IsBehind d
-DriverAt stage.Written l d = IsBehind d
-DriverAt stage.Committing l d = IsBehind d
-DriverAt stage.Committed l d = IsBehind d
-DriverAt stage.Failed l d = IsBehind d
-DriverAt stage.Aborted l d = IsBehind d
+DriverAt _ l d = IsBehind d
 
 behind_set : (d : Option Operation) → IsBehind d → is_set d ≡ true
-behind_set None h = absurd h
-behind_set (Some (TheSetup t)) h = absurd h
-behind_set (Some (TheWrite t)) h = absurd h
-behind_set (Some (TheTaskCommit t)) h = absurd h
-behind_set (Some (TheTaskAbort t)) h = absurd h
 behind_set (Some (TheCommit c)) h = refl
 behind_set (Some (TheClean t)) h = refl
+behind_set _ h = absurd h
 
 just_set : (d : Option Operation) → is_just_set d ≡ true → is_set d ≡ true
-just_set None e = absurd (false_true refl e)
 just_set (Some (TheSetup t)) e = e
-just_set (Some (TheWrite t)) e = absurd (false_true refl e)
-just_set (Some (TheTaskCommit t)) e = absurd (false_true refl e)
-just_set (Some (TheTaskAbort t)) e = absurd (false_true refl e)
-just_set (Some (TheCommit c)) e = absurd (false_true refl e)
-just_set (Some (TheClean t)) e = absurd (false_true refl e)
+just_set _ e = absurd (false_true refl e)
 
 -- behind its first stage the job is set up
 pub driver_set : (s : ActorStage) (l : Life) (d : Option Operation) → DriverAt s l d → is_new s ≡ false → is_set d ≡ true
 driver_set stage.New l d h n = absurd (false_true n refl)
 driver_set stage.Set l d h n = just_set d h.1
-driver_set stage.Writing l d h n = behind_set d h
-driver_set stage.Written l d h n = behind_set d h
-driver_set stage.Committing l d h n = behind_set d h
-driver_set stage.Committed l d h n = behind_set d h
-driver_set stage.Failed l d h n = behind_set d h
-driver_set stage.Aborted l d h n = behind_set d h
+driver_set _ l d h n = behind_set d h
 
 -- ---- it begins an operation
 
@@ -183,85 +150,41 @@ MaySet d = (is_set d ≡ false) ⊎ (is_just_set d ≡ true)
 setting_up : (d : Option Operation) → IsSettingUp d → MaySet d
 setting_up None h = inl refl
 setting_up (Some (TheSetup t)) h = elim (true_or_false (is_done t.operation)) [ inl e ↦ inr e | inr e ↦ inl e ]
-setting_up (Some (TheWrite t)) h = absurd h
-setting_up (Some (TheTaskCommit t)) h = absurd h
-setting_up (Some (TheTaskAbort t)) h = absurd h
-setting_up (Some (TheCommit c)) h = absurd h
-setting_up (Some (TheClean t)) h = absurd h
+setting_up _ h = absurd h
 
 pub may_setup : (s : ActorStage) (l : Life) (d : Option Operation) → DriverAt s l d → driver_may Setup s ≡ true → (is_new s ≡ true) × IsSettingUp d × MaySet d
 may_setup stage.New l d h m = (refl, h, setting_up d h)
-may_setup stage.Set l d h m = absurd (false_true refl m)
-may_setup stage.Writing l d h m = absurd (false_true refl m)
-may_setup stage.Written l d h m = absurd (false_true refl m)
-may_setup stage.Committing l d h m = absurd (false_true refl m)
-may_setup stage.Committed l d h m = absurd (false_true refl m)
-may_setup stage.Failed l d h m = absurd (false_true refl m)
-may_setup stage.Aborted l d h m = absurd (false_true refl m)
+may_setup _ l d h m = absurd (false_true refl m)
 
 pub may_commit_job : (s : ActorStage) (l : Life) (d : Option Operation) → DriverAt s l d → driver_may Commit s ≡ true → is_just_set d ≡ true
 may_commit_job stage.Set l d h m = h.1
-may_commit_job stage.New l d h m = absurd (false_true refl m)
-may_commit_job stage.Writing l d h m = absurd (false_true refl m)
-may_commit_job stage.Written l d h m = absurd (false_true refl m)
-may_commit_job stage.Committing l d h m = absurd (false_true refl m)
-may_commit_job stage.Committed l d h m = absurd (false_true refl m)
-may_commit_job stage.Failed l d h m = absurd (false_true refl m)
-may_commit_job stage.Aborted l d h m = absurd (false_true refl m)
+may_commit_job _ l d h m = absurd (false_true refl m)
 
 -- at its first stage it is at nothing or at its set-up, at a new set-up too
 pub new_at : (s : ActorStage) (l : Life) (t : Retried setup.Setup) → is_new s ≡ true → DriverAt s l (Some (TheSetup t))
 new_at stage.New l t e = tt
-new_at stage.Set l t e = absurd (false_true refl e)
-new_at stage.Writing l t e = absurd (false_true refl e)
-new_at stage.Written l t e = absurd (false_true refl e)
-new_at stage.Committing l t e = absurd (false_true refl e)
-new_at stage.Committed l t e = absurd (false_true refl e)
-new_at stage.Failed l t e = absurd (false_true refl e)
-new_at stage.Aborted l t e = absurd (false_true refl e)
+new_at _ l t e = absurd (false_true refl e)
 
 -- a clean begins at a stage behind the commit or an abort, which stays
 pub behind_at : (s : ActorStage) (l : Life) (d : Option Operation) → IsBehind d → driver_may Clean s ≡ true → DriverAt s l d × (is_new s ≡ false)
 behind_at stage.Committed l d h m = (h, refl)
 behind_at stage.Failed l d h m = (h, refl)
 behind_at stage.Aborted l d h m = (h, refl)
-behind_at stage.New l d h m = absurd (false_true refl m)
-behind_at stage.Set l d h m = absurd (false_true refl m)
-behind_at stage.Writing l d h m = absurd (false_true refl m)
-behind_at stage.Written l d h m = absurd (false_true refl m)
-behind_at stage.Committing l d h m = absurd (false_true refl m)
+behind_at _ l d h m = absurd (false_true refl m)
 
 -- ---- its life changes
 
 pub driver_stops : (s : ActorStage) (l m : Life) (d : Option Operation) → is_busy m ≡ false → DriverAt s l d → DriverAt s m d
-driver_stops stage.New l m d e h = h
 driver_stops stage.Set l m d e h = (e, h.1)
-driver_stops stage.Writing l m d e h = h
-driver_stops stage.Written l m d e h = h
-driver_stops stage.Committing l m d e h = h
-driver_stops stage.Committed l m d e h = h
-driver_stops stage.Failed l m d e h = h
-driver_stops stage.Aborted l m d e h = h
+driver_stops _ l m d e h = h
 
 pub driver_restarts : (s : ActorStage) (l : Life) (d : Option Operation) → DriverAt s l d → DriverAt (restarted s) Idle d
-driver_restarts stage.New l d h = h
 driver_restarts stage.Set l d h = (refl, h.1)
-driver_restarts stage.Writing l d h = h
-driver_restarts stage.Written l d h = h
-driver_restarts stage.Committing l d h = h
-driver_restarts stage.Committed l d h = h
-driver_restarts stage.Failed l d h = h
-driver_restarts stage.Aborted l d h = h
+driver_restarts _ l d h = h
 
 pub restarted_new : (s : ActorStage) → is_new (restarted s) ≡ true → is_new s ≡ true
-restarted_new stage.New e = e
-restarted_new stage.Set e = e
-restarted_new stage.Writing e = e
-restarted_new stage.Written e = e
 restarted_new stage.Committing e = absurd (false_true refl e)
-restarted_new stage.Committed e = e
-restarted_new stage.Failed e = e
-restarted_new stage.Aborted e = e
+restarted_new _ e = e
 
 -- ---- its operation ends
 
@@ -275,42 +198,26 @@ abbrev pub EndedAt : ActorStage → Operation → OpEnd → Type 0
 EndedAt s op e = DriverAt (ended e s).stage (ended e s).life (Some op) × (is_new (ended e s).stage ≡ true → is_new s ≡ true)
 
 setup_is_done : (x : setup.Setup) → setup_over x ≡ Some setups.Done → is_done x ≡ true
-setup_is_done setup.Heading e = absurd (none_some refl e)
-setup_is_done (setup.Checking keys) e = absurd (none_some refl e)
-setup_is_done setup.Clearing e = absurd (none_some refl e)
-setup_is_done (setup.Sweeping t) e = absurd (none_some refl e)
 setup_is_done (setup.SetupOver end) e = ap (λ v. is_done (setup.SetupOver v)) (some_is e)
+setup_is_done _ e = absurd (none_some refl e)
 
 setup_ends : (t : Retried setup.Setup) (e : SetupEnd) → setup_over t.operation ≡ Some e → EndedAt stage.New (TheSetup t) (ends.Setup e)
 setup_ends t setups.Done o = ((refl, setup_is_done t.operation o), λ n. refl)
-setup_ends t setups.NoMemory o = (tt, λ n. refl)
-setup_ends t (setups.Conflict p) o = (tt, λ n. refl)
-setup_ends t setups.DestIsFile o = (tt, λ n. refl)
-setup_ends t setups.NoSuchBucket o = (tt, λ n. refl)
-setup_ends t setups.StoreFault o = (tt, λ n. refl)
+setup_ends t _ o = (tt, λ n. refl)
 
 commit_ends : (s : ActorStage) (op : Operation) (e : CommitEnd) → DriverAt s Busy (Some op) → IsBehind (Some op) → EndedAt s op (ends.Commit e)
-commit_ends s op commits.Committed h b = (b, λ n. absurd (false_true refl n))
 commit_ends s op commits.NoMemory h b = (driver_stops s Busy Dead (Some op) refl h, λ n. n)
-commit_ends s op (commits.Missing t) h b = (b, λ n. absurd (false_true refl n))
-commit_ends s op (commits.SamePath p t u) h b = (b, λ n. absurd (false_true refl n))
-commit_ends s op (commits.StoreFault t) h b = (b, λ n. absurd (false_true refl n))
+commit_ends s op _ h b = (b, λ n. absurd (false_true refl n))
 
 clean_ends : (s : ActorStage) (op : Operation) (e : CleanEnd) → DriverAt s Busy (Some op) → EndedAt s op (ends.Clean e)
-clean_ends s op cleans.Done h = (driver_stops s Busy Idle (Some op) refl h, λ n. n)
 clean_ends s op cleans.NoMemory h = (driver_stops s Busy Dead (Some op) refl h, λ n. n)
-clean_ends s op cleans.StoreFault h = (driver_stops s Busy Idle (Some op) refl h, λ n. n)
+clean_ends s op _ h = (driver_stops s Busy Idle (Some op) refl h, λ n. n)
 
 -- a set-up is gone on with at the first stage alone
 setup_new : (s : ActorStage) (t : Retried setup.Setup) → DriverAt s Busy (Some (TheSetup t)) → s ≡ stage.New
 setup_new stage.New t h = refl
 setup_new stage.Set t h = absurd (false_true h.0 refl)
-setup_new stage.Writing t h = absurd h
-setup_new stage.Written t h = absurd h
-setup_new stage.Committing t h = absurd h
-setup_new stage.Committed t h = absurd h
-setup_new stage.Failed t h = absurd h
-setup_new stage.Aborted t h = absurd h
+setup_new _ t h = absurd h
 
 -- it is at a set-up, or behind that
 abbrev pub Kind : Option Operation → Type 0
@@ -319,32 +226,18 @@ Kind d = IsSettingUp d ⊎ IsBehind d
 just_kind : (d : Option Operation) → is_just_set d ≡ true → IsSettingUp d
 just_kind None e = tt
 just_kind (Some (TheSetup t)) e = tt
-just_kind (Some (TheWrite t)) e = absurd (false_true refl e)
-just_kind (Some (TheTaskCommit t)) e = absurd (false_true refl e)
-just_kind (Some (TheTaskAbort t)) e = absurd (false_true refl e)
-just_kind (Some (TheCommit c)) e = absurd (false_true refl e)
-just_kind (Some (TheClean t)) e = absurd (false_true refl e)
+just_kind _ e = absurd (false_true refl e)
 
 pub driver_kind : (s : ActorStage) (l : Life) (d : Option Operation) → DriverAt s l d → Kind d
 driver_kind stage.New l d h = inl h
 driver_kind stage.Set l d h = inl (just_kind d h.1)
-driver_kind stage.Writing l d h = inr h
-driver_kind stage.Written l d h = inr h
-driver_kind stage.Committing l d h = inr h
-driver_kind stage.Committed l d h = inr h
-driver_kind stage.Failed l d h = inr h
-driver_kind stage.Aborted l d h = inr h
+driver_kind _ l d h = inr h
 
 -- a busy driver that is at something else than a set-up is behind it
 goes_behind : (s : ActorStage) (d e : Option Operation) → DriverAt s Busy d → (IsSettingUp d → ⊥) → IsBehind e → DriverAt s Busy e
 goes_behind stage.New d e h not_so b = absurd (not_so h)
 goes_behind stage.Set d e h not_so b = absurd (false_true h.0 refl)
-goes_behind stage.Writing d e h not_so b = b
-goes_behind stage.Written d e h not_so b = b
-goes_behind stage.Committing d e h not_so b = b
-goes_behind stage.Committed d e h not_so b = b
-goes_behind stage.Failed d e h not_so b = b
-goes_behind stage.Aborted d e h not_so b = b
+goes_behind _ d e h not_so b = b
 
 behind_now : (s : ActorStage) (op : Operation) → DriverAt s Busy (Some op) → (IsSettingUp (Some op) → ⊥) → IsBehind (Some op)
 behind_now s op h not_so = elim (driver_kind s Busy (Some op) h) [ inl x ↦ absurd (not_so x) | inr x ↦ x ]
@@ -371,12 +264,10 @@ driver_ends s (TheTaskAbort t) e h o = absurd (no_task (TheTaskAbort t) (driver_
 
 -- what it asks does not read what is known
 pub driver_asks : (g : Setting) (op : Operation) (k : Known) (r : Request) → Kind (Some op) → asks g (who Driver) k op ≡ Some r → asks g (who Driver) nothing_learnt op ≡ Some r
-driver_asks g (TheSetup t) k r h e = e
-driver_asks g (TheCommit c) k r h e = e
-driver_asks g (TheClean t) k r h e = e
 driver_asks g (TheWrite t) k r h e = absurd (no_task (TheWrite t) h (λ x. x) (λ x. x))
 driver_asks g (TheTaskCommit t) k r h e = absurd (no_task (TheTaskCommit t) h (λ x. x) (λ x. x))
 driver_asks g (TheTaskAbort t) k r h e = absurd (no_task (TheTaskAbort t) h (λ x. x) (λ x. x))
+driver_asks g _ k r h e = e
 
 pub driver_hears : (g : Setting) (s : ActorStage) (op : Operation) (o : Outcome) → DriverAt s Busy (Some op) → DriverAt s Busy (Some (tells g (who Driver) op o))
 driver_hears g s (TheSetup t) o h = new_at s Busy _ (ap is_new (setup_new s t h))
@@ -420,12 +311,10 @@ timed_sends k c n (TheClean t) h = h
 timed_sends k c n _ h = tt
 
 pub timed_tells : (g : Setting) (b : Begun) (op : Operation) (o : Outcome) → IsTimed b (Some op) → IsTimed b (Some (tells g (who Driver) op o))
-timed_tells g b (TheSetup t) o h = h
-timed_tells g b (TheCommit c) o h = h
-timed_tells g b (TheClean t) o h = h
 timed_tells g b (TheWrite t) o h = tt
 timed_tells g b (TheTaskCommit t) o h = tt
 timed_tells g b (TheTaskAbort t) o h = tt
+timed_tells g b _ o h = h
 
 -- a later event that begins neither
 pub timed_on : (b : Begun) (d : Option Operation) → IsTimed b d → IsTimed (still_begun b) d

@@ -148,8 +148,7 @@ module _ (g : Setting) (opening : Content) (k : Times) (j : IsLegal g.script) (i
   attempt_op b es r st h a kn missing learnt is Write m legal = still b es _ _ (starts_write b es r st h a kn learnt is m.set (subst (λ l. AttemptAt (st (actor_of a)).stage l (operation_of (r (actor_of a)))) m.idle (h.attempt_at a)) m.may_begin)
   attempt_op b es r st h a kn missing learnt is Commit m legal = still b es _ _ (starts_publish b es r st h a kn learnt m.set (subst (λ l. AttemptAt (st (actor_of a)).stage l (operation_of (r (actor_of a)))) m.idle (h.attempt_at a)) m.may_begin)
   attempt_op b es r st h a kn missing learnt is Abort m legal = still b es _ _ (starts_abort b es r st h a kn learnt is m.set (subst (λ l. AttemptAt (st (actor_of a)).stage l (operation_of (r (actor_of a)))) m.idle (h.attempt_at a)))
-  attempt_op b es r st h a kn missing learnt is Setup m legal = absurd legal
-  attempt_op b es r st h a kn missing learnt is Clean m legal = absurd legal
+  attempt_op b es r st h a kn missing learnt is _ m legal = absurd legal
 
   -- ---- any actor
 

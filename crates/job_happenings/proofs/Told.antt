@@ -17,10 +17,10 @@ use Rattle.job_model.specs.JobScript.{Script}
 use Rattle.job_model.specs.Known.{Known}
 use Rattle.job_model.specs.declared.events.Op.{Op}
 use Rattle.job_model.specs.declared.events.Event.{Event}
-use Rattle.job_model.specs.declared.events.Event.TheVariants.{Do, Start, Step, Run, Kill, Mix, Restart, Recover}
+use Rattle.job_model.specs.declared.events.Event.TheVariants.{Do, Start, Kill, Restart}
 use Rattle.job_model.specs.declared.ends.ActorEnd.{ActorEnd}
 use Rattle.job_model.specs.declared.ends.EventEnd.{EventEnd}
-use Rattle.job_model.specs.declared.ends.EventEnd.TheVariants.{Done, Ended, Mixed, Refused}
+use Rattle.job_model.specs.declared.ends.EventEnd.TheVariants.{Refused}
 use Rattle.job_model.specs.declared.ends.EventFault.{EventFault}
 use Rattle.job_model.specs.declared.states.Life.TheVariants.{Busy}
 use Rattle.job_model.specs.declared.states.ActorState.{ActorState}
@@ -194,9 +194,7 @@ module _ (g : Setting) (xs : List EventEnd) (journal : List Entry) (ev : Event) 
 
 fault_of : EventEnd → Option EventFault
 fault_of (Refused f) = Some f
-fault_of Done = None
-fault_of (Ended e) = None
-fault_of (Mixed ys) = None
+fault_of _ = None
 
 refused_is : {f k : EventFault} → Refused f ≡ Refused k → f ≡ k
 unfolding fault_of
@@ -218,12 +216,9 @@ idled_do p a s idle old b busy = elim (same_or_not b a) [
 opened_do : (w : Script) (p : Past) (ev : Event) → AllDo p → AllDo (open_event w p ev)
 opened_do w p (Do a op) old = begun_do w p a op old
 opened_do w p (Start a op) old = begun_do w p a op old
-opened_do w p (Step a n) old = old
-opened_do w p (Run a) old = old
 opened_do w p (Kill a) old = idled_do p a (dead (p.state a).stage) refl old
-opened_do w p (Mix seed) old = old
 opened_do w p Restart old = idled_do p Driver (idle (restarted (p.state Driver).stage)) refl old
-opened_do w p (Recover a) old = old
+opened_do w p _ old = old
 
 -- ---- an event is over
 
@@ -366,12 +361,7 @@ module _ (g : Setting) (opening : Content) (x : Play) (h : Told g opening x) whe
       → AllRun g (open_event g.script x.past ev).doing x.journal (open_running g x ev) (length x.ends + 1)
   opened_run (Do a op) s upto old = began a op s upto old
   opened_run (Start a op) s upto old = began a op s upto old
-  opened_run (Step a n) s upto old = old
-  opened_run (Run a) s upto old = old
-  opened_run (Kill a) s upto old = old
-  opened_run (Mix seed) s upto old = old
-  opened_run Restart s upto old = old
-  opened_run (Recover a) s upto old = old
+  opened_run _ s upto old = old
 
   opens : (ev : Event) → MayOpen g x ev None → Told g opening (happen g x (Opens ev))
   opens ev ok =

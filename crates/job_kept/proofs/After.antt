@@ -1,7 +1,7 @@
 -- Once the job's commit is over, its driver does no more than abort and clean, and reads no set.
 use Rattle.std.proofs.Common.{◌≡◌, ℕ, inl, inr, true, false, List, [], ◌∷◌, ◌++◌, length, append_assoc, append-nil, Option, Some, None, refl, sym, ap, subst, ◌∙◌}
 use Rattle.s3_types.specs.Store.{Content}
-use Rattle.s3_types.specs.declared.request.Actor.TheVariants.{Driver, Attempt, Shell}
+use Rattle.s3_types.specs.declared.request.Actor.TheVariants.{Driver, Shell}
 use Rattle.s3_types.specs.declared.request.Request.{Request}
 use Rattle.s3_types.specs.declared.journal.Entry.{Entry}
 use Rattle.job_model.specs.Legal.{IsLegal}
@@ -9,9 +9,9 @@ use Rattle.job_model.specs.JobScript.{Script}
 use Rattle.job_model.specs.declared.events.Op.{Op}
 use Rattle.job_model.specs.declared.events.Op.TheVariants as ops
 use Rattle.job_model.specs.declared.events.Event.{Event}
-use Rattle.job_model.specs.declared.events.Event.TheVariants.{Do, Start, Step, Run, Kill, Mix, Restart, Recover}
-use Rattle.job_operations.specs.JobCommits.{Commit, Fetching, Replacing, Completing, Marking, Reverting, CommitOver}
-use Rattle.job_operations.specs.Operations.{Setting, Operation, TheSetup, TheWrite, TheTaskCommit, TheTaskAbort, TheCommit, TheClean, Running, who, asks, tells, wants}
+use Rattle.job_model.specs.declared.events.Event.TheVariants.{Do, Start}
+use Rattle.job_operations.specs.JobCommits.{Commit, Reverting, CommitOver}
+use Rattle.job_operations.specs.Operations.{Setting, Operation, TheCommit, TheClean, Running, who, asks, tells, wants}
 use Rattle.job_promise.specs.Seen.{is_reading}
 use Rattle.job_promise.specs.States.{Past, put}
 use Rattle.request_frame.proofs.Members.{none_some, false_true}
@@ -38,22 +38,14 @@ IsAfter (Some (TheClean t)) = Unit {0}
 IsAfter _ = ⊥
 
 no_setup : (d : Option Operation) → IsAfter d → IsSettingUp d → ⊥
-no_setup None h s = h
-no_setup (Some (TheSetup t)) h s = h
-no_setup (Some (TheWrite t)) h s = h
-no_setup (Some (TheTaskCommit t)) h s = h
-no_setup (Some (TheTaskAbort t)) h s = h
 no_setup (Some (TheCommit c)) h s = s
 no_setup (Some (TheClean t)) h s = s
+no_setup _ h s = h
 
 no_commit : (d : Option Operation) → IsAfter d → is_just_set d ≡ true → ⊥
-no_commit None h s = h
-no_commit (Some (TheSetup t)) h s = h
-no_commit (Some (TheWrite t)) h s = h
-no_commit (Some (TheTaskCommit t)) h s = h
-no_commit (Some (TheTaskAbort t)) h s = h
 no_commit (Some (TheCommit c)) h s = false_true refl s
 no_commit (Some (TheClean t)) h s = false_true refl s
+no_commit _ h s = h
 
 -- it reads no set then
 driver_reads : (g : Setting) (r : Request) (m : Running) → IsAfter (Some m.operation) → wants g Driver m ≡ Some r → (t : ℕ) → is_reading g.script t r ≡ false
@@ -61,19 +53,12 @@ driver_reads g r m h e t = by m.operation h e
   where
     over : (c : Commit) → IsOver c → asks g (who Driver) m.known (TheCommit c) ≡ Some r → ⊥
     over (CommitOver end) h e = none_some refl e
-    over (Fetching x i) h e = h
-    over (Replacing x p ps y i) h e = h
-    over (Completing x y ys f) h e = h
-    over (Marking x i) h e = h
-    over (Reverting q qs i) h e = h
+    over _ h e = h
 
     by : (op : Operation) → IsAfter (Some op) → asks g (who Driver) m.known op ≡ Some r → is_reading g.script t r ≡ false
     by (TheClean c) h e = clean_reads g.script c.operation r e t
     by (TheCommit c) h e = absurd (over c h e)
-    by (TheSetup c) h e = absurd h
-    by (TheWrite c) h e = absurd h
-    by (TheTaskCommit c) h e = absurd h
-    by (TheTaskAbort c) h e = absurd h
+    by _ h e = absurd h
 
 none_last : (w : Script) (es : List Entry) (e : Entry) → NoneRead w es → (e.actor ≡ Driver → (t : ℕ) → is_reading w t e.request ≡ false) → NoneRead w (es ++ e ∷ [])
 none_last w [] e h one = (one, tt)
@@ -84,19 +69,13 @@ heard_after g m e h asked = by m.operation h asked
   where
     over : (c : Commit) → IsOver c → asks g (who Driver) m.known (TheCommit c) ≡ Some e.request → ⊥
     over (CommitOver end) h q = none_some refl q
-    over (Fetching x i) h q = h
-    over (Replacing x p ps y i) h q = h
-    over (Completing x y ys f) h q = h
-    over (Marking x i) h q = h
     over (Reverting q qs i) h p = h
+    over _ h q = h
 
     by : (op : Operation) → IsAfter (Some op) → asks g (who Driver) m.known op ≡ Some e.request → IsAfter (Some (tells g (who Driver) op e.outcome))
     by (TheClean c) h q = tt
     by (TheCommit c) h q = absurd (over c h q)
-    by (TheSetup c) h q = absurd h
-    by (TheWrite c) h q = absurd h
-    by (TheTaskCommit c) h q = absurd h
-    by (TheTaskAbort c) h q = absurd h
+    by _ h q = absurd h
 
 module _ (g : Setting) (opening : Content) (j : IsLegal g.script) (is_opening : IsOpening g opening) where
   -- the driver is at the operation that it is at between events, and at its stage
@@ -108,22 +87,12 @@ module _ (g : Setting) (opening : Content) (j : IsLegal g.script) (is_opening : 
   begun_after y past ops.Setup h idle b = absurd (no_setup (operation_of (y.running Driver)) h (may_setup (y.past.state Driver).stage (y.past.state Driver).life (operation_of (y.running Driver)) (driver_past y past idle) b.may_begin).1)
   begun_after y past ops.Write h idle b = absurd (false_true refl b.may_begin)
   begun_after y past ops.Commit h idle b = absurd (no_commit (operation_of (y.running Driver)) h (may_commit_job (y.past.state Driver).stage (y.past.state Driver).life (operation_of (y.running Driver)) (driver_past y past idle) b.may_begin))
-  begun_after y past ops.Abort h idle b = tt
-  begun_after y past ops.Clean h idle b = tt
+  begun_after y past _ h idle b = tt
 
   opened_after : (y : Play) → Happened g opening y → (ev : Event) → MayOpen g y ev None → IsAfter (operation_of (y.running Driver)) → IsAfter (operation_of (open_running g y ev Driver))
   opened_after y past (Do Driver op) may h = begun_after y past op h may.idle (begins_so (y.past.state Driver).stage Driver op (y.past.state Driver).life (y.past.state Driver).stage may.refusal_is)
-  opened_after y past (Do (Attempt t n) op) may h = h
-  opened_after y past (Do Shell op) may h = h
   opened_after y past (Start Driver op) may h = begun_after y past op h may.idle (begins_so (y.past.state Driver).stage Driver op (y.past.state Driver).life (y.past.state Driver).stage may.refusal_is)
-  opened_after y past (Start (Attempt t n) op) may h = h
-  opened_after y past (Start Shell op) may h = h
-  opened_after y past (Step a n) may h = h
-  opened_after y past (Run a) may h = h
-  opened_after y past (Kill a) may h = h
-  opened_after y past (Mix seed) may h = h
-  opened_after y past Restart may h = h
-  opened_after y past (Recover a) may h = h
+  opened_after y past _ may h = h
 
   -- of one more sending
   module _ (y : Play) (e : Entry) (may : MaySend g opening y e) (h : IsAfter (operation_of (y.running Driver))) where

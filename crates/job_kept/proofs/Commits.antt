@@ -24,8 +24,8 @@ use Rattle.job_model.specs.declared.ends.CommitEnd.TheVariants as commits
 use Rattle.job_model.specs.declared.ends.Stage.TheVariants as stages
 use Rattle.job_model.specs.declared.ends.OpEnd.TheVariants as ends
 use Rattle.job_operations.specs.View.{view}
-use Rattle.job_operations.specs.JobCommits.{Commit, Fetching, Replacing, Completing, Marking, Reverting, CommitOver, commit_start, commit_asks, commit_tells, commit_over, set_request, set_read}
-use Rattle.job_operations.specs.Operations.{Setting, Operation, Running, start_of, TheSetup, TheWrite, TheTaskCommit, TheTaskAbort, TheCommit, TheClean, advance, over}
+use Rattle.job_operations.specs.JobCommits.{Commit, CommitOver, commit_start, commit_asks, commit_tells, commit_over, set_request, set_read}
+use Rattle.job_operations.specs.Operations.{Setting, Operation, Running, start_of, TheSetup, TheCommit, advance, over}
 use Rattle.job_promise.specs.Headline.{Same, Always}
 use Rattle.job_promise.specs.Seen.{see_all, nothing_seen, is_begun, is_marked, Seen}
 use Rattle.job_promise.specs.States.{same_actor, refusal, Doing, missing, first_not, driver_may, commit_event, clean_event}
@@ -74,11 +74,7 @@ commit_is e = cc
 
 over_is : (c : Commit) (e : CommitEnd) → commit_over c ≡ Some e → c ≡ CommitOver e
 over_is (CommitOver d) e o = ap CommitOver (some_is o)
-over_is (Fetching s n) e o = absurd (none_some refl o)
-over_is (Replacing s p ps x n) e o = absurd (none_some refl o)
-over_is (Completing s x xs f) e o = absurd (none_some refl o)
-over_is (Marking s n) e o = absurd (none_some refl o)
-over_is (Reverting q qs n) e o = absurd (none_some refl o)
+over_is _ e o = absurd (none_some refl o)
 
 -- a commit that is over, by its end
 commit_back : (c : Commit) (e : CommitEnd) → option_map ends.Commit (commit_over c) ≡ Some (ends.Commit e) → c ≡ CommitOver e
@@ -87,11 +83,7 @@ commit_back c e o = let m = end_of ends.Commit (commit_over c) (ends.Commit e) o
 just_setting : (d : Option Operation) → is_just_set d ≡ true → IsSettingUp d
 just_setting None e = tt
 just_setting (Some (TheSetup t)) e = tt
-just_setting (Some (TheWrite t)) e = absurd (false_true refl e)
-just_setting (Some (TheTaskCommit t)) e = absurd (false_true refl e)
-just_setting (Some (TheTaskAbort t)) e = absurd (false_true refl e)
-just_setting (Some (TheCommit c)) e = absurd (false_true refl e)
-just_setting (Some (TheClean t)) e = absurd (false_true refl e)
+just_setting _ e = absurd (false_true refl e)
 
 -- a task that is missing is one of the job's
 missing_below : (w : Script) (reported : ℕ → Bool) (t : ℕ) → missing w reported ≡ Some t → t < w.tasks
@@ -116,11 +108,8 @@ commit_number (Some m) n before now =
 
 -- a commit alone is told of want of memory so
 wanting_commit : (op : Op) (e : CommitEnd) → is_wanting Driver op (ends.Commit e) ≡ true → op ≡ ops.Commit
-wanting_commit ops.Setup e h = absurd (false_true refl h)
-wanting_commit ops.Write e h = absurd (false_true refl h)
 wanting_commit ops.Commit e h = refl
-wanting_commit ops.Abort e h = absurd (false_true refl h)
-wanting_commit ops.Clean e h = absurd (false_true refl h)
+wanting_commit _ e h = absurd (false_true refl h)
 
 -- where a member stands in its list
 parted_at : {X : Type 0} (x : X) (xs : List X) → IsIn x xs → (before : List X) × (later : List X) × (xs ≡ before ++ x ∷ later)

@@ -10,7 +10,7 @@ use Rattle.job_model.specs.JobScript.{Script}
 use Rattle.job_model.specs.declared.events.Op.{Op}
 use Rattle.job_model.specs.declared.events.Op.TheVariants as ops
 use Rattle.job_model.specs.declared.events.Event.{Event}
-use Rattle.job_model.specs.declared.events.Event.TheVariants.{Do, Start, Step, Run, Kill, Mix, Restart, Recover}
+use Rattle.job_model.specs.declared.events.Event.TheVariants.{Do, Start, Kill, Restart}
 use Rattle.job_model.specs.declared.ends.SetupEnd.{SetupEnd}
 use Rattle.job_model.specs.declared.ends.ActorEnd.{ActorEnd}
 use Rattle.job_model.specs.declared.ends.OpEnd.{OpEnd}
@@ -20,7 +20,7 @@ use Rattle.job_model.specs.declared.states.Life.TheVariants.{Busy}
 use Rattle.job_model.specs.declared.states.ActorStage.{ActorStage}
 use Rattle.job_model.specs.declared.states.ActorStage.TheVariants as stage
 use Rattle.job_model.specs.declared.states.ActorState.{ActorState}
-use Rattle.job_operations.specs.Operations.{Setting, Operation, TheSetup, TheWrite, TheTaskCommit, TheTaskAbort, TheCommit, TheClean, Running, over}
+use Rattle.job_operations.specs.Operations.{Setting, Operation, TheCommit, TheClean, Running, over}
 use Rattle.job_promise.specs.States.{Past, put, ended, is_new, needs_set, stage_begun, refusal, open_event}
 use Rattle.job_promise.specs.Turns.{is_own, own, is_memory, AllBy}
 use Rattle.request_frame.proofs.Members.{none_some, false_true}
@@ -37,46 +37,27 @@ use Rattle.job_kept.proofs.Sorts.{kind, OfSetup, OfCommit, OfClean, over_kind}
 -- ---- stages
 
 behind_none : (op : Operation) → IsBehind (Some op) → kind op ≡ OfSetup → ⊥
-behind_none (TheSetup t) b e = b
-behind_none (TheWrite t) b e = b
-behind_none (TheTaskCommit t) b e = b
-behind_none (TheTaskAbort t) b e = b
 behind_none (TheCommit c) b e = let no : OfCommit ≡ OfSetup = e in absurd cc
 behind_none (TheClean t) b e = let no : OfClean ≡ OfSetup = e in absurd cc
+behind_none _ b e = b
 
 -- a busy driver at its set-up is at its first stage
 new_of : (s : ActorStage) (op : Operation) → DriverAt s Busy (Some op) → kind op ≡ OfSetup → is_new s ≡ true
 new_of stage.New op h e = refl
 new_of stage.Set op h e = absurd (false_true h.0 refl)
-new_of stage.Writing op h e = absurd (behind_none op h e)
-new_of stage.Written op h e = absurd (behind_none op h e)
-new_of stage.Committing op h e = absurd (behind_none op h e)
-new_of stage.Committed op h e = absurd (behind_none op h e)
-new_of stage.Failed op h e = absurd (behind_none op h e)
-new_of stage.Aborted op h e = absurd (behind_none op h e)
+new_of _ op h e = absurd (behind_none op h e)
 
 begin_new : (op : Op) (s : ActorStage) → is_new (stage_begun Driver op s) ≡ true → is_new s ≡ true
 begin_new ops.Setup s n = n
-begin_new ops.Write s n = absurd (false_true refl n)
-begin_new ops.Commit s n = absurd (false_true refl n)
-begin_new ops.Abort s n = absurd (false_true refl n)
 begin_new ops.Clean s n = n
+begin_new _ s n = absurd (false_true refl n)
 
 open_new : (w : Script) (p : Past) (ev : Event) → is_new ((open_event w p ev).state Driver).stage ≡ true → is_new (p.state Driver).stage ≡ true
 open_new w p (Do Driver op) n = begin_new op (p.state Driver).stage n
-open_new w p (Do (Attempt t a) op) n = n
-open_new w p (Do Shell op) n = n
 open_new w p (Start Driver op) n = begin_new op (p.state Driver).stage n
-open_new w p (Start (Attempt t a) op) n = n
-open_new w p (Start Shell op) n = n
-open_new w p (Step a c) n = n
-open_new w p (Run a) n = n
 open_new w p (Kill Driver) n = n
-open_new w p (Kill (Attempt t a)) n = n
-open_new w p (Kill Shell) n = n
-open_new w p (Mix seed) n = n
 open_new w p Restart n = restarted_new (p.state Driver).stage n
-open_new w p (Recover a) n = n
+open_new w p _ n = n
 
 needs_other : (a : Actor) (op : Op) → (a ≡ Driver → ⊥) → needs_set a op ≡ true
 needs_other Driver op ne = absurd (ne refl)
@@ -129,12 +110,7 @@ module _ (g : Setting) (opening : Content) (j : IsLegal g.script) (is_opening : 
   opened_nobody : (y : Play) (ev : Event) → Early y → refusal y.past.state ev ≡ None → is_new (y.past.state Driver).stage ≡ true → (a : Actor) → (a ≡ Driver → ⊥) → open_running g y ev a ≡ None
   opened_nobody y (Do b op) old fine new a ne = begun_nobody y b op old (begins_so (y.past.state Driver).stage b op (y.past.state b).life (y.past.state b).stage fine).set new _ a ne
   opened_nobody y (Start b op) old fine new a ne = begun_nobody y b op old (begins_so (y.past.state Driver).stage b op (y.past.state b).life (y.past.state b).stage fine).set new _ a ne
-  opened_nobody y (Step b n) old fine new a ne = old.nobody new a ne
-  opened_nobody y (Run b) old fine new a ne = old.nobody new a ne
-  opened_nobody y (Kill b) old fine new a ne = old.nobody new a ne
-  opened_nobody y (Mix seed) old fine new a ne = old.nobody new a ne
-  opened_nobody y Restart old fine new a ne = old.nobody new a ne
-  opened_nobody y (Recover b) old fine new a ne = old.nobody new a ne
+  opened_nobody y _ old fine new a ne = old.nobody new a ne
 
   opens : (y : Play) (ev : Event) → Early y → MayOpen g y ev None → Early (happen g y (Opens ev))
   opens y ev old may = record {

@@ -11,7 +11,7 @@ use Rattle.job_model.specs.declared.events.Event.{Event}
 use Rattle.job_model.specs.declared.ends.OpEnd.{OpEnd}
 use Rattle.job_model.specs.declared.ends.ActorEnd.{ActorEnd}
 use Rattle.job_model.specs.declared.ends.EventEnd.{EventEnd}
-use Rattle.job_model.specs.declared.ends.EventEnd.TheVariants.{Done, Ended, Mixed, Refused}
+use Rattle.job_model.specs.declared.ends.EventEnd.TheVariants.{Refused}
 use Rattle.job_operations.specs.Operations.{Setting, Operation, Running, wants, advance, start_of, over}
 use Rattle.job_promise.specs.States.{Past, Doing, past, count, end_ops, open_event, after_event, told, is_refused}
 use Rattle.job_promise.specs.Entries.{AreOwn}
@@ -47,10 +47,8 @@ pub record Ending (g : Setting) (opening : Content) (x : Play) (j : ℕ) (a : Ac
 
 -- a refused event ends no operation
 told_fine : (ev : Event) (end : EventEnd) (i : ℕ) (y : ActorEnd) → slice_get (told ev end) i ≡ Some y → is_refused end ≡ false
-told_fine ev Done i y e = refl
-told_fine ev (Ended v) i y e = refl
-told_fine ev (Mixed ys) i y e = refl
 told_fine ev (Refused f) i y e = absurd (none_some refl e)
+told_fine ev _ i y e = refl
 
 -- the ends of a run between its events
 pub ahead_none : (x : Play) → x.now ≡ None → Ahead x x.ends

@@ -9,7 +9,7 @@ use Rattle.s3_types.specs.declared.journal.Entry.{Entry}
 use Rattle.request_frame.proofs.Members.{some_is, none_some, false_true}
 use Rattle.job_model.specs.declared.events.Op.{Op}
 use Rattle.job_model.specs.declared.events.Event.{Event}
-use Rattle.job_model.specs.declared.events.Event.TheVariants.{Do, Start, Step, Run, Kill, Mix, Restart, Recover}
+use Rattle.job_model.specs.declared.events.Event.TheVariants.{Do, Start}
 use Rattle.job_model.specs.declared.ends.EventEnd.{EventEnd}
 use Rattle.job_model.specs.declared.ends.EventEnd.TheVariants.{Refused}
 use Rattle.job_operations.specs.Operations.{Setting}
@@ -226,12 +226,7 @@ module _ (g : Setting) (opening : Content) where
       → (a : Actor) (d : Doing) → (open_event g.script y.past ev).doing a ≡ Some d → Began g opening (happen g y (Opens ev)) a d
   opened_began y (Do b op) past may old a d e = began_one y (Do b op) b op past may (inl refl) old a d e
   opened_began y (Start b op) past may old a d e = began_one y (Start b op) b op past may (inr refl) old a d e
-  opened_began y (Step b n) past may old a d e = old a d e
-  opened_began y (Run b) past may old a d e = old a d e
-  opened_began y (Kill b) past may old a d e = old a d e
-  opened_began y (Mix seed) past may old a d e = old a d e
-  opened_began y Restart past may old a d e = old a d e
-  opened_began y (Recover b) past may old a d e = old a d e
+  opened_began y _ past may old a d e = old a d e
 
   -- between events what is past is how it stands
   lived : (y : Play) → Happened g opening y → y.now ≡ None → (a : Actor) (d : Doing) → y.past.doing a ≡ Some d → y.live.doing a ≡ Some d

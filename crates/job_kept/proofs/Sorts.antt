@@ -40,11 +40,9 @@ pub data Kind : Type 0 where
 
 abbrev pub kind : Operation → Kind
 kind (TheSetup t) = OfSetup
-kind (TheWrite t) = OfTask
-kind (TheTaskCommit t) = OfTask
-kind (TheTaskAbort t) = OfTask
 kind (TheCommit c) = OfCommit
 kind (TheClean t) = OfClean
+kind _ = OfTask
 
 abbrev pub end_kind : OpEnd → Kind
 end_kind (ends.Setup e) = OfSetup
@@ -68,11 +66,7 @@ over_kind (TheClean t) e o = ap end_kind (end_of ends.Clean (clean_over t.operat
 
 kind_tells : (g : Setting) (a : Who) (op : Operation) (o : Outcome) → kind (tells g a op o) ≡ kind op
 kind_tells g a (TheSetup t) o = refl
-kind_tells g a (TheWrite t) o = refl
-kind_tells g a (TheTaskCommit t) o = refl
-kind_tells g a (TheTaskAbort t) o = refl
-kind_tells g a (TheCommit c) o = refl
-kind_tells g a (TheClean t) o = refl
+kind_tells g a _ o = refl
 
 pub kind_run : (g : Setting) (a : Actor) (m : Running) (es : List Entry) → kind (run (advance g a) m es).operation ≡ kind m.operation
 kind_run g a m [] = refl
@@ -84,49 +78,34 @@ pub driver_setup : (g : Setting) (op : Op) (missing : Option ℕ) (k : Known) (m
 driver_setup g ops.Setup missing k m b e = sym (some_is b)
 driver_setup g ops.Write missing k m b e = absurd (none_some refl b)
 driver_setup g ops.Commit missing k m b e = let no : OfCommit ≡ OfSetup = ap kind (some_is b) ∙ e in absurd cc
-driver_setup g ops.Abort missing k m b e = let no : OfClean ≡ OfSetup = ap kind (some_is b) ∙ e in absurd cc
-driver_setup g ops.Clean missing k m b e = let no : OfClean ≡ OfSetup = ap kind (some_is b) ∙ e in absurd cc
+driver_setup g _ missing k m b e = let no : OfClean ≡ OfSetup = ap kind (some_is b) ∙ e in absurd cc
 
 pub driver_commit : (g : Setting) (op : Op) (missing : Option ℕ) (k : Known) (m : Operation) → start_of g Driver op missing k ≡ Some m → kind m ≡ OfCommit → (op ≡ ops.Commit) × (m ≡ TheCommit (commit_start g.script missing))
 driver_commit g ops.Setup missing k m b e = let no : OfSetup ≡ OfCommit = ap kind (some_is b) ∙ e in absurd cc
 driver_commit g ops.Write missing k m b e = absurd (none_some refl b)
 driver_commit g ops.Commit missing k m b e = (refl, sym (some_is b))
-driver_commit g ops.Abort missing k m b e = let no : OfClean ≡ OfCommit = ap kind (some_is b) ∙ e in absurd cc
-driver_commit g ops.Clean missing k m b e = let no : OfClean ≡ OfCommit = ap kind (some_is b) ∙ e in absurd cc
+driver_commit g _ missing k m b e = let no : OfClean ≡ OfCommit = ap kind (some_is b) ∙ e in absurd cc
 
 pub driver_clean : (g : Setting) (op : Op) (missing : Option ℕ) (k : Known) (m : Operation) → start_of g Driver op missing k ≡ Some m → kind m ≡ OfClean → m ≡ TheClean (fresh g.script.retries clean_start)
 driver_clean g ops.Setup missing k m b e = let no : OfSetup ≡ OfClean = ap kind (some_is b) ∙ e in absurd cc
 driver_clean g ops.Write missing k m b e = absurd (none_some refl b)
 driver_clean g ops.Commit missing k m b e = let no : OfCommit ≡ OfClean = ap kind (some_is b) ∙ e in absurd cc
-driver_clean g ops.Abort missing k m b e = sym (some_is b)
-driver_clean g ops.Clean missing k m b e = sym (some_is b)
+driver_clean g _ missing k m b e = sym (some_is b)
 
 -- ---- ends for want of memory
 
 pub memory_setup : (e : SetupEnd) → is_memory (ends.Setup e) ≡ true → e ≡ setups.NoMemory
 memory_setup setups.NoMemory h = refl
-memory_setup setups.Done h = absurd (false_true refl h)
-memory_setup (setups.Conflict p) h = absurd (false_true refl h)
-memory_setup setups.DestIsFile h = absurd (false_true refl h)
-memory_setup setups.NoSuchBucket h = absurd (false_true refl h)
-memory_setup setups.StoreFault h = absurd (false_true refl h)
+memory_setup _ h = absurd (false_true refl h)
 
 pub memory_commit : (e : CommitEnd) → is_memory (ends.Commit e) ≡ true → e ≡ commits.NoMemory
 memory_commit commits.NoMemory h = refl
-memory_commit commits.Committed h = absurd (false_true refl h)
-memory_commit (commits.Missing t) h = absurd (false_true refl h)
-memory_commit (commits.SamePath p t u) h = absurd (false_true refl h)
-memory_commit (commits.StoreFault t) h = absurd (false_true refl h)
+memory_commit _ h = absurd (false_true refl h)
 
 pub memory_clean : (e : CleanEnd) → is_memory (ends.Clean e) ≡ true → e ≡ cleans.NoMemory
 memory_clean cleans.NoMemory h = refl
-memory_clean cleans.Done h = absurd (false_true refl h)
-memory_clean cleans.StoreFault h = absurd (false_true refl h)
+memory_clean _ h = absurd (false_true refl h)
 
 pub memory_task : (e : TaskEnd) → is_memory (ends.Task e) ≡ true → e ≡ tasks.NoMemory
 memory_task tasks.NoMemory h = refl
-memory_task tasks.Done h = absurd (false_true refl h)
-memory_task (tasks.Conflict p) h = absurd (false_true refl h)
-memory_task tasks.Kept h = absurd (false_true refl h)
-memory_task (tasks.Gone p) h = absurd (false_true refl h)
-memory_task tasks.StoreFault h = absurd (false_true refl h)
+memory_task _ h = absurd (false_true refl h)

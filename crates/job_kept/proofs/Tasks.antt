@@ -16,9 +16,9 @@ use Rattle.job_model.specs.declared.events.Op.TheVariants as ops
 use Rattle.job_model.specs.declared.ends.TaskEnd.{TaskEnd}
 use Rattle.job_model.specs.declared.ends.TaskEnd.TheVariants as tasks
 use Rattle.job_model.specs.declared.ends.OpEnd.TheVariants as ends
-use Rattle.job_operations.specs.TaskCommits.{TaskCommit, Looking, Reading, Publishing, Checking, Uploads, Storing, Renaming, TaskCommitOver, task_commit_over}
+use Rattle.job_operations.specs.TaskCommits.{TaskCommit, TaskCommitOver, task_commit_over}
 use Rattle.job_operations.specs.Knowledge.{knows}
-use Rattle.job_operations.specs.Operations.{Setting, Operation, TheSetup, TheWrite, TheTaskCommit, TheTaskAbort, TheCommit, TheClean, Running, tells, advance, start_of, over}
+use Rattle.job_operations.specs.Operations.{Setting, Operation, TheSetup, TheTaskCommit, Running, tells, advance, start_of, over}
 use Rattle.job_promise.specs.Ends.{has_cleaned}
 use Rattle.job_promise.specs.States.{Doing, commit_event, clean_event}
 use Rattle.job_promise.specs.Turns.{until, by_actor, until_last}
@@ -45,22 +45,17 @@ use Rattle.job_kept.proofs.Spans.{known_is}
 
 abort_tells : (g : Setting) (a : Who) (op : Operation) (o : Outcome) → is_abort (tells g a op o) ≡ is_abort op
 abort_tells g a (TheSetup t) o = refl
-abort_tells g a (TheWrite t) o = refl
-abort_tells g a (TheTaskCommit t) o = refl
-abort_tells g a (TheTaskAbort t) o = refl
-abort_tells g a (TheCommit c) o = refl
-abort_tells g a (TheClean t) o = refl
+abort_tells g a _ o = refl
 
 abort_run : (g : Setting) (t n : ℕ) (m : Running) (es : List Entry) → is_abort (run (advance g (Attempt t n)) m es).operation ≡ is_abort m.operation
 abort_run g t n m [] = refl
 abort_run g t n m (e ∷ es) = abort_run g t n (advance g (Attempt t n) m e.outcome) es ∙ abort_tells g (attempt t n) m.operation e.outcome
 
 no_abort : (g : Setting) (t n : ℕ) (op : Op) (missing : Option ℕ) (k : Known) (m : Operation) → start_of g (Attempt t n) op missing k ≡ Some m → (op ≡ ops.Abort → ⊥) → is_abort m ≡ false
-no_abort g t n ops.Setup missing k m e ne = absurd (none_some refl e)
 no_abort g t n ops.Write missing k m e ne = ap is_abort (sym (some_is e))
 no_abort g t n ops.Commit missing k m e ne = ap is_abort (sym (some_is e))
 no_abort g t n ops.Abort missing k m e ne = absurd (ne refl)
-no_abort g t n ops.Clean missing k m e ne = absurd (none_some refl e)
+no_abort g t n _ missing k m e ne = absurd (none_some refl e)
 
 abbrev IsTaskCommit : Operation → Type 0
 IsTaskCommit (TheTaskCommit t) = Unit {0}
@@ -68,11 +63,7 @@ IsTaskCommit _ = ⊥
 
 commit_tells : (g : Setting) (a : Who) (op : Operation) (o : Outcome) → IsTaskCommit op → IsTaskCommit (tells g a op o)
 commit_tells g a (TheTaskCommit t) o h = tt
-commit_tells g a (TheSetup t) o h = absurd h
-commit_tells g a (TheWrite t) o h = absurd h
-commit_tells g a (TheTaskAbort t) o h = absurd h
-commit_tells g a (TheCommit c) o h = absurd h
-commit_tells g a (TheClean t) o h = absurd h
+commit_tells g a _ o h = absurd h
 
 commit_run : (g : Setting) (t n : ℕ) (m : Running) (es : List Entry) → IsTaskCommit m.operation → IsTaskCommit (run (advance g (Attempt t n)) m es).operation
 commit_run g t n m [] h = h
@@ -87,21 +78,11 @@ IsDoneCommit op = (spare : ℕ) × (repeated : Bool) × (op ≡ TheTaskCommit (r
 
 done_state : (spare : ℕ) (repeated : Bool) (t : TaskCommit) → option_map ends.Task (task_commit_over t) ≡ Some (ends.Task tasks.Done) → IsDoneCommit (TheTaskCommit (record { operation = t; spare = spare; repeated = repeated }))
 done_state spare repeated (TaskCommitOver end) e = (spare, repeated, ap (λ v. TheTaskCommit (record { operation = TaskCommitOver v; spare = spare; repeated = repeated })) (task_is e))
-done_state spare repeated (Looking keys) e = absurd (none_some refl e)
-done_state spare repeated (Reading cs f fs) e = absurd (none_some refl e)
-done_state spare repeated (Publishing cs) e = absurd (none_some refl e)
-done_state spare repeated (Checking d ds) e = absurd (none_some refl e)
-done_state spare repeated (Uploads f fs u) e = absurd (none_some refl e)
-done_state spare repeated Storing e = absurd (none_some refl e)
-done_state spare repeated Renaming e = absurd (none_some refl e)
+done_state spare repeated _ e = absurd (none_some refl e)
 
 done_commit : (op : Operation) → IsTaskCommit op → over op ≡ Some (ends.Task tasks.Done) → IsDoneCommit op
 done_commit (TheTaskCommit t) h e = done_state t.spare t.repeated t.operation e
-done_commit (TheSetup t) h e = absurd h
-done_commit (TheWrite t) h e = absurd h
-done_commit (TheTaskAbort t) h e = absurd h
-done_commit (TheCommit c) h e = absurd h
-done_commit (TheClean t) h e = absurd h
+done_commit _ h e = absurd h
 
 module _ (g : Setting) (opening : Content) (j : IsLegal g.script) (is_opening : IsOpening g opening) (x : Play) (run_x : Happened g opening x) (idle : x.now ≡ None) where
   module _ (i t a : ℕ) (d : Doing) (e : TaskEnd) (es : List Entry) (n : Ending g opening x i (Attempt t a) d (ends.Task e) es) where

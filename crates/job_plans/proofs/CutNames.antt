@@ -32,9 +32,8 @@ dotless_name id (x ∷ xs) h = let p = and_parts (is_other 46 x) (list_all (is_o
 -- ---- a path
 
 last_named : (id name : List ℕ) (es : List (List ℕ)) → with_id_last id (es ++ name ∷ []) ≡ es ++ with_id id name ∷ []
-last_named id name [] = refl
-last_named id name (e ∷ []) = refl
 last_named id name (e ∷ f ∷ es) = ap (λ (l : List (List ℕ)). e ∷ l) (last_named id name (f ∷ es))
+last_named id name _ = refl
 
 join_last : (e name : List ℕ) (es : List (List ℕ)) → join_with_byte 47 ((e ∷ es) ++ name ∷ []) ≡ join_with_byte 47 (e ∷ es) ++ 47 ∷ name
 join_last e name [] = refl

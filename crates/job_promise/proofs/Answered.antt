@@ -11,7 +11,7 @@ use Rattle.s3_types.specs.declared.fates.Fate.TheVariants.{Answer}
 use Rattle.s3_types.specs.declared.request.Actor.{Actor}
 use Rattle.s3_types.specs.declared.request.Request.{Request}
 use Rattle.s3_types.specs.declared.journal.Outcome.{Outcome}
-use Rattle.s3_types.specs.declared.journal.Outcome.TheVariants.{Answered, Slow, RequestLost, ReplyLost}
+use Rattle.s3_types.specs.declared.journal.Outcome.TheVariants.{Answered}
 use Rattle.s3_types.specs.declared.journal.Entry.{Entry}
 use Rattle.sendings.specs.Same.{same_request}
 use Rattle.sendings.specs.Worn.{was_answered, answers, WornFirst}
@@ -29,9 +29,7 @@ AllAnswered (e ∷ es) = (was_answered e.outcome ≡ true) × AllAnswered es
 
 answered : (o : Outcome) → fate_of o ≡ Answer → was_answered o ≡ true
 answered (Answered r) h = refl
-answered Slow h = absurd cc
-answered RequestLost h = absurd cc
-answered ReplyLost h = absurd cc
+answered _ h = absurd cc
 
 all_answered : (m : FateMap) → m ≡ fin.empty → (n : ℕ) (es : List Entry) → AreForetold (λ i. Some (fate_at m i)) n es → AllAnswered es
 all_answered m none n [] h = tt

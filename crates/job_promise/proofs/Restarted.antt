@@ -48,14 +48,8 @@ pub failed_after : (w : Script) (xs : List EventEnd) → slice_get w.events (len
 failed_after w xs h k = stage_after w xs h ∙ ap restarted k
 
 other_stage : (s : ActorStage) → is_committing s ≡ false → restarted s ≡ s
-other_stage stage.New h = refl
-other_stage stage.Set h = refl
-other_stage stage.Writing h = refl
-other_stage stage.Written h = refl
 other_stage stage.Committing h = absurd (cc)
-other_stage stage.Committed h = refl
-other_stage stage.Failed h = refl
-other_stage stage.Aborted h = refl
+other_stage _ h = refl
 
 pub stays_after : (w : Script) (xs : List EventEnd) → slice_get w.events (length xs) ≡ Some Restart → is_committing ((past w xs).state Driver).stage ≡ false
     → ((past w (xs ++ Done ∷ [])).state Driver).stage ≡ ((past w xs).state Driver).stage
@@ -77,25 +71,16 @@ attempts_after w xs h t a = ap (λ (p : Past). p.state (Attempt t a)) (restart_a
 
 zero_setup : (e : SetupEnd) → end_verdict (ends.Setup e) ≡ 0 → ⊥
 zero_setup setups.Done h = cc
-zero_setup (setups.Conflict p) h = cc
-zero_setup setups.DestIsFile h = cc
-zero_setup setups.NoSuchBucket h = cc
-zero_setup setups.StoreFault h = cc
-zero_setup setups.NoMemory h = cc
+zero_setup _ h = cc
 
 zero_commit : (e : CommitEnd) → end_verdict (ends.Commit e) ≡ 0 → e ≡ commits.Committed
 zero_commit commits.Committed h = refl
-zero_commit (commits.Missing t) h = absurd (cc)
-zero_commit (commits.SamePath p t u) h = absurd (cc)
-zero_commit (commits.StoreFault s) h = absurd (cc)
-zero_commit commits.NoMemory h = absurd (cc)
+zero_commit _ h = absurd (cc)
 
 zero_end : (e : OpEnd) → end_verdict e ≡ 0 → e ≡ ends.Commit commits.Committed
 zero_end (ends.Setup e) h = absurd (zero_setup e h)
-zero_end (ends.Task e) h = absurd (cc)
 zero_end (ends.Commit e) h = ap ends.Commit (zero_commit e h)
-zero_end (ends.Clean e) h = absurd (cc)
-zero_end ends.NoMemory h = absurd (cc)
+zero_end _ h = absurd (cc)
 
 zero_decided : (other : ℕ) (d : Decided) → verdict_or other d ≡ 0 → (d ≡ EndedSo (ends.Commit commits.Committed)) ⊎ (d ≡ NotBegun)
 zero_decided other NotBegun h = inr refl

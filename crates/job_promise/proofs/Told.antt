@@ -17,15 +17,11 @@ use Rattle.job_promise.specs.Eyes.{number_in, entry_in, in_eyes}
 
 driver_scene : (w : Script) (b : Bool) (s : Seen) (r : Request) (o : Outcome) → (see_driver w b s r o).scene ≡ effect s.scene r o
 driver_scene w b s r (Answered x) = refl
-driver_scene w b s r Slow = refl
-driver_scene w b s r RequestLost = refl
-driver_scene w b s r ReplyLost = refl
+driver_scene w b s r _ = refl
 
 attempt_scene : (w : Script) (s : Seen) (t a : ℕ) (r : Request) (o : Outcome) → (see_attempt w s t a r o).scene ≡ effect s.scene r o
 attempt_scene w s t a r (Answered x) = refl
-attempt_scene w s t a r Slow = refl
-attempt_scene w s t a r RequestLost = refl
-attempt_scene w s t a r ReplyLost = refl
+attempt_scene w s t a r _ = refl
 
 by_scene : (w : Script) (k : Option ℕ) (s : Seen) (n : ℕ) (r : Request) (o : Outcome) (a : Actor) → (see_by w k s n r o a).scene ≡ effect s.scene r o
 by_scene w k s n r o Driver = driver_scene w _ s r o

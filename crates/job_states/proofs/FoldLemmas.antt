@@ -7,15 +7,13 @@ use Rattle.job_model.specs.Legal.{IsEvent, AreEvents}
 use Rattle.job_model.specs.declared.events.Event.{Event}
 use Rattle.job_model.specs.declared.ends.EventFault.{EventFault}
 use Rattle.job_model.specs.declared.ends.EventEnd.{EventEnd}
-use Rattle.job_model.specs.declared.ends.EventEnd.TheVariants.{Done, Ended, Mixed, Refused}
+use Rattle.job_model.specs.declared.ends.EventEnd.TheVariants.{Refused}
 use Rattle.job_promise.specs.States.{Past, open_event, told, end_ops, count, after_event}
 
 -- an event that is not refused is opened, and then its ends come
 pub after_played : (w : Script) (p : Past) (ev : Event) (end : EventEnd) → ((f : EventFault) → end ≡ Refused f → ⊥) → after_event w p ev end ≡ count (end_ops (open_event w p ev) (told ev end))
-after_played w p ev Done fine = refl
-after_played w p ev (Ended e) fine = refl
-after_played w p ev (Mixed xs) fine = refl
 after_played w p ev (Refused f) fine = absurd (fine f refl)
+after_played w p ev _ fine = refl
 
 -- an event of a script is one of the driver or of a declared attempt
 pub event_at : (ds : List Declared) (evs : List Event) (i : ℕ) (ev : Event) → AreEvents ds evs → i < length evs → ev ≡ get_or evs i ev → IsEvent ds ev

@@ -36,9 +36,8 @@ same_exact Shell (Attempt t n) h = absurd (true≢false (sym h))
 same_exact Shell Shell h = refl
 
 pub same_own : (a : Actor) → same_actor a a ≡ true
-same_own Driver = refl
 same_own (Attempt t n) = rw (eq-eqb t t refl, eq-eqb n n refl) refl
-same_own Shell = refl
+same_own _ = refl
 
 suc_same : (i j : ℕ) → nat_eq (suc i) (suc j) ≡ nat_eq i j
 suc_same i j = grind (arith, nat_tests)

@@ -6,7 +6,7 @@ use Rattle.s3_types.specs.declared.request.Actor.TheVariants.{Driver, Attempt, S
 use Rattle.job_model.specs.Attempts.{is_known}
 use Rattle.job_model.specs.JobScript.{Script}
 use Rattle.job_model.specs.declared.events.Op.{Op}
-use Rattle.job_model.specs.declared.events.Op.TheVariants.{Setup, Write, Commit, Abort, Clean}
+use Rattle.job_model.specs.declared.events.Op.TheVariants.{Setup, Commit}
 use Rattle.job_model.specs.declared.ends.SetupEnd.TheVariants as setups
 use Rattle.job_model.specs.declared.ends.TaskEnd.TheVariants as tasks
 use Rattle.job_model.specs.declared.ends.CommitEnd.TheVariants as commits
@@ -69,36 +69,19 @@ changes_begin w p a op s h =
 
 never_done : (s : ActorStage) → is_committing (stage_done s) ≡ false
 never_done stage.New = refl
-never_done stage.Set = refl
-never_done stage.Writing = refl
-never_done stage.Written = refl
-never_done stage.Committing = refl
-never_done stage.Committed = refl
-never_done stage.Failed = refl
-never_done stage.Aborted = refl
+never_done _ = refl
 
 never : (e : OpEnd) (s : ActorStage) → is_committing s ≡ false → is_committing (ended e s).stage ≡ false
-never (ends.Setup setups.Done) s h = refl
-never (ends.Setup (setups.Conflict t)) s h = refl
-never (ends.Setup setups.DestIsFile) s h = refl
-never (ends.Setup setups.NoSuchBucket) s h = refl
-never (ends.Setup setups.StoreFault) s h = refl
 never (ends.Setup setups.NoMemory) s h = h
-never (ends.Commit commits.Committed) s h = refl
-never (ends.Commit (commits.Missing t)) s h = refl
-never (ends.Commit (commits.SamePath a b c)) s h = refl
-never (ends.Commit (commits.StoreFault t)) s h = refl
 never (ends.Commit commits.NoMemory) s h = h
 never (ends.Clean cleans.Done) s h = h
 never (ends.Clean cleans.StoreFault) s h = h
 never (ends.Clean cleans.NoMemory) s h = h
 never (ends.Task tasks.Done) s h = never_done s
-never (ends.Task (tasks.Conflict t)) s h = refl
 never (ends.Task tasks.Kept) s h = h
-never (ends.Task (tasks.Gone t)) s h = refl
-never (ends.Task tasks.StoreFault) s h = refl
 never (ends.Task tasks.NoMemory) s h = h
 never ends.NoMemory s h = h
+never _ s h = refl
 
 OthersIdle : Script → Past → Type 0
 OthersIdle w p = (a : Actor) → is_known w.attempts a ≡ false → is_committing (p.state a).stage ≡ false
@@ -132,9 +115,8 @@ others_restart w p h = others_put w p Driver (idle (restarted (p.state Driver).s
 
 -- a stage that is committing as much reports as much
 pub same_report : (tasks : ℕ) (a : Actor) (s t : ActorStage) (e : OpEnd) (f : ℕ → Bool) → is_committing s ≡ is_committing t → tested tasks (report a s e f) ≡ tested tasks (report a t e f)
-same_report n Driver s t e f h = refl
 same_report n (Attempt task attempt) s t e f h = ap (λ b. tested n (λ q. f q || (nat_eq q task && (b && is_done e)))) h
-same_report n Shell s t e f h = refl
+same_report n _ s t e f h = refl
 
 -- the stage of a declared actor as it is kept, and of another one that has begun nothing
 pub same_stage : (w : Script) (p : Past) (a : Actor) (s : Standing) → ((b : Actor) → is_known w.attempts b ≡ false → is_committing (p.state b).stage ≡ false) → (is_known w.attempts a ≡ true → s ≡ standing p a) → (is_known w.attempts a ≡ false → s ≡ fresh)
@@ -151,10 +133,7 @@ setup_was (Some d) = by d.op
   where
     by : (op : Op) → same_op Setup op ≡ is_setup (Some (record d { op = op }))
     by Setup = refl
-    by Write = refl
-    by Commit = refl
-    by Abort = refl
-    by Clean = refl
+    by _ = refl
 
 commit_was : (d : Option Doing) → began Commit (option_map (λ q. q.op) d) ≡ is_commit d
 commit_was None = refl
@@ -162,10 +141,7 @@ commit_was (Some d) = by d.op
   where
     by : (op : Op) → same_op Commit op ≡ is_commit (Some (record d { op = op }))
     by Setup = refl
-    by Write = refl
-    by Commit = refl
-    by Abort = refl
-    by Clean = refl
+    by _ = refl
 
 -- only what the driver began decides
 same_decide : (a : Actor) (b c : Bool) (e : OpEnd) (d : Decided) → (a ≡ Driver → b ≡ c) → decide a b e d ≡ decide a c e d

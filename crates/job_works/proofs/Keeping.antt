@@ -15,7 +15,7 @@ use Rattle.job_model.specs.Known.{Known}
 use Rattle.job_model.specs.Legal.{IsLegal}
 use Rattle.job_model.specs.JobScript.{Script}
 use Rattle.job_model.specs.declared.ends.Pick.{Pick}
-use Rattle.list_walk.specs.Walks.{Listing, Deleting}
+use Rattle.list_walk.specs.Walks.{Listing}
 use Rattle.job_operations.specs.JobCommits.{Sets, picks_of, set_request, set_read, Commit, Fetching, Replacing, Completing, Marking, Reverting, CommitOver, commit_asks}
 use Rattle.job_operations.specs.Operations.{Setting, TheCommit, wants}
 use Rattle.job_promise.specs.Seen.{Seen, see, see_by, see_all, nothing_seen, is_begun, is_reading}
@@ -100,11 +100,9 @@ module _ (w : Script) (minimum : ℕ) (j : IsLegal w) (k : Option ℕ) (s : Seen
       let is : set_request w.committer w (length sets) ≡ r = some_is e in
       subst (λ q. After (Fetching sets i) q (Answered x)) is (read sets i low agree free x (honest ∙ ap (answer s.scene) (sym is)))
   heard (Replacing sets q qs (Listing keys) i) decides agree free r e x honest = unread_so r x (λ t. ap (is_reading w t) (sym (some_is e)))
-  heard (Replacing sets q qs (Deleting v vs) i) decides agree free r e x honest = unread_so r x (λ t. ap (is_reading w t) (sym (some_is e)))
-  heard (Completing sets y ys finished) decides agree free r e x honest = unread_so r x (λ t. ap (is_reading w t) (sym (some_is e)))
-  heard (Marking sets i) decides agree free r e x honest = unread_so r x (λ t. ap (is_reading w t) (sym (some_is e)))
   heard (Reverting q qs i) decides agree free r e x honest = unread_so r x (λ t. ap (is_reading w t) (sym (some_is e)) ∙ elim (decides q (inl refl)).2 [ inl is ↦ ap (is_reading w t) is | inr is ↦ ap (is_reading w t) is ])
   heard (CommitOver end) decides agree free r e x honest = absurd (none_some refl e)
+  heard _ decides agree free r e x honest = unread_so r x (λ t. ap (is_reading w t) (sym (some_is e)))
 
   missed : (c : Commit) (o : Outcome) → ((x : Reply) → o ≡ Answered x → ⊥) → picks_then ps c o ≡ ps
   missed (Fetching sets i) (Answered x) none = absurd (none x refl)

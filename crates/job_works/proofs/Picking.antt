@@ -3,18 +3,18 @@ use Rattle.std.proofs.Common.{◌≡◌, ℕ, zero, suc, ◌+◌, true, [], ◌+
 use Rattle.std.proofs.lemmas.Bool.{false≢true}
 use Rattle.s3_types.specs.Store.{Content}
 use Rattle.s3_types.specs.declared.request.Actor.{Actor}
-use Rattle.s3_types.specs.declared.request.Actor.TheVariants.{Driver, Attempt, Shell}
+use Rattle.s3_types.specs.declared.request.Actor.TheVariants.{Driver}
 use Rattle.s3_types.specs.declared.journal.Outcome.{Outcome}
 use Rattle.s3_types.specs.declared.journal.Entry.{Entry}
 use Rattle.job_model.specs.Known.{Known}
 use Rattle.job_model.specs.Legal.{IsLegal}
 use Rattle.job_model.specs.declared.events.Op.{Op}
-use Rattle.job_model.specs.declared.events.Op.TheVariants.{Setup, Write, Commit, Abort, Clean}
+use Rattle.job_model.specs.declared.events.Op.TheVariants.{Setup, Commit}
 use Rattle.job_model.specs.declared.events.Event.{Event}
-use Rattle.job_model.specs.declared.events.Event.TheVariants.{Do, Start, Step, Run, Kill, Mix, Restart, Recover}
+use Rattle.job_model.specs.declared.events.Event.TheVariants.{Do, Start}
 use Rattle.job_model.specs.declared.states.ActorState.{ActorState}
 use Rattle.job_operations.specs.Outputs.{Picks}
-use Rattle.job_operations.specs.Operations.{Setting, Operation, TheSetup, TheWrite, TheTaskCommit, TheTaskAbort, TheCommit, TheClean, Running, who, tells, start_of}
+use Rattle.job_operations.specs.Operations.{Setting, Operation, TheSetup, Running, who, tells, start_of}
 use Rattle.job_promise.specs.Seen.{Seen, see_all, nothing_seen}
 use Rattle.job_promise.specs.States.{put, missing, open_event, refusal, driver_may, begins_commit, is_commit, commit_event}
 use Rattle.job_promise.specs.Promise.{picked, picks_below}
@@ -40,33 +40,17 @@ record Doing (x : Play) : Type 0 where
 module _ (g : Setting) where
   began : (op : Op) (k : Known) (since : ℕ) (least : Option ℕ) → is_committing (begun (start_of g Driver op least k) k) ≡ is_commit (Some (record { op = op; since = since; missing = least }))
   began Setup k since least = refl
-  began Write k since least = refl
-  began Commit k since least = refl
-  began Abort k since least = refl
-  began Clean k since least = refl
+  began _ k since least = refl
 
   opened : (x : Play) (ev : Event) → is_committing (x.running Driver) ≡ is_commit (x.past.doing Driver) → is_committing (open_running g x ev Driver) ≡ is_commit ((open_event g.script x.past ev).doing Driver)
   opened x (Do Driver op) h = began op (knows_now g x Driver) (x.past.events + 1) (missing g.script x.past.reported)
-  opened x (Do (Attempt t n) op) h = h
-  opened x (Do Shell op) h = h
   opened x (Start Driver op) h = began op (knows_now g x Driver) (x.past.events + 1) (missing g.script x.past.reported)
-  opened x (Start (Attempt t n) op) h = h
-  opened x (Start Shell op) h = h
-  opened x (Step a n) h = h
-  opened x (Run a) h = h
-  opened x (Kill a) h = h
-  opened x (Mix seed) h = h
-  opened x Restart h = h
-  opened x (Recover a) h = h
+  opened x _ h = h
 
   -- an outcome leads an operation to one of the same kind
   told_commit : (op : Operation) (o : Outcome) → is_job_commit (tells g (who Driver) op o) ≡ is_job_commit op
   told_commit (TheSetup t) o = refl
-  told_commit (TheWrite t) o = refl
-  told_commit (TheTaskCommit t) o = refl
-  told_commit (TheTaskAbort t) o = refl
-  told_commit (TheCommit c) o = refl
-  told_commit (TheClean t) o = refl
+  told_commit _ o = refl
 
   heard : (m : Option Running) (e : Entry) → is_committing (hear g Driver m e) ≡ is_committing m
   heard None e = refl
@@ -74,8 +58,7 @@ module _ (g : Setting) where
 
   sent : (a : Actor) (r : Actor → Option Running) (e : Entry) → is_committing (put r a (hear g a (r a) e) Driver) ≡ is_committing (r Driver)
   sent Driver r e = heard (r Driver) e
-  sent (Attempt t n) r e = refl
-  sent Shell r e = refl
+  sent _ r e = refl
 
 module _ (g : Setting) (opening : Content) where
   doing_so : (x : Play) → Happened g opening x → Doing x
@@ -95,24 +78,7 @@ module _ (g : Setting) (opening : Content) where
 may_commit : (st : Actor → ActorState) (ev : Event) → begins_commit ev ≡ true → refusal st ev ≡ None → driver_may Commit (st Driver).stage ≡ true
 may_commit st (Do Driver Commit) b r = (begins_so (st Driver).stage Driver Commit (st Driver).life (st Driver).stage r).may_begin
 may_commit st (Start Driver Commit) b r = (begins_so (st Driver).stage Driver Commit (st Driver).life (st Driver).stage r).may_begin
-may_commit st (Do Driver Setup) b r = absurd (false≢true b)
-may_commit st (Do Driver Write) b r = absurd (false≢true b)
-may_commit st (Do Driver Abort) b r = absurd (false≢true b)
-may_commit st (Do Driver Clean) b r = absurd (false≢true b)
-may_commit st (Do (Attempt t n) op) b r = absurd (false≢true b)
-may_commit st (Do Shell op) b r = absurd (false≢true b)
-may_commit st (Start Driver Setup) b r = absurd (false≢true b)
-may_commit st (Start Driver Write) b r = absurd (false≢true b)
-may_commit st (Start Driver Abort) b r = absurd (false≢true b)
-may_commit st (Start Driver Clean) b r = absurd (false≢true b)
-may_commit st (Start (Attempt t n) op) b r = absurd (false≢true b)
-may_commit st (Start Shell op) b r = absurd (false≢true b)
-may_commit st (Step a n) b r = absurd (false≢true b)
-may_commit st (Run a) b r = absurd (false≢true b)
-may_commit st (Kill a) b r = absurd (false≢true b)
-may_commit st (Mix seed) b r = absurd (false≢true b)
-may_commit st Restart b r = absurd (false≢true b)
-may_commit st (Recover a) b r = absurd (false≢true b)
+may_commit st _ b r = absurd (false≢true b)
 
 pub none_below : (p : Picks) → ((t : ℕ) → p t ≡ None) → (n : ℕ) → picks_below p n ≡ []
 none_below p h zero = refl
@@ -122,8 +88,7 @@ module _ (g : Setting) (opening : Content) (j : IsLegal g.script) (is_opening : 
   -- right after its set-up nothing is picked
   pub unpicked : (d : Option Operation) (s : Seen) (m : Told) → is_just_set d ≡ true → At g opening d s m → (t : ℕ) → s.picks t ≡ None
   unpicked (Some (TheSetup v)) s m e h t = h.1.unpicked t
-  unpicked None s m e h t = absurd (false≢true e)
-  unpicked (Some _) s m e h t = absurd (false≢true e)
+  unpicked _ s m e h t = absurd (false≢true e)
 
   none_picked : (x : Play) → Happened g opening x → (ev : Event) → begins_commit ev ≡ true → MayOpen g x ev None → ArePicksOf g opening x []
   none_picked x past ev begins may xs ahead =

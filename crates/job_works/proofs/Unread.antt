@@ -7,7 +7,7 @@ use Rattle.s3_types.specs.declared.request.Request.{Request}
 use Rattle.s3_types.specs.declared.request.Actor.TheVariants.{Driver}
 use Rattle.s3_types.specs.declared.reply.Reply.{Reply}
 use Rattle.s3_types.specs.declared.journal.Outcome.{Outcome}
-use Rattle.s3_types.specs.declared.journal.Outcome.TheVariants.{Answered, Slow, RequestLost, ReplyLost}
+use Rattle.s3_types.specs.declared.journal.Outcome.TheVariants.{Answered, Slow}
 use Rattle.s3_types.specs.declared.journal.Entry.{Entry}
 use Rattle.pending_json.specs.declared.records.PendingSet.{PendingSet}
 use Rattle.job_model.specs.Attempts.{Who}
@@ -19,7 +19,7 @@ use Rattle.job_operations.specs.Records.{files_set}
 use Rattle.list_walk.specs.Walks.{Sweep, sweep_hears}
 use Rattle.job_operations.specs.Lanes.{Turn, again, follow, dealt, revert}
 use Rattle.job_operations.specs.JobCommits.{Sets, picks_of, all_commits, set_request, set_read, ok_set, Commit, Fetching, Replacing, Completing, Marking, Reverting, CommitOver, is_no_magic, completing, replaced, replacing, decided, fetching, fetched, swept, reverting, worn_completion, commit_start, commit_asks, commit_misses, commit_tells}
-use Rattle.job_operations.specs.Operations.{Setting, Operation, TheSetup, TheWrite, TheTaskCommit, TheTaskAbort, TheCommit, TheClean, who, asks, tells}
+use Rattle.job_operations.specs.Operations.{Setting, Operation, TheSetup, TheCommit, who, asks, tells}
 use Rattle.job_promise.specs.Seen.{Seen, see, is_begun, picks_by}
 use Rattle.request_frame.proofs.Members.{some_is, none_some, none_or_some, same_or_not}
 use Rattle.job_facts.specs.Told.{Told, entry, driver_entry}
@@ -82,20 +82,11 @@ module _ (w : Script) (j : IsLegal w) (s : Seen) (begun : Bool) (has_begun : beg
 
 abbrev pub Free : Script → Picks → Commit → Type 0
 Free w p (Fetching sets n) = (t : ℕ) → length sets ≤ t → t < w.tasks → p t ≡ None
-Free w p (Replacing sets q qs v n) = Unit {0}
-Free w p (Completing sets x xs finished) = Unit {0}
-Free w p (Marking sets n) = Unit {0}
-Free w p (Reverting r rs n) = Unit {0}
-Free w p (CommitOver end) = Unit {0}
+Free w p _ = Unit {0}
 
 abbrev pub FreeAt : Script → Picks → Option Operation → Type 0
-FreeAt w p None = Unit {0}
-FreeAt w p (Some (TheSetup t)) = Unit {0}
-FreeAt w p (Some (TheWrite t)) = Unit {0}
-FreeAt w p (Some (TheTaskCommit t)) = Unit {0}
-FreeAt w p (Some (TheTaskAbort t)) = Unit {0}
 FreeAt w p (Some (TheCommit c)) = Free w p c
-FreeAt w p (Some (TheClean t)) = Unit {0}
+FreeAt w p _ = Unit {0}
 
 module _ (w : Script) (p : Picks) where
   free_either : (b : Bool) (c d : Commit) → Free w p c → Free w p d → Free w p (cond b c d)
@@ -173,22 +164,18 @@ module _ (w : Script) (minimum : ℕ) (j : IsLegal w) (k : Option ℕ) (s : Seen
       subst (λ q. After (Fetching sets i) q (Answered x)) is (free_read sets i low free x (honest ∙ ap (answer s.scene) (sym is)))
   free_heard (Replacing sets q qs v i) low free r e x honest = free_swept w (picks_after r (Answered x)) sets q qs (sweep_hears (is_no_magic w) v x)
   free_heard (Completing sets y ys finished) low free r e x honest = free_completing w (picks_after r (Answered x)) sets (ys ++ follow w.lanes (length (all_commits sets)) y.number) (y.number ∷ finished)
-  free_heard (Marking sets i) low free r e x honest = tt
   free_heard (Reverting q qs i) low free r e x honest = free_reverting w (picks_after r (Answered x)) qs
-  free_heard (CommitOver end) low free r e x honest = tt
+  free_heard _ low free r e x honest = tt
 
   free_next : (c : Commit) → Decides w minimum m.publish_sent m.drawn c → Free w s.picks c → (r : Request) → commit_asks w c ≡ Some r → (o : Outcome) → IsHonestOutcome o (answer s.scene r) → After c r o
   free_next c low free r e (Answered x) honest = free_heard c low free r e x honest
   free_next c low free r e Slow honest = free_missed w s.picks c false free
-  free_next c low free r e RequestLost honest = free_missed w s.picks c true free
-  free_next c low free r e ReplyLost honest = free_missed w s.picks c true free
+  free_next c low free r e _ honest = free_missed w s.picks c true free
 
 -- an attempt picks nothing
 pub attempt_picks : (w : Script) (k : Option ℕ) (s : Seen) (a : Who) (n : ℕ) (r : Request) (o : Outcome) → (see w k s (entry a n r o)).picks ≡ s.picks
 attempt_picks w k s a n r (Answered x) = refl
-attempt_picks w k s a n r Slow = refl
-attempt_picks w k s a n r RequestLost = refl
-attempt_picks w k s a n r ReplyLost = refl
+attempt_picks w k s a n r _ = refl
 
 -- ---- every run
 
@@ -202,14 +189,11 @@ module _ (g : Setting) (k : Option ℕ) (opening : Content) (j : IsLegal g.scrip
   sent : (fs : List Entry) (y : Stand) (op : Operation) (n : ℕ) (r : Request) (o : Outcome) → Runs g k opening fs y → y.driver ≡ Some op → asks g (who Driver) nothing_learnt op ≡ Some r → IsTimely k y.told.cleans_at n op → y.seen.scene.content.next ≤ 2 ^ 64
       → IsHonestOutcome o (answer y.seen.scene r) → FreeAt w y.seen.picks y.driver → FreeAt w (see w k y.seen (driver_entry n r o)).picks (Some (tells g (who Driver) op o))
   sent fs y (TheSetup t) n r o run d asked timely few honest free = tt
-  sent fs y (TheWrite t) n r o run d asked timely few honest free = tt
-  sent fs y (TheTaskCommit t) n r o run d asked timely few honest free = tt
-  sent fs y (TheTaskAbort t) n r o run d asked timely few honest free = tt
-  sent fs y (TheClean t) n r o run d asked timely few honest free = tt
   sent fs y (TheCommit c) n r o run d asked timely few honest free =
       let l = late_now g k opening j is_opening fs y run (ap is_set d) in
       let i : InCommit g opening y.seen.picks y.told c = subst (λ v. At g opening v y.seen y.told) d l.driver in
       free_next w g.minimum j k y.seen y.told n l.hold i.uncleaned few (begun_now y.seen n timely.0) c i.decides (subst (FreeAt w y.seen.picks) d free) r asked o honest
+  sent fs y _ n r o run d asked timely few honest free = tt
 
   begin_unread : (fs : List Entry) (y : Stand) (b : Beginning) → Runs g k opening fs y → MayBegin g y b → FreeAt w y.seen.picks y.driver → FreeAt w y.seen.picks (begin g y b).driver
   begin_unread fs y (BeginCommit missing) run may free =

@@ -14,9 +14,9 @@ use Rattle.job_model.specs.JobScript.{Script}
 use Rattle.job_model.specs.declared.events.Op.{Op}
 use Rattle.job_model.specs.declared.events.Op.TheVariants as ops
 use Rattle.job_model.specs.declared.events.Event.{Event}
-use Rattle.job_model.specs.declared.events.Event.TheVariants.{Do, Start, Step, Run, Kill, Mix, Restart, Recover}
+use Rattle.job_model.specs.declared.events.Event.TheVariants.{Do, Start}
 use Rattle.job_operations.specs.Knowledge.{learn, knows, knows_from}
-use Rattle.job_operations.specs.Operations.{Setting, Operation, Running, TheSetup, TheWrite, TheTaskCommit, TheTaskAbort, TheCommit, TheClean, who, tells, learn_of, advance, start_of}
+use Rattle.job_operations.specs.Operations.{Setting, Operation, Running, TheSetup, who, tells, learn_of, advance, start_of}
 use Rattle.job_promise.specs.States.{put, missing}
 use Rattle.job_promise.specs.Turns.{by_actor}
 use Rattle.job_happenings.specs.Happenings.{Play, Refuses, Opens, Sends, Finishes, Closes, Strays, begun, open_running, hear, happen, MayOpen, MaySend, Happened, nothing_happened, happens, nothing_played, knows_now}
@@ -42,11 +42,7 @@ knows_more w a k (x ∷ es) e = knows_more w a (learn w a k x.request x.outcome)
 -- what an actor goes on with is the job's commit where it was before
 pub commit_stays : (g : Setting) (a : Who) (op : Operation) (o : Outcome) → is_job_commit (tells g a op o) ≡ is_job_commit op
 commit_stays g a (TheSetup t) o = refl
-commit_stays g a (TheWrite t) o = refl
-commit_stays g a (TheTaskCommit t) o = refl
-commit_stays g a (TheTaskAbort t) o = refl
-commit_stays g a (TheCommit c) o = refl
-commit_stays g a (TheClean t) o = refl
+commit_stays g a _ o = refl
 
 none_commits : (g : Setting) (a : Actor) (op : Op) (missing : Option ℕ) (k : Known) → (a ≡ Driver → ⊥) → is_committing (begun (start_of g a op missing k) k) ≡ false
 none_commits g Driver op missing k ne = absurd (ne refl)
@@ -92,22 +88,12 @@ module _ (g : Setting) (opening : Content) where
   open_known : (x : Play) → Carried g x → (ev : Event) (q : Actor) (m : Running) → open_running g x ev q ≡ Some m → m.known ≡ knows_now g x q
   open_known x c (Do a op) q m e = begins_known x c a op q m e
   open_known x c (Start a op) q m e = begins_known x c a op q m e
-  open_known x c (Step a n) q m e = c.known q m e
-  open_known x c (Run a) q m e = c.known q m e
-  open_known x c (Kill a) q m e = c.known q m e
-  open_known x c (Mix seed) q m e = c.known q m e
-  open_known x c Restart q m e = c.known q m e
-  open_known x c (Recover a) q m e = c.known q m e
+  open_known x c _ q m e = c.known q m e
 
   open_whose : (x : Play) → Carried g x → (ev : Event) (q : Actor) → (q ≡ Driver → ⊥) → is_committing (open_running g x ev q) ≡ false
   open_whose x c (Do a op) q ne = begins_whose x c a op q ne
   open_whose x c (Start a op) q ne = begins_whose x c a op q ne
-  open_whose x c (Step a n) q ne = c.whose q ne
-  open_whose x c (Run a) q ne = c.whose q ne
-  open_whose x c (Kill a) q ne = c.whose q ne
-  open_whose x c (Mix seed) q ne = c.whose q ne
-  open_whose x c Restart q ne = c.whose q ne
-  open_whose x c (Recover a) q ne = c.whose q ne
+  open_whose x c _ q ne = c.whose q ne
 
   begin_nobody : (x : Play) → Carried g x → (a : Actor) (op : Op) → put x.running a (begun (start_of g a op (missing g.script x.past.reported) (knows_now g x a)) (knows_now g x a)) Shell ≡ None
   begin_nobody x c Shell op = refl

@@ -13,12 +13,12 @@ use Rattle.job_model.specs.Legal.{HasOp, IsEvent, IsLegal}
 use Rattle.job_model.specs.declared.events.Op.{Op}
 use Rattle.job_model.specs.declared.events.Op.TheVariants as ops
 use Rattle.job_model.specs.declared.events.Event.{Event}
-use Rattle.job_model.specs.declared.events.Event.TheVariants.{Do, Start, Step, Run, Kill, Mix, Restart, Recover}
+use Rattle.job_model.specs.declared.events.Event.TheVariants.{Do, Start}
 use Rattle.job_model.specs.declared.ends.EventFault.{EventFault}
 use Rattle.job_model.specs.declared.ends.OpEnd.{OpEnd}
 use Rattle.job_model.specs.declared.ends.Pick.{Pick}
 use Rattle.job_model.specs.declared.states.Life.{Life}
-use Rattle.job_model.specs.declared.states.Life.TheVariants.{Idle, Busy, Dead}
+use Rattle.job_model.specs.declared.states.Life.TheVariants.{Idle, Dead}
 use Rattle.job_operations.specs.Knowledge.{knows}
 use Rattle.job_operations.specs.Operations.{Setting, Running, who, start_of, over}
 use Rattle.job_promise.specs.States.{Past, actors, missing, refusal, refuse_begin, open_event}
@@ -46,29 +46,18 @@ use Rattle.job_world.proofs.Picked.{begun_running, picked_then, put_by_driver}
 
 idle_of : (l : Life) (r : Option EventFault) → refuse_begin l r ≡ None → l ≡ Idle
 idle_of Idle r h = refl
-idle_of Busy r h = absurd (none_some h refl)
-idle_of Dead r h = absurd (none_some h refl)
+idle_of _ r h = absurd (none_some h refl)
 
 -- who begins is idle before
 pub begins_idle : (p : Past) (ev : Event) (a : Actor) (op : Op) → BeginsBy ev a op → refusal p.state ev ≡ None → (p.state a).life ≡ Idle
 begins_idle p (Do b o) a op h fine = ap (λ (v : Actor). (p.state v).life) (sym h.0) ∙ idle_of (p.state b).life _ fine
 begins_idle p (Start b o) a op h fine = ap (λ (v : Actor). (p.state v).life) (sym h.0) ∙ idle_of (p.state b).life _ fine
-begins_idle p (Step b n) a op h fine = absurd h
-begins_idle p (Run b) a op h fine = absurd h
-begins_idle p (Kill b) a op h fine = absurd h
-begins_idle p (Mix seed) a op h fine = absurd h
-begins_idle p Restart a op h fine = absurd h
-begins_idle p (Recover b) a op h fine = absurd h
+begins_idle p _ a op h fine = absurd h
 
 pub begins_op : (w : Script) (ev : Event) (a : Actor) (op : Op) → BeginsBy ev a op → IsEvent w.attempts ev → HasOp a op
 begins_op w (Do b o) a op h e = subst (λ v. HasOp a v) h.1 (subst (λ v. HasOp v o) h.0 e.1)
 begins_op w (Start b o) a op h e = subst (λ v. HasOp a v) h.1 (subst (λ v. HasOp v o) h.0 e.1)
-begins_op w (Step b n) a op h e = absurd h
-begins_op w (Run b) a op h e = absurd h
-begins_op w (Kill b) a op h e = absurd h
-begins_op w (Mix seed) a op h e = absurd h
-begins_op w Restart a op h e = absurd h
-begins_op w (Recover b) a op h e = absurd h
+begins_op w _ a op h e = absurd h
 
 pub begins_do : (ev : Event) (a : Actor) (op : Op) → ev ≡ Do a op → BeginsBy ev a op
 begins_do ev a op e = subst (λ v. BeginsBy v a op) (sym e) (refl, refl)
@@ -80,22 +69,12 @@ begins_start ev a op e = subst (λ v. BeginsBy v a op) (sym e) (refl, refl)
 pub known_named : (w : Script) (ev : Event) (a : Actor) (op : Op) → BeginsBy ev a op → IsEvent w.attempts ev → is_known w.attempts a ≡ true
 known_named w (Do b o) a op h e = ap (is_known w.attempts) (sym h.0) ∙ e.0
 known_named w (Start b o) a op h e = ap (is_known w.attempts) (sym h.0) ∙ e.0
-known_named w (Step b n) a op h e = absurd h
-known_named w (Run b) a op h e = absurd h
-known_named w (Kill b) a op h e = absurd h
-known_named w (Mix seed) a op h e = absurd h
-known_named w Restart a op h e = absurd h
-known_named w (Recover b) a op h e = absurd h
+known_named w _ a op h e = absurd h
 
 opened_reported : (w : Script) (p : Past) (ev : Event) (a : Actor) (op : Op) → BeginsBy ev a op → (open_event w p ev).reported ≡ p.reported
 opened_reported w p (Do b o) a op h = refl
 opened_reported w p (Start b o) a op h = refl
-opened_reported w p (Step b n) a op h = absurd h
-opened_reported w p (Run b) a op h = absurd h
-opened_reported w p (Kill b) a op h = absurd h
-opened_reported w p (Mix seed) a op h = absurd h
-opened_reported w p Restart a op h = absurd h
-opened_reported w p (Recover b) a op h = absurd h
+opened_reported w p _ a op h = absurd h
 
 -- which task is missing matters to the job's commit alone
 pub missing_not : (g : Setting) (a : Actor) (op : Op) (m n : Option ℕ) (k : Known) → (a ≡ Driver → ⊥) ⊎ (op ≡ ops.Commit → ⊥) → start_of g a op m k ≡ start_of g a op n k

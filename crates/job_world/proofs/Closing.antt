@@ -21,10 +21,10 @@ use Rattle.job_happenings.proofs.PastMore.{busy_so}
 use Rattle.job_states.specs.Stands.{Stands}
 use Rattle.job_world.specs.Sending.{Asks}
 use Rattle.job_world.specs.Holds.{Holds, HandIs, Going, Quiet, all_sound, setting_of, is_busy_at}
-use Rattle.job_world.specs.Events.{Next, ByTurns, end_of, event_entries}
+use Rattle.job_world.specs.Events.{Next, ByTurns, end_of}
 use Rattle.job_world.specs.Events as events
 use Rattle.job_world.specs.declared.hands.Hand.{Hand}
-use Rattle.job_world.specs.declared.hands.Hand.TheVariants.{Plan, At, Empty}
+use Rattle.job_world.specs.declared.hands.Hand.TheVariants.{At}
 use Rattle.job_world.specs.declared.body.Body.{Body}
 use Rattle.job_world.proofs.Kept.{Leaves, hand_kept, put_by_kept, refuse_leaves, close_leaves}
 use Rattle.job_world.proofs.Standings.{place_known, same_actors}
@@ -107,9 +107,8 @@ module _ {W : Type 0} (wants : W → Option Request) (is_of : Setting → Actor 
         by (Some v) e = absurd (false_true (asks m ∙ ap (λ o. not (is_some o)) e) h)
 
     goes_at : (a : Actor) (m : Running) (k : Hand W) → HandIs is_of running picks_of (setting_of b) b.opening q.holds.play a k → Asks wants k → q.holds.play.running a ≡ Some m → over m.operation ≡ None
-    goes_at a m (Plan p) is h at = absurd h
     goes_at a m (At n) is h at = ap (λ (v : Running). over v.operation) (some_is (sym at ∙ is.1.0)) ∙ sym (ends_as _ n) ∙ asking_not_over n h
-    goes_at a m Empty is h at = absurd h
+    goes_at a m _ is h at = absurd h
 
     -- who is busy has more to send
     going_all : (a : Actor) (m : Running) → (q.holds.play.live.state a).life ≡ Busy → q.holds.play.running a ≡ Some m → over m.operation ≡ None

@@ -38,14 +38,10 @@ module _ {W : Type 0} (c : Body W) where
   start_turns place a op false taken fresh = turns_by (Start a op) (Ended taken.0) (ap (end_of (Start a op)) taken.1) fresh (sym taken.1)
 
   pub still_turns : (ev : Event) → IsStill ev → IsFine c ev → event_entries c ≡ [] → c.finished.items ≡ [] → ByTurns c ev
-  still_turns (Do a op) s fine fresh none = absurd s
-  still_turns (Start a op) s fine fresh none = absurd s
-  still_turns (Step a n) s fine fresh none = absurd s
-  still_turns (Run a) s fine fresh none = absurd s
   still_turns (Kill a) s fine fresh none = turns_by (Kill a) Done (ap (end_of (Kill a)) none) fresh (sym none)
-  still_turns (Mix seed) s fine fresh none = absurd s
   still_turns Restart s fine fresh none = turns_by Restart Done (ap (end_of Restart) none) fresh (sym none)
   still_turns (Recover a) s fine fresh none = absurd (none_some fine refl)
+  still_turns _ s fine fresh none = absurd s
 
   pub step_goes : (a : Actor) (n : ℕ) → AllBy a (event_entries c) → length (event_entries c) ≡ n → c.finished.items ≡ [] → ByTurns c (Step a n)
   step_goes a n by len none = turns_by (Step a n) Done (ap (end_of (Step a n)) none) (by, len) (sym none)

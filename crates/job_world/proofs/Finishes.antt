@@ -18,7 +18,7 @@ use Rattle.job_model.specs.declared.ends.OpEnd.TheVariants as ends
 use Rattle.job_model.specs.declared.ends.ActorEnd.{ActorEnd}
 use Rattle.job_model.specs.declared.ends.Pick.{Pick}
 use Rattle.job_model.specs.declared.states.Life.{Life}
-use Rattle.job_model.specs.declared.states.Life.TheVariants.{Idle, Busy, Dead}
+use Rattle.job_model.specs.declared.states.Life.TheVariants.{Busy}
 use Rattle.job_model.specs.declared.states.ActorStage.{ActorStage}
 use Rattle.job_model.specs.declared.states.ActorState.{ActorState}
 use Rattle.job_operations.specs.Operations.{Setting, Running, over}
@@ -45,33 +45,16 @@ pub is_something : {X : Type 0} (o : Option X) → IsSome o → (x : X) × (o �
 is_something o h = elim (none_or_some o) [ inl e ↦ absurd (false_true (ap is_some e) h) | inr s ↦ s ]
 
 pub busy_is : (l : Life) → is_busy l ≡ true → l ≡ Busy
-busy_is Idle h = absurd (false_true refl h)
 busy_is Busy h = refl
-busy_is Dead h = absurd (false_true refl h)
+busy_is _ h = absurd (false_true refl h)
 
 -- who ended an operation is not busy
 pub ended_idle : (e : OpEnd) (s : ActorStage) → is_busy (ended e s).life ≡ false
 ended_idle (ends.Setup setups.Done) s = refl
-ended_idle (ends.Setup (setups.Conflict t)) s = refl
-ended_idle (ends.Setup setups.DestIsFile) s = refl
-ended_idle (ends.Setup setups.NoSuchBucket) s = refl
-ended_idle (ends.Setup setups.StoreFault) s = refl
-ended_idle (ends.Setup setups.NoMemory) s = refl
 ended_idle (ends.Commit commits.Committed) s = refl
-ended_idle (ends.Commit (commits.Missing t)) s = refl
-ended_idle (ends.Commit (commits.SamePath a b c)) s = refl
-ended_idle (ends.Commit (commits.StoreFault t)) s = refl
-ended_idle (ends.Commit commits.NoMemory) s = refl
 ended_idle (ends.Clean cleans.Done) s = refl
-ended_idle (ends.Clean cleans.StoreFault) s = refl
-ended_idle (ends.Clean cleans.NoMemory) s = refl
 ended_idle (ends.Task tasks.Done) s = refl
-ended_idle (ends.Task (tasks.Conflict t)) s = refl
-ended_idle (ends.Task tasks.Kept) s = refl
-ended_idle (ends.Task (tasks.Gone t)) s = refl
-ended_idle (ends.Task tasks.StoreFault) s = refl
-ended_idle (ends.Task tasks.NoMemory) s = refl
-ended_idle ends.NoMemory s = refl
+ended_idle _ s = refl
 
 -- ---- places
 
@@ -224,10 +207,8 @@ module _ {W : Type 0} (is_of : Setting → Actor → W → Type 0) (running : Kn
   -- ---- an operation that ends by itself
 
   at_end : (end_of : W → Option OpEnd) (e : OpEnd) (o : Option (Hand W)) → hand_end end_of o ≡ Some e → (m : W) × (o ≡ Some (At m)) × (end_of m ≡ Some e)
-  at_end end_of e None h = absurd (none_some refl h)
-  at_end end_of e (Some (Plan p)) h = absurd (none_some refl h)
   at_end end_of e (Some (At m)) h = (m, refl, h)
-  at_end end_of e (Some Empty) h = absurd (none_some refl h)
+  at_end end_of e _ h = absurd (none_some refl h)
 
   pub over_holds : (end_of : W → Option OpEnd) → ((k : Known) (m : W) → end_of m ≡ over (running k m).operation) → Doing → (b : Body W) (place : ℕ) (y : ActorEnd) (k : Kept) (f : Vec ActorEnd Global)
       → slice_get (actors b.script) place ≡ Some y.actor → is_busy_at b.states.actors place ≡ true → IsSome b.event → hand_end end_of (slice_get b.hands.items place) ≡ Some y.end → Holds is_of running picks_of all_sound b

@@ -3,13 +3,13 @@ use Rattle.std.proofs.Common.{◌≡◌, inl, inr, Bool, true, false, List, [], 
 use Rattle.request_frame.proofs.Members.{none_some}
 use Rattle.s3_types.specs.Store.{Content}
 use Rattle.s3_types.specs.declared.request.Actor.{Actor}
-use Rattle.s3_types.specs.declared.request.Actor.TheVariants.{Driver, Attempt, Shell}
+use Rattle.s3_types.specs.declared.request.Actor.TheVariants.{Driver}
 use Rattle.job_model.specs.Known.{Known}
 use Rattle.job_model.specs.declared.events.Op.{Op}
 use Rattle.job_model.specs.declared.events.Event.{Event}
-use Rattle.job_model.specs.declared.events.Event.TheVariants.{Do, Start, Step, Run, Kill, Mix, Restart, Recover}
+use Rattle.job_model.specs.declared.events.Event.TheVariants.{Do, Start, Kill, Restart}
 use Rattle.job_model.specs.declared.ends.EventEnd.{EventEnd}
-use Rattle.job_model.specs.declared.ends.EventEnd.TheVariants.{Done, Ended, Mixed, Refused}
+use Rattle.job_model.specs.declared.ends.EventEnd.TheVariants.{Refused}
 use Rattle.job_model.specs.declared.ends.EventFault.{EventFault}
 use Rattle.job_model.specs.declared.ends.Pick.{Pick}
 use Rattle.job_model.specs.declared.states.Life.TheVariants.{Dead}
@@ -75,12 +75,7 @@ module _ (g : Setting) (opening : Content) (x y : Play) where
 abbrev pub Spares : Event → Actor → Type 0
 Spares (Do b op) a = a ≡ b → ⊥
 Spares (Start b op) a = a ≡ b → ⊥
-Spares (Step b n) a = Unit {0}
-Spares (Run b) a = Unit {0}
-Spares (Kill b) a = Unit {0}
-Spares (Mix seed) a = Unit {0}
-Spares Restart a = Unit {0}
-Spares (Recover b) a = Unit {0}
+Spares _ a = Unit {0}
 
 pub ahead_open : (g : Setting) (x : Play) (ev : Event) → x.now ≡ None → (xs : List EventEnd) → Ahead (happen g x (Opens ev)) xs → Ahead x xs
 ahead_open g x ev none xs a = record { rest = a.rest; is = a.is; going = λ v e. absurd (none_some none e) }
@@ -88,8 +83,7 @@ ahead_open g x ev none xs a = record { rest = a.rest; is = a.is; going = λ v e.
 -- the job's commit, where the driver begins nothing
 begun_not : (b : Actor) (op : Op) (d : Decided) → (b ≡ Driver → ⊥) → commit_begun b op d ≡ d
 begun_not Driver op d n = absurd (n refl)
-begun_not (Attempt t k) op d n = refl
-begun_not Shell op d n = refl
+begun_not _ op d n = refl
 
 module _ (p : Past) (a : Actor) where
   idle_put : (b : Actor) (s : ActorState) → is_busy s.life ≡ false → is_busy (p.state a).life ≡ false → is_busy (put p.state b s a).life ≡ false
@@ -120,12 +114,9 @@ record LeavesIn (g : Setting) (x : Play) (ev : Event) (a : Actor) : Type 0 where
 spared : (g : Setting) (x : Play) (ev : Event) (a : Actor) → Spares ev a → LeavesIn g x ev a
 spared g x (Do b op) a s = record { running = put_other x.running b _ a s; idle = idle_apart x.past a b _ s; dead = λ h nd. dead_apart x.past a b _ s h; commit = λ d. begun_not b op x.past.commit (λ e. s (d ∙ sym e)) }
 spared g x (Start b op) a s = record { running = put_other x.running b _ a s; idle = idle_apart x.past a b _ s; dead = λ h nd. dead_apart x.past a b _ s h; commit = λ d. begun_not b op x.past.commit (λ e. s (d ∙ sym e)) }
-spared g x (Step b n) a s = record { running = refl; idle = λ h. h; dead = λ h nd. h; commit = λ d. refl }
-spared g x (Run b) a s = record { running = refl; idle = λ h. h; dead = λ h nd. h; commit = λ d. refl }
 spared g x (Kill b) a s = record { running = refl; idle = idle_put x.past a b (dead (x.past.state b).stage) refl; dead = λ h nd. dead_put x.past a b (dead (x.past.state b).stage) refl h; commit = λ d. refl }
-spared g x (Mix seed) a s = record { running = refl; idle = λ h. h; dead = λ h nd. h; commit = λ d. refl }
 spared g x Restart a s = record { running = refl; idle = idle_put x.past a Driver (idle (restarted (x.past.state Driver).stage)) refl; dead = λ h nd. dead_apart x.past a Driver (idle (restarted (x.past.state Driver).stage)) nd h; commit = λ d. refl }
-spared g x (Recover b) a s = record { running = refl; idle = λ h. h; dead = λ h nd. h; commit = λ d. refl }
+spared g x _ a s = record { running = refl; idle = λ h. h; dead = λ h nd. h; commit = λ d. refl }
 
 pub open_leaves : (g : Setting) (x : Play) (ev : Event) (a : Actor) → x.now ≡ None → x.live ≡ x.past → Spares ev a → Leaves x (happen g x (Opens ev)) a
 open_leaves g x ev a none live s =
@@ -152,10 +143,8 @@ refuse_leaves g x f a none live = record {
 }
 
 not_refused : (end : EventEnd) → ((f : EventFault) → end ≡ Refused f → ⊥) → is_refused end ≡ false
-not_refused Done n = refl
-not_refused (Ended e) n = refl
-not_refused (Mixed xs) n = refl
 not_refused (Refused f) n = absurd (n f refl)
+not_refused _ n = refl
 
 pub close_leaves : (g : Setting) (x : Play) (end : EventEnd) (a : Actor) → MayClose g x end → Leaves x (happen g x (Closes end)) a
 close_leaves g x end a ok = record {

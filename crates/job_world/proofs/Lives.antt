@@ -9,7 +9,7 @@ use Rattle.job_model.specs.Attempts.{Declared, is_known}
 use Rattle.job_model.specs.JobScript.{Script}
 use Rattle.job_model.specs.Legal.{IsLegal, IsEvent}
 use Rattle.job_model.specs.declared.events.Event.{Event}
-use Rattle.job_model.specs.declared.events.Event.TheVariants.{Do, Start, Step, Run, Kill, Mix, Restart, Recover}
+use Rattle.job_model.specs.declared.events.Event.TheVariants.{Do, Start, Kill, Restart}
 use Rattle.job_model.specs.declared.ends.SetupEnd.{SetupEnd}
 use Rattle.job_model.specs.declared.ends.SetupEnd.TheVariants as setups
 use Rattle.job_model.specs.declared.ends.TaskEnd.{TaskEnd}
@@ -59,12 +59,9 @@ module _ (es : List Declared) (p : Past) (old : KnownBusy es p) where
   open_known : (w : Script) (ev : Event) → IsEvent es ev → KnownBusy es (open_event w p ev)
   open_known w (Do a op) h = put_known a _ h.0
   open_known w (Start a op) h = put_known a _ h.0
-  open_known w (Step a n) h = old
-  open_known w (Run a) h = old
   open_known w (Kill a) h = idled_known a (dead (p.state a).stage) refl
-  open_known w (Mix seed) h = old
   open_known w Restart h = idled_known Driver (idle (restarted (p.state Driver).stage)) refl
-  open_known w (Recover a) h = old
+  open_known w _ h = old
 
   end_known : (y : ActorEnd) → KnownBusy es (end_op p y)
   end_known y = idled_known y.actor (ended y.end (p.state y.actor).stage) (ended_idle y.end (p.state y.actor).stage)
@@ -81,32 +78,20 @@ dead_idle : (l : Life) → l ≡ Dead → l ≡ Idle → ⊥
 dead_idle l e f = cc
 
 setup_memory : (e : SetupEnd) (s : ActorStage) → (ended (ends.Setup e) s).life ≡ Idle → is_memory (ends.Setup e) ≡ true → ⊥
-setup_memory setups.Done s h m = false_true refl m
-setup_memory (setups.Conflict p) s h m = false_true refl m
-setup_memory setups.DestIsFile s h m = false_true refl m
-setup_memory setups.NoSuchBucket s h m = false_true refl m
-setup_memory setups.StoreFault s h m = false_true refl m
 setup_memory setups.NoMemory s h m = dead_idle Dead refl h
+setup_memory _ s h m = false_true refl m
 
 commit_memory : (e : CommitEnd) (s : ActorStage) → (ended (ends.Commit e) s).life ≡ Idle → is_memory (ends.Commit e) ≡ true → ⊥
-commit_memory commits.Committed s h m = false_true refl m
-commit_memory (commits.Missing t) s h m = false_true refl m
-commit_memory (commits.SamePath p t u) s h m = false_true refl m
-commit_memory (commits.StoreFault x) s h m = false_true refl m
 commit_memory commits.NoMemory s h m = dead_idle Dead refl h
+commit_memory _ s h m = false_true refl m
 
 clean_memory : (e : CleanEnd) (s : ActorStage) → (ended (ends.Clean e) s).life ≡ Idle → is_memory (ends.Clean e) ≡ true → ⊥
-clean_memory cleans.Done s h m = false_true refl m
-clean_memory cleans.StoreFault s h m = false_true refl m
 clean_memory cleans.NoMemory s h m = dead_idle Dead refl h
+clean_memory _ s h m = false_true refl m
 
 task_memory : (e : TaskEnd) (s : ActorStage) → (ended (ends.Task e) s).life ≡ Idle → is_memory (ends.Task e) ≡ true → ⊥
-task_memory tasks.Done s h m = false_true refl m
-task_memory (tasks.Conflict p) s h m = false_true refl m
-task_memory tasks.Kept s h m = false_true refl m
-task_memory (tasks.Gone n) s h m = false_true refl m
-task_memory tasks.StoreFault s h m = false_true refl m
 task_memory tasks.NoMemory s h m = dead_idle Dead refl h
+task_memory _ s h m = false_true refl m
 
 -- who found no memory is dead
 idle_memory : (e : OpEnd) (s : ActorStage) → (ended e s).life ≡ Idle → is_memory e ≡ true → ⊥
@@ -137,24 +122,15 @@ module _ (p : Past) (running : Actor → Option Running) (old : AllOver p runnin
 open_over : (g : Setting) (x : Play) (ev : Event) → AllOver x.past x.running → AllOver (open_event g.script x.past ev) (open_running g x ev)
 open_over g x (Do a op) old = put_over x.past x.running old a _ _ (busy_idle Busy refl)
 open_over g x (Start a op) old = put_over x.past x.running old a _ _ (busy_idle Busy refl)
-open_over g x (Step a n) old = old
-open_over g x (Run a) old = old
 open_over g x (Kill a) old = state_over x.past x.running old a (dead (x.past.state a).stage) (λ e nd n at. absurd (dead_idle Dead refl e))
-open_over g x (Mix seed) old = old
 open_over g x Restart old = state_over x.past x.running old Driver (idle (restarted (x.past.state Driver).stage)) (λ e nd n at. absurd (nd refl))
-open_over g x (Recover a) old = old
+open_over g x _ old = old
 
 -- ---- restarts
 
 open_attempt : (w : Script) (p : Past) (ev : Event) → (open_event w p ev).attempt ≤ p.attempt + 1
 open_attempt w p (Do a op) = omega arith
-open_attempt w p (Start a op) = omega arith
-open_attempt w p (Step a n) = omega arith
-open_attempt w p (Run a) = omega arith
-open_attempt w p (Kill a) = omega arith
-open_attempt w p (Mix seed) = omega arith
-open_attempt w p Restart = omega arith
-open_attempt w p (Recover a) = omega arith
+open_attempt w p _ = omega arith
 
 -- ---- all of that
 

@@ -8,10 +8,10 @@ use Rattle.job_model.specs.Known.{Known}
 use Rattle.job_model.specs.JobScript.{Script}
 use Rattle.job_model.specs.Legal.{IsEvent}
 use Rattle.job_model.specs.declared.events.Event.{Event}
-use Rattle.job_model.specs.declared.events.Event.TheVariants.{Do, Start, Step, Run, Kill, Mix, Restart, Recover}
+use Rattle.job_model.specs.declared.events.Event.TheVariants.{Do, Start, Step, Run, Mix}
 use Rattle.job_model.specs.declared.ends.Pick.{Pick}
 use Rattle.job_model.specs.declared.states.Life.{Life}
-use Rattle.job_model.specs.declared.states.Life.TheVariants.{Idle, Busy, Dead}
+use Rattle.job_model.specs.declared.states.Life.TheVariants.{Busy}
 use Rattle.job_model.specs.declared.states.ActorState.{ActorState}
 use Rattle.job_operations.specs.Operations.{Setting, Running}
 use Rattle.job_promise.specs.States.{Past, actors, past, refusal, refuse_move, open_event}
@@ -29,8 +29,7 @@ use Rattle.job_world.proofs.Standings.{placed, busy_at}
 
 move_busy : (l : Life) → refuse_move l ≡ None → is_busy l ≡ true
 move_busy Busy h = refl
-move_busy Idle h = absurd (none_some h refl)
-move_busy Dead h = absurd (none_some h refl)
+move_busy _ h = absurd (none_some h refl)
 
 pub run_busy : (st : Actor → ActorState) (ev : Event) (a : Actor) → ev ≡ Run a → refusal st ev ≡ None → is_busy (st a).life ≡ true
 run_busy st ev a is fine = move_busy (st a).life (ap (refusal st) (sym is) ∙ fine)
@@ -72,12 +71,7 @@ mix_fine st ev seed is = ap (refusal st) is
 pub still_none : (ev : Event) → IsStill ev → BeginsNone ev
 still_none (Do a op) h = absurd h
 still_none (Start a op) h = absurd h
-still_none (Step a n) h = tt
-still_none (Run a) h = tt
-still_none (Kill a) h = tt
-still_none (Mix seed) h = tt
-still_none Restart h = tt
-still_none (Recover a) h = tt
+still_none _ h = tt
 
 -- ---- a world in which such an event was opened
 

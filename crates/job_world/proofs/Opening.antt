@@ -7,7 +7,7 @@ use Rattle.s3_types.specs.declared.request.Actor.TheVariants.{Driver}
 use Rattle.job_model.specs.Known.{Known}
 use Rattle.job_model.specs.declared.events.Op.{Op}
 use Rattle.job_model.specs.declared.events.Event.{Event}
-use Rattle.job_model.specs.declared.events.Event.TheVariants.{Do, Start, Step, Run, Kill, Mix, Restart, Recover}
+use Rattle.job_model.specs.declared.events.Event.TheVariants.{Do, Start}
 use Rattle.job_model.specs.declared.ends.Pick.{Pick}
 use Rattle.job_model.specs.declared.states.ActorState.{ActorState}
 use Rattle.job_operations.specs.Operations.{Setting, Running}
@@ -26,32 +26,17 @@ use Rattle.job_world.proofs.Moments.{is_idle, live_of, may_open, busy_of}
 pub spares_others : (ev : Event) (a : Actor) (op : Op) → BeginsBy ev a op → (q : Actor) → (q ≡ a → ⊥) → Spares ev q
 spares_others (Do b o) a op h q ne = λ e. ne (e ∙ h.0)
 spares_others (Start b o) a op h q ne = λ e. ne (e ∙ h.0)
-spares_others (Step b n) a op h q ne = absurd h
-spares_others (Run b) a op h q ne = absurd h
-spares_others (Kill b) a op h q ne = absurd h
-spares_others (Mix seed) a op h q ne = absurd h
-spares_others Restart a op h q ne = absurd h
-spares_others (Recover b) a op h q ne = absurd h
+spares_others _ a op h q ne = absurd h
 
 pub spares_all : (ev : Event) → BeginsNone ev → (q : Actor) → Spares ev q
 spares_all (Do b o) h q = absurd h
 spares_all (Start b o) h q = absurd h
-spares_all (Step b n) h q = tt
-spares_all (Run b) h q = tt
-spares_all (Kill b) h q = tt
-spares_all (Mix seed) h q = tt
-spares_all Restart h q = tt
-spares_all (Recover b) h q = tt
+spares_all _ h q = tt
 
 pub begun_busy : (g : Setting) (p : Past) (ev : Event) (a : Actor) (op : Op) → BeginsBy ev a op → is_busy ((open_event g.script p ev).state a).life ≡ true
 begun_busy g p (Do b o) a op h = ap (λ (s : ActorState). is_busy s.life) (put_here p.state b _ a (sym h.0))
 begun_busy g p (Start b o) a op h = ap (λ (s : ActorState). is_busy s.life) (put_here p.state b _ a (sym h.0))
-begun_busy g p (Step b n) a op h = absurd h
-begun_busy g p (Run b) a op h = absurd h
-begun_busy g p (Kill b) a op h = absurd h
-begun_busy g p (Mix seed) a op h = absurd h
-begun_busy g p Restart a op h = absurd h
-begun_busy g p (Recover b) a op h = absurd h
+begun_busy g p _ a op h = absurd h
 
 -- a place that is not left out is another one
 pub not_left : (p q : ℕ) → all_but p q ≡ true → q ≡ p → ⊥

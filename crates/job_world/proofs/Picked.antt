@@ -10,7 +10,7 @@ use Rattle.job_model.specs.Legal.{IsLegal}
 use Rattle.job_model.specs.declared.events.Op.{Op}
 use Rattle.job_model.specs.declared.events.Op.TheVariants as ops
 use Rattle.job_model.specs.declared.events.Event.{Event}
-use Rattle.job_model.specs.declared.events.Event.TheVariants.{Do, Start, Step, Run, Kill, Mix, Restart, Recover}
+use Rattle.job_model.specs.declared.events.Event.TheVariants.{Do, Start, Step}
 use Rattle.job_model.specs.declared.ends.EventEnd.{EventEnd}
 use Rattle.job_model.specs.declared.ends.Pick.{Pick}
 use Rattle.job_operations.specs.Operations.{Setting, Running, start_of}
@@ -37,11 +37,7 @@ begun_running g x (Start b o) a op h =
     put_here x.running b _ a (sym h.0) ∙ ap (λ v. begun (start_of g v o (missing g.script x.past.reported) (knows_now g x v)) (knows_now g x v)) h.0
     ∙ ap (λ v. begun (start_of g a v (missing g.script x.past.reported) (knows_now g x a)) (knows_now g x a)) h.1
 begun_running g x (Step b n) a op h = absurd h
-begun_running g x (Run b) a op h = absurd h
-begun_running g x (Kill b) a op h = absurd h
-begun_running g x (Mix seed) a op h = absurd h
-begun_running g x Restart a op h = absurd h
-begun_running g x (Recover b) a op h = absurd h
+begun_running g x _ a op h = absurd h
 
 -- only the driver's commit is the job's
 pub commit_begins : (g : Setting) (a : Actor) (op : Op) (m : Option ℕ) (k l : Known) → is_committing (begun (start_of g a op m k) l) ≡ true → (a ≡ Driver) × (op ≡ ops.Commit)
@@ -60,30 +56,17 @@ commit_begins g Shell op m k l h = absurd (false_true refl h)
 pub begins_it : (ev : Event) (a : Actor) (op : Op) → BeginsBy ev a op → a ≡ Driver → op ≡ ops.Commit → begins_commit ev ≡ true
 begins_it (Do b o) a op h d c = ap (λ v. begins_commit (Do v o)) (h.0 ∙ d) ∙ ap (λ v. begins_commit (Do Driver v)) (h.1 ∙ c)
 begins_it (Start b o) a op h d c = ap (λ v. begins_commit (Start v o)) (h.0 ∙ d) ∙ ap (λ v. begins_commit (Start Driver v)) (h.1 ∙ c)
-begins_it (Step b n) a op h d c = absurd h
-begins_it (Run b) a op h d c = absurd h
-begins_it (Kill b) a op h d c = absurd h
-begins_it (Mix seed) a op h d c = absurd h
-begins_it Restart a op h d c = absurd h
-begins_it (Recover b) a op h d c = absurd h
+begins_it _ a op h d c = absurd h
 
 -- any other operation of the driver leaves what became of the commit
 not_committing : (g : Setting) (op : Op) (m : Option ℕ) (k l : Known) → is_committing (begun (start_of g Driver op m k) l) ≡ false → (d : Decided) → commit_begun Driver op d ≡ d
-not_committing g ops.Setup m k l h d = refl
-not_committing g ops.Write m k l h d = refl
 not_committing g ops.Commit m k l h d = absurd (false_true h refl)
-not_committing g ops.Abort m k l h d = refl
-not_committing g ops.Clean m k l h d = refl
+not_committing g _ m k l h d = refl
 
 opened_commit : (g : Setting) (p : Past) (ev : Event) (op : Op) → BeginsBy ev Driver op → (open_event g.script p ev).commit ≡ commit_begun Driver op p.commit
 opened_commit g p (Do b o) op h = ap (λ v. commit_begun v o p.commit) h.0 ∙ ap (λ v. commit_begun Driver v p.commit) h.1
 opened_commit g p (Start b o) op h = ap (λ v. commit_begun v o p.commit) h.0 ∙ ap (λ v. commit_begun Driver v p.commit) h.1
-opened_commit g p (Step b n) op h = absurd h
-opened_commit g p (Run b) op h = absurd h
-opened_commit g p (Kill b) op h = absurd h
-opened_commit g p (Mix seed) op h = absurd h
-opened_commit g p Restart op h = absurd h
-opened_commit g p (Recover b) op h = absurd h
+opened_commit g p _ op h = absurd h
 
 none_of : (ps all : List Pick) → ArePicked ps all → all ≡ [] → ps ≡ []
 none_of [] all h e = refl

@@ -11,9 +11,9 @@ use Rattle.s3_types.specs.Ledger.{Ledger}
 use Rattle.s3_types.specs.declared.request.Actor.{Actor}
 use Rattle.s3_types.specs.declared.request.Actor.TheVariants.{Driver}
 use Rattle.s3_types.specs.declared.request.Request.{Request}
-use Rattle.s3_types.specs.declared.request.Request.TheVariants.{MakeBucket, PutObject, GetObject, HeadObject, DeleteObject, DeleteObjects, CopyObject, ListPage, CreateUpload, UploadPart, CompleteUpload, AbortUpload, ListParts, ListUploads, ClusterPut, ClusterRename, ClusterGet, ClusterDelete, ClusterList}
+use Rattle.s3_types.specs.declared.request.Request.TheVariants.{MakeBucket, PutObject, GetObject, HeadObject, DeleteObject, DeleteObjects, CopyObject, ListPage, CreateUpload, UploadPart, CompleteUpload, AbortUpload, ListParts, ListUploads}
 use Rattle.s3_types.specs.declared.journal.Outcome.{Outcome}
-use Rattle.s3_types.specs.declared.journal.Outcome.TheVariants.{Answered, Slow, RequestLost, ReplyLost}
+use Rattle.s3_types.specs.declared.journal.Outcome.TheVariants.{Slow, RequestLost}
 use Rattle.s3_types.specs.declared.journal.Entry.{Entry}
 use Rattle.store_link.specs.Link.{LossyLink}
 use Rattle.store_link.proofs.Ids.{next_store}
@@ -58,17 +58,12 @@ next_of s (CompleteUpload n k i ps) = next_store s.content (CompleteUpload n k i
 next_of s (AbortUpload n k i) = next_store s.content (AbortUpload n k i)
 next_of s (ListParts n k i) = next_store s.content (ListParts n k i)
 next_of s (ListUploads n p a l) = next_store s.content (ListUploads n p a l)
-next_of s (ClusterPut p b) = omega arith
-next_of s (ClusterRename a b) = omega arith
-next_of s (ClusterGet p) = omega arith
-next_of s (ClusterDelete p) = omega arith
-next_of s (ClusterList p) = omega arith
+next_of s _ = omega arith
 
 next_after : (s : Scene) (r : Request) (o : Outcome) → (effect s r o).content.next ≤ s.content.next + 1
-next_after s r (Answered a) = next_of s r
 next_after s r Slow = omega arith
 next_after s r RequestLost = omega arith
-next_after s r ReplyLost = next_of s r
+next_after s r _ = next_of s r
 
 after_more : (s : Scene) (es : List Entry) (e : Entry) → after_all s (es ++ e ∷ []) ≡ effect (after_all s es) e.request e.outcome
 after_more s [] e = refl
@@ -265,10 +260,9 @@ module _ {W : Type 0} (wants : W → Option Request) (tells : W → Outcome → 
       same_left q v = omega arith
 
       effected : (p : Outcome) (q : ℕ) (a : Actor) (v : Hand W) → (q ≡ place → ⊥) → slice_get (actors b.script) q ≡ Some a → slice_get b.hands.items q ≡ Some v → hand_left left (effect b.store.scene r p) v ≤ hand_left left b.store.scene v + raised (rise b.script) q
-      effected (Answered z) q a v ne i u = applied q a v ne i u
       effected Slow q a v ne i u = same_left q v
       effected RequestLost q a v ne i u = same_left q v
-      effected ReplyLost q a v ne i u = applied q a v ne i u
+      effected _ q a v ne i u = applied q a v ne i u
 
       pub sent_raises : (s : Scene) → s ≡ effect b.store.scene r o → RaisedBy left rise place b s
       sent_raises s scene q v ne busy u =

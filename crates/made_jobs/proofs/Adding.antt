@@ -6,14 +6,12 @@ use Rattle.job_model.specs.Attempts.{Who, Declared, last_files, with_file}
 use Rattle.job_model.specs.Legal.{AreFiles}
 
 last_of : (before : List Declared) (a : Declared) → last_files (before ++ a ∷ []) ≡ a.1
-last_of [] a = refl
-last_of (b ∷ []) a = refl
 last_of (b ∷ c ∷ before) a = last_of (c ∷ before) a
+last_of _ a = refl
 
 added_to : (before : List Declared) (name : Who) (fs : List File) (path bytes : List ℕ) → with_file (before ++ (name, fs) ∷ []) path bytes ≡ before ++ (name, fs ++ (path, bytes) ∷ []) ∷ []
-added_to [] name fs path bytes = refl
-added_to (b ∷ []) name fs path bytes = refl
 added_to (b ∷ c ∷ before) name fs path bytes = ap (λ (l : List Declared). b ∷ l) (added_to (c ∷ before) name fs path bytes)
+added_to _ name fs path bytes = refl
 
 -- those in front were added, and the rest are to be
 pub record IsAdding (old : List Declared) (name : Who) (files : List File) (now : List Declared) (rest : List File) : Type 0 where

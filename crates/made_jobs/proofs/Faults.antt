@@ -4,16 +4,12 @@ use Rattle.std.specs.Prelude.{Result}
 use Rattle.proof_base.specs.Reading.{Unless}
 use Rattle.path_keys.specs.Paths.{Path, wanting}
 use Rattle.path_keys.specs.declared.fault.PathFault.{PathFault}
-use Rattle.path_keys.specs.declared.fault.PathFault.TheVariants.{BadScheme, BadBucket, EmptyElement, DotElement, TooLong, NoMemory}
+use Rattle.path_keys.specs.declared.fault.PathFault.TheVariants.{NoMemory}
 
 abbrev Read : Path → PathFault → Type 0
 Read x e = let read : Result Path PathFault = Ok x in read ≡ Err e
 
 -- it gives want of memory alone
 pub memory_alone : (x : Path) (e : PathFault) → (e ≡ NoMemory → ⊥) → Unless (wanting e) (Read x e) → ⊥
-memory_alone x BadScheme n h = cc
-memory_alone x BadBucket n h = cc
-memory_alone x EmptyElement n h = cc
-memory_alone x DotElement n h = cc
-memory_alone x TooLong n h = cc
 memory_alone x NoMemory n h = n refl
+memory_alone x _ n h = cc

@@ -36,12 +36,11 @@ faulty_of None before number place f h = tt
 faulty_of (Some s) before number place f h = sym f ∙ h
 
 cause_of : (stop : Stop) (command : Command) (told : Option Stored) (before : Held) (left rest : Option (List ℕ)) → IsFound told before → HasCauseIn stop command before left rest → HasCause stop command told left rest
-cause_of Usage command told before left rest f h = h
 cause_of ReadFault command told before left rest f h = (sound_of told before f h.0, h.1)
-cause_of ShelfFault command told before left rest f h = h
 cause_of (BadScript e) command told before left rest f h = (sound_of told before f h.0, h.1)
 cause_of (Image number place) command told before left rest f h = (faulty_of told before number place f h.0, h.1)
 cause_of NoMemory command told before left rest f h = ⊎_elim (λ e. inl e) (λ j. inr (sound_of told before f h.0, j)) h.1
+cause_of _ command told before left rest f h = h
 
 -- ---- a job
 

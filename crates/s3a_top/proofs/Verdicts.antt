@@ -14,26 +14,21 @@ use Rattle.s3a_top.specs.Plays.{IsFinal}
 -- ---- verdicts
 
 setup_final : (e : SetupEnd) → IsFinal (end_verdict (ends.Setup e))
-setup_final setups.Done = inr (inl refl)
-setup_final (setups.Conflict p) = inr (inl refl)
-setup_final setups.DestIsFile = inr (inl refl)
-setup_final setups.NoSuchBucket = inr (inl refl)
 setup_final setups.StoreFault = inr (inr (inl refl))
 setup_final setups.NoMemory = inr (inr (inr refl))
+setup_final _ = inr (inl refl)
 
 commit_final : (e : CommitEnd) → IsFinal (end_verdict (ends.Commit e))
 commit_final commits.Committed = inl refl
-commit_final (commits.Missing t) = inr (inl refl)
-commit_final (commits.SamePath p t u) = inr (inl refl)
 commit_final (commits.StoreFault s) = inr (inr (inl refl))
 commit_final commits.NoMemory = inr (inr (inr refl))
+commit_final _ = inr (inl refl)
 
 end_final : (e : OpEnd) → IsFinal (end_verdict e)
 end_final (ends.Setup e) = setup_final e
-end_final (ends.Task e) = inr (inl refl)
 end_final (ends.Commit e) = commit_final e
-end_final (ends.Clean e) = inr (inl refl)
 end_final ends.NoMemory = inr (inr (inr refl))
+end_final _ = inr (inl refl)
 
 decided_final : (other : ℕ) (d : Decided) → IsFinal other → IsFinal (verdict_or other d)
 decided_final other NotBegun h = h

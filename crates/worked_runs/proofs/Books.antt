@@ -8,7 +8,7 @@ use Rattle.std.proofs.lemmas.Cmp.{then_total, on_total}
 use Rattle.std.proofs.lemmas.Map.Lookups.{exact_pairs, exact_bytes, exact_unsigned}
 use Rattle.std.specs.Ordering.{nat_cmp, eq_by_cmp, is_lt}
 use Rattle.std.specs.declared.cmp.Ordering.{Ordering}
-use Rattle.std.specs.declared.cmp.Ordering.TheVariants.{Less, Equal, Greater}
+use Rattle.std.specs.declared.cmp.Ordering.TheVariants.{Greater}
 use Rattle.std.specs.FinMap.{insert, remove, get, empty, entries, from_entries, get-insert, get-empty, get-from_entries, nat_cmp-IsAntisymmetric, IsAntisymmetric}
 use Rattle.std.specs.FinMap.Entries.{put, by_order, where_key, find, is_sorted}
 use Rattle.proof_base.specs.Order.{text_cmp, text_eq, text_total, text_ties}
@@ -114,9 +114,8 @@ map_put (e ∷ es) id d = by (nat_cmp id e.0) (map_put es id d)
     by : (r : Ordering) → put nat_cmp id (upload_of d) (map (λ e. (e.0, upload_of e.1)) es) ≡ map (λ e. (e.0, upload_of e.1)) (put nat_cmp id d es)
         → by_order r ((id, upload_of d) ∷ (e.0, upload_of e.1) ∷ map (λ e. (e.0, upload_of e.1)) es) ((e.0, upload_of d) ∷ map (λ e. (e.0, upload_of e.1)) es) ((e.0, upload_of e.1) ∷ put nat_cmp id (upload_of d) (map (λ e. (e.0, upload_of e.1)) es))
         ≡ map (λ e. (e.0, upload_of e.1)) (by_order r ((id, d) ∷ e ∷ es) ((e.0, d) ∷ es) (e ∷ put nat_cmp id d es))
-    by Less h = refl
-    by Equal h = refl
     by Greater h = ap (λ l. (e.0, upload_of e.1) ∷ l) h
+    by _ h = refl
 
 uploads_put : (es : List (ℕ × Draft)) (id : ℕ) (d : Draft) → insert (uploads_of es) id (upload_of d) ≡ uploads_of (put nat_cmp id d es)
 unfolding uploads_of
@@ -300,9 +299,6 @@ deleted_many b ks false = objects_without ks b.objects
 
 pub applies : (b : Book) (r : Request) → is_ours r ≡ true → apply (scene_of b) r ≡ scene_of (after b r)
 unfolding content_of
-applies b (MakeBucket n) h = absurd (cc)
-applies b (CopyObject n source target) h = absurd (cc)
-applies b (ListParts n k id) h = absurd (cc)
 applies b (PutObject n k bytes header) h = ap (of_content b) (stored b (PutObject n k bytes header) (on_bucket b (PutObject n k bytes header)) (same_text n lake h)
     (ap (λ m. record { objects = m; uploads = uploads_of b.uploads }) (objects_put b.objects k (record { bytes = bytes; header = header }))) refl)
 applies b (GetObject n k) h = ap (of_content b) (stored b (GetObject n k) b (same_text n lake h) refl refl)
@@ -327,6 +323,7 @@ applies b (ClusterRename source target) h = ap (of_files b) (ap (λ o. renamed (
 applies b (ClusterGet path) h = refl
 applies b (ClusterDelete path) h = ap (of_files b) (files_removed b.files path)
 applies b (ClusterList p) h = refl
+applies b _ h = absurd (cc)
 
 -- ---- what a request is answered
 
@@ -404,9 +401,6 @@ told b r h = ap (λ k. answer_at (get (only (bucket_in b)) k) b.next 5242880 r) 
 
 pub answers : (b : Book) (r : Request) → is_ours r ≡ true → InOrder b → answer (scene_of b) r ≡ reply b r
 unfolding content_of
-answers b (MakeBucket n) h o = absurd (cc)
-answers b (CopyObject n source target) h o = absurd (cc)
-answers b (ListParts n k id) h o = absurd (cc)
 answers b (PutObject n k bytes header) h o = told b (PutObject n k bytes header) (same_text n lake h)
 answers b (GetObject n k) h o = told b (GetObject n k) (same_text n lake h) ∙ ap found (object_found b.objects k)
 answers b (HeadObject n k) h o = told b (HeadObject n k) (same_text n lake h) ∙ ap head (object_found b.objects k)
@@ -426,6 +420,7 @@ answers b (ClusterRename source target) h o = ap rename_answer (file_found b.fil
 answers b (ClusterGet path) h o = ap read_answer (file_found b.files path)
 answers b (ClusterDelete path) h o = refl
 answers b (ClusterList p) h o = ap (λ l. ClusterNames (filter (begins p) (map (λ e. e.0) l))) (files_listed b.files o.files)
+answers b _ h o = absurd (cc)
 
 -- ---- the bucket
 

@@ -14,7 +14,7 @@ use Rattle.s3_types.specs.Moment.{effect, after_all, moment}
 use Rattle.s3_types.specs.declared.object.Object.{Object}
 use Rattle.s3_types.specs.declared.request.Request.{Request}
 use Rattle.s3_types.specs.declared.journal.Outcome.{Outcome}
-use Rattle.s3_types.specs.declared.journal.Outcome.TheVariants.{Answered, Slow, RequestLost, ReplyLost}
+use Rattle.s3_types.specs.declared.journal.Outcome.TheVariants.{Slow, RequestLost}
 use Rattle.s3_types.specs.declared.journal.Entry.{Entry}
 use Rattle.path_keys.specs.Paths.{Path, below, relative_in}
 use Rattle.job_operations.specs.View.{is_file_path, object_in, object_at, view}
@@ -141,16 +141,14 @@ objects_at b k = ap (λ x. object_in x k) (at_bucket b) ∙ object_found b.objec
 -- ---- the moments of a journal
 
 abbrev pub effect_on : Book → Request → Outcome → Book
-effect_on b r (Answered a) = after b r
 effect_on b r Slow = b
 effect_on b r RequestLost = b
-effect_on b r ReplyLost = after b r
+effect_on b r _ = after b r
 
 pub effect_is : (b : Book) (r : Request) (o : Outcome) → is_ours r ≡ true → effect (scene_of b) r o ≡ scene_of (effect_on b r o)
-effect_is b r (Answered a) h = applies b r h
 effect_is b r Slow h = refl
 effect_is b r RequestLost h = refl
-effect_is b r ReplyLost h = applies b r h
+effect_is b r _ h = applies b r h
 
 abbrev pub book_after : Book → List Entry → Book
 book_after b [] = b

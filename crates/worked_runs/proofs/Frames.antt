@@ -11,7 +11,7 @@ use Rattle.s3_types.specs.Moment.{moment, is_effective, IsHonest, IsHonestOutcom
 use Rattle.s3_types.specs.Multipart.{ref_cmp}
 use Rattle.s3_types.specs.Pages.{begins}
 use Rattle.s3_types.specs.declared.request.Actor.{Actor}
-use Rattle.s3_types.specs.declared.request.Actor.TheVariants.{Driver, Attempt, Shell}
+use Rattle.s3_types.specs.declared.request.Actor.TheVariants.{Driver}
 use Rattle.s3_types.specs.declared.reply.Reply.{Reply}
 use Rattle.s3_types.specs.declared.journal.Outcome.{Outcome}
 use Rattle.s3_types.specs.declared.journal.Outcome.TheVariants.{Answered, Slow, RequestLost, ReplyLost}
@@ -150,8 +150,7 @@ true_is false h = absurd (false≢true h)
 
 driver_is : (a : Actor) → is_driver a ≡ true → a ≡ Driver
 driver_is Driver h = refl
-driver_is (Attempt t a) h = absurd (false≢true h)
-driver_is Shell h = absurd (false≢true h)
+driver_is _ h = absurd (false≢true h)
 
 no_data_is : (a : Actor) (s : Bool) → not (is_driver a && s) ≡ true → a ≡ Driver → s ≡ false
 no_data_is a s h d = not_so s (subst (λ x. not (is_driver x && s) ≡ true) d h)
@@ -213,9 +212,7 @@ inside_at b (e ∷ es) h (suc m) = inside_at (effect_on b e.request e.outcome) e
 
 honest_by : (o : Outcome) (due : Reply) → due_outcome o due ≡ o → IsHonestOutcome o due
 honest_by (Answered a) due h = cc
-honest_by Slow due h = tt
-honest_by RequestLost due h = tt
-honest_by ReplyLost due h = tt
+honest_by _ due h = tt
 
 first_is : (o p : Outcome) (os ps : List Outcome) → (o ∷ os) ≡ (p ∷ ps) → (o ≡ p) × (os ≡ ps)
 first_is o p os ps h = (cc, cc)

@@ -8,7 +8,7 @@ use Rattle.s3_types.specs.Answer.{apply}
 use Rattle.s3_types.specs.declared.request.Actor.{Actor}
 use Rattle.s3_types.specs.declared.request.Actor.TheVariants.{Driver, Attempt, Shell}
 use Rattle.s3_types.specs.declared.request.Request.{Request}
-use Rattle.s3_types.specs.declared.request.Request.TheVariants.{MakeBucket, PutObject, GetObject, HeadObject, DeleteObject, DeleteObjects, CopyObject, ListPage, CreateUpload, UploadPart, CompleteUpload, AbortUpload, ListParts, ListUploads, ClusterPut, ClusterRename, ClusterGet, ClusterDelete, ClusterList}
+use Rattle.s3_types.specs.declared.request.Request.TheVariants.{ClusterRename}
 use Rattle.s3_types.specs.declared.journal.Outcome.{Outcome}
 use Rattle.s3_types.specs.declared.journal.Outcome.TheVariants.{Answered, Slow, RequestLost, ReplyLost}
 use Rattle.s3_types.specs.declared.journal.Entry.{Entry}
@@ -37,39 +37,20 @@ publishes_in w b task r = is_publishing w (scene_of b) task r
 
 publishes_is : (w : Script) (b : Book) (t : ℕ) (r : Request) → is_publishing w (scene_of b) t r ≡ publishes_in w b t r
 publishes_is w b t (ClusterRename source target) = ap (λ o. is_staging w.committer && (is_set_path w t target && is_some o)) (file_found b.files source)
-publishes_is w b t (MakeBucket n) = refl
-publishes_is w b t (PutObject n k x h) = refl
-publishes_is w b t (GetObject n k) = refl
-publishes_is w b t (HeadObject n k) = refl
-publishes_is w b t (DeleteObject n k) = refl
-publishes_is w b t (DeleteObjects n ks) = refl
-publishes_is w b t (CopyObject n k l) = refl
-publishes_is w b t (ListPage n p d a l) = refl
-publishes_is w b t (CreateUpload n k) = refl
-publishes_is w b t (UploadPart n k i m x) = refl
-publishes_is w b t (CompleteUpload n k i ns) = refl
-publishes_is w b t (AbortUpload n k i) = refl
-publishes_is w b t (ListParts n k i) = refl
-publishes_is w b t (ListUploads n p a l) = refl
-publishes_is w b t (ClusterPut p x) = refl
-publishes_is w b t (ClusterGet p) = refl
-publishes_is w b t (ClusterDelete p) = refl
-publishes_is w b t (ClusterList p) = refl
+publishes_is w b t _ = refl
 
 abbrev pub last_in : Script → Book → (ℕ → Option ℕ) → ℕ → ℕ → Request → ℕ → Option ℕ
 last_in w b last task attempt r t = cond (nat_eq t task && publishes_in w b task r) (Some attempt) (last t)
 
 abbrev pub saw_attempt : Script → Saw → ℕ → ℕ → Request → Outcome → Saw
-saw_attempt w x task attempt r (Answered reply) = record { book = after x.book r; begun = x.begun; last = last_in w x.book x.last task attempt r; picks = x.picks; put_mark = x.put_mark }
 saw_attempt w x task attempt r Slow = x
 saw_attempt w x task attempt r RequestLost = x
-saw_attempt w x task attempt r ReplyLost = record { book = after x.book r; begun = x.begun; last = last_in w x.book x.last task attempt r; picks = x.picks; put_mark = x.put_mark }
+saw_attempt w x task attempt r _ = record { book = after x.book r; begun = x.begun; last = last_in w x.book x.last task attempt r; picks = x.picks; put_mark = x.put_mark }
 
 abbrev pub saw_driver : Script → Bool → Saw → Request → Outcome → Saw
 saw_driver w begun x r (Answered reply) = record { book = after x.book r; begun = begun; last = x.last; picks = picks_by w begun x.last x.picks r; put_mark = x.put_mark || is_marking w r }
-saw_driver w begun x r Slow = record { book = x.book; begun = begun; last = x.last; picks = x.picks; put_mark = x.put_mark }
-saw_driver w begun x r RequestLost = record { book = x.book; begun = begun; last = x.last; picks = x.picks; put_mark = x.put_mark }
 saw_driver w begun x r ReplyLost = record { book = after x.book r; begun = begun; last = x.last; picks = x.picks; put_mark = x.put_mark || is_marking w r }
+saw_driver w begun x r _ = record { book = x.book; begun = begun; last = x.last; picks = x.picks; put_mark = x.put_mark }
 
 abbrev pub saw_by : Script → Option ℕ → Saw → ℕ → Request → Outcome → Actor → Saw
 saw_by w k x n r o Driver = saw_driver w (x.begun || is_begun k n) x r o
