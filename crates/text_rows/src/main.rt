@@ -1,21 +1,27 @@
-//! What texts are read as, line by line. A line `== NAME` of standard input says what the lines behind it
-//! are; each of those is answered by a line, or some.
+//! What texts and images are read as, line by line. A line `== NAME` of standard input says what the lines
+//! behind it are; each of those is answered by a line, or some. Of records, scripts and images, in a line
+//! that begins with `<` each front of what stands there is read, and in one that begins with `*` all of it
+//! with the lowest bit of each of its bytes turned; of both it is told where the answer changes.
 //!
-//! `records`: `upload`, `set` or `mark` and a JSON text, in which `~` stands for the byte 255. Printed is the
-//! one text of the record that it is, or why it is none.
+//! `records`: `upload`, `set` or `mark` and a JSON text, in which `~` stands for the byte 255. Printed is
+//! the one text of the record that it is, or why it is none.
+//!
+//! `images`: the bytes of a store's image in hex, of which is told whether they are one, or the fault and
+//! its place.
 //!
 //! `scripts`: a job script, of which is told what it is, or its fault. In it `|` stands for LF, `^` for CR,
-//! `~` for the byte 255, and `@` for the first five lines of an ordinary script. Behind a `{` stand a count,
-//! a `:`, and a text that is repeated so often, with `%` for the number of its turn, from 1, and `$` for that
-//! number's hundreds, a dot, and its rest. A script in a line that begins with `=` is printed. In a line that
-//! begins with `<` each front of the script is read, and in one that begins with `*` the script with the lowest
-//! bit of each of its bytes turned; of both it is told where the answer changes.
+//! `~` for the byte 255, and `@` for the first five lines of an ordinary script. Behind a `{` stand a
+//! count, a `:`, and a text that is repeated so often, with `%` for the number of its turn, from 1, and `$`
+//! for that number's hundreds, a dot, and its rest. A script in a line that begins with `=` is printed.
 //!
-//! `paths`: what is asked of a path, which is written as a script is. `commands`: the words of a command line,
-//! with a `|` between them. `made`: a seed and the numbers of tasks and of files, of which a script is made.
+//! `paths`: what is asked of a path, which is written as a script is. `commands`: the words of a command
+//! line, with a `|` between them. `made`: a seed and the numbers of tasks and of files, of which a script
+//! is made.
 #![tactic(auto)]
 
+mod changes;
 mod commands;
+mod images;
 mod made;
 mod paths;
 mod records;
@@ -24,6 +30,7 @@ mod spelling;
 
 use anyhow::Result;
 use commands::show_command;
+use images::show_image;
 use made::show_made;
 use paths::show_path;
 use records::show_record;
@@ -34,6 +41,7 @@ use std::alloc::Global;
 #[derive(Clone, Copy)]
 enum Part {
     Record,
+    Image,
     Script,
     Path,
     Command,
@@ -43,6 +51,7 @@ enum Part {
 fn part_named(name: &str) -> Part {
     match name {
         "records" => Part::Record,
+        "images" => Part::Image,
         "scripts" => Part::Script,
         "paths" => Part::Path,
         "commands" => Part::Command,
@@ -53,6 +62,7 @@ fn part_named(name: &str) -> Part {
 fn show_row(rt: &impl Print, alloc: Global, part: Part, line: &str) -> Result<()> {
     match part {
         Part::Record => show_record(rt, alloc, line),
+        Part::Image => show_image(rt, alloc, line),
         Part::Script => show_script(rt, alloc, line),
         Part::Path => show_path(rt, alloc, line),
         Part::Command => show_command(rt, alloc, line),

@@ -1,3 +1,4 @@
+use crate::changes::{Change, Reader, change_in, tell_changes};
 use crate::spelling::spelled;
 use anyhow::{Context, Result};
 use job_script::{Script, print_script, read_script};
@@ -9,83 +10,34 @@ use std::alloc::{AllocError, Global};
 enum Told {
     Nothing,
     Text,
-    /// What each front of it is.
-    Fronts,
-    /// What it is with a bit of each of its bytes turned.
-    Turned,
+    /// What it is once it is changed.
+    Changes(Change),
 }
 
 /// What a line asks for, and its script.
 fn asked(line: &str) -> (Told, &str) {
-    if let Some(row) = line.strip_prefix("<") {
-        return (Told::Fronts, row);
+    if let Some(row) = line.strip_prefix("=") {
+        return (Told::Text, row);
     }
-    if let Some(row) = line.strip_prefix("*") {
-        return (Told::Turned, row);
-    }
-    match line.strip_prefix("=") {
-        Some(row) => (Told::Text, row),
-        None => (Told::Nothing, line),
+    match change_in(line) {
+        (Some(change), row) => (Told::Changes(change), row),
+        (None, row) => (Told::Nothing, row),
     }
 }
 
-/// What bytes are, by the fault's number and its line; 0 for a script.
-fn outcome_of(alloc: Global, bytes: &[u8]) -> (u8, u64) {
+/// Writes whether bytes are a script, or the fault's number and its line.
+pub fn put_script(line: &mut String, alloc: Global, bytes: &[u8]) -> Result<(), AllocError> {
     match read_script(alloc, bytes) {
         Ok(script) => {
             let_go(script);
-            (0, 0)
+            line.push_str("a script")
         }
-        Err(fault) => (fault.number(), fault.line()),
-    }
-}
-
-/// Tells an outcome that differs from the one before it.
-fn tell_outcome(
-    rt: &impl Print,
-    place: usize,
-    before: Option<(u8, u64)>,
-    outcome: (u8, u64),
-) -> Result<()> {
-    if before == Some(outcome) {
-        return Ok(());
-    }
-    match outcome {
-        (0, _) => println!(rt; "  from {place}: a script")?,
-        (number, line) => println!(rt; "  from {place}: fault {number} at line {line}")?,
-    }
-    Ok(())
-}
-
-/// The front of that length, or all the bytes with the lowest bit of one turned.
-fn changed(alloc: Global, told: Told, bytes: &[u8], place: usize) -> Result<Vec<u8>, AllocError> {
-    let mut copy = Vec::from_slice(alloc, bytes)?;
-    match told {
-        Told::Fronts => copy.truncate(place),
-        _ => {
-            if let Some(b) = copy.get_mut(place) {
-                *b = *b ^ 1;
-            }
+        Err(fault) => {
+            let number = fault.number();
+            let at = fault.line();
+            write!(line, "fault {number} at line {at}")
         }
     }
-    Ok(copy)
-}
-
-/// What the changed bytes are, at each place below an end, where that differs from the place before.
-fn tell_changes(
-    rt: &impl Print,
-    alloc: Global,
-    told: Told,
-    bytes: &[u8],
-    end: usize,
-) -> Result<()> {
-    let mut before = None;
-    for place in 0..end {
-        let outcome = outcome_of(alloc, &changed(alloc, told, bytes, place)?);
-        tell_outcome(rt, place, before, outcome)?;
-        before = Some(outcome);
-    }
-    Ok(())
 }
 
 /// Prints the text of a script.
@@ -111,8 +63,7 @@ fn tell_script(
     match told {
         Told::Nothing => Ok(()),
         Told::Text => tell_text(rt, alloc, script),
-        Told::Fronts => tell_changes(rt, alloc, told, bytes, bytes.len().saturating_add(1)),
-        Told::Turned => tell_changes(rt, alloc, told, bytes, bytes.len()),
+        Told::Changes(change) => tell_changes(rt, alloc, Reader::Script, change, bytes),
     }
 }
 
