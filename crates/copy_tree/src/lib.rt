@@ -3,9 +3,9 @@
 //!
 //! # What is proved
 //!
-//! `CopyTree`: Refused, with nothing changed, by the first that is so: OtherBucket, NoSuchBucket, Overlap,
-//! SourceIsFile, SourceMissing, TargetFile with the first such path from the root on, TooLong with the first key
-//! that would be over its limit, Differs with the least new key that stands with other bytes or another header.
+//! `CopyTree`: Refused, with nothing changed, by the first that is so: OtherBucket, with nothing sent, NoSuchBucket,
+//! Overlap, SourceIsFile, SourceMissing, TargetFile with the first such path from the root on, TooLong with the first
+//! key that would be over its limit, Differs with the least new key that stands with other bytes or another header.
 //! At Ok each key below the source has its copy behind the same rest, header included, so many of which were
 //! absent and the rest stood, and every other key is as it was (`copies`). At any moment, whatever is lost and
 //! wherever it stops, each new key that was absent is so or is its source's copy, whole, and every other key is as

@@ -7,7 +7,7 @@
 //! over its limit there. Keys are copied one by one in their order; at each moment the first ones stand
 //! at both places, and all else is as it was (`IsCopying`).
 //! `perform_between`: An operation that names two paths does what it does in one bucket, and is refused,
-//! and changes nothing, where they are in two.
+//! and sends nothing, where they are in two.
 #![tactic(auto)]
 
 mod base;

@@ -4,7 +4,7 @@
 //!
 //! # What is proved
 //!
-//! `Rename`: Refused, with nothing changed, by the first that is so: OtherBucket, NoSuchBucket,
+//! `Rename`: Refused, with nothing changed, by the first that is so: OtherBucket, with nothing sent, NoSuchBucket,
 //! SourceRoot, SourceMissing, UnderSource, TargetFile, TargetExists, ParentIsFile, ParentMissing,
 //! TooLong with the first key that would be over its limit. At Ok the file, or the directory with all
 //! below it, stands at the new place with the same bytes and headers and no longer at the old one,

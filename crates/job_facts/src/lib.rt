@@ -96,7 +96,8 @@ pub fn cleans()
     ensures clears { CleanClears }
 {}
 
-/// A whole run among no strangers, in any order of its actors: what a reader of the destination is shown.
+/// A whole run, in any order of its actors, among strangers that leave its own alone: what it does, and what a reader
+/// of the destination is shown where none of them sends.
 pub fn whole_runs()
     ensures keep { AllRunsKeep }
 {}
