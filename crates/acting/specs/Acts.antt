@@ -18,6 +18,7 @@ pub record EndsWanting (asked : Option Request) (end : Option OpEnd) : Type 0 wh
   pub none : asked ≡ None
   pub wanting : ends_wanting end ≡ true
 
+-- what an actor is at asks a request until it has ended, and ends
 pub record ActLaws {A : Type 0} (wants : A → Option Request) (tells : A → Outcome → A) (fits : A → Outcome → Type 0) (end_of : A → Option OpEnd) (left : A → Scene → ℕ) (rise : A → Request → ℕ) : Type 0 where
   -- it asks a request exactly until it has ended
   pub goes_on : (a : A) → is_some (wants a) ≡ not (is_some (end_of a))

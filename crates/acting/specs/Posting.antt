@@ -21,6 +21,7 @@ pub record Sight : Type 0 where
   pub told : ℕ → Option Fate
   pub entries : List Entry
 
+-- what is seen of a run, of its parts
 abbrev pub sight : Scene → ℕ → (ℕ → Option Fate) → List Entry → Sight
 sight scene requests told entries = record { scene = scene; requests = requests; told = told; entries = entries }
 
@@ -56,6 +57,7 @@ pub record SentHeard {A : Type 0} (wants : A → Option Request) (tells : A → 
   pub grew : Grew (wants a) actor event c d
   pub told : b ≡ tells a grew.outcome
 
+-- what one sending has done, by how it went
 abbrev pub PostedBy : {A : Type 0} → (A → Option Request) → (A → Outcome → A) → (A → Option OpEnd) → Actor → ℕ → A → A → Sight → Sight → Posted → Type 0
 PostedBy wants tells end_of actor event a b c d Unsent = NotSent a b c d
 PostedBy wants tells end_of actor event a b c d Broken = SentBroken wants end_of actor event a b c d

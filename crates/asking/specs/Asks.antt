@@ -6,6 +6,7 @@ use Rattle.s3_types.specs.declared.reply.Reply.{Reply}
 use Rattle.sendings.specs.Retries.{Item, Got, WornOut, OutOfMemory}
 use Rattle.machine.specs.Standing.{Standing, Faulted, Broken}
 
+-- what an actor's operation owes as a machine
 pub record AskLaws {O : Type 0} (wants : O → Option Request) (after : O → Item → O) (fits : O → Reply → Bool → Type 0) (standing : O → Standing) : Type 0 where
   -- without memory it asks nothing more
   pub stops : (o : O) → wants (after o OutOfMemory) ≡ None

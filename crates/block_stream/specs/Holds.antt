@@ -52,6 +52,7 @@ pub record IsUpload (m : Stream) (c : BucketContent) (id : ℕ) (bytes : List �
   pub blocks : AreBlocks m.block sent
   pub tags : m.tags ≡ map plain_tag sent
 
+-- what was written stands in the parts of the stream's live upload
 abbrev pub IsUploadOf : Option ℕ → Stream → BucketContent → List ℕ → Type 0
 IsUploadOf None m c bytes = ⊥
 IsUploadOf (Some id) m c bytes = IsUpload m c id bytes
@@ -80,6 +81,7 @@ pub record IsHidden (m : Stream) (c : BucketContent) (id : ℕ) (repeated : Bool
   pub gone : live c.uploads m.key id ≡ None
   pub there : fin.get c.objects m.key ≡ Some (record { bytes = bytes; header = None })
 
+-- what was written is stored or pending, by how far the stream has come
 abbrev pub HoldsIn : Option StreamEnd → Option ℕ → Stream → BucketContent → Bool → List ℕ → Type 0
 HoldsIn None None m c repeated bytes = (bytes ≡ m.pending) × (m.tags ≡ [])
 HoldsIn None (Some id) m c repeated bytes = (Fills m c id repeated bytes × (is_settled m ≡ false)) ⊎ IsHidden m c id repeated bytes

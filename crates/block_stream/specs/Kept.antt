@@ -66,9 +66,11 @@ is_whole n (b ∷ bs) = nat_le n (length b)
 abbrev pub is_due : ℕ → List (List ℕ) → Bool → List Spelled → Bool
 is_due n queue closed tags = is_whole n queue || (closed && (has_some queue || not (has_some tags)))
 
+-- a direct output of fewer bytes than a block is closed
 abbrev pub is_short : StreamMode → ℕ → List (List ℕ) → Bool → Bool
 is_short mode n queue closed = is_direct mode && (closed && not (is_whole n queue))
 
+-- what is due next, by the blocks that are cut off
 abbrev pub stage_by : StreamMode → ℕ → List (List ℕ) → Bool → List Spelled → Option ℕ → Stage
 stage_by mode n queue closed tags None = cond (is_short mode n queue closed) Putting (begin_or_wait (is_due n queue closed tags))
 stage_by mode n queue closed tags (Some id) = cond (is_due n queue closed tags) Sending (complete_or_wait closed)
@@ -82,5 +84,6 @@ settles _ g = (g, None)
 abbrev pub next_at : Stage × Option StreamEnd → List ℕ → List ℕ → List (List ℕ) → List Spelled → Option ℕ → Option Request × Option StreamEnd
 next_at g bucket key queue tags upload = (asks_with g.0 bucket key (unwrap_or upload 0) tags (first_of queue), g.1)
 
+-- what is asked next, or the end
 abbrev pub next_by : StreamMode → List ℕ → List ℕ → ℕ → List (List ℕ) → Bool → List Spelled → Option ℕ → Option Request × Option StreamEnd
 next_by mode bucket key block queue closed tags upload = next_at (settles mode (stage_by mode block queue closed tags upload)) bucket key queue tags upload

@@ -18,6 +18,7 @@ use Rattle.block_stream.specs.declared.mode.StreamEnd.TheVariants.{Done, Gone, S
 use Rattle.block_stream.specs.declared.stage.Stage.{Stage}
 use Rattle.block_stream.specs.declared.stage.Stage.TheVariants.{Waiting, Putting, Beginning, Sending, Completing, Over}
 
+-- a block output stream
 pub record Stream : Type 0 where
   pub mode : StreamMode
   pub bucket : List ℕ
@@ -39,6 +40,7 @@ pub record Stream : Type 0 where
 abbrev pub fresh : StreamMode → List ℕ → List ℕ → ℕ → Stream
 fresh mode bucket key block = record { mode = mode; bucket = bucket; key = key; block = block; pending = []; upload = None; tags = []; count = 0; closed = false; end = None }
 
+-- the stream's output is an object, and no pending upload
 abbrev pub is_direct : StreamMode → Bool
 is_direct Direct = true
 is_direct Delayed = false
@@ -56,14 +58,17 @@ has_part m = nat_le m.block (length m.pending) || (m.closed && (has_some m.pendi
 abbrev pub is_small : Stream → Bool
 is_small m = is_direct m.mode && (m.closed && nat_lt (length m.pending) m.block)
 
+-- the upload is begun where a part is due
 abbrev pub begin_or_wait : Bool → Stage
 begin_or_wait true = Beginning
 begin_or_wait false = Waiting
 
+-- the upload is completed where the stream is closed
 abbrev pub complete_or_wait : Bool → Stage
 complete_or_wait true = Completing
 complete_or_wait false = Waiting
 
+-- what is due next
 abbrev pub stage_of : Option StreamEnd → Option ℕ → Stream → Stage
 stage_of (Some e) u m = Over
 stage_of None None m = cond (is_small m) Putting (begin_or_wait (has_part m))
@@ -77,6 +82,7 @@ stage m = stage_of m.end m.upload m
 abbrev pub chunk : Stream → List ℕ
 chunk m = take m.block m.pending
 
+-- the id of the stream's upload
 abbrev pub id_of : Stream → ℕ
 id_of m = unwrap_or m.upload 0
 
@@ -93,11 +99,13 @@ asks_with Over bucket key id tags next = None
 abbrev pub asks : Stage → Stream → Option Request
 asks g m = asks_with g m.bucket m.key (id_of m) m.tags (chunk m)
 
+-- what the stream asks next, or none
 abbrev pub wanted : Stream → Option Request
 wanted m = asks (stage m) m
 
 -- ---- what moves it on
 
+-- the stream, ended so
 abbrev pub ended : Stream → StreamEnd → Stream
 ended m e = record { mode = m.mode; bucket = m.bucket; key = m.key; block = m.block; pending = m.pending; upload = m.upload; tags = m.tags; count = m.count; closed = m.closed; end = Some e }
 
@@ -105,9 +113,11 @@ ended m e = record { mode = m.mode; bucket = m.bucket; key = m.key; block = m.bl
 abbrev pub is_settled : Stream → Bool
 is_settled m = m.closed && (not (is_direct m.mode) && not (has_part m))
 
+-- the stream, Done where nothing of it is left to send
 abbrev pub settled : Stream → Stream
 settled m = cond (is_settled m) (ended m Done) m
 
+-- the stream with its upload
 abbrev pub begun : Stream → ℕ → Stream
 begun m id = record { mode = m.mode; bucket = m.bucket; key = m.key; block = m.block; pending = m.pending; upload = Some id; tags = m.tags; count = m.count; closed = m.closed; end = m.end }
 
@@ -140,6 +150,7 @@ moved m (Got r repeated) = told (stage m) m repeated r
 moved m WornOut = ended m StoreFault
 moved m OutOfMemory = broken m
 
+-- the refusal is NoSuchUpload
 abbrev pub is_no_upload : Refusal → Bool
 is_no_upload NoSuchUpload = true
 is_no_upload _ = false
@@ -154,6 +165,7 @@ answers Completing (Completed tag) = true
 answers Completing (Refused r) = is_no_upload r
 answers _ _ = false
 
+-- a reply that the stream may be told
 abbrev pub Fits : Stream → Reply → Bool → Type 0
 Fits m r repeated = answers (stage m) r ≡ true
 
@@ -162,6 +174,7 @@ abbrev pub added : Option StreamEnd → List ℕ → List ℕ → List ℕ
 added None pending piece = pending ++ piece
 added (Some e) pending piece = pending
 
+-- the stream once a piece was written
 abbrev pub wrote : Stream → List ℕ → Stream
 wrote m piece = record { mode = m.mode; bucket = m.bucket; key = m.key; block = m.block; pending = added m.end m.pending piece; upload = m.upload; tags = m.tags; count = m.count + length piece; closed = m.closed; end = m.end }
 
@@ -169,10 +182,12 @@ wrote m piece = record { mode = m.mode; bucket = m.bucket; key = m.key; block = 
 abbrev pub shut : Stream → Stream
 shut m = record { mode = m.mode; bucket = m.bucket; key = m.key; block = m.block; pending = m.pending; upload = m.upload; tags = m.tags; count = m.count; closed = true; end = m.end }
 
+-- the stream once it was closed, by the end that it had
 abbrev pub closed_by : Option StreamEnd → Stream → Stream
 closed_by None m = settled (shut m)
 closed_by (Some e) m = shut m
 
+-- the stream once it was closed
 abbrev pub close : Stream → Stream
 close m = closed_by m.end m
 
@@ -185,15 +200,18 @@ abbrev pub delayed_by : StreamMode → Option StreamEnd → Stream → Option (�
 delayed_by Delayed (Some Done) m = Some (id_of m, m.tags, m.count)
 delayed_by _ _ m = None
 
+-- the pending upload that a delayed output leaves, once it is done
 abbrev pub delayed_of : Stream → Option (ℕ × List Spelled × ℕ)
 delayed_of m = delayed_by m.mode (end_of m) m
 
 -- ---- its measure and its standing
 
+-- 1 where it is so, and else 0
 abbrev pub one_if : Bool → ℕ
 one_if true = 1
 one_if false = 0
 
+-- the upload is begun
 abbrev pub is_begun : Option ℕ → Bool
 is_begun None = false
 is_begun (Some id) = true
@@ -203,9 +221,11 @@ abbrev pub left_by : Option StreamEnd → Stream → ℕ
 left_by None m = 1 + (length m.pending + (one_if (not (is_begun m.upload)) + one_if (not (has_some m.tags))))
 left_by (Some e) m = 0
 
+-- the most answers that are to come without a further piece
 abbrev pub left : Stream → ℕ
 left m = left_by m.end m
 
+-- how a stream stands that has this end
 abbrev pub standing_of : Option StreamEnd → Standing
 standing_of None = Fine
 standing_of (Some Done) = Fine
@@ -213,5 +233,6 @@ standing_of (Some Gone) = Fine
 standing_of (Some StoreFault) = Faulted
 standing_of (Some NoMemory) = Broken
 
+-- how a stream stands by its end
 abbrev pub standing : Stream → Standing
 standing m = standing_of m.end

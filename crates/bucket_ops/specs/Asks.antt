@@ -25,6 +25,7 @@ pub data Ask : Type 0 where
   DropAll : (keys : List (List ℕ)) → Ask
   Copy : (source : List ℕ) → (target : List ℕ) → Ask
 
+-- the request to a bucket that an ask is
 abbrev pub request_of : List ℕ → Ask → Request
 request_of b (Head k) = HeadObject b k
 request_of b (Get k) = GetObject b k
@@ -64,6 +65,7 @@ edited (Drop k) m = fin.remove m k
 edited (DropAll ks) m = cond (nat_lt 1000 (length ks)) m (without m ks)
 edited (Copy k q) m = copied m q (fin.get m k)
 
+-- what an ask is answered, or NoSuchBucket
 abbrev pub reply_at : Option Objects → Ask → Reply
 reply_at None a = Refused NoSuchBucket
 reply_at (Some m) a = reply_in m a
@@ -73,6 +75,7 @@ abbrev pub objects_of : Option BucketContent → Option Objects
 objects_of None = None
 objects_of (Some c) = Some c.objects
 
+-- the objects of a bucket of the scene, where it is there
 abbrev pub objects_at : Scene → List ℕ → Option Objects
 objects_at s b = objects_of (fin.get s.content.buckets b)
 
@@ -81,5 +84,6 @@ abbrev pub with_objects_if : Option BucketContent → Scene → List ℕ → Obj
 with_objects_if None s b m = s
 with_objects_if (Some c) s b m = record { content = record { buckets = fin.insert s.content.buckets b (record { objects = m; uploads = c.uploads }); next = s.content.next; minimum = s.content.minimum }; files = s.files }
 
+-- the scene with these objects in a bucket, where that is there
 abbrev pub with_objects : Scene → List ℕ → Objects → Scene
 with_objects s b m = with_objects_if (fin.get s.content.buckets b) s b m

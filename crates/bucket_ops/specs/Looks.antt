@@ -7,6 +7,7 @@ use Rattle.s3_types.specs.declared.reply.Refusal.TheVariants.{NoSuchBucket, NoSu
 use Rattle.bucket_ops.specs.declared.look.Look.{Look}
 use Rattle.bucket_ops.specs.declared.look.Look.TheVariants.{There, Nothing, NoBucket, Other}
 
+-- what a refused look says
 abbrev pub refused_look : Refusal → Look
 refused_look NoSuchKey = Nothing
 refused_look NoSuchBucket = NoBucket

@@ -31,6 +31,7 @@ abbrev pub InScene : Option Objects → (Objects → Objects → Type 0) → Typ
 InScene None holds absent z b s = (s ≡ z) × absent
 InScene (Some m) holds absent z b s = (n : Objects) × (s ≡ with_objects z b n) × holds m n
 
+-- nothing but the bucket's objects changed, and of those something holds; or there is no bucket, and nothing changed
 abbrev pub InBucketHolds : Scene → List ℕ → (Objects → Objects → Type 0) → Type 0 → Scene → Type 0
 InBucketHolds z b holds absent s = InScene (objects_at z b) holds absent z b s
 
@@ -56,9 +57,11 @@ GivesIn b gives absent z a s = InBucketHolds z b (λ m n. gives m a n) (a ≡ ab
 abbrev pub AlwaysIn : List ℕ → (Objects → Objects → Type 0) → Scene → Scene → Type 0
 AlwaysIn b always z s = InBucketHolds z b (λ m n. always m n) (Unit {0}) s
 
+-- what an operation on a bucket gives
 abbrev pub Gives : {O X A : Type 0} → (O → Objects → A → Objects → Type 0) → A → InBucket O X → Scene → A → Scene → Type 0
 Gives gives absent o z a s = GivesIn o.bucket (gives o.names) absent z a s
 
+-- what stands at any moment of an operation on a bucket
 abbrev pub Always : {O X : Type 0} → (O → Objects → Objects → Type 0) → InBucket O X → Scene → Scene → Type 0
 Always always o z s = AlwaysIn o.bucket (always o.names) z s
 
@@ -67,18 +70,23 @@ abbrev pub SendsAt : Option Objects → List ℕ → Ask → (Objects → Ask �
 SendsAt None b look sends r = r ≡ request_of b look
 SendsAt (Some m) b look sends r = (a : Ask) × (r ≡ request_of b a) × sends m a
 
+-- what an operation may ask of a bucket: of one that is not there its first look alone
 abbrev pub SendsIn : List ℕ → Ask → (Objects → Ask → Type 0) → Scene → Request → Type 0
 SendsIn b look sends z r = SendsAt (objects_at z b) b look sends r
 
+-- what an operation on its bucket may ask
 abbrev pub Sends : {O X : Type 0} → (O → X) → (O → X → Ask) → (O → Objects → Ask → Type 0) → InBucket O X → Scene → Request → Type 0
 Sends first asks sends o z r = SendsIn o.bucket (asks o.names (first o.names)) (sends o.names) z r
 
+-- what an operation has left, which is nothing without the bucket
 abbrev pub left_at : {O X : Type 0} → Option Objects → (O → X → Objects → ℕ) → O → X → ℕ
 left_at None left o x = 0
 left_at (Some m) left o x = left o x m
 
+-- what an operation on its bucket has left
 abbrev pub left_in : {O X : Type 0} → (O → X → Objects → ℕ) → InBucket O X → Scene → ℕ
 left_in left p s = left_at (objects_at s p.bucket) left p.names p.stage
 
+-- an operation stands at its first stage
 abbrev pub Starts : {O X : Type 0} → (O → X) → InBucket O X → Type 0
 Starts first p = p.stage ≡ first p.names

@@ -38,6 +38,7 @@ abbrev pub sweep_left : List ℕ → Sweep → Objects → ℕ
 sweep_left q (Listing keys) m = 1 + length keys + 2 * length (listed q false (last_of keys) m)
 sweep_left q (Deleting k ks) m = length (k ∷ ks)
 
+-- a sweep has less left than this
 abbrev pub LessLeft : List ℕ → Objects → Option Sweep → ℕ → Type 0
 LessLeft q m (Some w) n = sweep_left q w m < n
 LessLeft q m None n = 0 < n

@@ -26,6 +26,7 @@ IsStill z s = s ≡ z
 abbrev pub asks : UploadsBelow → Request
 asks w = uploads_after w.bucket w.prefix w.walk
 
+-- the walk with these uploads found
 abbrev pub with_found : UploadsBelow → List UploadRef → UploadsBelow
 with_found w found = record { bucket = w.bucket; prefix = w.prefix; walk = found }
 
@@ -34,6 +35,7 @@ abbrev pub led : UploadsBelow → Walked UploadRef → Step UploadsBelow (Option
 led w (More found) = Next (with_found w found)
 led w (Whole found) = End (Some found)
 
+-- a walk without the bucket ends with none
 abbrev pub refused : UploadsBelow → Refusal → Step UploadsBelow (Option (List UploadRef))
 refused w NoSuchBucket = End None
 refused w r = Next w
@@ -58,6 +60,7 @@ pub record IsListing (o : UploadsBelow) (z : Scene) (w : UploadsBelow) (s : Scen
 abbrev pub Gives : UploadsBelow → Scene → Option (List UploadRef) → Scene → Type 0
 Gives o z a s = (s ≡ z) × (a ≡ uploads_from z o.bucket o.prefix None)
 
+-- a walk over uploads changes nothing
 abbrev pub IsSame : UploadsBelow → Scene → Scene → Type 0
 IsSame o z s = IsStill z s
 
@@ -65,6 +68,7 @@ IsSame o z s = IsStill z s
 abbrev pub IsPageOf : List ℕ → List ℕ → Request → Type 0
 IsPageOf b p r = (found : List UploadRef) × (r ≡ uploads_after b p found)
 
+-- a walk over uploads asks pages of its bucket below its prefix alone
 abbrev pub Pages : UploadsBelow → Scene → Request → Type 0
 Pages o z r = IsPageOf o.bucket o.prefix r
 
@@ -73,5 +77,6 @@ abbrev pub size : Option (List UploadRef) → ℕ
 size (Some l) = length l
 size None = 0
 
+-- how many uploads the walk has yet to find
 abbrev pub left : UploadsBelow → Scene → ℕ
 left w s = size (uploads_from s w.bucket w.prefix (last_ref None w.walk))

@@ -16,6 +16,7 @@ use Rattle.bucket_ops.specs.Asks.{Ask, Page}
 abbrev pub all_below : List ℕ → Objects → List PageEntry
 all_below q z = listed q false [] z
 
+-- all keys below a prefix, in order
 abbrev pub keys_below : List ℕ → Objects → List (List ℕ)
 keys_below q z = keys_on (all_below q z)
 
@@ -28,6 +29,7 @@ abbrev pub is_there : Refusal → Bool
 is_there NoSuchBucket = false
 is_there _ = true
 
+-- a reply that a walk may be told: a page of keys, and no missing bucket
 abbrev pub fits : Reply → Bool
 fits (APage es more) = list_all is_key es
 fits (Refused r) = is_there r

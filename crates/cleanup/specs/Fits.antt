@@ -17,17 +17,21 @@ FitsClean Naming r = Unit {0}
 FitsClean (Removing p ps) r = Unit {0}
 FitsClean (CleanOver end) r = Unit {0}
 
+-- a reply that a clean of a plan may be told
 abbrev pub FitsDriving : Driving Clean → Reply → Bool → Type 0
 FitsDriving m r repeated = FitsClean m.operation r
 
+-- how a clean stands that ended so
 abbrev pub standing_at : CleanEnd → Standing
 standing_at Done = Fine
 standing_at StoreFault = Faulted
 standing_at NoMemory = Broken
 
+-- how a clean stands by its end
 abbrev pub standing_of : Clean → Standing
 standing_of (CleanOver end) = standing_at end
 standing_of _ = Fine
 
+-- how a clean of a plan stands by its end
 abbrev pub standing : Driving Clean → Standing
 standing m = standing_of m.operation

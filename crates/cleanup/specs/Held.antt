@@ -26,6 +26,7 @@ clean_at stages.Naming found sweep paths at = Naming
 clean_at stages.Removing found sweep paths at = removing (drop at paths)
 clean_at (stages.Over end) found sweep paths at = CleanOver end
 
+-- the clean that what is kept stands for
 abbrev pub clean_of : Held → Clean
 clean_of h = clean_at h.stage h.uploads h.sweep h.paths h.at
 
@@ -38,6 +39,7 @@ within stages.Naming at uploads paths = true
 within stages.Removing at uploads paths = nat_lt at paths
 within (stages.Over end) at uploads paths = true
 
+-- the place is one of the uploads or paths that are kept
 abbrev pub within_of : Held → Bool
 within_of h = within h.stage h.at (length h.uploads) (length h.paths)
 
@@ -45,14 +47,17 @@ within_of h = within h.stage h.at (length h.uploads) (length h.paths)
 abbrev pub behind : ℕ → ℕ → ℕ
 behind at len = cond (nat_lt at len) (at + 1) len
 
+-- the stage once all uploads are aborted
 abbrev pub stage_after : Committer → Stage
 stage_after Magic = stages.Sweeping
 stage_after Directory = stages.Naming
 stage_after Partitioned = stages.Naming
 
+-- the stage at a place among the uploads, or behind the last one
 abbrev pub abort_stage : Committer → ℕ → ℕ → Stage
 abort_stage committer at len = cond (nat_lt at len) stages.Aborting (stage_after committer)
 
+-- the stage at a place among the cluster's files, or behind the last one
 abbrev pub remove_stage : ℕ → ℕ → Stage
 remove_stage at len = cond (nat_lt at len) stages.Removing (stages.Over ends.Done)
 
@@ -61,6 +66,7 @@ abbrev pub abort_asks : List ℕ → List UploadRef → Option Request
 abort_asks bucket [] = None
 abort_asks bucket (u ∷ us) = Some (AbortUpload bucket u.key u.upload)
 
+-- the deletion of the first of these cluster files
 abbrev pub remove_asks : List (List ℕ) → Option Request
 remove_asks [] = None
 remove_asks (p ∷ ps) = Some (ClusterDelete p)

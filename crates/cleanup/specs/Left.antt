@@ -16,6 +16,7 @@ after_left Magic j s = sweep_left j.dest.bucket (layout.magic_prefix j.dest.key 
 after_left Directory j s = 1 + files_left (layout.cluster_prefix j.job) s
 after_left Partitioned j s = 1 + files_left (layout.cluster_prefix j.job) s
 
+-- the requests that a clean has yet to send
 abbrev pub left_at : Job → Clean → Scene → ℕ
 left_at j (Walking found) s = uploads_left j.dest.bucket (j.dest.key ++ codes "/") found s + after_left j.committer j s
 left_at j (Aborting u us) s = (1 + length us) + after_left j.committer j s
@@ -24,5 +25,6 @@ left_at j Naming s = 1 + files_left (layout.cluster_prefix j.job) s
 left_at j (Removing p ps) s = 1 + length ps
 left_at j (CleanOver end) s = 0
 
+-- the requests that a clean of a plan has yet to send
 abbrev pub clean_left : Driving Clean → Scene → ℕ
 clean_left m s = left_at m.plan m.operation s

@@ -26,6 +26,7 @@ FitsReply j (Replacing sets p ps s m) r = FitsSweep s r
 FitsReply j (Completing sets x xs finished) r = FitsCompletion x r
 FitsReply j _ r = r ≡ Refused NoSuchBucket → ⊥
 
+-- an outcome that a job's commit may be told
 abbrev pub FitsCommit : Committing → Outcome → Type 0
 FitsCommit m (Answered r) = FitsReply m.plan m.operation r
 FitsCommit m _ = Unit {0}

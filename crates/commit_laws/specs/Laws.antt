@@ -37,6 +37,7 @@ AllFit m (e ∷ es) = FitsCommit m e.outcome × AllFit (commit_told m e.outcome)
 
 -- ---- its end
 
+-- the set that the read of a set was answered with, or none
 abbrev pub set_heard : Request → Outcome → Option PendingSet
 set_heard (GetObject bucket key) (Answered r) = set_read r
 set_heard (ClusterGet path) (Answered r) = set_read r
@@ -66,6 +67,7 @@ pub record EndsByEntries : Type 0 where
 abbrev pub turn_left : ℕ → ℕ → Turn → ℕ
 turn_left retries total x = (1 + (total - x.number)) * (2 * retries + 3) + (retries - x.missed)
 
+-- the sendings that these lanes have yet to make
 abbrev pub turns_left : ℕ → ℕ → List Turn → ℕ
 turns_left retries total [] = 0
 turns_left retries total (x ∷ xs) = turn_left retries total x + turns_left retries total xs
@@ -114,6 +116,7 @@ left_of most j (Marking sets m) s = j.retries - m + 1
 left_of most j (Reverting q qs m) s = length qs * (j.retries + 1) + (j.retries - m + 1)
 left_of most j (CommitOver end) s = 0
 
+-- the most sendings that a job's commit has yet to make, where a set has at most so many uploads
 abbrev pub left : ℕ → Committing → Scene → ℕ
 left most m s = left_of most m.plan m.operation s
 
@@ -126,9 +129,11 @@ rise_of most j (Marking sets m) = 0
 rise_of most j (Reverting q qs m) = 0
 rise_of most j (CommitOver end) = 0
 
+-- by how much a key that another adds may raise what is left
 abbrev pub rise : ℕ → Committing → ℕ
 rise most m = rise_of most m.plan m.operation
 
+-- a set that was read has at most so many uploads
 abbrev pub HasFew : ℕ → Option PendingSet → Type 0
 HasFew most None = Unit {0}
 HasFew most (Some s) = length s.commits ≤ most

@@ -23,9 +23,11 @@ pub record IsClash (items : List Item) (k : List ℕ) (t u : ℕ) : Type 0 where
   pub least_tasks : (v : ℕ) → v < u → In (k, v) items → v ≡ t
   pub least_key : (q : List ℕ) (v x : ℕ) → v < x → In (q, v) items → In (q, x) items → is_lt (text_cmp q k) ≡ false
 
+-- no two tasks write one key
 abbrev pub NoClash : List Item → Type 0
 NoClash items = (q : List ℕ) (v x : ℕ) → v < x → In (q, v) items → In (q, x) items → ⊥
 
+-- what a search found: the least key that two tasks write, or none
 abbrev pub IsBest : List Item → Option Clash → Type 0
 IsBest items None = NoClash items
 IsBest items (Some c) = IsClash items c.key c.first c.second
@@ -40,6 +42,7 @@ pub record Finds (items : List Item) (owner : List ℕ → Option ℕ) (clash : 
   pub owners : (k : List ℕ) → IsOwner items k (owner k)
   pub best : IsBest items clash
 
+-- a key is less than that of what was found so far
 abbrev pub is_better : List ℕ → Option Clash → Bool
 is_better k None = true
 is_better k (Some c) = is_lt (text_cmp k c.key)

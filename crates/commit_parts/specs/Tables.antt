@@ -7,10 +7,12 @@ pub record LaneTable : Type 0 where
   pub turns : List Turn
   pub finished : List ℕ
 
+-- the first of these, if there is one
 abbrev pub first_of : {X : Type 0} → List X → Option X
 first_of [] = None
 first_of (x ∷ xs) = Some x
 
+-- one or none, as a list
 abbrev pub listed : {X : Type 0} → Option X → List X
 listed None = []
 listed (Some x) = x ∷ []

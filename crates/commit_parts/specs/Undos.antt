@@ -16,6 +16,7 @@ undo_request all (undos.Delete n) = deletion (nth all n)
 abbrev pub IsRevert : ℕ → ℕ → List Turn → List ℕ → List Undo → Type 0
 IsRevert total worn xs finished u = (all : List Pending) → length all ≡ total → map (undo_request all) u ≡ revert all worn xs finished
 
+-- the number of the upload that is taken back
 abbrev pub number_in : Undo → ℕ
 number_in (undos.Abort n) = n
 number_in (undos.Delete n) = n

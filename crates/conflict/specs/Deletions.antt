@@ -29,6 +29,7 @@ deleted Partitioned dest partitions = map (prefix_below dest) partitions
 abbrev pub spared : Path → List ℕ
 spared dest = (dest.key ++ codes "/") ++ codes "__magic/"
 
+-- what the sweep below the first of these prefixes asks
 abbrev pub asks_below : List ℕ → Sweep → List (List ℕ) → Option Request
 asks_below bucket sweep [] = None
 asks_below bucket sweep (p ∷ ps) = Some (sweep_asks bucket p sweep)
@@ -42,6 +43,7 @@ abbrev pub swept_on : List ℕ → List ℕ → List (List ℕ) → Option Sweep
 swept_on spared p ps (Some sweep) = record { prefixes = p ∷ ps; sweep = sweep; spared = spared }
 swept_on spared p ps None = record { prefixes = ps; sweep = sweep_start; spared = spared }
 
+-- where a reply leads the deletion below the first of these prefixes
 abbrev pub hears_below : Deletion → List (List ℕ) → Reply → Deletion
 hears_below d [] r = d
 hears_below d (p ∷ ps) r = swept_on d.spared p ps (sweep_hears (λ key. not (begins d.spared key)) d.sweep r)
@@ -50,6 +52,7 @@ hears_below d (p ∷ ps) r = swept_on d.spared p ps (sweep_hears (λ key. not (b
 abbrev pub deletion_hears : Deletion → Reply → Deletion
 deletion_hears d r = hears_below d d.prefixes r
 
+-- a reply that the deletion below the first of these prefixes may be told
 abbrev pub FitsBelow : Sweep → List (List ℕ) → Reply → Type 0
 FitsBelow sweep [] r = Unit {0}
 FitsBelow sweep (p ∷ ps) r = FitsSweep sweep r

@@ -27,6 +27,7 @@ abbrev pub commit_after_check : Script → Who → Option (List ℕ) → List (L
 commit_after_check w a (Some d) ds = TaskCommitOver (ends.Conflict d)
 commit_after_check w a None ds = checking w a ds
 
+-- the checks of partitions are those of a task's commit
 pub record ChecksTell : Type 0 where
   pub asks : (w : Script) (a : Who) (k : Known) (d : List ℕ) (ds : List (List ℕ)) → task_commit_asks w a k (Checking d ds) ≡ check_asks w.dest (d ∷ ds)
   pub goes : (w : Script) (minimum : ℕ) (a : Who) (d : List ℕ) (ds : List (List ℕ)) (r : Reply) (repeated : Bool)
@@ -39,6 +40,7 @@ abbrev pub deleting_below : Script → Sets → Sweep → List (List ℕ) → Co
 deleting_below w sets sweep [] = replacing w sets []
 deleting_below w sets sweep (p ∷ ps) = Replacing sets p ps sweep 0
 
+-- a commit that holds these sets, of which so much is to be deleted
 abbrev pub commit_deleting : Script → Sets → Deletion → Commit
 commit_deleting w sets d = deleting_below w sets d.sweep d.prefixes
 
@@ -46,6 +48,7 @@ commit_deleting w sets d = deleting_below w sets d.sweep d.prefixes
 abbrev pub deletion_of : Script → List (List ℕ) → Sweep → Deletion
 deletion_of w prefixes sweep = record { prefixes = prefixes; sweep = sweep; spared = spared w.dest }
 
+-- the deletions of a replace mode are those of a job's commit
 pub record DeletionsTell : Type 0 where
   -- it deletes below the prefixes that the mode does not keep
   pub prefixes : (w : Script) (picks : Picks) → w.mode ≡ Replace → replaced w.committer w.mode w picks ≡ deleted w.committer w.dest (partitions (wanted_paths w picks))

@@ -28,6 +28,7 @@ after s (Swap bytes) = at_rest (Some bytes)
 after s (Write place bytes) = cond (is_within place s.now) (wrote s place bytes) s
 after s Sync = at_rest s.now
 
+-- the disk after these calls, all answered well
 abbrev pub after_all : State → List DiskCall → State
 after_all s [] = s
 after_all s (c ∷ cs) = after_all (after s c) cs
@@ -66,6 +67,7 @@ pub record Recorded : Type 0 where
   pub calls : List DiskCall
   pub turns : Calls
 
+-- the state of a disk in memory, by its calls so far
 abbrev pub state_in : Recorded → State
 state_in d = state_of d.first d.calls
 

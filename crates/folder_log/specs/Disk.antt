@@ -6,6 +6,7 @@ use Rattle.shelf.specs.Logged.{most_file}
 abbrev pub File : Type 0
 File = Option (List ℕ)
 
+-- how many bytes the file has
 abbrev pub file_length : File → ℕ
 file_length None = 0
 file_length (Some bytes) = length bytes
@@ -56,6 +57,7 @@ pub record Torn (at n : ℕ) (old new : List ℕ) : Type 0 where
   pub no_shorter : length old ≤ length new
   pub no_longer : length new ≤ max (length old) (at + n)
 
+-- what a crash may leave of the file in the midst of a write of n bytes
 abbrev pub IsTorn : ℕ → ℕ → File → File → Type 0
 IsTorn at n None new = new ≡ None
 IsTorn at n (Some old) None = ⊥

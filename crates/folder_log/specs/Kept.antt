@@ -29,6 +29,7 @@ abbrev pub stored_of : File → Stored
 stored_of None = record { holding = Nothing; base_length = 0; file_length = 0 }
 stored_of (Some bytes) = record { holding = as_holding (held_in bytes); base_length = base_length bytes; file_length = length bytes }
 
+-- what a log file holds, with its two lengths, where the disk tells it
 abbrev pub stored : Option File → Option Stored
 stored seen = option_map stored_of seen
 

@@ -4,6 +4,7 @@ use Rattle.shelf.specs.Calls.{one_more}
 use Rattle.folder_log.specs.Disk.{more, FewMore}
 use Rattle.folder_log.specs.declared.log_shelf.LogShelf.{LogShelf}
 
+-- the disk that a shelf stands on
 abbrev pub disk_of : {D : Type 0} → LogShelf D → D
 disk_of s = s.disk
 

@@ -17,14 +17,17 @@ pub record Creation : Type 0 where
   pub overwrite : Bool
   pub policy : MarkerPolicy
 
+-- the policy deletes markers
 abbrev pub deletes : MarkerPolicy → Bool
 deletes Keep = false
 deletes Delete = true
 
+-- the policy of a bit
 abbrev pub policy_of : Bool → MarkerPolicy
 policy_of false = Keep
 policy_of true = Delete
 
+-- a policy's bit gives the policy again
 abbrev pub policy_and_back : (p : MarkerPolicy) → policy_of (deletes p) ≡ p
 policy_and_back Keep = refl
 policy_and_back Delete = refl
@@ -36,6 +39,7 @@ coded_creation =
     (λ o. (o.path.bucket, (o.path.key, (o.bytes, (o.block, (o.overwrite, o.policy))))))
     (λ t. record { path = record { bucket = t.0; key = t.1.0 }; bytes = t.1.1.0; block = t.1.1.1.0; overwrite = t.1.1.1.1.0; policy = t.1.1.1.1.1 }) (λ _. refl)
 
+-- the making of a file, of its parts
 abbrev pub created_of : List ℕ → List ℕ → List ℕ → ℕ → Bool → MarkerPolicy → Creation
 created_of bucket key bytes block overwrite policy = record { path = record { bucket = bucket; key = key }; bytes = bytes; block = block; overwrite = overwrite; policy = policy }
 

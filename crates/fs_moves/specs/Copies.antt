@@ -22,9 +22,11 @@ abbrev pub IsOneOf : List ℕ → List ℕ → List Move → Type 0
 IsOneOf k l [] = ⊥
 IsOneOf k l (p ∷ ps) = ((k ≡ p.0) × (l ≡ p.1)) ⊎ IsOneOf k l ps
 
+-- the keys that are moved
 abbrev pub sources : List Move → List (List ℕ)
 sources ps = map (λ (p : Move). p.0) ps
 
+-- the keys that they become
 abbrev pub targets : List Move → List (List ℕ)
 targets ps = map (λ (p : Move). p.1) ps
 
@@ -39,9 +41,11 @@ copy_of [] ls = Page [] false [] 1
 copy_of (k ∷ ks) [] = Page [] false [] 1
 copy_of (k ∷ ks) (l ∷ ls) = Copy k l
 
+-- the CopyObject of the key in hand
 abbrev pub copy_asks : Copying → Ask
 copy_asks c = copy_of (drop c.from c.keys) (drop c.from c.places)
 
+-- another copy is to come behind the one in hand
 abbrev pub has_more : Copying → Bool
 has_more c = nat_lt c.from (length c.keys) && nat_lt 1 (length c.keys - c.from)
 
@@ -68,6 +72,7 @@ IsCopied z ps (All ks) m = (ks ≡ sources ps) × (m ≡ copied_all z ps)
 abbrev pub copies_left : Copying → ℕ
 copies_left c = length c.keys - c.from
 
+-- fewer copies than this are to come
 abbrev pub LessCopies : CopyStep → ℕ → Type 0
 LessCopies (Next c) n = copies_left c < n
 LessCopies (All ks) n = 0 < n

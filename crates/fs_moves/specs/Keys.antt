@@ -13,6 +13,7 @@ place_of (x ∷ p) t = key_if t
 abbrev pub fitting : List ℕ → Option (List ℕ)
 fitting k = cond (is_too_long k) None (Some k)
 
+-- a key at its new place; one that does not begin with the old place stays
 abbrev pub new_by : Option (List ℕ) → List ℕ → List ℕ → List ℕ
 new_by (Some rest) to k = to ++ rest
 new_by None to k = k
@@ -21,6 +22,7 @@ new_by None to k = k
 abbrev pub new_key : List ℕ → List ℕ → List ℕ → List ℕ
 new_key from to k = new_by (rest_of from k) to k
 
+-- the new keys behind those so far, or the first that would be too long
 abbrev pub with_front : List (List ℕ) → Result (List (List ℕ)) (List ℕ) → Result (List (List ℕ)) (List ℕ)
 with_front front (Ok qs) = Ok (front ++ qs)
 with_front front (Err k) = Err k

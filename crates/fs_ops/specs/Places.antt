@@ -29,15 +29,17 @@ abbrev pub get_asks : List ℕ → Ask
 get_asks [] = below_asks [] 1
 get_asks (x ∷ p) = Get (x ∷ p)
 
--- a file's deletion, that of a marker, and the putting of one; at the root nothing of this is asked
+-- the deletion of a path's file; at the root nothing is deleted
 abbrev pub drop_asks : List ℕ → Ask
 drop_asks [] = below_asks [] 1
 drop_asks (x ∷ p) = Drop (x ∷ p)
 
+-- the deletion of a path's marker; at the root nothing is deleted
 abbrev pub drop_marker_asks : List ℕ → Ask
 drop_marker_asks [] = below_asks [] 1
 drop_marker_asks (x ∷ p) = Drop (marker_of (x ∷ p))
 
+-- the put of a path's marker; at the root nothing is put
 abbrev pub put_marker_asks : List ℕ → Ask
 put_marker_asks [] = below_asks [] 1
 put_marker_asks (x ∷ p) = Put (marker_of (x ∷ p)) []

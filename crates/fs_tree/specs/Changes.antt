@@ -62,6 +62,7 @@ abbrev pub text_by : List ℕ → Status → List ℕ
 text_by n Directory = marker_of n
 text_by n (File length) = n
 
+-- an entry's name, with `/` behind a directory's, by which a listing is ordered
 abbrev pub text_of : DirEntry → List ℕ
 text_of e = text_by e.name e.status
 
@@ -87,6 +88,7 @@ last_of [] = []
 last_of (e ∷ []) = e
 last_of (e ∷ f ∷ es) = last_of (f ∷ es)
 
+-- the last element of a path
 abbrev pub own_name : List ℕ → List ℕ
 own_name p = last_of (parts_of 47 p)
 

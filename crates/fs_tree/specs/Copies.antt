@@ -81,6 +81,7 @@ pub record IsCopiedInPart (p t : List ℕ) (z m : Objects) : Type 0 where
   pub old : (q : List ℕ) → Stands z q → fin.get m q ≡ fin.get z q
   pub others : (q : List ℕ) → ((k : List ℕ) → IsMove z p t k q → ⊥) → fin.get m q ≡ fin.get z q
 
+-- what may stand at any moment of a copy: nothing changed, or only some of the new keys are there, each whole
 abbrev pub MayStandCopied : List ℕ → List ℕ → Objects → Objects → Type 0
 MayStandCopied p t z m = (m ≡ z) ⊎ (MayCopy z p t × IsCopiedInPart p t z m)
 

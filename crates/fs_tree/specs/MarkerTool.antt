@@ -30,6 +30,7 @@ IsMarkerBelow p k = (begins (below p []) k ≡ true) × (is_marker k ≡ true)
 abbrev pub IsBare : Objects → List ℕ → Type 0
 IsBare z k = (o : Object) × (fin.get z k ≡ Some o) × (length o.bytes ≡ 0)
 
+-- an object that has bytes stands at a key
 abbrev pub HasBytes : Objects → List ℕ → Type 0
 HasBytes z k = (o : Object) × (fin.get z k ≡ Some o) × (0 < length o.bytes)
 
@@ -43,6 +44,7 @@ IsKind z k Odd = HasBytes z k
 IsKind z k Surplus = IsBare z k × HasMore z k
 IsKind z k Leaf = IsBare z k × (HasMore z k → ⊥)
 
+-- a marker below a path that no directory needs: it has no bytes, and another key begins with it
 abbrev pub IsSurplus : List ℕ → Objects → List ℕ → Type 0
 IsSurplus p z k = IsMarkerBelow p k × IsKind z k Surplus
 
@@ -85,6 +87,7 @@ pub record CleansMarkers (p : List ℕ) (z : Objects) (n : ℕ) (m : Objects) : 
   pub none : (k : List ℕ) → IsSurplus p m k → ⊥
   pub tree : SameTree z m
 
+-- the marker tool's clean: all surplus markers below a directory are gone, and their number is told; or why not
 abbrev pub Cleans : List ℕ → Objects → Result ℕ FsRefusal → Objects → Type 0
 Cleans p z (Ok n) m = IsDirectory z p × CleansMarkers p z n m
 Cleans p z (Err r) m = IsNoDirectory p z r × (m ≡ z)
@@ -99,6 +102,7 @@ pub record FillsMarkers (p : List ℕ) (z : Objects) (n : ℕ) (m : Objects) : T
   pub none : (k : List ℕ) → IsMissing p m k → ⊥
   pub tree : SameTree z m
 
+-- the marker tool's fill: all missing markers below a directory are put, and their number is told; or why not
 abbrev pub Fills : List ℕ → Objects → Result ℕ FsRefusal → Objects → Type 0
 Fills p z (Ok n) m = IsDirectory z p × FillsMarkers p z n m
 Fills p z (Err r) m = IsNoDirectory p z r × (m ≡ z)

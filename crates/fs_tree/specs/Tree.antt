@@ -16,6 +16,7 @@ Stands m k = (o : Object) × (fin.get m k ≡ Some o)
 abbrev pub SomeBelow : Objects → List ℕ → Type 0
 SomeBelow m q = (k : List ℕ) × (begins q k ≡ true) × (o : Object) × (fin.get m k ≡ Some o)
 
+-- no object stands at a key that begins with q
 abbrev pub NoneBelow : Objects → List ℕ → Type 0
 NoneBelow m q = (k : List ℕ) → begins q k ≡ true → fin.get m k ≡ None
 
@@ -36,20 +37,25 @@ HasDir m (x ∷ p) = SomeBelow m (marker_of (x ∷ p))
 
 -- ---- what stands at a path: its file, else its directory, else nothing; the root is a directory
 
+-- the file at a path is this object; the root is no file
 abbrev pub IsFile : Objects → List ℕ → Object → Type 0
 IsFile m [] o = ⊥
 IsFile m (x ∷ p) o = fin.get m (x ∷ p) ≡ Some o
 
+-- no file stands at a path
 abbrev pub NoFile : Objects → List ℕ → Type 0
 NoFile m [] = Unit {0}
 NoFile m (x ∷ p) = fin.get m (x ∷ p) ≡ None
 
+-- some file stands at a path
 abbrev pub HasFile : Objects → List ℕ → Type 0
 HasFile m p = (o : Object) × IsFile m p o
 
+-- a directory stands at a path, and no file
 abbrev pub IsDirectory : Objects → List ℕ → Type 0
 IsDirectory m p = NoFile m p × HasDir m p
 
+-- neither a file nor a directory stands at a path
 abbrev pub IsAbsent : Objects → List ℕ → Type 0
 IsAbsent m [] = ⊥
 IsAbsent m (x ∷ p) = (fin.get m (x ∷ p) ≡ None) × NoneBelow m (marker_of (x ∷ p))

@@ -30,6 +30,7 @@ use Rattle.job_actors.specs.declared.act.Act.TheVariants.{Setup, Write, CommitTa
 
 -- ---- a machine under its retries
 
+-- a machine under its retries
 abbrev pub under : {M : Type 0} → ℕ → Retried M → Retrying M
 under retries x = record { machine = x.operation; retries = retries; spare = x.spare; repeated = x.repeated }
 

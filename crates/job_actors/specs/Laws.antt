@@ -27,6 +27,7 @@ use Rattle.job_actors.specs.Plans.{plan_of, running_of, IsOf, AsksSo, GoesSo}
 
 -- ---- how they go on
 
+-- the operations of a job's actors go on as the script says
 pub record ActorsGo : Type 0 where
   -- by its plan it asks what the script's operation asks, and goes where that goes, in what is known too
   pub wants : (g : Setting) (a : Actor) (k : Known) (act : Act) → IsOf g a act → AsksSo g.script act → wants_of act ≡ wants g a (running_of k act)
@@ -44,15 +45,19 @@ pub record ActorsGo : Type 0 where
 abbrev pub unsent : {M : Type 0} → ℕ → M → Retrying M
 unsent retries m = under retries (fresh retries m)
 
+-- a set-up of which nothing was sent yet
 abbrev pub setup_of : Job → Act
 setup_of j = Setup (unsent j.retries (record { plan = j; operation = setup_start }))
 
+-- a write of which nothing was sent yet
 abbrev pub write_of : Task → Act
 write_of t = Write (unsent t.job.retries (record { plan = t; operation = write_start (task_script t) (who_of t) }))
 
+-- a task's commit of which nothing was sent yet
 abbrev pub commit_task_of : Task → Act
 commit_task_of t = CommitTask (unsent t.job.retries (record { plan = t; operation = task_commit_start (task_script t) (who_of t) }))
 
+-- a task's abort of which nothing was sent yet
 abbrev pub abort_task_of : Task → Act
 abort_task_of t = AbortTask (unsent t.job.retries (record { plan = t; operation = task_abort_start (task_script t) t.known }))
 
@@ -60,6 +65,7 @@ abort_task_of t = AbortTask (unsent t.job.retries (record { plan = t; operation 
 abbrev pub commit_of : Job → List ℕ → Act
 commit_of j reported = Commit (record { plan = j; picked = []; operation = commit_start (read_script j []) (least_missing j.tasks reported) })
 
+-- an abort or clean of which nothing was sent yet
 abbrev pub clean_of : Job → Act
 clean_of j = Clean (unsent j.retries (record { plan = j; operation = clean_start }))
 

@@ -24,6 +24,7 @@ planned w minimum a k t = record { operation = at_work w minimum a k t.operation
 abbrev pub driving : {O : Type 0} → Script → O → Driving O
 driving w op = record { plan = job_of w; operation = op }
 
+-- a driver's operation under retries, with the plan that the script gives
 abbrev pub driven : {O : Type 0} → Script → Retried O → Retried (Driving O)
 driven w t = record { operation = driving w t.operation; spare = t.spare; repeated = t.repeated }
 
@@ -33,6 +34,7 @@ committing w picked c = record { plan = job_of w; picked = picked; operation = c
 
 -- ---- what a machine is told of a sending, and knows then
 
+-- the request wore out, or nothing is told
 abbrev pub worn_if : Bool → Option Item
 worn_if true = Some WornOut
 worn_if false = None

@@ -34,14 +34,17 @@ operation_of sets (steps.Over end) = CommitOver end
 
 -- ---- where the turn that is next leads: with an answer, without one, and where it wore out
 
+-- the commit once the completion in turn was answered
 abbrev pub answered : Job → Sets → List Turn → List ℕ → Commit
 answered j sets [] finished = completing sets [] finished
 answered j sets (x ∷ xs) finished = completing sets (xs ++ follow j.lanes (length (all_commits sets)) x.number) (x.number ∷ finished)
 
+-- the commit once the completion in turn got no answer
 abbrev pub unanswered : Sets → Bool → List Turn → List ℕ → Commit
 unanswered sets lost [] finished = completing sets [] finished
 unanswered sets lost (x ∷ xs) finished = completing sets (xs ++ again x lost ∷ []) finished
 
+-- the commit once the completion in turn wore out
 abbrev pub worn_out : Sets → List Turn → List ℕ → Commit
 worn_out sets [] finished = completing sets [] finished
 worn_out sets (x ∷ xs) finished = worn_completion sets x xs finished
@@ -69,6 +72,7 @@ abbrev pub first_lost : List Turn → Bool
 first_lost [] = false
 first_lost (x ∷ xs) = x.lost
 
+-- a sending of the completion in turn was lost
 abbrev pub lost_in : Step → Bool
 lost_in (steps.Fetching m) = false
 lost_in (steps.Replacing d m) = false

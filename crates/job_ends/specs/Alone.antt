@@ -14,6 +14,7 @@ use Rattle.job_operations.specs.Operations.{Setting, Operation, Running, TheSetu
 abbrev pub at : Operation → Known → Running
 at op k = record { operation = op; known = k }
 
+-- a driver's operation sends and ends the same, whatever an attempt knows
 pub record GoAlone : Type 0 where
   pub setup : (g : Setting) (a : Actor) (k : Known) (t : Retried Setup) (es : List Entry) → Follows (wants g a) (advance g a) (at (TheSetup t) k) es → Follows (wants_of (setup_asks g.script)) (step g.script.retries (setup_after g.script)) t es
   pub setup_run : (g : Setting) (a : Actor) (k : Known) (t : Retried Setup) (es : List Entry) → (run (advance g a) (at (TheSetup t) k) es).operation ≡ TheSetup (run (step g.script.retries (setup_after g.script)) t es)

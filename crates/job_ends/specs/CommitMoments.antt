@@ -23,6 +23,7 @@ abbrev pub NoneRead : Script → List Entry → Type 0
 NoneRead w [] = Unit {0}
 NoneRead w (e ∷ es) = (e.actor ≡ Driver → (t : ℕ) → is_reading w t e.request ≡ false) × NoneRead w es
 
+-- picks stay once they are made, and a commit that ended before its first completion has shown nothing
 pub record CommitMoments : Type 0 where
   -- each pick stays as it was made
   pub earlier : (g : Setting) → IsLegal g.script → (k : Option ℕ) (opening : Content) → IsOpening g opening → (es : List Entry) (x : Stand) → Runs g k opening es x → (m : ℕ) → m ≤ length es

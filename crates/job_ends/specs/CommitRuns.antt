@@ -60,6 +60,7 @@ WhereCommitted P _ = Unit {0}
 abbrev pub ArePicks : Script → Picks → Sets → Type 0
 ArePicks w picks sets = (t : ℕ) → t < w.tasks → picks t ≡ picks_of sets t
 
+-- the driver's commit stands where its own entries lead, with the sets of the picks that are seen
 pub record CommitStands (g : Setting) (x : Stand) (c : Commit) : Type 0 where
   -- the least task that none had reported as it began
   pub missing : Option ℕ
@@ -87,6 +88,7 @@ pub record PicksOneMore (w : Script) (before now : Picks) (c d : Commit) : Type 
   -- none was picked of it or of a later task
   pub behind : (t : ℕ) → t < w.tasks → length sets ≤ t → before t ≡ None
 
+-- one more entry leaves the picks, or brings that of the next task
 abbrev pub PicksGrow : Script → Picks → Picks → Commit → Commit → Type 0
 PicksGrow w before now c d = ((t : ℕ) → t < w.tasks → now t ≡ before t) ⊎ PicksOneMore w before now c d
 

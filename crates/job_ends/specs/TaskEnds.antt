@@ -22,6 +22,7 @@ use Rattle.job_promise.specs.OperationEnds.{TaskIs, WasPublished}
 use Rattle.job_promise.specs.Turns.{until_last}
 use Rattle.job_facts.specs.Runs.{Runs, Stand, IsOpening}
 
+-- the operation is a task's abort
 abbrev pub is_abort : Operation → Bool
 is_abort (TheTaskAbort t) = true
 is_abort _ = false

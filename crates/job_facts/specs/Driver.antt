@@ -39,6 +39,7 @@ abbrev pub SweepsUnder : List ℕ → Sweep → Type 0
 SweepsUnder p (Listing keys) = AllUnder p keys
 SweepsUnder p (Deleting q qs) = AllUnder p (q ∷ qs)
 
+-- a sweep of the job's magic directory deletes keys of that alone
 abbrev pub FitsSweep : Script → Sweep → Type 0
 FitsSweep w t = SweepsUnder (magic_prefix w.dest.key w.job) t
 
@@ -72,10 +73,12 @@ abbrev pub FitsReplace : Script → Sweep → Type 0
 FitsReplace w (Listing keys) = AllUnder (dest_prefix w) keys
 FitsReplace w (Deleting q qs) = (k : List ℕ) → IsIn k (q ∷ qs) → (is_no_magic w k ≡ true) × (begins (dest_prefix w) k ≡ true)
 
+-- the driver may send each of these requests
 abbrev pub AllDriving : Script → List Request → Type 0
 AllDriving w [] = Unit {0}
 AllDriving w (r ∷ rs) = IsDriving w r × AllDriving w rs
 
+-- how far a job's commit has come: the sets that it holds are those that were published
 abbrev pub FitsJobCommit : Script → ℕ → (Who → Bool) → (Who → List Drawn) → Commit → Type 0
 FitsJobCommit w minimum sent drawn (Fetching sets n) = (length sets < w.tasks) × Reads w minimum sent drawn sets
 FitsJobCommit w minimum sent drawn (Replacing sets p ps s n) = Reads w minimum sent drawn sets × AllUnder (dest_prefix w) (p ∷ ps) × FitsReplace w s

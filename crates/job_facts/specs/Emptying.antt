@@ -33,6 +33,7 @@ EmptiesBy w p goes c (Deleting q qs) = OnlyThose w p goes c (q ∷ qs)
 abbrev pub OnlyThese : Script → Content → List (List ℕ) → Type 0
 OnlyThese w c keys = OnlyThose w (magic_prefix w.dest.key w.job) all_go c keys
 
+-- how far a sweep of the job's whole magic directory has come
 abbrev pub Empties : Script → Content → Sweep → Type 0
 Empties w c t = EmptiesBy w (magic_prefix w.dest.key w.job) all_go c t
 

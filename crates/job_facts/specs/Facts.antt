@@ -27,6 +27,7 @@ pub record IsAttempt (w : Script) (a : Who) : Type 0 where
 
 -- ---- uploads: each id is drawn once, for one attempt and one of its files
 
+-- each upload's id is drawn once, and known to one attempt, for one file
 pub record Ids (uploads : ℕ → Option Upload) (next : ℕ) (drawn : Who → List Drawn) : Type 0 where
   -- live and known ids are below the next one
   pub fresh : (id : ℕ) (x : Upload) → uploads id ≡ Some x → id < next
@@ -53,6 +54,7 @@ pub record IsOwned (w : Script) (minimum : ℕ) (uploads : ℕ → Option Upload
   pub sizes : d.sizes ≡ map length (take (length d.tags) (file_parts w minimum file))
   pub held : ended d.upload ≡ false → undone a ≡ false → IsHeld w minimum uploads d file
 
+-- each upload that an attempt knows is of its file, and lives with that file's parts until it is ended
 abbrev pub Owned : Script → ℕ → (ℕ → Option Upload) → (ℕ → Bool) → (Who → Bool) → (Who → List Drawn) → Type 0
 Owned w minimum uploads ended undone drawn = (a : Who) (d : Drawn) → IsIn d (drawn a) → IsOwned w minimum uploads ended undone a d
 
@@ -70,6 +72,7 @@ pub record IsRecord (w : Script) (minimum : ℕ) (ds : List Drawn) (a : Who) (f 
   pub written : IsWritten w minimum ds f
   pub bytes : x.bytes ≡ record_text w a f written.drawn
 
+-- a record that stands is that of the upload which its attempt knows for the file
 abbrev pub Records : Script → ℕ → (Place → Option Object) → (Who → List Drawn) → Type 0
 Records w minimum objects drawn = (a : Who) (f : File) (x : Object) → IsIn f (files w a) → objects (RecordPlace a.task a.attempt f.0) ≡ Some x → IsRecord w minimum (drawn a) a f x
 
@@ -114,6 +117,7 @@ pub record IsSet (w : Script) (minimum : ℕ) (last : ℕ → Option ℕ) (sent 
   pub are : AreCommits w minimum (drawn by) by commits
   pub text : bytes ≡ set_text w by commits (knowing (drawn by))
 
+-- a set that stands is that of the attempt that published last, with all its files, each whole
 abbrev pub Sets : Script → ℕ → (ℕ → Option (List ℕ)) → (ℕ → Option ℕ) → (Who → Bool) → (Who → List Drawn) → Type 0
 Sets w minimum sets last sent drawn = (t : ℕ) (bytes : List ℕ) → t < w.tasks → sets t ≡ Some bytes → IsSet w minimum last sent drawn t bytes
 
@@ -137,6 +141,7 @@ Kept sent undone = (a : Who) → sent a ≡ true → undone a ≡ false
 
 -- ---- all of them
 
+-- what holds of the job's store, the cluster and what its attempts know, between any two requests
 pub record Facts (w : Script) (minimum : ℕ) (s : Scene) (last : ℕ → Option ℕ) (m : Told) : Type 0 where
   pub there : HasBucket s.content w.dest.bucket
   pub least : s.content.minimum ≡ minimum

@@ -45,6 +45,7 @@ Gone w c m = (id : ℕ) → m.ended id ≡ true → (id < c.next) × (at_id w c 
 abbrev pub HasItsKey : Script → Content → UploadRef → Type 0
 HasItsKey w c r = (r.upload < c.next) × ((u : Upload) → at_id w c r.upload ≡ Some u → u.key ≡ r.key)
 
+-- each upload that was found has the key that it was found with, as long as it lives
 abbrev pub AllHaveKeys : Script → Content → List UploadRef → Type 0
 AllHaveKeys w c found = (r : UploadRef) → IsIn r found → HasItsKey w c r
 

@@ -68,6 +68,7 @@ pub record FindsKeys : Type 0 where
 
 -- ---- how a commit goes on with its sets
 
+-- a commit that goes on holds the sets of all tasks, and no two of their attempts write one path
 pub record SetsDecide : Type 0 where
   pub begins : (w : Script) (minimum : ℕ) (m : Told) (missing : Option ℕ) → Decides w minimum m.publish_sent m.drawn (commit_start w missing)
   pub goes : (g : Setting) → IsLegal g.script → (s : Seen) (m : Told) (c : Commit) → Commits g.script g.minimum s m c → (o : Outcome) → Decides g.script g.minimum m.publish_sent m.drawn (commit_tells g.script c o)

@@ -43,6 +43,7 @@ pub record Begun (w : Script) (minimum : ℕ) (a : Who) (ds : List Drawn) (f : F
   pub unknown : (g : File) → IsIn g fs → (d : Drawn) → IsIn d ds → d.key ≡ file_key w g → ⊥
   pub others : (g : File) → IsIn g (files w a) → IsIn g (f ∷ fs) ⊎ IsWritten w minimum ds g
 
+-- the upload of each of the attempt's files is known, with all its parts
 abbrev pub AllWritten : Script → ℕ → Who → List Drawn → Type 0
 AllWritten w minimum a ds = (f : File) → IsIn f (files w a) → IsWritten w minimum ds f
 
@@ -52,6 +53,7 @@ IsOpen k = (k.publish_sent ≡ false) × (k.put_sent ≡ false)
 
 -- ---- uploads, of any committer
 
+-- how far the upload of a file has come, by what the attempt knows
 abbrev pub FitsUpload : Script → ℕ → Who → Known → File → List File → Uploading → Type 0
 FitsUpload w minimum a k f fs Creating = Todo w minimum a k.drawn (f ∷ fs)
 FitsUpload w minimum a k f fs (Sending p ps) = Begun w minimum a k.drawn f fs (p ∷ ps)
@@ -64,6 +66,7 @@ Wrote Magic w minimum a ds = AllWritten w minimum a ds
 Wrote Directory w minimum a ds = Todo w minimum a ds (files w a)
 Wrote Partitioned w minimum a ds = Todo w minimum a ds (files w a)
 
+-- how far a write has come, by what the attempt knows
 abbrev pub FitsWrite : Script → ℕ → Who → Known → Write → Type 0
 FitsWrite w minimum a k (writes.Uploads f fs u) = (is_magic w.committer ≡ true) × IsOpen k × FitsUpload w minimum a k f fs u
 FitsWrite w minimum a k (Marking f fs) = (is_magic w.committer ≡ true) × IsOpen k × Begun w minimum a k.drawn f fs []
@@ -72,6 +75,7 @@ FitsWrite w minimum a k (WriteOver end) = end ≡ tasks.Done → IsOpen k × Wro
 
 -- ---- a task's commit
 
+-- how far a task's commit has come, by what the attempt knows
 abbrev pub FitsCommit : Script → ℕ → Who → Known → TaskCommit → Type 0
 FitsCommit w minimum a k (Looking keys) = (is_magic w.committer ≡ true) × AllWritten w minimum a k.drawn × RisesFrom [] keys
 FitsCommit w minimum a k (Reading cs f fs) = (is_magic w.committer ≡ true) × AreCommits w minimum k.drawn a cs
@@ -88,10 +92,12 @@ FitsCommit w minimum a k (TaskCommitOver end) = end ≡ tasks.Done → k.publish
 abbrev pub AllOwn : Script → Who → List (List ℕ) → Type 0
 AllOwn w a keys = (q : List ℕ) → IsIn q keys → begins (attempt_prefix w a) q ≡ true
 
+-- a sweep of an attempt's directory deletes keys of that alone
 abbrev pub FitsSweep : Script → Who → Sweep → Type 0
 FitsSweep w a (Listing keys) = AllOwn w a keys
 FitsSweep w a (Deleting q qs) = AllOwn w a (q ∷ qs)
 
+-- how far a task's abort has come, by what the attempt knows
 abbrev pub FitsAbort : Script → Who → Known → TaskAbort → Type 0
 FitsAbort w a k (Dropping d ds sent) = (k.publish_sent ≡ false) × ((e : Drawn) → IsIn e (d ∷ ds) → IsIn e k.drawn)
 FitsAbort w a k (Sweeping s) = (k.publish_sent ≡ false) × FitsSweep w a s
@@ -101,6 +107,7 @@ FitsAbort w a k (TaskAbortOver end) = (end ≡ tasks.Kept → k.publish_sent ≡
 
 -- ---- all operations of an attempt
 
+-- how far an attempt's operation has come, by what it knows and has sent
 abbrev pub Fits : Script → ℕ → Who → Told → Operation → Type 0
 Fits w minimum a m (TheSetup t) = ⊥
 Fits w minimum a m (TheWrite t) = (m.undone a ≡ false) × FitsWrite w minimum a (known m a) t.operation

@@ -133,6 +133,7 @@ pub record Cleans (g : Setting) (k : Option ℕ) (s : Seen) (m : Told) (n : ℕ)
   pub fits : FitsClean g.script (tell g.script m (driver_entry n r o)).cleaned t.operation
   pub shows : Same (view g.script.dest (effect s.scene r o).content) (view g.script.dest s.scene.content)
 
+-- each request of an abort or clean of the job keeps the facts, and what a reader is shown
 abbrev pub CleanGoes : Type 0
 CleanGoes = (g : Setting) → IsLegal g.script → (k : Option ℕ) (s : Seen) (m : Told) (n : ℕ) → Hold g.script g.minimum s m
     → is_begun m.cleans_at n ≡ true → (t : Retried Clean) → FitsClean g.script m.cleaned t.operation → (r : Request) → clean_asks g.script t.operation ≡ Some r → (o : Outcome) → IsHonestOutcome o (answer s.scene r)

@@ -42,5 +42,6 @@ pub record RunsKeep (g : Setting) (k : Option ℕ) (opening : Content) (es : Lis
   -- and a revert of which no deletion wore out leaves no file of the job
   pub reverted : AreOwn es → x.driver ≡ Some (TheCommit (CommitOver (commits.StoreFault stages.Complete))) → NoDeletionWorn g.script.retries x.commit → OnlyOpening g.script opening x.seen.scene.content
 
+-- every run of a job keeps what is owed of runs
 abbrev pub AllRunsKeep : Type 0
 AllRunsKeep = (g : Setting) → IsLegal g.script → (k : Option ℕ) (opening : Content) → IsOpening g opening → (es : List Entry) (x : Stand) → Runs g k opening es x → RunsKeep g k opening es x

@@ -54,9 +54,11 @@ abbrev pub commit_with : Operation → List Entry → Entry → List Entry
 commit_with (TheCommit c) es e = es ++ e ∷ []
 commit_with _ es e = es
 
+-- how far a run has come, with these as the entries of the job's commit
 abbrev pub with_commit : Stand → List Entry → Stand
 with_commit x es = record { seen = x.seen; told = x.told; attempts = x.attempts; driver = x.driver; commit = es }
 
+-- a set-up ended Done
 abbrev pub is_done : Setup → Bool
 is_done (SetupOver setups.Done) = true
 is_done _ = false
@@ -85,6 +87,7 @@ IsTimely k c n (TheCommit v) = (is_begun k n ≡ true) × (is_begun c n ≡ fals
 IsTimely k c n (TheClean t) = is_begun c n ≡ true
 IsTimely k c n _ = Unit {0}
 
+-- what an attempt knows before it has sent anything
 abbrev pub nothing_learnt : Known
 nothing_learnt = record { drawn = []; put_sent = false; publish_sent = false }
 

@@ -35,6 +35,7 @@ IsSent sent drawn id = (a : Who) × (d : Drawn) × IsIn d (drawn a) × (d.upload
 abbrev pub Closed : Told → Type 0
 Closed m = m.cleaned ≡ false → (id : ℕ) → m.ended id ≡ true → IsSent m.publish_sent m.drawn id
 
+-- each of these requests ends only uploads whose attempt has sent its publishing request
 abbrev pub EndsSent : (Who → Bool) → (Who → List Drawn) → List Request → Type 0
 EndsSent sent drawn [] = Unit {0}
 EndsSent sent drawn (r ∷ rs) = ((id : ℕ) → ends r id ≡ true → IsSent sent drawn id) × EndsSent sent drawn rs
@@ -70,10 +71,12 @@ HasPublished s t = (n : ℕ) × (s.last t ≡ Some n)
 abbrev pub Listed : Script → Who → List (List ℕ) → Type 0
 Listed w a keys = (f : File) → IsIn f (files w a) → IsIn (record_key w a f) keys ⊎ (is_lt (text_cmp (last_of keys) (record_key w a f)) ≡ true)
 
+-- an end that is not Gone
 abbrev pub NotGone : TaskEnd → Type 0
 NotGone (tasks.Gone name) = ⊥
 NotGone _ = Unit {0}
 
+-- the records of the files behind a write stand
 abbrev pub WriteStands : Script → Seen → Who → Write → Type 0
 WriteStands w s a (writes.Uploads f fs u) = HasRecords w s a (f ∷ fs)
 WriteStands w s a (Marking f fs) = HasRecords w s a (f ∷ fs)
@@ -96,6 +99,7 @@ CommitStandsBy P w s a repeated (TaskCommitOver end) = NotGone end × (end ≡ t
 abbrev pub CommitStands : Script → Seen → Who → Bool → TaskCommit → Type 0
 CommitStands w s a repeated t = CommitStandsBy (HasPublished s a.task) w s a repeated t
 
+-- what an attempt's operation has written so far stands
 abbrev pub Stands : Script → Seen → Who → Operation → Type 0
 Stands w s a (TheSetup t) = Unit {0}
 Stands w s a (TheWrite t) = WriteStands w s a t.operation

@@ -23,6 +23,7 @@ use Rattle.job_promise.specs.Scope.{upload_at}
 abbrev pub at_key : Script → Content → List ℕ → Option Object
 at_key w c k = object_at c w.dest.bucket k
 
+-- the object at a place of the job, or none
 abbrev pub at_place : Script → Content → Place → Option Object
 at_place w c p = at_key w c (key_at w.dest.key w.job p)
 
@@ -34,6 +35,7 @@ at_id w c id = upload_at c w.dest.bucket id
 abbrev pub at_path : Script → Scene → ClusterPlace → Option (List ℕ)
 at_path w s p = fin.get s.files (path_at w.job p)
 
+-- the bytes of a task's set where its committer keeps it: in the store or in the cluster
 abbrev pub set_at : Committer → Script → Scene → ℕ → Option (List ℕ)
 set_at Magic w s t = option_map (λ o. o.bytes) (at_place w s.content (SetPlace t))
 set_at Directory w s t = at_path w s (StagedSetPlace t)

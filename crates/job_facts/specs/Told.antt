@@ -13,6 +13,7 @@ use Rattle.job_model.specs.Known.{Drawn, Known}
 use Rattle.job_operations.specs.Knowledge.{learn}
 use Rattle.job_promise.specs.Seen.{is_begun}
 
+-- what a journal tells of a job's attempts and of what its driver ended
 pub record Told : Type 0 where
   -- the uploads that each attempt knows, the last one first
   pub drawn : Who → List Drawn
@@ -49,6 +50,7 @@ ends (CompleteUpload bucket key id parts) u = nat_eq u id
 ends (AbortUpload bucket key id) u = nat_eq u id
 ends _ u = false
 
+-- what is told, with what an attempt knows now and whether it has taken back what it did
 abbrev pub with_known : Told → Who → Known → Bool → Told
 with_known m a k undone = record {
   drawn = put_who m.drawn a k.drawn;
@@ -60,9 +62,11 @@ with_known m a k undone = record {
   cleans_at = m.cleans_at;
 }
 
+-- what is told after a sending of an attempt
 abbrev pub tell_attempt : Script → Told → Who → Request → Outcome → Told
 tell_attempt w m a r o = with_known m a (learn w a (known m a) r o) (m.undone a || undoes r)
 
+-- what is told after a sending of the driver
 abbrev pub tell_driver : Told → Request → Outcome → Told
 tell_driver m r o = record {
   drawn = m.drawn;
@@ -84,12 +88,15 @@ tell_by w m n r o Driver = at_event n (tell_driver m r o)
 tell_by w m n r o (Attempt task attempt) = tell_attempt w m (record { task = task; attempt = attempt }) r o
 tell_by w m n r o Shell = m
 
+-- what is told after one more entry
 abbrev pub tell : Script → Told → Entry → Told
 tell w m e = tell_by w m e.event e.request e.outcome e.actor
 
+-- what is told before the first entry
 abbrev pub nothing_told : Option ℕ → Told
 nothing_told c = record { drawn = λ a. []; put_sent = λ a. false; publish_sent = λ a. false; undone = λ a. false; ended = λ u. false; cleaned = false; cleans_at = c }
 
+-- what is told after these entries
 abbrev pub tell_all : Script → Told → List Entry → Told
 tell_all w m [] = m
 tell_all w m (e ∷ es) = tell_all w (tell w m e) es
@@ -98,8 +105,10 @@ tell_all w m (e ∷ es) = tell_all w (tell w m e) es
 abbrev pub entry : Who → ℕ → Request → Outcome → Entry
 entry a n r o = record { event = n; actor = actor_of a; request = r; outcome = o }
 
+-- an entry of the driver
 abbrev pub driver_entry : ℕ → Request → Outcome → Entry
 driver_entry n r o = record { event = n; actor = Driver; request = r; outcome = o }
 
+-- an entry of a stranger
 abbrev pub strange_entry : ℕ → Request → Outcome → Entry
 strange_entry n r o = record { event = n; actor = Shell; request = r; outcome = o }

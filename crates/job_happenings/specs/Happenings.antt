@@ -26,6 +26,7 @@ use Rattle.job_facts.specs.Foreign.{IsForeign}
 
 -- ---- how far a run has come
 
+-- how far a run has come
 pub record Play : Type 0 where
   pub journal : List Entry
   pub ends : List EventEnd
@@ -39,6 +40,7 @@ pub record Play : Type 0 where
   -- what each actor began last, as far as its entries led it
   pub running : Actor → Option Running
 
+-- a run before its first event
 abbrev pub nothing_played : Play
 nothing_played = record { journal = []; ends = []; now = None; past = nothing_past; live = nothing_past; finished = []; running = λ a. None }
 
@@ -52,6 +54,7 @@ knows_now g x a = knows g.script (who a) (by_actor a x.journal)
 
 -- ---- what may happen
 
+-- one thing that happens in a run
 pub data Happening : Type 0 where
   -- the next event is refused
   Refuses : (fault : EventFault) → Happening
@@ -68,6 +71,7 @@ pub data Happening : Type 0 where
 
 -- ---- where it leads
 
+-- an operation that begins, with what its actor knows then
 abbrev pub begun : Option Operation → Known → Option Running
 begun None k = None
 begun (Some op) k = Some (record { operation = op; known = k })
@@ -76,6 +80,7 @@ begun (Some op) k = Some (record { operation = op; known = k })
 abbrev pub begin_running : Setting → Play → Actor → Op → Actor → Option Running
 begin_running g x a op = put x.running a (begun (start_of g a op (missing g.script x.past.reported) (knows_now g x a)) (knows_now g x a))
 
+-- what each actor began last, once an event begins
 abbrev pub open_running : Setting → Play → Event → Actor → Option Running
 open_running g x (Do a op) = begin_running g x a op
 open_running g x (Start a op) = begin_running g x a op
@@ -91,6 +96,7 @@ abbrev pub hear : Setting → Actor → Option Running → Entry → Option Runn
 hear g a None e = None
 hear g a (Some m) e = Some (advance g a m e.outcome)
 
+-- where a happening leads a run
 abbrev pub happen : Setting → Play → Happening → Play
 happen g x (Refuses f) = record { journal = x.journal; ends = x.ends ++ Refused f ∷ []; now = None; past = count x.past; live = count x.past; finished = []; running = x.running }
 happen g x (Opens ev) = record { journal = x.journal; ends = x.ends; now = Some ev; past = x.past; live = open_event g.script x.past ev; finished = []; running = open_running g x ev }
@@ -143,6 +149,7 @@ pub record MayStray (g : Setting) (opening : Content) (x : Play) (r : Request) (
   pub foreign : IsForeign g.script (λ a. (knows_now g x (actor_of a)).drawn) r
   pub honest : IsHonestOutcome o (answer (scene_of opening x) r)
 
+-- a happening may happen at this point of a run
 abbrev pub Allowed : Setting → Content → Play → Happening → Type 0
 Allowed g opening x (Refuses f) = (ev : Event) × MayOpen g x ev (Some f)
 Allowed g opening x (Opens ev) = MayOpen g x ev None

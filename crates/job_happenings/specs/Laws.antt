@@ -15,5 +15,6 @@ pub record IsPlayed (g : Setting) (opening : Content) (x : Play) : Type 0 where
   pub past : x.past ≡ past g.script x.ends
   pub live : x.live ≡ x.past
 
+-- a run of allowed happenings does what its script's events say
 abbrev pub HappeningsPlay : Type 0
 HappeningsPlay = (g : Setting) (opening : Content) (x : Play) → IsLegal g.script → Happened g opening x → x.now ≡ None → IsPlayed g opening x

@@ -29,6 +29,7 @@ pub record Times : Type 0 where
   pub commit : Option ℕ
   pub clean : Option ℕ
 
+-- the events of the job's commit and of its first abort or clean, by the ends
 abbrev pub times : Script → List EventEnd → Times
 times w ends = record { commit = commit_event w ends; clean = clean_event w ends }
 
@@ -45,5 +46,6 @@ pub record IsRun (g : Setting) (opening : Content) (x : Play) (k : Times) : Type
   -- a driver behind its first stage has set the job up
   pub set_up : is_new (x.live.state Driver).stage ≡ false → is_set stand.driver ≡ true
 
+-- a run of allowed happenings is one of the job's runs, request by request
 abbrev pub HappeningsRun : Type 0
 HappeningsRun = (g : Setting) (opening : Content) (x : Play) → IsLegal g.script → IsOpening g opening → Happened g opening x → (ends : List EventEnd) → Ahead x ends → IsRun g opening x (times g.script ends)

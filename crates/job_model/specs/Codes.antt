@@ -23,11 +23,13 @@ committer_number Magic = 0
 committer_number Directory = 1
 committer_number Partitioned = 2
 
+-- the committer of a number
 abbrev pub numbered_committer : ℕ → Committer
 numbered_committer zero = Magic
 numbered_committer (suc zero) = Directory
 numbered_committer (suc (suc n)) = Partitioned
 
+-- a committer's number gives the committer again
 abbrev pub committer_again : (c : Committer) → numbered_committer (committer_number c) ≡ c
 committer_again Magic = refl
 committer_again Directory = refl
@@ -39,11 +41,13 @@ mode_number Fail = 0
 mode_number Append = 1
 mode_number Replace = 2
 
+-- the conflict mode of a number
 abbrev pub numbered_mode : ℕ → Mode
 numbered_mode zero = Fail
 numbered_mode (suc zero) = Append
 numbered_mode (suc (suc n)) = Replace
 
+-- a mode's number gives the mode again
 abbrev pub mode_again : (m : Mode) → numbered_mode (mode_number m) ≡ m
 mode_again Fail = refl
 mode_again Append = refl
@@ -57,6 +61,7 @@ op_number op.Commit = 2
 op_number op.Abort = 3
 op_number op.Clean = 4
 
+-- the operation of a number
 abbrev pub numbered_op : ℕ → Op
 numbered_op zero = op.Setup
 numbered_op (suc zero) = op.Write
@@ -64,6 +69,7 @@ numbered_op (suc (suc zero)) = op.Commit
 numbered_op (suc (suc (suc zero))) = op.Abort
 numbered_op (suc (suc (suc (suc n)))) = op.Clean
 
+-- an operation's number gives the operation again
 abbrev pub op_again : (o : Op) → numbered_op (op_number o) ≡ o
 op_again op.Setup = refl
 op_again op.Write = refl
@@ -77,19 +83,23 @@ actor_numbers Driver = (0, (0, 0))
 actor_numbers (Attempt task attempt) = (1, (task, attempt))
 actor_numbers Shell = (2, (0, 0))
 
+-- the actor of a kind and numbers
 abbrev pub numbered_actor : ℕ → ℕ → ℕ → Actor
 numbered_actor zero task attempt = Driver
 numbered_actor (suc zero) task attempt = Attempt task attempt
 numbered_actor (suc (suc n)) task attempt = Shell
 
+-- an actor's numbers give the actor again
 abbrev pub actor_again : (a : Actor) → numbered_actor (actor_numbers a).0 (actor_numbers a).1.0 (actor_numbers a).1.1 ≡ a
 actor_again Driver = refl
 actor_again (Attempt task attempt) = refl
 actor_again Shell = refl
 
+-- the code of an actor
 abbrev pub coded_actor : Coded Actor
 coded_actor = code_by (ℕ × (ℕ × ℕ)) (coded× coded_ℕ (coded× coded_ℕ coded_ℕ)) actor_numbers (λ p. numbered_actor p.0 p.1.0 p.1.1) actor_again
 
+-- the code of an operation
 abbrev pub coded_op : Coded Op
 coded_op = code_by ℕ coded_ℕ op_number numbered_op op_again
 
@@ -104,6 +114,7 @@ event_parts (event.Mix seed) = (5, (Driver, (op.Setup, seed)))
 event_parts event.Restart = (6, (Driver, (op.Setup, 0)))
 event_parts (event.Recover actor) = (7, (actor, (op.Setup, 0)))
 
+-- the event of a kind, an actor, an operation and a number
 abbrev pub event_of : ℕ → Actor → Op → ℕ → Event
 event_of zero actor op number = event.Do actor op
 event_of (suc zero) actor op number = event.Start actor op
@@ -114,6 +125,7 @@ event_of (suc (suc (suc (suc (suc zero))))) actor op number = event.Mix number
 event_of (suc (suc (suc (suc (suc (suc zero)))))) actor op number = event.Restart
 event_of (suc (suc (suc (suc (suc (suc (suc n))))))) actor op number = event.Recover actor
 
+-- an event's parts give the event again
 abbrev pub event_again : (e : Event) → event_of (event_parts e).0 (event_parts e).1.0 (event_parts e).1.1.0 (event_parts e).1.1.1 ≡ e
 event_again (event.Do actor op) = refl
 event_again (event.Start actor op) = refl
@@ -124,18 +136,23 @@ event_again (event.Mix seed) = refl
 event_again event.Restart = refl
 event_again (event.Recover actor) = refl
 
+-- the code of an event
 abbrev pub coded_event : Coded Event
 coded_event = code_by (ℕ × (Actor × (Op × ℕ))) (coded× coded_ℕ (coded× coded_actor (coded× coded_op coded_ℕ))) event_parts (λ p. event_of p.0 p.1.0 p.1.1.0 p.1.1.1) event_again
 
+-- the code of an attempt's name
 abbrev pub coded_name : Coded Who
 coded_name = code_by (ℕ × ℕ) (coded× coded_ℕ coded_ℕ) (λ n. (n.task, n.attempt)) (λ p. record { task = p.0; attempt = p.1 }) (λ _. refl)
 
+-- the code of an attempt with its files
 abbrev pub coded_declared : Coded Declared
 coded_declared = coded× coded_name (coded_list (coded× coded_text coded_text))
 
+-- the code of a path of a bucket and a key
 abbrev pub coded_path : Coded Path
 coded_path = code_by (List ℕ × List ℕ) (coded× coded_text coded_text) (λ p. (p.bucket, p.key)) (λ p. record { bucket = p.0; key = p.1 }) (λ _. refl)
 
+-- the code of a script
 abbrev pub coded_script : Coded Script
 coded_script =
     code_by (List ℕ × (Path × (Committer × (Mode × (Bool × (ℕ × (ℕ × (ℕ × (ℕ × (Option ℕ × (FateMap × (List Declared × List Event))))))))))))

@@ -3,6 +3,7 @@ use Rattle.std.specs.Prelude.{ℕ, List, Bool, is_some}
 use Rattle.std.specs.Map.{lookup}
 use Rattle.proof_base.specs.Order.{text_eq}
 
+-- a file of an attempt: its path and its bytes
 abbrev pub File : Type 0
 File = List ℕ × List ℕ
 

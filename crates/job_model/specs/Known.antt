@@ -18,6 +18,7 @@ pub record Known : Type 0 where
   -- its publishing request was sent, whatever became of it
   pub publish_sent : Bool
 
+-- what an attempt knows before it has sent anything
 abbrev pub nothing_known : Known
 nothing_known = record { drawn = []; put_sent = false; publish_sent = false }
 

@@ -75,27 +75,35 @@ learned w a k (Some r) WornOut = learn w a k r RequestLost
 learned w a k (Some r) OutOfMemory = k
 learned w a k None i = k
 
+-- the attempt's plan with what it knows now
 abbrev pub with_known : Task → Known → Task
 with_known t k = record { job = t.job; task = t.task; attempt = t.attempt; files = t.files; block = t.block; minimum = t.minimum; known = k }
 
+-- the operation and its plan, once its request was answered or wore out
 abbrev pub told : {O : Type 0} → Attempting O → Option Request → Item → O → Attempting O
 told m r i next = record { plan = with_known m.plan (learned (task_script m.plan) (who_of m.plan) m.plan.known r i); operation = next }
 
+-- what a write asks next, by the attempt's plan
 abbrev pub write_wants : Attempting Write → Option Request
 write_wants m = write_asks (task_script m.plan) (who_of m.plan) m.plan.known m.operation
 
+-- the write once its request was answered or wore out
 abbrev pub write_told : Attempting Write → Item → Attempting Write
 write_told m i = told m (write_wants m) i (write_after (task_script m.plan) m.plan.minimum m.operation i)
 
+-- what a task's commit asks next, by the attempt's plan
 abbrev pub task_commit_wants : Attempting TaskCommit → Option Request
 task_commit_wants m = task_commit_asks (task_script m.plan) (who_of m.plan) m.plan.known m.operation
 
+-- the task's commit once its request was answered or wore out
 abbrev pub task_commit_told : Attempting TaskCommit → Item → Attempting TaskCommit
 task_commit_told m i = told m (task_commit_wants m) i (task_commit_after (task_script m.plan) m.plan.minimum (who_of m.plan) m.operation i)
 
+-- what a task's abort asks next, by the attempt's plan
 abbrev pub task_abort_wants : Attempting TaskAbort → Option Request
 task_abort_wants m = task_abort_asks (task_script m.plan) (who_of m.plan) m.operation
 
+-- the task's abort once its request was answered or wore out
 abbrev pub task_abort_told : Attempting TaskAbort → Item → Attempting TaskAbort
 task_abort_told m i = told m (task_abort_wants m) i (task_abort_after (task_script m.plan) m.operation i)
 
@@ -106,15 +114,19 @@ pub record Driving (O : Type 0) : Type 0 where
   pub plan : Job
   pub operation : O
 
+-- what a set-up asks next, by the job's plan
 abbrev pub setup_wants : Driving Setup → Option Request
 setup_wants m = setup_asks (job_script m.plan) m.operation
 
+-- the set-up once its request was answered or wore out
 abbrev pub setup_told : Driving Setup → Item → Driving Setup
 setup_told m i = record { plan = m.plan; operation = setup_after (job_script m.plan) m.operation i }
 
+-- what an abort or clean of the job asks next, by its plan
 abbrev pub clean_wants : Driving Clean → Option Request
 clean_wants m = clean_asks (job_script m.plan) m.operation
 
+-- the abort or clean once its request was answered or wore out
 abbrev pub clean_told : Driving Clean → Item → Driving Clean
 clean_told m i = record { plan = m.plan; operation = clean_after (job_script m.plan) m.operation i }
 
@@ -129,6 +141,7 @@ sets_in (Marking sets m) = sets
 sets_in (Reverting r rs m) = []
 sets_in (CommitOver end) = []
 
+-- the sets that were read, with one more where it was one
 abbrev pub with_set : Sets → Option PendingSet → Sets
 with_set sets (Some s) = sets ++ s ∷ []
 with_set sets None = sets
@@ -144,17 +157,21 @@ pub record Committing : Type 0 where
   pub picked : List ℕ
   pub operation : Commit
 
+-- the attempts of the sets that were read, with one more where it was one
 abbrev pub with_pick : List ℕ → Option PendingSet → List ℕ
 with_pick picked (Some s) = picked ++ s.attempt ∷ []
 with_pick picked None = picked
 
+-- the attempts whose sets were read, after one more sending
 abbrev pub picked_after : List ℕ → Commit → Outcome → List ℕ
 picked_after picked (Fetching sets m) (Answered r) = with_pick picked (set_read r)
 picked_after picked c o = picked
 
+-- what a job's commit asks next, by the job's plan and the sets that it holds
 abbrev pub commit_wants : Committing → Option Request
 commit_wants m = commit_asks (read_script m.plan (sets_in m.operation)) m.operation
 
+-- the job's commit after one more sending
 abbrev pub commit_told : Committing → Outcome → Committing
 commit_told m o = record { plan = m.plan; picked = picked_after m.picked m.operation o; operation = commit_tells (read_script m.plan (sets_after m.operation o)) m.operation o }
 

@@ -9,6 +9,7 @@ use Rattle.s3_types.specs.declared.request.Mode.TheVariants.{Fail, Replace}
 use Rattle.job_model.specs.JobScript.{Script}
 use Rattle.job_operations.specs.Outputs.{Picks, ordered, wanted_paths}
 
+-- the directory of a path with one more byte in front
 abbrev pub dir_from : ℕ → List ℕ → Option (List ℕ) → Option (List ℕ)
 dir_from x p (Some d) = Some (x ∷ d)
 dir_from x p None = cond (nat_eq x 47) (Some []) None
@@ -18,10 +19,12 @@ abbrev pub dir_of : List ℕ → Option (List ℕ)
 dir_of [] = None
 dir_of (x ∷ p) = dir_from x p (dir_of p)
 
+-- the directories with one more, where a path has one
 abbrev pub with_dir : Option (List ℕ) → List (List ℕ) → List (List ℕ)
 with_dir (Some d) ds = d ∷ ds
 with_dir None ds = ds
 
+-- the directories that these paths are in
 abbrev pub dirs_of : List (List ℕ) → List (List ℕ)
 dirs_of [] = []
 dirs_of (p ∷ ps) = with_dir (dir_of p) (dirs_of ps)

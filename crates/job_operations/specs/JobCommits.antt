@@ -46,6 +46,7 @@ picks_of sets t = option_map (λ s. s.attempt) (slice_get sets t)
 abbrev pub all_commits : Sets → List Pending
 all_commits sets = flat_map (λ s. s.commits) sets
 
+-- a set that was read without a fault
 abbrev pub ok_set : Result PendingSet RecordFault → Option PendingSet
 ok_set (Ok s) = Some s
 ok_set (Err f) = None
@@ -58,6 +59,7 @@ set_read _ = None
 
 -- ---- the operation
 
+-- how far a job's commit has come
 pub data Commit : Type 0 where
   -- reads the next task's set behind these
   Fetching : (sets : Sets) (missed : ℕ) → Commit
@@ -77,6 +79,7 @@ set_request Magic w t = GetObject w.dest.bucket (layout.set_key w.dest.key w.job
 set_request Directory w t = ClusterGet (layout.staged_set_path w.job t)
 set_request Partitioned w t = ClusterGet (layout.staged_set_path w.job t)
 
+-- what a job's commit asks next, or nothing where it is over
 abbrev pub commit_asks : Script → Commit → Option Request
 commit_asks w (Fetching sets m) = Some (set_request w.committer w (length sets))
 commit_asks w (Replacing sets p ps s m) = Some (sweep_asks w.dest.bucket p s)
@@ -87,6 +90,7 @@ commit_asks w (CommitOver end) = None
 
 -- ---- where answers lead
 
+-- the next completion of these lanes, or, where none has one, the put of the marker
 abbrev pub completing : Sets → List Turn → List ℕ → Commit
 completing sets [] finished = Marking sets 0
 completing sets (x ∷ xs) finished = Completing sets x xs finished
@@ -101,6 +105,7 @@ replaced Directory Replace w picks = dest_prefix w ∷ []
 replaced Partitioned Replace w picks = map (partition_prefix w) (partitions (wanted_paths w picks))
 replaced _ _ w picks = []
 
+-- the next prefix is emptied; behind the last one the uploads are completed
 abbrev pub replacing : Script → Sets → List (List ℕ) → Commit
 replacing w sets [] = completing sets (dealt w.lanes (length (all_commits sets))) []
 replacing w sets (p ∷ ps) = Replacing sets p ps sweep_start 0
@@ -110,6 +115,7 @@ abbrev pub decided : Script → Sets → Option CommitEnd → Commit
 decided w sets (Some end) = CommitOver end
 decided w sets None = replacing w sets (replaced w.committer w.mode w (picks_of sets))
 
+-- the next task's set is read; behind the last one the picks are decided
 abbrev pub fetching : Script → Sets → Commit
 fetching w sets = cond (nat_lt (length sets) w.tasks) (Fetching sets 0) (decided w sets (same_path w (picks_of sets)))
 
@@ -118,14 +124,17 @@ abbrev pub fetched : Script → Sets → Option PendingSet → Commit
 fetched w sets (Some s) = fetching w (sets ++ s ∷ [])
 fetched w sets None = Fetching sets 0
 
+-- where a reply to a sweep below a prefix leads
 abbrev pub swept : Script → Sets → List ℕ → List (List ℕ) → Option Sweep → Commit
 swept w sets p ps (Some s) = Replacing sets p ps s 0
 swept w sets p ps None = replacing w sets ps
 
+-- the next request of the revert; behind the last one the commit ends with StoreFault of Complete
 abbrev pub reverting : List Request → Commit
 reverting [] = CommitOver (ends.StoreFault stages.Complete)
 reverting (r ∷ rs) = Reverting r rs 0
 
+-- where an answer leads
 abbrev pub commit_hears : Script → Commit → Reply → Commit
 commit_hears w (Fetching sets m) r = fetched w sets (set_read r)
 commit_hears w (Replacing sets p ps s m) r = swept w sets p ps (sweep_hears (is_no_magic w) s r)
@@ -136,6 +145,7 @@ commit_hears w (CommitOver end) r = CommitOver end
 
 -- ---- where sendings without an answer lead
 
+-- a completion that wore out leads to the revert
 abbrev pub worn_completion : Sets → Turn → List Turn → List ℕ → Commit
 worn_completion sets x xs finished = reverting (revert (all_commits sets) x.number xs finished)
 
@@ -166,6 +176,7 @@ abbrev pub commit_start : Script → Option ℕ → Commit
 commit_start w (Some t) = CommitOver (ends.Missing t)
 commit_start w None = fetching w []
 
+-- how a job's commit ended, if it has
 abbrev pub commit_over : Commit → Option CommitEnd
 commit_over (CommitOver end) = Some end
 commit_over _ = None

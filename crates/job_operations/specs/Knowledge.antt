@@ -13,13 +13,16 @@ use Rattle.job_model.specs.Attempts.{Who}
 use Rattle.job_model.specs.Known.{Drawn, Known, nothing_known}
 use Rattle.job_model.specs.JobScript.{Script}
 
+-- an upload with one more part that came back, where it is that upload
 abbrev pub with_part : ℕ → Spelled → ℕ → Drawn → Drawn
 with_part id tag size d = cond (nat_eq d.upload id) (record { key = d.key; upload = d.upload; tags = d.tags ++ tag ∷ []; sizes = d.sizes ++ size ∷ [] }) d
 
+-- the uploads that are known after a sending of CreateUpload
 abbrev pub learn_upload : List Drawn → List ℕ → Outcome → List Drawn
 learn_upload ds key (Answered (Upload id)) = record { key = key; upload = id; tags = []; sizes = [] } ∷ ds
 learn_upload ds key _ = ds
 
+-- the uploads that are known after a sending of UploadPart
 abbrev pub learn_part : List Drawn → ℕ → ℕ → Outcome → List Drawn
 learn_part ds id size (Answered (Part tag)) = map (with_part id tag size) ds
 learn_part ds id size _ = ds
@@ -41,6 +44,7 @@ learn w a k (ClusterPut path bytes) o = record { drawn = k.drawn; put_sent = tru
 learn w a k (ClusterRename source target) o = record { drawn = k.drawn; put_sent = k.put_sent; publish_sent = true }
 learn w a k _ o = k
 
+-- what is known after these entries of its own
 abbrev pub knows_from : Script → Who → Known → List Entry → Known
 knows_from w a k [] = k
 knows_from w a k (e ∷ es) = knows_from w a (learn w a k e.request e.outcome) es
@@ -51,9 +55,11 @@ knows w a es = knows_from w a nothing_known es
 
 -- ---- what it knows of an upload
 
+-- an upload of which nothing is known
 abbrev pub nothing_drawn : Drawn
 nothing_drawn = record { key = []; upload = 0; tags = []; sizes = [] }
 
+-- the first of these uploads
 abbrev pub first_drawn : List Drawn → Drawn
 first_drawn [] = nothing_drawn
 first_drawn (d ∷ ds) = d
@@ -62,6 +68,7 @@ first_drawn (d ∷ ds) = d
 abbrev pub drawn_last : Known → Drawn
 drawn_last k = first_drawn k.drawn
 
+-- the last upload that was begun for a key
 abbrev pub drawn_in : List Drawn → List ℕ → Drawn
 drawn_in [] key = nothing_drawn
 drawn_in (d ∷ ds) key = cond (text_eq d.key key) d (drawn_in ds key)

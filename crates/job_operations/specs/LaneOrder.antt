@@ -9,6 +9,7 @@ use Rattle.job_operations.specs.LaneTable.{In}
 abbrev pub distance : ℕ → ℕ → ℕ → ℕ
 distance lanes from lane = cond (nat_le from lane) (lane - from) ((lane + lanes) - from)
 
+-- the lane behind this one, in cyclic order
 abbrev pub after_lane : ℕ → ℕ → ℕ
 after_lane lanes lane = cond (nat_eq (lane + 1) lanes) 0 (lane + 1)
 
@@ -21,6 +22,7 @@ pub record IsNext (lanes total : ℕ) (done : List ℕ) (from n : ℕ) : Type 0 
   -- no lane that comes before has an upload that is not done
   pub nearest : (m : ℕ) → m < total → (In m done → ⊥) → distance lanes from (n % lanes) ≤ distance lanes from (m % lanes)
 
+-- the lane behind the one that has its turn
 abbrev pub next_lane : ℕ → ℕ → Commit → ℕ
 next_lane lanes from (Completing sets x xs done) = after_lane lanes (x.number % lanes)
 next_lane lanes from _ = from

@@ -12,6 +12,7 @@ pub record Turn : Type 0 where
   pub missed : ℕ
   pub lost : Bool
 
+-- an upload in turn of which nothing was sent
 abbrev pub fresh_turn : ℕ → Turn
 fresh_turn n = record { number = n; missed = 0; lost = false }
 
@@ -23,6 +24,7 @@ again x lost = record { number = x.number; missed = x.missed + 1; lost = x.lost 
 abbrev pub follow : ℕ → ℕ → ℕ → List Turn
 follow lanes total n = cond (nat_lt (n + lanes) total) (fresh_turn (n + lanes) ∷ []) []
 
+-- the turns of the first n lanes, each at its first upload
 abbrev pub first_turns : ℕ → List Turn
 first_turns zero = []
 first_turns (suc n) = first_turns n ++ fresh_turn n ∷ []
@@ -33,6 +35,7 @@ dealt lanes total = first_turns (min lanes total)
 
 -- ---- uploads by their numbers
 
+-- a pending upload that stands for none
 abbrev pub nothing_pending : Pending
 nothing_pending = record { task = 0; attempt = 0; bucket = []; destination = []; upload = 0; length = 0; tags = []; sizes = None }
 
@@ -42,12 +45,15 @@ nth [] n = nothing_pending
 nth (p ∷ ps) zero = p
 nth (p ∷ ps) (suc n) = nth ps n
 
+-- the CompleteUpload of a pending upload
 abbrev pub completion : Pending → Request
 completion p = CompleteUpload p.bucket p.destination p.upload (named_from 1 p.tags)
 
+-- the AbortUpload of a pending upload
 abbrev pub abort : Pending → Request
 abort p = AbortUpload p.bucket p.destination p.upload
 
+-- the deletion of a pending upload's key
 abbrev pub deletion : Pending → Request
 deletion p = DeleteObject p.bucket p.destination
 
@@ -58,6 +64,7 @@ abbrev pub is_tried : List Turn → ℕ → Bool
 is_tried [] n = false
 is_tried (x ∷ xs) n = (nat_eq n x.number && nat_lt 0 x.missed) || is_tried xs n
 
+-- a number is one of these
 abbrev pub is_in : List ℕ → ℕ → Bool
 is_in [] n = false
 is_in (m ∷ ms) n = nat_eq n m || is_in ms n
@@ -67,6 +74,7 @@ abbrev pub chosen : (ℕ → Bool) → ℕ → List Pending → List Pending
 chosen test n [] = []
 chosen test n (p ∷ ps) = cond (test n) (p ∷ chosen test (n + 1) ps) (chosen test (n + 1) ps)
 
+-- each of these uploads is aborted and its key deleted
 abbrev pub undo : List Pending → List Request
 undo [] = []
 undo (p ∷ ps) = abort p ∷ deletion p ∷ undo ps
@@ -76,6 +84,7 @@ abbrev pub in_turn : List Pending → List ℕ → List Pending
 in_turn all [] = []
 in_turn all (n ∷ ns) = in_turn all ns ++ nth all n ∷ []
 
+-- no completion of this upload was ever sent
 abbrev pub is_unsent : ℕ → List Turn → List ℕ → ℕ → Bool
 is_unsent worn xs finished n = not (nat_eq n worn || (is_tried xs n || is_in finished n))
 

@@ -48,6 +48,7 @@ has_op (Attempt t a) ops.Commit = true
 has_op (Attempt t a) ops.Abort = true
 has_op _ _ = false
 
+-- every operation goes on until it is over, and each actor has its operations
 pub record OperationTable : Type 0 where
   -- an operation asks a request exactly until it is over
   pub goes_on : (g : Setting) (a : Who) (k : Known) (op : Operation) → OneOf (asks g a k op) (over op)
@@ -70,6 +71,7 @@ spare_of (TheTaskAbort t) = t.spare
 spare_of (TheCommit c) = 0
 spare_of (TheClean t) = t.spare
 
+-- an operation ended with StoreFault
 abbrev pub is_fault : Option OpEnd → Bool
 is_fault (Some (ends.Setup setups.StoreFault)) = true
 is_fault (Some (ends.Task tasks.StoreFault)) = true
@@ -97,6 +99,7 @@ pub record IsShared (w : Script) (picks : Picks) (p : List ℕ) (t u : ℕ) : Ty
   -- no path before it is written twice
   pub least_path : (q : List ℕ) (v x : ℕ) → v < x → x < w.tasks → writes w picks q v ≡ true → writes w picks q x ≡ true → is_lt (text_cmp q p) ≡ false
 
+-- the path of SamePath is one that two picks write, and where none is found no two picks share one
 pub record SharedPaths : Type 0 where
   pub found : (w : Script) (picks : Picks) (e : CommitEnd) → same_path w picks ≡ Some e → (p : List ℕ) × (t : ℕ) × (u : ℕ) × (e ≡ SamePath p t u) × IsShared w picks p t u
   pub none : (w : Script) (picks : Picks) → same_path w picks ≡ None → (p : List ℕ) (t u : ℕ) → t < u → u < w.tasks → writes w picks p t ≡ true → writes w picks p u ≡ true → ⊥

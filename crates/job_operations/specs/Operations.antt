@@ -81,10 +81,12 @@ start_of g _ _ missing k = None
 
 -- ---- an operation with what its attempt knows
 
+-- an operation that goes on, with what its attempt knows
 pub record Running : Type 0 where
   pub operation : Operation
   pub known : Known
 
+-- the request that it asks next, or none
 abbrev pub wants : Setting → Actor → Running → Option Request
 wants g a m = asks g (who a) m.known m.operation
 
@@ -93,5 +95,6 @@ abbrev pub learn_of : Script → Who → Known → Option Request → Outcome �
 learn_of w a k (Some r) o = learn w a k r o
 learn_of w a k None o = k
 
+-- where the outcome of a sending leads it
 abbrev pub advance : Setting → Actor → Running → Outcome → Running
 advance g a m o = record { operation = tells g (who a) m.operation o; known = learn_of g.script (who a) m.known (wants g a m) o }

@@ -20,10 +20,12 @@ files w a = unwrap_or (files_of w a) []
 abbrev pub Picks : Type 0
 Picks = ℕ → Option ℕ
 
+-- the files of a task's pick
 abbrev pub files_picked : Script → ℕ → Option ℕ → List File
 files_picked w task (Some attempt) = files w (record { task = task; attempt = attempt })
 files_picked w task None = []
 
+-- the files of the picks of the first t tasks
 abbrev pub wanted_below : Script → Picks → ℕ → List File
 wanted_below w picks zero = []
 wanted_below w picks (suc t) = wanted_below w picks t ++ files_picked w t (picks t)
@@ -45,11 +47,13 @@ ordered (p ∷ ps) = insert_key text_cmp (ordered ps) p
 abbrev pub paths_of : List File → List (List ℕ)
 paths_of files = ordered (map (λ f. f.0) files)
 
+-- the paths that the picks write, each once, in the order of their bytes
 abbrev pub wanted_paths : Script → Picks → List (List ℕ)
 wanted_paths w picks = paths_of (wanted w picks)
 
 -- ---- picks that are complete, and picks that clash
 
+-- each of the first t tasks has its pick
 abbrev pub picked_below : Picks → ℕ → Bool
 picked_below picks zero = true
 picked_below picks (suc t) = picked_below picks t && is_some (picks t)
@@ -69,6 +73,7 @@ abbrev pub first_where : (ℕ → Bool) → ℕ → ℕ → Option ℕ
 first_where test t zero = None
 first_where test t (suc n) = cond (test t) (Some t) (first_where test (t + 1) n)
 
+-- the least number that passes the test, and the next one, where there are two
 abbrev pub second_where : (ℕ → Bool) → ℕ → Option ℕ → Option (ℕ × ℕ)
 second_where test n None = None
 second_where test n (Some t) = option_map (λ u. (t, u)) (first_where test (t + 1) (n - (t + 1)))
@@ -82,6 +87,7 @@ abbrev pub shared_by : List ℕ → Option (ℕ × ℕ) → Option CommitEnd →
 shared_by p (Some tasks) others = Some (SamePath p tasks.0 tasks.1)
 shared_by p None others = others
 
+-- the first of these paths that two picks write, with the two least tasks that do
 abbrev pub first_shared : Script → Picks → List (List ℕ) → Option CommitEnd
 first_shared w picks [] = None
 first_shared w picks (p ∷ ps) = shared_by p (two_where (writes w picks p) w.tasks) (first_shared w picks ps)

@@ -18,6 +18,7 @@ use Rattle.job_operations.specs.Knowledge.{drawn_for}
 
 -- ---- the keys of a file: its own, that of its marker and that of its record
 
+-- the key of a file below the destination
 abbrev pub file_key : Script → File → List ℕ
 file_key w f = below w.dest.key f.0
 
@@ -25,9 +26,11 @@ file_key w f = below w.dest.key f.0
 abbrev pub attempt_dir : Script → Who → List ℕ
 attempt_dir w a = layout.attempt_key w.dest.key w.job a.task a.attempt
 
+-- the key of a file's marker in the attempt's magic directory
 abbrev pub marker_key : Script → Who → File → List ℕ
 marker_key w a f = below (attempt_dir w a) f.0
 
+-- the key of a file's record (SinglePendingCommit) in the attempt's magic directory
 abbrev pub record_key : Script → Who → File → List ℕ
 record_key w a f = below (attempt_dir w a) (f.0 ++ codes ".pending")
 
@@ -52,6 +55,7 @@ file_record w a f d = record {
   sizes = sizes_by w.committer d.sizes;
 }
 
+-- the text of the record of a file's upload
 abbrev pub record_text : Script → Who → File → Drawn → List ℕ
 record_text w a f d = compact_text (pending_tree (file_record w a f d))
 
@@ -59,6 +63,7 @@ record_text w a f d = compact_text (pending_tree (file_record w a f d))
 abbrev pub files_set : Script → Who → List File → Known → PendingSet
 files_set w a commits k = record { job = w.job; task = a.task; attempt = a.attempt; commits = map (λ f. file_record w a f (drawn_for k (file_key w f))) commits }
 
+-- the text of the set (PendingSet) that publishes these files
 abbrev pub set_text : Script → Who → List File → Known → List ℕ
 set_text w a commits k = compact_text (set_tree (files_set w a commits k))
 
@@ -66,5 +71,6 @@ set_text w a commits k = compact_text (set_tree (files_set w a commits k))
 abbrev pub mark_of : Script → Picks → SuccessMark
 mark_of w picks = record { job = w.job; committer = w.committer; files = wanted_paths w picks; stamp = w.stamp }
 
+-- the text of `_SUCCESS`
 abbrev pub mark_text : Script → Picks → List ℕ
 mark_text w picks = compact_text (success_tree (mark_of w picks))

@@ -17,6 +17,7 @@ use Rattle.job_operations.specs.View.{is_file_path}
 use Rattle.job_operations.specs.Conflicts.{checks_all}
 use Rattle.list_walk.specs.Walks.{Walked, More, Whole, keys_on, page_after, walked, Sweep, sweep_start, sweep_asks, sweep_hears, all_go}
 
+-- how far a job's set-up has come
 pub data Setup : Type 0 where
   -- looks at the destination's own key
   Heading : Setup
@@ -32,9 +33,11 @@ pub data Setup : Type 0 where
 abbrev pub dest_prefix : Script → List ℕ
 dest_prefix w = w.dest.key ++ codes "/"
 
+-- a set-up begins with a look at the destination's own key
 abbrev pub setup_start : Setup
 setup_start = Heading
 
+-- what a set-up asks next, or nothing where it is over
 abbrev pub setup_asks : Script → Setup → Option Request
 setup_asks w Heading = Some (HeadObject w.dest.bucket w.dest.key)
 setup_asks w (Checking keys) = Some (page_after w.dest.bucket (dest_prefix w) keys)
@@ -52,6 +55,7 @@ abbrev pub shown_path : Option (List ℕ) → Option (List ℕ)
 shown_path None = None
 shown_path (Some p) = cond (is_file_path p) (Some p) None
 
+-- a path, where there is one, and else the next
 abbrev pub or_next : Option (List ℕ) → Option (List ℕ) → Option (List ℕ)
 or_next (Some p) next = Some p
 or_next None next = next
@@ -61,23 +65,28 @@ abbrev pub first_shown : Script → List (List ℕ) → Option (List ℕ)
 first_shown w [] = None
 first_shown w (k ∷ ks) = or_next (shown_path (relative_in w.dest.key k)) (first_shown w ks)
 
+-- where a page without a file of the view leads
 abbrev pub checked_on : Walked (List ℕ) → Setup
 checked_on (More keys) = Checking keys
 checked_on (Whole keys) = Clearing
 
+-- a file of the view is a conflict, and else the listing goes on
 abbrev pub checked_by : Option (List ℕ) → Walked (List ℕ) → Setup
 checked_by (Some p) next = SetupOver (ends.Conflict p)
 checked_by None next = checked_on next
 
+-- where a page of the destination's keys leads
 abbrev pub checked : Script → List (List ℕ) → Reply → Setup
 checked w keys (Page entries more) = checked_by (first_shown w (keys_on entries)) (walked keys (Page entries more))
 checked w keys _ = Checking keys
 
+-- what follows once the old marker is gone: the magic committer sweeps its directory, the others are Done
 abbrev pub cleared : Committer → Setup
 cleared Magic = Sweeping sweep_start
 cleared Directory = SetupOver ends.Done
 cleared Partitioned = SetupOver ends.Done
 
+-- where a reply to the sweep leads; behind the last one it is Done
 abbrev pub sweeping : Option Sweep → Setup
 sweeping (Some s) = Sweeping s
 sweeping None = SetupOver ends.Done
@@ -91,6 +100,7 @@ lacks_bucket _ = false
 abbrev pub if_bucket : Reply → Setup → Setup
 if_bucket r next = cond (lacks_bucket r) (SetupOver ends.NoSuchBucket) next
 
+-- where an answer leads
 abbrev pub setup_hears : Script → Setup → Reply → Setup
 setup_hears w Heading r = if_bucket r (headed w r)
 setup_hears w (Checking keys) r = if_bucket r (checked w keys r)
@@ -98,6 +108,7 @@ setup_hears w Clearing r = if_bucket r (cleared w.committer)
 setup_hears w (Sweeping s) r = if_bucket r (sweeping (sweep_hears all_go s r))
 setup_hears w (SetupOver end) r = SetupOver end
 
+-- how a set-up ended, if it has
 abbrev pub setup_over : Setup → Option SetupEnd
 setup_over (SetupOver end) = Some end
 setup_over _ = None

@@ -25,6 +25,7 @@ use Rattle.job_model.specs.Known.{Known}
 use Rattle.job_operations.specs.Records.{file_key, attempt_dir, record_key, set_text}
 use Rattle.job_operations.specs.Uploading.{Uploading, Creating, Uploaded, GoesOn, AllSent, IsGone, upload_asks, upload_hears}
 
+-- how far a task's commit has come
 pub data TaskCommit : Type 0 where
   -- magic: lists the attempt's own directory, with the keys so far
   Looking : (keys : List (List ℕ)) → TaskCommit
@@ -46,6 +47,7 @@ pub data TaskCommit : Type 0 where
 abbrev pub attempt_prefix : Script → Who → List ℕ
 attempt_prefix w a = attempt_dir w a ++ codes "/"
 
+-- the cluster path of an attempt's temporary file
 abbrev pub temporary_path : Script → Who → List ℕ
 temporary_path w a = layout.temporary_path w.job a.task a.attempt
 
@@ -53,6 +55,7 @@ temporary_path w a = layout.temporary_path w.job a.task a.attempt
 abbrev pub partition_prefix : Script → List ℕ → List ℕ
 partition_prefix w d = below w.dest.key (d ++ codes "/")
 
+-- what a task's commit asks next, or nothing where it is over
 abbrev pub task_commit_asks : Script → Who → Known → TaskCommit → Option Request
 task_commit_asks w a k (Looking keys) = Some (page_after w.dest.bucket (attempt_prefix w a) keys)
 task_commit_asks w a k (Reading cs f fs) = Some (GetObject w.dest.bucket (record_key w a f))
@@ -65,6 +68,7 @@ task_commit_asks w a k (TaskCommitOver end) = None
 
 -- ---- magic
 
+-- the lesser of two keys
 abbrev pub least_of : Option (List ℕ) → List ℕ → List ℕ
 least_of None k = k
 least_of (Some l) k = cond (is_lt (text_cmp l k)) l k
@@ -78,6 +82,7 @@ least_missing listed (k ∷ ks) = cond (list_any (text_eq k) listed) (least_miss
 abbrev pub in_order : Script → Who → List (List ℕ) → List File
 in_order w a keys = flat_map (λ k. filter (λ f. text_eq (record_key w a f) k) (files w a)) keys
 
+-- the next record is read; behind the last one the set is put
 abbrev pub reading : List File → List File → TaskCommit
 reading cs [] = Publishing cs
 reading cs (f ∷ fs) = Reading cs f fs
@@ -87,20 +92,24 @@ abbrev pub looked_at : Option (List ℕ) → List File → TaskCommit
 looked_at (Some k) cs = TaskCommitOver (ends.Gone k)
 looked_at None cs = reading cs cs
 
+-- where a page of the attempt's own directory leads
 abbrev pub looked : Script → Who → Walked (List ℕ) → TaskCommit
 looked w a (More keys) = Looking keys
 looked w a (Whole keys) = looked_at (least_missing keys (map (record_key w a) (files w a))) (in_order w a keys)
 
+-- where the read of a record leads; one that is not there is Gone
 abbrev pub read_record : Script → Who → List File → File → List File → Reply → TaskCommit
 read_record w a cs f fs (Refused NoSuchKey) = TaskCommitOver (ends.Gone (record_key w a f))
 read_record w a cs f fs _ = reading cs fs
 
 -- ---- staging
 
+-- the next file is uploaded; behind the last one the set is put into the temporary file
 abbrev pub storing : List File → TaskCommit
 storing [] = Storing
 storing (f ∷ fs) = Uploads f fs Creating
 
+-- the next partition is looked at; behind the last one the files are uploaded
 abbrev pub checking : Script → Who → List (List ℕ) → TaskCommit
 checking w a [] = storing (files w a)
 checking w a (d ∷ ds) = Checking d ds
@@ -111,6 +120,7 @@ checked w a d ds (Page [] more) = checking w a ds
 checked w a d ds (Page (x ∷ xs) more) = TaskCommitOver (ends.Conflict d)
 checked w a d ds _ = Checking d ds
 
+-- where a reply to a file's upload leads
 abbrev pub uploaded : Script → File → List File → Uploaded → TaskCommit
 uploaded w f fs (GoesOn u) = Uploads f fs u
 uploaded w f fs AllSent = storing fs
@@ -127,14 +137,17 @@ to_check w a = cond (checks_partitions w.committer w.mode) (partitions (paths_of
 
 -- ---- the operation
 
+-- how each committer's task commit begins
 abbrev pub task_commit_start_by : Committer → Script → Who → TaskCommit
 task_commit_start_by Magic w a = Looking []
 task_commit_start_by Directory w a = checking w a (to_check w a)
 task_commit_start_by Partitioned w a = checking w a (to_check w a)
 
+-- where a task's commit begins
 abbrev pub task_commit_start : Script → Who → TaskCommit
 task_commit_start w a = task_commit_start_by w.committer w a
 
+-- where an answer leads; `repeated` says whether an earlier sending of the request was lost
 abbrev pub task_commit_hears : Script → ℕ → Who → TaskCommit → Reply → Bool → TaskCommit
 task_commit_hears w minimum a (Looking keys) r repeated = looked w a (walked keys r)
 task_commit_hears w minimum a (Reading cs f fs) r repeated = read_record w a cs f fs r
@@ -145,10 +158,12 @@ task_commit_hears w minimum a Storing r repeated = Renaming
 task_commit_hears w minimum a Renaming r repeated = renamed w a r repeated
 task_commit_hears w minimum a (TaskCommitOver end) r repeated = TaskCommitOver end
 
+-- how a task's commit ended, if it has
 abbrev pub task_commit_over : TaskCommit → Option TaskEnd
 task_commit_over (TaskCommitOver end) = Some end
 task_commit_over _ = None
 
+-- where it stands after an answer, after a request that wore out, or after want of memory
 abbrev pub task_commit_after : Script → ℕ → Who → TaskCommit → Item → TaskCommit
 task_commit_after w minimum a t (Got r repeated) = task_commit_hears w minimum a t r repeated
 task_commit_after w minimum a t WornOut = TaskCommitOver ends.StoreFault

@@ -12,6 +12,7 @@ use Rattle.job_model.specs.Known.{Known}
 use Rattle.job_operations.specs.Knowledge.{drawn_last}
 use Rattle.job_operations.specs.Records.{file_key}
 
+-- how far the upload of a file has come
 pub data Uploading : Type 0 where
   -- begins the upload
   Creating : Uploading
@@ -26,6 +27,7 @@ pub data Uploaded : Type 0 where
   -- the upload is not there
   IsGone : Uploaded
 
+-- what the upload of a file asks next
 abbrev pub upload_asks : Script → Known → File → Uploading → Request
 upload_asks w k f Creating = CreateUpload w.dest.bucket (file_key w f)
 upload_asks w k f (Sending p ps) = UploadPart w.dest.bucket (file_key w f) (drawn_last k).upload (length (drawn_last k).tags + 1) p
@@ -34,18 +36,22 @@ upload_asks w k f (Sending p ps) = UploadPart w.dest.bucket (file_key w f) (draw
 abbrev pub file_parts : Script → ℕ → File → List (List ℕ)
 file_parts w minimum f = parts_of (block_of (length f.1) w.block minimum) f.1
 
+-- the next of these parts is sent, until all are
 abbrev pub sending : List (List ℕ) → Uploaded
 sending [] = AllSent
 sending (p ∷ ps) = GoesOn (Sending p ps)
 
+-- where the reply to CreateUpload leads
 abbrev pub created : Script → ℕ → File → Reply → Uploaded
 created w minimum f (Upload id) = sending (file_parts w minimum f)
 created w minimum f _ = GoesOn Creating
 
+-- where the reply to UploadPart leads; an upload that is not there is gone
 abbrev pub sent_part : List (List ℕ) → Reply → Uploaded
 sent_part ps (Refused NoSuchUpload) = IsGone
 sent_part ps _ = sending ps
 
+-- where an answer leads
 abbrev pub upload_hears : Script → ℕ → File → Uploading → Reply → Uploaded
 upload_hears w minimum f Creating r = created w minimum f r
 upload_hears w minimum f (Sending p ps) r = sent_part ps r

@@ -21,6 +21,7 @@ is_folder (x ∷ y ∷ p) = is_folder (y ∷ p)
 abbrev pub is_file_path : List ℕ → Bool
 is_file_path p = not (is_folder p) && not (begins (codes "__magic/") p) && not (bytes_eq p (codes "_SUCCESS"))
 
+-- the object at a key of a bucket, or none
 abbrev pub object_in : Option BucketContent → List ℕ → Option Object
 object_in None k = None
 object_in (Some b) k = fin.get b.objects k

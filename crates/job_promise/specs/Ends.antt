@@ -34,6 +34,7 @@ pub record EndedIn (w : Script) (xs : List EventEnd) (journal : List Entry) (j :
 
 -- ---- the driver's commit
 
+-- an end, where there is one, and else another
 abbrev pub end_or : Option CommitEnd → CommitEnd → CommitEnd
 end_or (Some e) other = e
 end_or None other = other
@@ -44,6 +45,7 @@ commit_due w picks (Some t) worn = commits.Missing t
 commit_due w picks None (Some r) = commits.StoreFault (stage_of r)
 commit_due w picks None None = end_or (same_path w picks) commits.Committed
 
+-- the actor is the job's driver
 abbrev pub is_driver : Actor → Bool
 is_driver Driver = true
 is_driver _ = false

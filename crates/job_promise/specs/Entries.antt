@@ -12,6 +12,7 @@ use Rattle.job_promise.specs.Headline.{Same}
 use Rattle.job_promise.specs.Scope.{SameOutside}
 use Rattle.job_promise.specs.Turns.{is_own}
 
+-- the request is a CopyObject
 abbrev pub is_copy : Request → Bool
 is_copy (CopyObject bucket source target) = true
 is_copy _ = false

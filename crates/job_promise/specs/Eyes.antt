@@ -13,6 +13,7 @@ number_in mine (suc n) = cond (mine (suc n)) (number_in mine n + 1) (number_in m
 abbrev pub actor_in : (ℕ → Bool) → Entry → Actor
 actor_in mine e = cond (mine e.event) e.actor Shell
 
+-- an entry as the job reads it
 abbrev pub entry_in : (ℕ → Bool) → Entry → Entry
 entry_in mine e = record { event = number_in mine e.event; actor = actor_in mine e; request = e.request; outcome = e.outcome }
 

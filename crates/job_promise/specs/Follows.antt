@@ -25,9 +25,11 @@ known_then g a d es = knows g.script (who a) (before d.since es)
 abbrev pub begun_as : Setting → Actor → Doing → List Entry → Option Operation
 begun_as g a d es = start_of g a d.op d.missing (known_then g a d es)
 
+-- the operation that an actor began, with what it knew then
 abbrev pub running : Setting → Actor → Doing → List Entry → Operation → Running
 running g a d es op = record { operation = op; known = known_then g a d es }
 
+-- since its operation began, an actor's entries are what that asks next; nothing was asked of what was not begun
 abbrev pub FollowsFrom : Setting → Actor → Doing → List Entry → Option Operation → Type 0
 FollowsFrom g a d es None = ⊥
 FollowsFrom g a d es (Some op) = sendings.Follows (wants g a) (advance g a) (running g a d es op) (since d.since es)
@@ -36,6 +38,7 @@ FollowsFrom g a d es (Some op) = sendings.Follows (wants g a) (advance g a) (run
 abbrev pub OpFollows : Setting → Actor → Doing → List Entry → Type 0
 OpFollows g a d es = FollowsFrom g a d es (begun_as g a d es)
 
+-- how an operation is over that was begun so, if it is
 abbrev pub over_from : Setting → Actor → Doing → List Entry → Option Operation → Option OpEnd
 over_from g a d es None = None
 over_from g a d es (Some op) = over (sendings.run (advance g a) (running g a d es op) (since d.since es)).operation
@@ -73,6 +76,7 @@ pub record Going (g : Setting) (xs : List EventEnd) (journal : List Entry) (ev :
   pub turns : refusal (past g.script xs).state ev ≡ None → OpenTurns g.script (past g.script xs).state ev (of_event (length xs + 1) journal)
   pub silent : (f : EventFault) → refusal (past g.script xs).state ev ≡ Some f → of_event (length xs + 1) journal ≡ []
 
+-- an event that was begun and has no end yet went as far as it did by the rules
 abbrev pub IsUnended : Setting → List EventEnd → List Entry → Type 0
 IsUnended g xs journal = (ev : Event) → slice_get g.script.events (length xs) ≡ Some ev → Going g xs journal ev
 

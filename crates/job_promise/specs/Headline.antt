@@ -15,6 +15,7 @@ use Rattle.job_promise.specs.Seen.{Seen, seen, is_marked}
 abbrev pub Same : Shown → Shown → Type 0
 Same v u = (p : List ℕ) → v p ≡ u p
 
+-- the bytes, where there are any, and else others
 abbrev pub or_else : Option (List ℕ) → Option (List ℕ) → Option (List ℕ)
 or_else (Some b) o = Some b
 or_else None o = o

@@ -93,6 +93,7 @@ TaskMay ops.Abort w a es sent cleaned tasks.Kept = sent ≡ true
 TaskMay ops.Abort w a es sent cleaned tasks.Done = sent ≡ false
 TaskMay op w a es sent cleaned e = ⊥
 
+-- the end of an attempt's operation: StoreFault where a request of it wore out, and else one that has its cause
 abbrev pub TaskIs : Op → Script → Who → List Entry → Bool → Bool → Option Request → TaskEnd → Type 0
 TaskIs op w a es sent cleaned (Some r) e = e ≡ tasks.StoreFault
 TaskIs op w a es sent cleaned None e = TaskMay op w a es sent cleaned e
@@ -109,6 +110,7 @@ pub record WasPublished (w : Script) (opening : Content) (journal : List Entry) 
 
 -- ---- the driver's abort and clean
 
+-- the end of a job's abort or clean: StoreFault where a request of it wore out, and else Done
 abbrev pub CleanIs : Option Request → CleanEnd → Type 0
 CleanIs (Some r) e = e ≡ cleans.StoreFault
 CleanIs None e = e ≡ cleans.Done

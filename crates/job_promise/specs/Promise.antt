@@ -36,6 +36,7 @@ use Rattle.job_promise.specs.OperationEnds.{SetupIs, TaskIs, WasPublished, Clean
 
 -- ---- the picks of a report
 
+-- a task's pick as a report tells it
 abbrev pub picked : ℕ → Option ℕ → List Pick
 picked t None = []
 picked t (Some a) = record { task = t; attempt = a } ∷ []
@@ -59,6 +60,7 @@ ArePicked ps all = (others : List Pick) × (ps ++ others ≡ all)
 
 -- ---- ends of operations: each in event j + 1 of the run, with the operation's own entries
 
+-- what stays while a job's operations go on: its script, and the least size of a part
 abbrev pub setting : Script → Content → Setting
 setting w opening = record { script = w; minimum = opening.minimum }
 
@@ -96,6 +98,7 @@ pub record CommitEnds (w : Script) (opening : Content) (journal : List Entry) (x
   -- a set that it read was there, and a completion was refused only where an earlier sending of it was lost
   pub served : AreOwn journal → CommitServed w es
 
+-- each commit of the job that ended did so as is due, and left what it should
 abbrev pub CommitsEnd : Script → Content → List Entry → List EventEnd → Type 0
 CommitsEnd w opening journal xs = (j : ℕ) (d : Doing) (e : CommitEnd) (es : List Entry) → EndedIn w xs journal j Driver d (ends.Commit e) es → CommitEnds w opening journal xs j d e es
 

@@ -12,6 +12,7 @@ use Rattle.job_model.specs.JobScript.{Script}
 use Rattle.job_operations.specs.View.{object_at}
 use Rattle.job_operations.specs.Setup.{dest_prefix}
 
+-- the live upload of an id in a bucket, or none
 abbrev pub upload_in : Option BucketContent → ℕ → Option Upload
 upload_in None id = None
 upload_in (Some b) id = fin.get b.uploads id

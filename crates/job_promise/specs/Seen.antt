@@ -22,11 +22,13 @@ use Rattle.job_operations.specs.Knowledge.{is_set_key, is_set_path}
 
 -- ---- requests that publish, read and mark
 
+-- the magic committer
 abbrev pub is_magic : Committer → Bool
 is_magic Magic = true
 is_magic Directory = false
 is_magic Partitioned = false
 
+-- a staging committer: directory or partitioned
 abbrev pub is_staging : Committer → Bool
 is_staging Magic = false
 is_staging Directory = true
@@ -97,12 +99,15 @@ see_by w k s n r o Driver = see_driver w (s.begun || is_begun k n) s r o
 see_by w k s n r o (Attempt task attempt) = see_attempt w s task attempt r o
 see_by w k s n r o Shell = record { scene = effect s.scene r o; begun = s.begun; last = s.last; picks = s.picks; put_mark = s.put_mark }
 
+-- what is seen after one more entry of the journal
 abbrev pub see : Script → Option ℕ → Seen → Entry → Seen
 see w k s e = see_by w k s e.event e.request e.outcome e.actor
 
+-- what is seen before the first entry
 abbrev pub nothing_seen : Content → Seen
 nothing_seen content = record { scene = opening content; begun = false; last = λ t. None; picks = λ t. None; put_mark = false }
 
+-- what is seen after these entries
 abbrev pub see_all : Script → Option ℕ → Seen → List Entry → Seen
 see_all w k s [] = s
 see_all w k s (e ∷ es) = see_all w k (see w k s e) es

@@ -31,6 +31,7 @@ use Rattle.job_model.specs.declared.states.ActorState.{ActorState}
 
 -- ---- actors
 
+-- two actors are the same
 abbrev pub same_actor : Actor → Actor → Bool
 same_actor Driver Driver = true
 same_actor (Attempt t a) (Attempt u b) = nat_eq t u && nat_eq a b
@@ -58,26 +59,32 @@ stage_done stage.Writing = stage.Written
 stage_done stage.Committing = stage.Committed
 stage_done _ = stage.Aborted
 
+-- the actor is idle, in this stage
 abbrev pub idle : ActorStage → ActorState
 idle s = record { life = Idle; stage = s }
 
+-- the actor is dead, in this stage
 abbrev pub dead : ActorStage → ActorState
 dead s = record { life = Dead; stage = s }
 
+-- the driver's state after a set-up that ended so
 abbrev pub setup_ended : SetupEnd → ActorStage → ActorState
 setup_ended setups.Done s = idle stage.Set
 setup_ended setups.NoMemory s = dead s
 setup_ended _ s = idle stage.New
 
+-- the driver's state after a commit that ended so
 abbrev pub commit_ended : CommitEnd → ActorStage → ActorState
 commit_ended commits.Committed s = idle stage.Committed
 commit_ended commits.NoMemory s = dead s
 commit_ended _ s = idle stage.Failed
 
+-- the driver's state after an abort or clean that ended so
 abbrev pub clean_ended : CleanEnd → ActorStage → ActorState
 clean_ended cleans.NoMemory s = dead s
 clean_ended _ s = idle s
 
+-- an attempt's state after an operation that ended so
 abbrev pub task_ended : TaskEnd → ActorStage → ActorState
 task_ended tasks.Done s = idle (stage_done s)
 task_ended tasks.Kept s = idle s
@@ -140,14 +147,17 @@ first_not p t (suc n) = cond (p t) (first_not p (t + 1) n) (Some t)
 abbrev pub missing : Script → (ℕ → Bool) → Option ℕ
 missing w reported = first_not reported 0 w.tasks
 
+-- what is known of the driver's last set-up once an operation begins
 abbrev pub setup_begun : Actor → Op → Decided → Decided
 setup_begun Driver Setup d = Unended
 setup_begun _ _ d = d
 
+-- what is known of the driver's commit once an operation begins
 abbrev pub commit_begun : Actor → Op → Decided → Decided
 commit_begun Driver Commit d = Unended
 commit_begun _ _ d = d
 
+-- what is past once an actor begins an operation
 abbrev pub begin : Script → Past → Actor → Op → Past
 begin w p a op = record {
   events = p.events;
@@ -159,6 +169,7 @@ begin w p a op = record {
   commit = commit_begun a op p.commit;
 }
 
+-- what is past once an actor is killed
 abbrev pub kill : Past → Actor → Past
 kill p a = record p { state = put p.state a (dead (p.state a).stage) }
 
@@ -177,10 +188,12 @@ open_event w p (Mix seed) = p
 open_event w p Restart = restart p
 open_event w p (Recover a) = p
 
+-- the stage of a commit that goes on
 abbrev pub is_committing : ActorStage → Bool
 is_committing stage.Committing = true
 is_committing _ = false
 
+-- an attempt's operation ended Done
 abbrev pub is_done : OpEnd → Bool
 is_done (ends.Task tasks.Done) = true
 is_done _ = false
@@ -191,6 +204,7 @@ report (Attempt task attempt) s e reported t = reported t || (nat_eq t task && (
 report Driver s e reported t = reported t
 report Shell s e reported t = reported t
 
+-- what an actor began last is a set-up
 abbrev pub is_setup : Option Doing → Bool
 is_setup None = false
 is_setup (Some d) = is d.op
@@ -199,6 +213,7 @@ is_setup (Some d) = is d.op
     is Setup = true
     is _ = false
 
+-- what an actor began last is a commit
 abbrev pub is_commit : Option Doing → Bool
 is_commit None = false
 is_commit (Some d) = is d.op
@@ -212,6 +227,7 @@ abbrev pub decide : Actor → Bool → OpEnd → Decided → Decided
 decide Driver true e d = EndedSo e
 decide _ _ e d = d
 
+-- what is past once an actor's operation has ended
 abbrev pub end_op : Past → ActorEnd → Past
 end_op p x = record {
   events = p.events;
@@ -223,6 +239,7 @@ end_op p x = record {
   commit = decide x.actor (is_commit (p.doing x.actor)) x.end p.commit;
 }
 
+-- what is past once these operations have ended, in this order
 abbrev pub end_ops : Past → List ActorEnd → Past
 end_ops p [] = p
 end_ops p (x ∷ xs) = end_ops (end_op p x) xs
@@ -245,6 +262,7 @@ told ev (Ended e) = record { actor = actor_named ev; end = e } ∷ []
 told ev (Mixed xs) = xs
 told ev (Refused f) = []
 
+-- what is past once an event is over
 abbrev pub count : Past → Past
 count p = record p { events = p.events + 1 }
 
@@ -257,6 +275,7 @@ after_event w p ev end = count (end_ops (open_event w p ev) (told ev end))
 abbrev pub nothing_past : Past
 nothing_past = record { events = 0; state = λ a. idle stage.New; doing = λ a. None; attempt = 1; reported = λ t. false; setup = NotBegun; commit = NotBegun }
 
+-- what is past after these events with these ends
 abbrev pub past_from : Script → Past → List Event → List EventEnd → Past
 past_from w p evs [] = p
 past_from w p [] (x ∷ xs) = p
@@ -268,26 +287,32 @@ past w xs = past_from w nothing_past w.events xs
 
 -- ---- refusals, in the order of the checks
 
+-- the stage before a set-up or a write
 abbrev pub is_new : ActorStage → Bool
 is_new stage.New = true
 is_new _ = false
 
+-- the stage after a set-up that is done
 abbrev pub is_set : ActorStage → Bool
 is_set stage.Set = true
 is_set _ = false
 
+-- the stage after a write that is done
 abbrev pub is_written : ActorStage → Bool
 is_written stage.Written = true
 is_written _ = false
 
+-- the stage after a commit that is done
 abbrev pub is_committed : ActorStage → Bool
 is_committed stage.Committed = true
 is_committed _ = false
 
+-- the stage after an operation that failed
 abbrev pub is_failed : ActorStage → Bool
 is_failed stage.Failed = true
 is_failed _ = false
 
+-- the stage after an abort
 abbrev pub is_aborted : ActorStage → Bool
 is_aborted stage.Aborted = true
 is_aborted _ = false
@@ -308,6 +333,7 @@ attempt_may Abort s = not (is_aborted s)
 attempt_may Setup s = false
 attempt_may Clean s = false
 
+-- the stages in which an actor may begin an operation
 abbrev pub may : Actor → Op → ActorStage → Bool
 may Driver op s = driver_may op s
 may (Attempt t a) op s = attempt_may op s
@@ -318,24 +344,29 @@ abbrev pub needs_set : Actor → Op → Bool
 needs_set Driver Setup = false
 needs_set _ _ = true
 
+-- why an operation is refused to an actor who is idle, if it is
 abbrev pub refuse_op : ActorStage → Actor → Op → ActorStage → Option EventFault
 refuse_op driver a op s = if needs_set a op && is_new driver then Some faults.NotSet else (if may a op s then None else Some faults.WrongState)
 
+-- who is dead or busy begins nothing
 abbrev pub refuse_begin : Life → Option EventFault → Option EventFault
 refuse_begin Dead r = Some faults.Dead
 refuse_begin Busy r = Some faults.Busy
 refuse_begin Idle r = r
 
+-- who is not busy has nothing to send
 abbrev pub refuse_move : Life → Option EventFault
 refuse_move Dead = Some faults.Dead
 refuse_move Idle = Some faults.Idle
 refuse_move Busy = None
 
+-- who is dead is not killed again
 abbrev pub refuse_kill : Life → Option EventFault
 refuse_kill Dead = Some faults.Dead
 refuse_kill Idle = None
 refuse_kill Busy = None
 
+-- a driver that is not dead is not restarted
 abbrev pub refuse_restart : Life → Option EventFault
 refuse_restart Dead = None
 refuse_restart Idle = Some faults.NotDead
@@ -354,11 +385,13 @@ refusal st (Recover a) = Some faults.NoRecovery
 
 -- ---- the event of the job's commit
 
+-- the event begins the driver's commit
 abbrev pub begins_commit : Event → Bool
 begins_commit (Do Driver Commit) = true
 begins_commit (Start Driver Commit) = true
 begins_commit _ = false
 
+-- the event was refused
 abbrev pub is_refused : EventEnd → Bool
 is_refused (Refused f) = true
 is_refused _ = false
@@ -381,6 +414,7 @@ event_from p n (ev ∷ evs) (x ∷ xs) = cond (p ev && not (is_refused x)) (Some
 abbrev pub commit_from : ℕ → List Event → List EventEnd → Option ℕ
 commit_from n evs xs = event_from begins_commit n evs xs
 
+-- the number of the first event that begins the driver's commit and is not refused, if one does
 abbrev pub commit_event : Script → List EventEnd → Option ℕ
 commit_event w xs = commit_from 1 w.events xs
 

@@ -31,22 +31,27 @@ is_own Driver = true
 is_own (Attempt task attempt) = true
 is_own Shell = false
 
--- the job's own entries; those of event k; of the events up to k; of those before k; from k on; of an actor
+-- the entries of the job's own actors
 abbrev pub own : List Entry → List Entry
 own es = filter (λ e. is_own e.actor) es
 
+-- the job's own entries of event k
 abbrev pub of_event : ℕ → List Entry → List Entry
 of_event k es = filter (λ e. is_own e.actor && nat_eq e.event k) es
 
+-- the entries of the events up to k
 abbrev pub until : ℕ → List Entry → List Entry
 until k es = filter (λ e. nat_le e.event k) es
 
+-- the entries of the events before k
 abbrev pub before : ℕ → List Entry → List Entry
 before k es = filter (λ e. nat_lt e.event k) es
 
+-- the entries of event k and of later ones
 abbrev pub since : ℕ → List Entry → List Entry
 since k es = filter (λ e. nat_le k e.event) es
 
+-- the entries of an actor
 abbrev pub by_actor : Actor → List Entry → List Entry
 by_actor a es = filter (λ e. same_actor e.actor a) es
 
@@ -71,6 +76,7 @@ draw seed (suc i) = (1103515245 * draw seed i + 12345) % 2 ^ 31
 abbrev pub place : ℕ → ℕ → ℕ → ℕ
 place seed i n = draw seed i / 65536 % n
 
+-- the actor has an operation that goes on
 abbrev pub is_busy : Life → Bool
 is_busy Busy = true
 is_busy Idle = false
@@ -149,6 +155,7 @@ abbrev pub AllFrom : ℕ → List Entry → Type 0
 AllFrom n [] = Unit {0}
 AllFrom n (e ∷ es) = (n ≤ e.event) × AllFrom n es
 
+-- the numbers of the entries' events never fall
 abbrev pub IsRising : List Entry → Type 0
 IsRising [] = Unit {0}
 IsRising (e ∷ es) = AllFrom e.event es × IsRising es

@@ -16,17 +16,21 @@ FitsSetup Clearing r = Unit {0}
 FitsSetup (Sweeping s) r = FitsSweep s r ⊎ (lacks_bucket r ≡ true)
 FitsSetup (SetupOver end) r = Unit {0}
 
+-- a reply that a set-up of a plan may be told
 abbrev pub FitsDriving : Driving Setup → Reply → Bool → Type 0
 FitsDriving m r repeated = FitsSetup m.operation r
 
+-- how a set-up stands that ended so
 abbrev pub standing_at : SetupEnd → Standing
 standing_at StoreFault = Faulted
 standing_at NoMemory = Broken
 standing_at _ = Fine
 
+-- how a set-up stands by its end
 abbrev pub standing_of : Setup → Standing
 standing_of (SetupOver end) = standing_at end
 standing_of _ = Fine
 
+-- how a set-up of a plan stands by its end
 abbrev pub standing : Driving Setup → Standing
 standing m = standing_of m.operation

@@ -17,6 +17,7 @@ setup_at stages.Clearing keys sweep end = Clearing
 setup_at stages.Sweeping keys sweep end = Sweeping sweep
 setup_at stages.Over keys sweep end = SetupOver end
 
+-- the set-up that what is kept stands for
 abbrev pub setup_of : Held → Setup
 setup_of h = setup_at h.stage (keys_on h.walk) h.sweep h.end
 

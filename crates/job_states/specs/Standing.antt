@@ -35,6 +35,7 @@ killed_in s = record { state = dead s.state.stage; begun = s.begun }
 abbrev pub renewed_in : Standing → Standing
 renewed_in s = record { state = idle (restarted s.state.stage); begun = s.begun }
 
+-- two operations are the same
 abbrev pub same_op : Op → Op → Bool
 same_op ops.Setup ops.Setup = true
 same_op ops.Write ops.Write = true

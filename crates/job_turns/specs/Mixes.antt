@@ -5,6 +5,7 @@ use Rattle.job_model.specs.declared.ends.ActorEnd.{ActorEnd}
 use Rattle.job_promise.specs.Turns.{Mixing, draw}
 use Rattle.job_turns.specs.Turning.{Table}
 
+-- a number is none of these
 abbrev pub IsNotIn : ℕ → List ℕ → Type 0
 IsNotIn a [] = Unit {0}
 IsNotIn a (x ∷ xs) = (x ≡ a → ⊥) × IsNotIn a xs

@@ -45,6 +45,7 @@ Turned place s t GoesOn = Beside place s t × Sending place s t × (t.goes_on pl
 Turned place s t Ended = Beside place s t × Sending place s t × Ending place s t
 Turned place s t Died = Beside place s t × (t.entries ≡ s.entries) × ((e : Ending place s t) × (is_memory e.end ≡ true))
 
+-- what every turn keeps: it holds of none, and of one turn behind another
 pub record KeepsLaws {A : Type 0} (keeps : A → A → Type 0) : Type 0 where
   pub self : (a : A) → keeps a a
   pub chain : (a b c : A) → keeps a b → keeps b c → keeps a c
@@ -71,6 +72,7 @@ pub record Ran (place : ℕ) (s t : Table) : Type 0 where
   pub actors : (q : ℕ) → t.actor q ≡ s.actor q
   pub others : (q : ℕ) → (q ≡ place → ⊥) → t.goes_on q ≡ s.goes_on q
 
+-- a step of so many turns: that many requests were sent and it goes on, or its operation ended before
 abbrev pub Stepped : ℕ → ℕ → Table → Table → Bool → Type 0
 Stepped place count s t true = (g : Going place s t) × (length g.part ≡ count)
 Stepped place count s t false = (r : Ran place s t) × StepEnds (is_memory r.ending.end) count r.part

@@ -31,6 +31,7 @@ is_job_commit (TheTaskAbort t) = false
 is_job_commit (TheCommit c) = true
 is_job_commit (TheClean t) = false
 
+-- what an actor began last is the job's commit
 abbrev pub is_committing : Option Running → Bool
 is_committing None = false
 is_committing (Some m) = is_job_commit m.operation

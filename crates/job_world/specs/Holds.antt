@@ -55,9 +55,11 @@ HandIs is_of running picks_of g opening x a Empty = IsLost x a ⊎ ((a ≡ Drive
 abbrev pub HandsAre : {W : Type 0} → (Setting → Actor → W → Type 0) → (Known → W → Running) → (W → Option (List Pick)) → (ℕ → Bool) → Setting → Content → Play → List (Hand W) → Type 0
 HandsAre is_of running picks_of sound g opening x hands = (place : ℕ) (a : Actor) (h : Hand _) → sound place ≡ true → slice_get (actors g.script) place ≡ Some a → slice_get hands place ≡ Some h → HandIs is_of running picks_of g opening x a h
 
+-- no place is left out
 abbrev pub all_sound : ℕ → Bool
 all_sound place = true
 
+-- one place is left out
 abbrev pub all_but : ℕ → ℕ → Bool
 all_but p place = not (nat_eq place p)
 
@@ -93,6 +95,7 @@ pub record Holds {W : Type 0} (is_of : Setting → Actor → W → Type 0) (runn
   pub hands : HandsAre is_of running picks_of sound (setting_of b) b.opening play b.hands.items
   pub picks : PutBy (setting_of b) b.opening play b.picks
 
+-- who stands so is busy
 abbrev pub busy_in : Option Standing → Bool
 busy_in None = false
 busy_in (Some s) = is_busy s.state.life
@@ -136,6 +139,7 @@ pub record Same {W : Type 0} (b c : Body W) : Type 0 where
   -- entries are only added, of the event that goes on
   pub more : (part : List Entry) × (c.journal.entries ≡ b.journal.entries ++ part) × AreOf (length b.ends.items + 1) part
 
+-- what no turn changes stays so through any turns
 abbrev pub same_laws : {W : Type 0} → KeepsLaws (Same {W = W})
 same_laws = record {
   self = λ b. record { script = refl; opening = refl; ends = refl; event = refl; places = refl; more = ([], sym (append-nil b.journal.entries), tt) };
@@ -166,6 +170,7 @@ pub record IsOver {W : Type 0} (place : ℕ) (actor : Actor) (end : OpEnd) (b c 
 
 -- ---- what of a world matters to turns
 
+-- the actor of a place; one of no place is a stranger
 abbrev pub actor_or : Option Actor → Actor
 actor_or (Some a) = a
 actor_or None = Shell
@@ -186,6 +191,7 @@ abbrev pub weights : {W : Type 0} → (W → Scene → ℕ) → ℕ → Scene �
 weights left rise s standings place [] = 0
 weights left rise s standings place (h ∷ hs) = cond (is_busy_at standings place) (weight rise place (hand_left left s h)) 0 + weights left rise s standings (place + 1) hs
 
+-- what of a world matters to turns
 abbrev pub table_of : {W : Type 0} → (W → Scene → ℕ) → (Script → ℕ) → Body W → Table
 table_of left rise b = record {
   entries = of_event (length b.ends.items + 1) b.journal.entries;

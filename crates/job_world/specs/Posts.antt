@@ -49,6 +49,7 @@ FellAt left place b c = (h k : Hand _) → slice_get b.hands.items place ≡ Som
 abbrev pub IsWorking : {W : Type 0} → ℕ → Body W → Type 0
 IsWorking place b = (m : _) × (slice_get b.hands.items place ≡ Some (At m))
 
+-- what one turn of the actor at a place leaves, by how it went
 abbrev pub PostedAt : {W : Type 0} → (W → Scene → ℕ) → (Setting → Actor → W → Type 0) → (Known → W → Running) → (Script → ℕ) → (W → Option (List Pick)) → ℕ → Actor → Body W → Body W → Posted → Type 0
 PostedAt left is_of running rise picks_of place actor b c Unsent = Holds is_of running picks_of (all_but place) c × (c.journal.entries ≡ b.journal.entries) × (c.store.scene ≡ b.store.scene)
 PostedAt left is_of running rise picks_of place actor b c Broken = Holds is_of running picks_of (all_but place) c × Wrote actor b c × RaisedBy left rise place b c.store.scene

@@ -19,6 +19,7 @@ pub record Unfolds (held : Held) (c : Content) : Type 0 where
   pub is_image : held.base ≡ image first
   pub folded : c ≡ content_after first held.changes
 
+-- what a shelf holds stands for this content of a store
 abbrev pub StandsFor : Holding → Content → Type 0
 StandsFor Nothing c = ⊥
 StandsFor (Stands held) c = Unfolds held c

@@ -16,6 +16,7 @@ use Rattle.kept_runs.specs.Made.{IsMade, KeepsImages}
 use Rattle.kept_runs.specs.Kept.{Unfolds, StandsFor, IsMoment, kept, Holds, HasEarlier, HoldsPart, HoldsGrownBy, HoldsSome}
 use Rattle.kept_runs.specs.Crashes.{WhereTold, IsBetween, IsLast, AreAppended}
 
+-- the changes of a journal's requests give the store at each of its moments
 pub record ChangesFollow : Type 0 where
   -- a changing request changes the store's content alone, and any other one leaves that
   pub store : (s : Scene) (r : Request) → is_changing r ≡ true → apply s r ≡ record { content = apply_store s.content r; files = s.files }
@@ -37,6 +38,7 @@ pub record ContentStays : Type 0 where
   -- and behind each entry of a journal
   pub moments : (opening : Content) (es : List Entry) → AllByRecursion IsMade (changes es) → KeepsImages opening es
 
+-- what a shelf keeps of a run stands for a moment of that run
 pub record KeptStands : Type 0 where
   -- the changes of the first entries stand for the moment behind these, and the first changes for a moment
   pub moments : (opening : Content) (es : List Entry) (m : ℕ) → StandsFor (kept opening (changes (take m es))) (moment opening es m).content

@@ -4,6 +4,7 @@ use Rattle.std.specs.List.{AllByRecursion}
 use Rattle.s3_types.specs.Store.{Content}
 use Rattle.s3_types.specs.declared.journal.Entry.{Entry}
 
+-- what is to be done: a text to be said, or a store to be kept
 pub data Work : Type 0 where
   -- to end with a status and a text, after these sendings, which change nothing
   Says : (due : ℕ) (text : List ℕ) (sent : List Entry) → Work

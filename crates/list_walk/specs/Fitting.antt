@@ -13,10 +13,12 @@ abbrev pub IsKey : PageEntry → Type 0
 IsKey (Single k n) = Unit {0}
 IsKey (Prefix t) = ⊥
 
+-- an entry of a page is a key, and no common prefix
 abbrev pub is_key : PageEntry → Bool
 is_key (Single k n) = true
 is_key (Prefix t) = false
 
+-- the entries of a page are keys alone
 abbrev pub AreKeys : List PageEntry → Type 0
 AreKeys entries = AllByRecursion IsKey entries
 
@@ -26,6 +28,7 @@ FitsPage (Page entries more) = AreKeys entries
 FitsPage (Refused NoSuchBucket) = ⊥
 FitsPage _ = Unit {0}
 
+-- a reply that a sweep may be told
 abbrev pub FitsSweep : Sweep → Reply → Type 0
 FitsSweep (Listing keys) r = FitsPage r
 FitsSweep (Deleting k ks) r = Unit {0}

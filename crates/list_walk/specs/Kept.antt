@@ -2,6 +2,7 @@
 use Rattle.std.specs.Prelude.{ℕ, ◌+◌, ◌-◌, ◌&&◌, nat_lt, Bool, true, false, List, [], ◌∷◌, drop, Option, Some, None}
 use Rattle.list_walk.specs.Walks.{Sweep, Listing, Deleting}
 
+-- a sweep as it is kept
 abbrev pub Swept : Type 0
 Swept = Sweep
 
@@ -20,6 +21,7 @@ abbrev pub kept : Bool → Sweep → Option Sweep
 kept true s = Some s
 kept false s = None
 
+-- where a sweep that goes on stands, or none
 abbrev pub from_if : Bool → ℕ → Option ℕ
 from_if true n = Some n
 from_if false n = None

@@ -19,12 +19,14 @@ abbrev pub LessWalk : List ℕ → List ℕ → Scene → ℕ → Walked (List �
 LessWalk b p s n (More keys) = walk_left b p keys s < n
 LessWalk b p s n (Whole keys) = Unit {0}
 
+-- a walk over keys changes nothing, and has less left with each answer
 pub record WalkLaws : Type 0 where
   pub still : (b p : List ℕ) (keys : List (List ℕ)) (s : Scene) → apply s (page_after b p keys) ≡ s
   pub falls : (b p : List ℕ) (keys : List (List ℕ)) (s : Scene) → FitsPage (answer s (page_after b p keys)) → LessWalk b p s (walk_left b p keys s) (walked keys (answer s (page_after b p keys)))
   -- a request raises it by at most 1, where it may add a key
   pub others : (b p : List ℕ) (keys : List (List ℕ)) (s : Scene) (r : Request) → walk_left b p keys (apply s r) ≤ walk_left b p keys s + one_if (adds_key r)
 
+-- a sweep has less left with each answer
 pub record SweepLaws : Type 0 where
   -- it falls with the answer that is due
   pub falls : (b p : List ℕ) (goes : List ℕ → Bool) (w : Sweep) (s : Scene) → FitsSweep w (answer s (sweep_asks b p w)) → left_of b p (sweep_hears goes w (answer s (sweep_asks b p w))) (apply s (sweep_asks b p w)) < sweep_left b p w s
@@ -39,6 +41,7 @@ abbrev pub LessUploads : List ℕ → List ℕ → Scene → ℕ → Walked Uplo
 LessUploads b p s n (More found) = uploads_left b p found s < n
 LessUploads b p s n (Whole found) = length found < n
 
+-- a walk over live uploads changes nothing, and has less left with each answer
 pub record UploadLaws : Type 0 where
   pub still : (b p : List ℕ) (found : List UploadRef) (s : Scene) → apply s (uploads_after b p found) ≡ s
   pub falls : (b p : List ℕ) (found : List UploadRef) (s : Scene) → FitsUploads (answer s (uploads_after b p found)) → LessUploads b p s (uploads_left b p found s) (walked_uploads found (answer s (uploads_after b p found)))

@@ -15,6 +15,7 @@ abbrev pub count_in : (BucketContent → ℕ) → Option BucketContent → ℕ
 count_in f (Some c) = f c
 count_in f None = 0
 
+-- how many of something a bucket of the scene has; none where it is not there
 abbrev pub in_bucket : Scene → List ℕ → (BucketContent → ℕ) → ℕ
 in_bucket s b f = count_in f (fin.get s.content.buckets b)
 
@@ -43,6 +44,7 @@ abbrev pub sweep_left : List ℕ → List ℕ → Sweep → Scene → ℕ
 sweep_left b p (Listing keys) s = 1 + thousands (length keys + 2 * keys_left b p (last_of keys) s)
 sweep_left b p (Deleting k ks) s = thousands (length (k ∷ ks))
 
+-- how much a sweep has left, if it goes on
 abbrev pub left_of : List ℕ → List ℕ → Option Sweep → Scene → ℕ
 left_of b p (Some w) s = sweep_left b p w s
 left_of b p None s = 0
@@ -64,6 +66,7 @@ sets_upload (CreateUpload n k) = true
 sets_upload (UploadPart n k id number bytes) = true
 sets_upload _ = false
 
+-- 1 where it is so, and else 0
 abbrev pub one_if : Bool → ℕ
 one_if true = 1
 one_if false = 0

@@ -14,6 +14,7 @@ pub data Walked (X : Type 0) : Type 0 where
   More : (found : List X) → Walked X
   Whole : (found : List X) → Walked X
 
+-- a walk after a page: what was listed so far, or all of it
 abbrev pub walked_by : {X : Type 0} → Bool → List X → Walked X
 walked_by true found = More found
 walked_by false found = Whole found
@@ -46,6 +47,7 @@ walked_entries found _ = More found
 
 -- ---- uploads
 
+-- the last upload of these
 abbrev pub last_ref : Option UploadRef → List UploadRef → Option UploadRef
 last_ref l [] = l
 last_ref l (r ∷ rs) = last_ref (Some r) rs
@@ -54,21 +56,25 @@ last_ref l (r ∷ rs) = last_ref (Some r) rs
 abbrev pub uploads_after : List ℕ → List ℕ → List UploadRef → Request
 uploads_after bucket prefix found = ListUploads bucket prefix (last_ref None found) 1000
 
+-- a walk over live uploads after a page of ListMultipartUploads
 abbrev pub walked_uploads : List UploadRef → Reply → Walked UploadRef
 walked_uploads found (Uploads refs more) = walked_by more (found ++ refs)
 walked_uploads found _ = More found
 
 -- ---- a sweep: all keys below a prefix are listed, and then those that are to go are deleted
 
+-- how far a sweep has come
 pub data Sweep : Type 0 where
   -- lists, with the keys so far
   Listing : (keys : List (List ℕ)) → Sweep
   -- deletes these keys, at most 1,000 at a time
   Deleting : (key : List ℕ) (keys : List (List ℕ)) → Sweep
 
+-- a sweep begins with its first page
 abbrev pub sweep_start : Sweep
 sweep_start = Listing []
 
+-- what a sweep asks next: the next page, or the next batch of at most 1,000 keys
 abbrev pub sweep_asks : List ℕ → List ℕ → Sweep → Request
 sweep_asks bucket prefix (Listing keys) = page_after bucket prefix keys
 sweep_asks bucket prefix (Deleting k ks) = DeleteObjects bucket (take 1000 (k ∷ ks))
@@ -78,6 +84,7 @@ abbrev pub deleting : List (List ℕ) → Option Sweep
 deleting [] = None
 deleting (k ∷ ks) = Some (Deleting k ks)
 
+-- where a page leads; for no keys that go the sweep is over
 abbrev pub swept : (List ℕ → Bool) → Walked (List ℕ) → Option Sweep
 swept goes (More keys) = Some (Listing keys)
 swept goes (Whole keys) = deleting (filter goes keys)

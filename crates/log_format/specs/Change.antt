@@ -36,12 +36,15 @@ header (Some n) = n + 1
 abbrev pub IsAny : List ℕ → Type 0
 IsAny bytes = Unit {0}
 
+-- the bytes are UTF-8
 abbrev pub IsText : List ℕ → Type 0
 IsText text = is_utf8 text ≡ true
 
+-- the bytes are a bucket's name
 abbrev pub IsBucket : List ℕ → Type 0
 IsBucket text = is_bucket text ≡ true
 
+-- the bytes are a key
 abbrev pub IsKey : List ℕ → Type 0
 IsKey text = is_key text ≡ true
 

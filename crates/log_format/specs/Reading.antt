@@ -101,30 +101,39 @@ row_of make read at bytes = do
   x ← read bytes
   if length x.1 == 0 then Ok (make x.0) else Err (Bad at)
 
+-- the MakeBucket whose fields these bytes are, or a fault
 unfoldable pub make_bucket_in : ℕ → List ℕ → Result Request LogFault
 make_bucket_in at bytes = row_of MakeBucket (text_at is_utf8 at) at bytes
 
+-- the PutObject whose fields these bytes are, or a fault
 unfoldable pub put_object_in : ℕ → List ℕ → Result Request LogFault
 put_object_in at bytes = row_of (λ x. PutObject x.0.0.0 x.0.0.1 x.1 (header_in x.0.1)) (pair_at (pair_at (target_at at) (number_at w64 at)) (block_at at)) at bytes
 
+-- the DeleteObject whose fields these bytes are, or a fault
 unfoldable pub delete_object_in : ℕ → List ℕ → Result Request LogFault
 delete_object_in at bytes = row_of (λ x. DeleteObject x.0 x.1) (target_at at) at bytes
 
+-- the DeleteObjects whose fields these bytes are, or a fault
 unfoldable pub delete_objects_in : ℕ → List ℕ → Result Request LogFault
 delete_objects_in at bytes = row_of (λ x. DeleteObjects x.0 x.1) (pair_at (text_at is_bucket at) (counted_at (text_at is_key at) at)) at bytes
 
+-- the CopyObject whose fields these bytes are, or a fault
 unfoldable pub copy_object_in : ℕ → List ℕ → Result Request LogFault
 copy_object_in at bytes = row_of (λ x. CopyObject x.0.0 x.0.1 x.1) (pair_at (target_at at) (text_at is_key at)) at bytes
 
+-- the CreateUpload whose fields these bytes are, or a fault
 unfoldable pub create_upload_in : ℕ → List ℕ → Result Request LogFault
 create_upload_in at bytes = row_of (λ x. CreateUpload x.0 x.1) (target_at at) at bytes
 
+-- the UploadPart whose fields these bytes are, or a fault
 unfoldable pub upload_part_in : ℕ → List ℕ → Result Request LogFault
 upload_part_in at bytes = row_of (λ x. UploadPart x.0.0.0.0 x.0.0.0.1 x.0.0.1 x.0.1 x.1) (pair_at (pair_at (upload_at at) (number_at w32 at)) (block_at at)) at bytes
 
+-- the CompleteUpload whose fields these bytes are, or a fault
 unfoldable pub complete_upload_in : ℕ → List ℕ → Result Request LogFault
 complete_upload_in at bytes = row_of (λ x. CompleteUpload x.0.0.0 x.0.0.1 x.0.1 x.1) (pair_at (upload_at at) (counted_at (named_at at) at)) at bytes
 
+-- the AbortUpload whose fields these bytes are, or a fault
 unfoldable pub abort_upload_in : ℕ → List ℕ → Result Request LogFault
 abort_upload_in at bytes = row_of (λ x. AbortUpload x.0.0 x.0.1 x.1) (upload_at at) at bytes
 

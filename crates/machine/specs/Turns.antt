@@ -30,9 +30,11 @@ turn_if true worn = Moved
 turn_if false true = Worn
 turn_if false false = Again
 
+-- what a sending was for the machine: answered, the last that its request had, or one that is made again
 abbrev pub turn_of : {M : Type 0} → Retried M → Outcome → Turn
 turn_of t o = turn_if (was_answered o) (wears t o)
 
+-- a request wore out with this sending
 abbrev pub tells_worn : Turn → Bool
 tells_worn Worn = true
 tells_worn Again = false

@@ -25,10 +25,11 @@ below n = range_with_len 0 n
 
 -- ---- files
 
--- a number in two digits, and in three
+-- a number in two digits
 abbrev pub two_digits : ℕ → List ℕ
 two_digits n = (48 + n / 10) ∷ (48 + n % 10) ∷ []
 
+-- a number in three digits
 abbrev pub three_digits : ℕ → List ℕ
 three_digits n = (48 + n / 100) ∷ two_digits (n % 100)
 
@@ -50,6 +51,7 @@ part_files seed files t = map (part_file seed files t) (below files)
 
 -- ---- attempts
 
+-- an attempt of a made job
 abbrev pub attempt_of : (task attempt : ℕ) → Who
 attempt_of t a = record { task = t; attempt = a }
 
@@ -67,6 +69,7 @@ made_attempts seed tasks files = flat_map (λ t. attempts_of (part_files seed fi
 
 -- ---- events
 
+-- the event that starts a first attempt's write
 abbrev pub start_write : ℕ → Event
 start_write t = Start (actor_of (attempt_of t 0)) Write
 
@@ -78,9 +81,11 @@ second_writes t = Kill (actor_of (attempt_of t 0)) ∷ Do (actor_of (attempt_of 
 abbrev pub committer_of : ℕ → Actor
 committer_of t = actor_of (attempt_of t (if is_twice t then 1 else 0))
 
+-- the event that starts the commit of a task's last attempt
 abbrev pub start_commit : ℕ → Event
 start_commit t = Start (committer_of t) Commit
 
+-- the event that mixes all that go on
 abbrev pub mix_by : ℕ → Event
 mix_by seed = Mix (seed % 2 ^ 31)
 
@@ -95,6 +100,7 @@ made_events seed tasks =
 
 -- ---- the script
 
+-- the destination of a made job
 abbrev pub made_dest : Path
 made_dest = record { bucket = codes "lake"; key = codes "gen" }
 

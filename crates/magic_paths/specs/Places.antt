@@ -49,6 +49,7 @@ IsPlace (RecordPlace t a p) = (t < 2 ^ 64) × (a < 2 ^ 64) × (is_record p ≡ f
 IsPlace (SetPlace t) = t < 2 ^ 64
 IsPlace SuccessPlace = Unit {0}
 
+-- the bounds of a place in the cluster
 abbrev pub IsClusterPlace : ClusterPlace → Type 0
 IsClusterPlace (TemporaryPlace t a) = (t < 2 ^ 64) × (a < 2 ^ 64)
 IsClusterPlace (StagedSetPlace t) = t < 2 ^ 64

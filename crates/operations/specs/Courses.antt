@@ -7,6 +7,7 @@ use Rattle.s3_types.specs.declared.reply.Reply.{Reply}
 use Rattle.operations.specs.declared.plan.Step.{Step}
 use Rattle.operations.specs.Plans.{Goes, Falls}
 
+-- what an operation owes whose requests may not all be made twice alike
 pub record IsCourse {P A : Type 0} (starts : P → Type 0) (asks : P → Request) (goes : P → Reply → Bool → Step P A) (holds : P → Scene → P → Scene → Bool → Type 0) (gives : P → Scene → A → Scene → Type 0) (always : P → Scene → Scene → Type 0) (more : P → Scene → ℕ) : Type 0 where
   pub begin : (p : P) (s : Scene) → starts p → holds p s p s false
   -- its phase still holds where a sending is lost before its effect, and after it
@@ -46,5 +47,6 @@ pub record Reached {P : Type 0} (asks : P → Request) (holds : P → Scene → 
   pub phase : holds p settled
   pub seen : (s ≡ settled) ⊎ (s ≡ apply settled (asks p))
 
+-- the phase holds before its present request, or behind an effect of that
 abbrev pub reached : {P : Type 0} → (P → Request) → (P → Scene → P → Scene → Type 0) → P → Scene → P → Scene → Bool → Type 0
 reached asks holds o z p s b = Reached asks (holds o z) p s

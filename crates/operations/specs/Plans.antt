@@ -22,6 +22,7 @@ abbrev pub Falls : {P A S : Type 0} → (P → S → ℕ) → Step P A → S →
 Falls left (Next p) s n = left p s < n
 Falls left (End a) s n = Unit {0}
 
+-- what an operation owes each of whose requests may be made twice
 pub record IsPlan {P A : Type 0} (starts : P → Type 0) (asks : P → Request) (goes : P → Reply → Step P A) (holds : P → Scene → P → Scene → Type 0) (gives : P → Scene → A → Scene → Type 0) (always : P → Scene → Scene → Type 0) (left : P → Scene → ℕ) : Type 0 where
   pub begin : (p : P) (s : Scene) → starts p → holds p s p s
   -- each of its requests may be made again

@@ -37,6 +37,7 @@ checked None key = if nat_le (length key) 1023 then Ok key else Err TooLong
 abbrev pub key_of : List (List ℕ) → Result (List ℕ) PathFault
 key_of elements = checked (first_fault elements) (join_with_byte 47 elements)
 
+-- a bucket's name, or BadBucket
 abbrev pub bucket_in : List ℕ → Result (List ℕ) PathFault
 bucket_in name = if is_bucket name then Ok name else Err BadBucket
 

@@ -9,6 +9,7 @@ use Rattle.pending_json.specs.Pending.{Pending}
 use Rattle.pending_json.specs.declared.records.PendingSet.{PendingSet}
 use Rattle.pending_json.specs.declared.records.SuccessMark.{SuccessMark}
 
+-- a number as JSON
 abbrev pub whole : ℕ → Data
 whole n = number (unsigned n)
 
@@ -20,6 +21,7 @@ wholes all = items_of (map whole all)
 abbrev pub texts : List (List ℕ) → Items
 texts all = items_of (map string all)
 
+-- the digits of a part's tag
 abbrev pub tag_digits : Spelled → List ℕ
 tag_digits tag = tag.digits
 
@@ -61,6 +63,7 @@ set_tree s = object
     (member (codes "task") (whole s.task)
     (member (codes "version") (whole 1) no_members))))))
 
+-- a committer's name as `_SUCCESS` spells it
 abbrev pub committer_word : Committer → List ℕ
 committer_word Magic = codes "magic"
 committer_word Directory = codes "directory"

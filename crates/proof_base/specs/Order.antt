@@ -15,6 +15,7 @@ text_cmp = slice_cmp nat_cmp
 abbrev pub text_eq : List ℕ → List ℕ → Bool
 text_eq = pointwise nat_eq
 
+-- the order of two texts; any two have one
 abbrev pub text_partial_cmp : List ℕ → List ℕ → Option Ordering
 text_partial_cmp x y = Some (slice_cmp nat_cmp x y)
 

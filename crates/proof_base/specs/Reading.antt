@@ -3,6 +3,7 @@ use Rattle.std.specs.Prelude.{◌≡◌, ℕ, ⊤, Bool, true, false, if◌then�
 
 -- what the first step gives goes to the second, unless it is a fault
 infixl 10 ◌>>=◌
+-- what the first step gives goes to the second, unless it is a fault
 abbrev pub ◌>>=◌ : {F A B : Type 0} → Result A F → (A → Result B F) → Result B F
 (Ok x) >>= f = f x
 (Err fault) >>= f = Err fault

@@ -4,6 +4,7 @@ use Rattle.std.specs.FinMap as fin
 use Rattle.s3_types.specs.Store.{BucketContent, Content, Upload}
 use Rattle.s3_types.specs.declared.object.Object.{Object}
 
+-- the object at a key of a bucket, or none
 abbrev pub object_in : Option BucketContent → List ℕ → Option Object
 object_in None k = None
 object_in (Some b) k = fin.get b.objects k
@@ -12,6 +13,7 @@ object_in (Some b) k = fin.get b.objects k
 abbrev pub object_at : Content → List ℕ → List ℕ → Option Object
 object_at c bucket k = object_in (fin.get c.buckets bucket) k
 
+-- the live upload of an id in a bucket, or none
 abbrev pub upload_in : Option BucketContent → ℕ → Option Upload
 upload_in None id = None
 upload_in (Some b) id = fin.get b.uploads id

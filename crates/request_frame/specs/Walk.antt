@@ -13,6 +13,7 @@ abbrev pub text_by : Option (List ℕ) → List ℕ → List ℕ
 text_by (Some s) q = s ++ 47 ∷ []
 text_by None q = q
 
+-- what a page says of a key: its common prefix, or the key
 abbrev pub text_of : List ℕ → Bool → List ℕ → List ℕ
 text_of p delimited q = text_by (stem_if delimited p q) q
 
@@ -29,6 +30,7 @@ abbrev pub start_by : Option (List ℕ) → List ℕ → List ℕ → Bound (Lis
 start_by (Some s) p last = Included (s ++ 48 ∷ [])
 start_by None p last = cond (is_lt (text_cmp last p)) (Included p) (Excluded last)
 
+-- where the entries behind a text begin
 abbrev pub start : List ℕ → Bool → List ℕ → Bound (List ℕ)
 start p delimited last = start_by (stem_if delimited p last) p last
 

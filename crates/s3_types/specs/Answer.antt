@@ -51,6 +51,7 @@ abbrev pub abort_answer : Option Upload → Reply
 abort_answer (Some u) = Aborted
 abort_answer None = Refused NoSuchUpload
 
+-- ListParts: the parts of a live upload, or NoSuchUpload
 abbrev pub parts_answer : Option Upload → Reply
 parts_answer (Some u) = Parts (sizes u.parts)
 parts_answer None = Refused NoSuchUpload
@@ -111,6 +112,7 @@ abbrev pub rename_answer : Option (List ℕ) → Reply
 rename_answer (Some bytes) = ClusterDone
 rename_answer None = Refused NoSuchFile
 
+-- a read of a cluster's file: its bytes, or NoSuchFile
 abbrev pub read_answer : Option (List ℕ) → Reply
 read_answer (Some bytes) = ClusterBytes bytes
 read_answer None = Refused NoSuchFile
@@ -126,9 +128,11 @@ answer s r = answer_store s.content r
 
 -- ---- effects
 
+-- the bucket with these objects, and its uploads as they were
 abbrev pub with_objects : BucketContent → Objects → BucketContent
 with_objects b m = record { objects = m; uploads = b.uploads }
 
+-- the bucket with these uploads, and its objects as they were
 abbrev pub with_uploads : BucketContent → Uploads → BucketContent
 with_uploads b m = record { objects = b.objects; uploads = m }
 
@@ -174,6 +178,7 @@ abbrev pub draws : Request → Bool
 draws (CreateUpload n k) = true
 draws _ = false
 
+-- the store after a request to this bucket; one to a bucket that is not there changes nothing
 abbrev pub apply_at : Option BucketContent → Content → Request → Content
 apply_at None c r = c
 apply_at (Some b) c r = record { buckets = fin.insert c.buckets (bucket_of r) (apply_in b c.next c.minimum r); next = cond (draws r) (c.next + 1) c.next; minimum = c.minimum }
@@ -193,6 +198,7 @@ abbrev pub renamed : Files → List ℕ → List ℕ → Option (List ℕ) → F
 renamed m source target (Some bytes) = fin.insert (fin.remove m source) target bytes
 renamed m source target None = m
 
+-- the scene with these cluster files, and its store as it was
 abbrev pub with_files : Scene → Files → Scene
 with_files s m = record { content = s.content; files = m }
 

@@ -8,6 +8,7 @@ use Rattle.s3_types.specs.declared.request.NamedPart.{NamedPart}
 abbrev pub quotient_up : ℕ → ℕ → ℕ
 quotient_up n d = (n + (d - 1)) / d
 
+-- the greater of two numbers
 abbrev pub greater : ℕ → ℕ → ℕ
 greater a b = cond (nat_lt a b) b a
 

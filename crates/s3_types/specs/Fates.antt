@@ -22,6 +22,7 @@ abbrev pub fate_or : Option Fate → Fate
 fate_or (Some f) = f
 fate_or None = Answer
 
+-- the fate of the n-th sending
 abbrev pub fate_at : FateMap → ℕ → Fate
 fate_at m n = fate_or (map.get m n)
 
@@ -49,17 +50,20 @@ to_number Slow = 1
 to_number Before = 2
 to_number After = 3
 
+-- the fate of a number
 abbrev pub of_number : ℕ → Fate
 of_number zero = Answer
 of_number (suc zero) = Slow
 of_number (suc (suc zero)) = Before
 of_number (suc (suc (suc n))) = After
 
+-- a fate's number gives the fate again
 abbrev pub there_and_back : (f : Fate) → of_number (to_number f) ≡ f
 there_and_back Answer = refl
 there_and_back Slow = refl
 there_and_back Before = refl
 there_and_back After = refl
 
+-- the code of the fates of sendings
 abbrev pub coded_fates : Coded FateMap
 coded_fates = map.code coded_ℕ (code_by ℕ coded_ℕ to_number of_number there_and_back)

@@ -23,6 +23,7 @@ abbrev pub with_key : List ℕ → Option Upload → Option Upload
 with_key k None = None
 with_key k (Some u) = cond (text_eq u.key k) (Some u) None
 
+-- the live upload of a key and an id, or none
 abbrev pub live : Uploads → List ℕ → ℕ → Option Upload
 live m k id = with_key k (fin.get m id)
 
@@ -41,6 +42,7 @@ abbrev pub rises_from : ℕ → List NamedPart → Bool
 rises_from n [] = true
 rises_from n (x ∷ xs) = nat_lt n x.number && rises_from x.number xs
 
+-- the part numbers of a completion rise
 abbrev pub rises : List NamedPart → Bool
 rises [] = true
 rises (x ∷ xs) = rises_from x.number xs
@@ -54,6 +56,7 @@ abbrev pub has_tag : Spelled → Option (List ℕ) → Bool
 has_tag t None = false
 has_tag t (Some bytes) = tag_eq (plain_tag bytes) t
 
+-- a part of this number and tag was uploaded
 abbrev pub is_sent : Parts → NamedPart → Bool
 is_sent m n = has_tag n.tag (fin.get m n.number)
 
@@ -65,6 +68,7 @@ bytes_of m n = unwrap_or (fin.get m n.number) []
 abbrev pub is_large : Parts → ℕ → NamedPart → Bool
 is_large m minimum n = nat_le minimum (length (bytes_of m n))
 
+-- a completion names no part
 abbrev pub is_none_named : List NamedPart → Bool
 is_none_named [] = true
 is_none_named (n ∷ ns) = false
@@ -88,6 +92,7 @@ joined (Some u) ns minimum =
 abbrev pub size_of : ℕ × List ℕ → PartSize
 size_of e = record { number = e.0; length = length e.1; tag = plain_tag e.1 }
 
+-- an upload's parts by rising number, each with its length and tag
 abbrev pub sizes : Parts → List PartSize
 sizes m = map size_of (fin.entries m)
 
@@ -95,6 +100,7 @@ sizes m = map size_of (fin.entries m)
 abbrev pub ref_cmp : UploadRef → UploadRef → Ordering
 ref_cmp a b = ordering_then (text_cmp a.key b.key) (nat_cmp a.upload b.upload)
 
+-- an upload as ListMultipartUploads gives it: its key and id
 abbrev pub ref_of : ℕ × Upload → UploadRef × Unit {0}
 ref_of e = (record { key = e.1.key; upload = e.0 }, tt)
 

@@ -39,6 +39,7 @@ abbrev pub entry_by : Option (List ℕ) → List ℕ → ℕ → PageEntry
 entry_by (Some s) q n = Prefix (s ++ 47 ∷ [])
 entry_by None q n = Single q n
 
+-- what ListObjectsV2 gives for an object: its common prefix, or its key and length
 abbrev pub entry_of : List ℕ → Bool → List ℕ × Object → PageEntry
 entry_of p delimited e = entry_by (stem_if delimited p e.0) e.0 (length e.1.bytes)
 

@@ -83,6 +83,7 @@ refusal_word (Refused BadName) = Some (codes "bad-name")
 refusal_word (Refused BucketExists) = Some (codes "bucket-exists")
 refusal_word _ = None
 
+-- what is said of a refusal, or nothing
 abbrev pub refused_or_fine : Option (List ℕ) → Said
 refused_or_fine (Some word) = refusing word None
 refused_or_fine None = fine []

@@ -52,6 +52,7 @@ answered_by request reply = record { event = 0; actor = Shell; request = request
 
 -- ---- what changes a store
 
+-- the reply is a refusal
 abbrev pub is_refusal : Reply → Bool
 is_refusal (Refused r) = true
 is_refusal _ = false
@@ -67,5 +68,6 @@ is_taken ReplyLost = true
 abbrev pub is_change : Entry → Bool
 is_change entry = is_changing entry.request && is_taken entry.outcome
 
+-- some of these sendings may have changed the store
 abbrev pub has_changed : List Entry → Bool
 has_changed entries = list_any is_change entries

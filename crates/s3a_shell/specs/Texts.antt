@@ -24,6 +24,7 @@ abbrev pub named_line : List ℕ → Status → List ℕ
 named_line name (File length) = codes "f " ++ (decimal length ++ (codes " " ++ (name ++ 10 ∷ [])))
 named_line name Directory = codes "d " ++ (name ++ 10 ∷ [])
 
+-- the line of a child of a directory: `f LENGTH NAME` or `d NAME`
 abbrev pub entry_line : DirEntry → List ℕ
 entry_line entry = named_line entry.name entry.status
 
@@ -31,6 +32,7 @@ entry_line entry = named_line entry.name entry.status
 abbrev pub entry_lines : List DirEntry → List ℕ
 entry_lines entries = flat_map entry_line entries
 
+-- the word of a marker's kind
 abbrev pub kind_word : MarkerKind → List ℕ
 kind_word Surplus = codes "surplus"
 kind_word Leaf = codes "leaf"

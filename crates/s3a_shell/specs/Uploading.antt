@@ -27,6 +27,7 @@ abbrev pub sizes_of : Option Upload → List PartSize
 sizes_of None = []
 sizes_of (Some u) = sizes u.parts
 
+-- how many bytes these parts have
 abbrev pub bytes_in : List PartSize → ℕ
 bytes_in parts = sum_by (λ p. p.length) parts
 
@@ -42,6 +43,7 @@ upload_lines c rs = flat_map (λ r. upload_line r (sizes_of (live c.uploads r.ke
 abbrev pub no_bucket : Said
 no_bucket = refusing (codes "no-such-bucket") None
 
+-- what the list of live uploads below a path says, by what the bucket holds
 abbrev pub ListedIn : Option BucketContent → Path → Said → Type 0
 ListedIn None path what = what ≡ no_bucket
 ListedIn (Some c) path what = what ≡ fine (upload_lines c (uploads_below path c))
@@ -62,6 +64,7 @@ pub record AreEnded (bucket : List ℕ) (c : BucketContent) (rs : List UploadRef
   pub gone : (r : UploadRef) → IsIn r rs → live content.uploads r.key r.upload ≡ None
   pub kept : (id : ℕ) → ((r : UploadRef) → IsIn r rs → r.upload ≡ id → ⊥) → fin.get content.uploads id ≡ fin.get c.uploads id
 
+-- what the abort of the live uploads below a path says and leaves, by what the bucket held
 abbrev pub AbortedIn : Option BucketContent → Path → Scene → Said → Scene → Type 0
 AbortedIn None path z what s = (what ≡ no_bucket) × (s ≡ z)
 AbortedIn (Some c) path z what s = (what ≡ fine (aborted_line (length (uploads_below path c)))) × AreEnded path.bucket c (uploads_below path c) z s
@@ -90,6 +93,7 @@ sizes_in _ = []
 abbrev pub asked_line : Scene → List ℕ → UploadRef → List ℕ
 asked_line z b r = upload_line r (sizes_in (answer z (ListParts b r.key r.upload)))
 
+-- the lines of these uploads
 abbrev pub asked_lines : Scene → List ℕ → List UploadRef → List ℕ
 asked_lines z b rs = flat_map (asked_line z b) rs
 

@@ -51,6 +51,7 @@ HasReason ReadFault command told left rest = IsSoundly told × ((takes_input com
 HasReason NoMemory command told left rest = (rest ≡ left) ⊎ (IsSoundly told × ((takes_input command ≡ true) × TakesPart left rest))
 HasReason _ command told left rest = ⊥
 
+-- another command stopped before it did anything: its status has its cause, and what was held is held
 pub record StoreStopped {S : Type 0} (held : S → Option Stored) (may_leave : S → Holding → Type 0) (answers fails : S → S → Type 0) (moment_of : S → ℕ) (left_since : S → ℕ → Holding → Type 0) (command : Command) (left rest : Option (List ℕ)) (old new : S)
     (due : ℕ) (es : List Entry) (Says : List ℕ → Type 0) : Type 0 where
   pub stop : Stop

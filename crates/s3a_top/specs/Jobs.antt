@@ -62,6 +62,7 @@ AreFew {S} answers fails left rest old new = ((old ≡ new) × (rest ≡ left)) 
 abbrev pub MayHaveLeft : (at_first : Holding → Type 0) → Command → Option Stored → (left rest : Option (List ℕ)) → Holding → Type 0
 MayHaveLeft at_first command told left rest h = at_first h ⊎ ((w : Script) × ((c : Content) × (IsScriptOf command left rest w × (Opens told w c × (h ≡ fresh (image c))))))
 
+-- a job stopped before its first event: nothing was sent, what was held is held, and its status has its cause
 pub record JobStopped {S : Type 0} (held : S → Option Stored) (may_leave : S → Holding → Type 0) (answers fails : S → S → Type 0) (moment_of : S → ℕ) (left_since : S → ℕ → Holding → Type 0) (command : Command) (left rest : Option (List ℕ)) (old new : S)
     (due : ℕ) (es : List Entry) (ps : List Pick) (xs : List EventEnd) (Says : List ℕ → Type 0) : Type 0 where
   pub stop : Stop

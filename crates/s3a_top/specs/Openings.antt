@@ -51,6 +51,7 @@ is_sound Nothing = Unit {0}
 is_sound (Store c) = Unit {0}
 is_sound (Faulty number place) = ⊥
 
+-- the shelf holds a store or nothing, where it tells it
 abbrev pub IsSoundly : Option Stored → Type 0
 IsSoundly None = Unit {0}
 IsSoundly (Some s) = is_sound (found s)

@@ -12,6 +12,7 @@ use Rattle.s3a_top.specs.Bytes.{WritesSome}
 use Rattle.s3a_top.specs.declared.statuses.Status.{Status}
 use Rattle.s3a_top.specs.declared.statuses.Status.TheVariants.{Done, Refused, Usage, ReadFault, WriteFault, ShelfFault, BadScript, BadImage, StoreFault, NoMemory}
 
+-- the exit status as a number
 abbrev pub code : Status → ℕ
 code Done = 0
 code Refused = 1
@@ -38,15 +39,19 @@ IsWorked _ = Unit {0}
 
 -- ---- texts
 
+-- what is said with status 2
 abbrev pub usage_text : List ℕ
 usage_text = codes "usage: s3a FOLDER COMMAND WORDS" ++ 10 ∷ []
 
+-- what is said with status 3
 abbrev pub read_text : List ℕ
 read_text = codes "read fault" ++ 10 ∷ []
 
+-- what is said with status 5
 abbrev pub shelf_text : List ℕ
 shelf_text = codes "shelf fault" ++ 10 ∷ []
 
+-- what is said with status 9, where there is no report
 abbrev pub memory_text : List ℕ
 memory_text = codes "no memory" ++ 10 ∷ []
 

@@ -9,6 +9,7 @@ use Rattle.s3a_top.specs.declared.statuses.Status.TheVariants as statuses
 use Rattle.s3a_top.specs.declared.stop.Stop.{Stop}
 use Rattle.s3a_top.specs.declared.stop.Stop.TheVariants.{Usage, ReadFault, ShelfFault, Script as BadScript, Image, NoMemory}
 
+-- the exit status of a stop
 abbrev pub status_of : Stop → Status
 status_of Usage = statuses.Usage
 status_of ReadFault = statuses.ReadFault
@@ -17,10 +18,12 @@ status_of (BadScript e) = statuses.BadScript
 status_of (Image number place) = statuses.BadImage
 status_of NoMemory = statuses.NoMemory
 
+-- the stop that a shelf's failed call is
 abbrev pub of_shelf : ShelfStop → Stop
 of_shelf shelves.Failed = ShelfFault
 of_shelf shelves.NoMemory = NoMemory
 
+-- the line that a stop says
 abbrev pub stop_text : Stop → List ℕ
 stop_text Usage = usage_text
 stop_text ReadFault = read_text

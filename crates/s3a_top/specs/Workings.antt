@@ -40,6 +40,7 @@ pub record MayWork (input shelf : ℕ) (command : Command) : Type 0 where
 
 -- ---- the status
 
+-- the status that is due, before the text goes out
 abbrev pub due_of : Result Work Stop → ℕ
 due_of (Ok work) = code work.due
 due_of (Err stop) = code (status_of stop)

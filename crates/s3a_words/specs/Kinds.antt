@@ -33,9 +33,11 @@ row_of (FillMarkers path) = (Changes, path)
 row_of Job = (Plays, root_of [])
 row_of (Gen seed tasks files) = (Plays, root_of [])
 
+-- what a command does with a store and with the input
 abbrev pub kind_of : Command → CommandKind
 kind_of command = (row_of command).0
 
+-- the path that a command names; the root of no bucket where it names none
 abbrev pub path_of : Command → Path
 path_of command = (row_of command).1
 
@@ -45,14 +47,17 @@ is_on_buckets Begins = false
 is_on_buckets Plays = false
 is_on_buckets _ = true
 
+-- a command that changes nothing
 abbrev pub is_look : CommandKind → Bool
 is_look Looks = true
 is_look _ = false
 
+-- a command that makes a file of the input
 abbrev pub is_put : CommandKind → Bool
 is_put Puts = true
 is_put _ = false
 
+-- a command that plays a job
 abbrev pub is_play : CommandKind → Bool
 is_play Plays = true
 is_play _ = false

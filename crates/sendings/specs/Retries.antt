@@ -35,6 +35,7 @@ abbrev pub unanswered_by : {M : Type 0} → ℕ → (M → Item → M) → M →
 unanswered_by retries after m repeated zero = fresh retries (after m WornOut)
 unanswered_by retries after m repeated (suc n) = record { operation = m; spare = n; repeated = repeated }
 
+-- where a sending without an answer leads: the request is sent again, or wears out where no sending is spare
 abbrev pub unanswered : {M : Type 0} → ℕ → (M → Item → M) → Retried M → Bool → Retried M
 unanswered retries after t repeated = unanswered_by retries after t.operation repeated t.spare
 
@@ -45,6 +46,7 @@ step retries after t Slow = unanswered retries after t t.repeated
 step retries after t RequestLost = unanswered retries after t true
 step retries after t ReplyLost = unanswered retries after t true
 
+-- a number is zero
 abbrev pub is_zero : ℕ → Bool
 is_zero zero = true
 is_zero (suc n) = false

@@ -12,19 +12,23 @@ same_list same [] [] = true
 same_list same (x ∷ xs) (y ∷ ys) = same x y && same_list same xs ys
 same_list same _ _ = false
 
+-- two optional values are the same
 abbrev pub same_option : {X : Type 0} → (X → X → Bool) → Option X → Option X → Bool
 same_option same None None = true
 same_option same (Some x) (Some y) = same x y
 same_option same _ _ = false
 
+-- two truth values are the same
 abbrev pub same_bool : Bool → Bool → Bool
 same_bool true b = b
 same_bool false true = false
 same_bool false false = true
 
+-- two named parts of a completion are the same
 abbrev pub same_part : NamedPart → NamedPart → Bool
 same_part p q = nat_eq p.number q.number && (text_eq p.tag.digits q.tag.digits && nat_eq p.tag.parts q.tag.parts)
 
+-- two uploads' keys and ids are the same
 abbrev pub same_ref : UploadRef → UploadRef → Bool
 same_ref r s = text_eq r.key s.key && nat_eq r.upload s.upload
 

@@ -57,5 +57,6 @@ abbrev pub first_worn_after : ℕ → List Entry → List Entry → Option Reque
 first_worn_after retries done [] = None
 first_worn_after retries done (e ∷ es) = cond (nat_lt retries (streak e.request (done ++ e ∷ []))) (Some e.request) (first_worn_after retries (done ++ e ∷ []) es)
 
+-- the first request of these entries that wore out, or none
 abbrev pub first_worn : ℕ → List Entry → Option Request
 first_worn retries es = first_worn_after retries [] es

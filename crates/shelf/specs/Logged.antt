@@ -16,10 +16,11 @@ pub record Stored : Type 0 where
   pub base_length : ℕ
   pub file_length : ℕ
 
--- the most bytes of a base, and of a file, that are loaded
+-- the most bytes of a base that are loaded
 abbrev pub most_base : ℕ
 most_base = 1073741824
 
+-- the most bytes of a file that are loaded
 abbrev pub most_file : ℕ
 most_file = 2147483648
 

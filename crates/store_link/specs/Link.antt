@@ -17,12 +17,15 @@ pub record LossyLink : Type 0 where
   pub requests : ℕ
   pub losses : ℕ
 
+-- the code of a store with its cluster
 abbrev pub coded_scene : Coded Scene
 coded_scene = code_by (Content × Files) (coded× coded_content coded_files) (λ s. (s.content, s.files)) (λ p. record { content = p.0; files = p.1 }) (λ _. refl)
 
+-- the code of a store that answers all
 abbrev pub coded_link : Coded Link
 coded_link = code_by (Scene × ℕ) (coded× coded_scene coded_ℕ) (λ s. (s.scene, s.requests)) (λ p. record { scene = p.0; requests = p.1 }) (λ _. refl)
 
+-- the code of a store that loses what is foretold
 abbrev pub coded_lossy : Coded LossyLink
 coded_lossy =
     code_by (Scene × (FateMap × (ℕ × ℕ))) (coded× coded_scene (coded× coded_fates (coded× coded_ℕ coded_ℕ))) (λ s. (s.scene, (s.fates, (s.requests, s.losses))))

@@ -20,6 +20,7 @@ FitsAbort (Sweeping s) r = FitsSweep s r
 FitsAbort Removing r = Unit {0}
 FitsAbort (TaskAbortOver end) r = Unit {0}
 
+-- a reply that a task's abort may be told
 abbrev pub abort_fits : Attempting TaskAbort → Reply → Bool → Type 0
 abort_fits m r repeated = FitsAbort m.operation r
 
@@ -33,11 +34,13 @@ after_left Magic w a s = own_left w a sweep_start s
 after_left Directory w a s = 1
 after_left Partitioned w a s = 1
 
+-- the requests that a task's abort has yet to send
 abbrev pub abort_left_at : Script → Who → TaskAbort → Scene → ℕ
 abort_left_at w a (Dropping d ds sent) s = (1 + length ds) + after_left w.committer w a s
 abort_left_at w a (Sweeping v) s = own_left w a v s
 abort_left_at w a Removing s = 1
 abort_left_at w a (TaskAbortOver end) s = 0
 
+-- the requests that a task's abort of a plan has yet to send
 abbrev pub abort_left : Attempting TaskAbort → Scene → ℕ
 abort_left m s = abort_left_at (task_script m.plan) (who_of m.plan) m.operation s

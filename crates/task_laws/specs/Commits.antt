@@ -37,6 +37,7 @@ FitsCommit w a k Storing r = Unit {0}
 FitsCommit w a k Renaming r = Unit {0}
 FitsCommit w a k (TaskCommitOver end) r = Unit {0}
 
+-- a reply that a task's commit may be told
 abbrev pub commit_fits : Attempting TaskCommit → Reply → Bool → Type 0
 commit_fits m r repeated = FitsCommit (task_script m.plan) (who_of m.plan) m.plan.known m.operation r
 
@@ -47,6 +48,7 @@ abbrev pub upload_left : Script → ℕ → File → Uploading → ℕ
 upload_left w minimum f Creating = 1 + length (file_parts w minimum f)
 upload_left w minimum f (Sending p ps) = 1 + length ps
 
+-- the requests that the uploads of these files have yet to send
 abbrev pub uploads_left : Script → ℕ → List File → ℕ
 uploads_left w minimum [] = 0
 uploads_left w minimum (f ∷ fs) = upload_left w minimum f Creating + uploads_left w minimum fs
@@ -62,5 +64,6 @@ commit_left_at w minimum a Storing s = 2
 commit_left_at w minimum a Renaming s = 1
 commit_left_at w minimum a (TaskCommitOver end) s = 0
 
+-- the requests that a task's commit of a plan has yet to send
 abbrev pub commit_left : Attempting TaskCommit → Scene → ℕ
 commit_left m s = commit_left_at (task_script m.plan) m.plan.minimum (who_of m.plan) m.operation s

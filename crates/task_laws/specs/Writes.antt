@@ -20,10 +20,12 @@ use Rattle.task_requests.specs.Writing.{write_fits, FitsWrite, FitsCreate, FitsP
 
 -- ---- how it stands
 
+-- how a write stands by its end
 abbrev pub standing_at : Write → Standing
 standing_at (writes.WriteOver end) = standing_of end
 standing_at _ = Fine
 
+-- how a write of a plan stands by its end
 abbrev pub write_standing : Attempting Write → Standing
 write_standing m = standing_at m.operation
 

@@ -27,6 +27,7 @@ use Rattle.task_laws.specs.AbortStands.{abort_standing, abort_laws}
 abbrev pub at : {O : Type 0} → Task → O → Attempting O
 at t o = record { plan = t; operation = o }
 
+-- what each operation of an attempt owes, whatever its committer
 pub record TaskLaws {O : Type 0} (wants : Attempting O → Option Request) (after : Attempting O → Item → Attempting O) (fits : Attempting O → Reply → Bool → Type 0) (standing : Attempting O → Standing) (ended : TaskEnd → O) : Type 0 where
   pub asks : AskLaws wants after fits standing
   -- want of memory ends it, and teaches nothing

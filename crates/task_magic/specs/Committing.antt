@@ -24,6 +24,7 @@ commit_by listing keys cs at (Some end) = TaskCommitOver end
 commit_by true keys cs at None = Looking keys
 commit_by false keys cs at None = reading cs (drop at cs)
 
+-- the task's commit that what is kept stands for
 abbrev pub commit_of : Task → Committing → TaskCommit
 commit_of t c = commit_by c.listing (keys_on c.walk) (picked t.files c.places) c.at c.end
 
@@ -43,11 +44,13 @@ pub record HoldsCommit (t : Task) (places : List ℕ) (keys : List (List ℕ)) (
   pub records : AreRecords t keys places
   pub ready : AreReady t (take at (picked t.files places))
 
+-- what is kept of a commit is true of its plan
 abbrev pub Keeps : Task → Committing → Type 0
 Keeps t c = HoldsCommit t c.places c.records c.at
 
 -- ---- replies and sendings
 
+-- the reply is NoSuchKey
 abbrev pub is_no_key : Reply → Bool
 is_no_key (Refused NoSuchKey) = true
 is_no_key _ = false
@@ -62,6 +65,7 @@ abbrev pub known_if : Bool → Known → Known
 known_if true k = record { drawn = k.drawn; put_sent = k.put_sent; publish_sent = true }
 known_if false k = k
 
+-- the plan once its publishing request was sent, if it was
 abbrev pub with_sent : Task → Bool → Task
 with_sent t b = with_known t (known_if b t.known)
 

@@ -21,6 +21,7 @@ abbrev pub abort_by : Known → ℕ → Sweep → Option TaskEnd → TaskAbort
 abort_by k at s None = abort_from (drop at (as_made k.drawn)) k.put_sent s
 abort_by k at s (Some end) = TaskAbortOver end
 
+-- the task's abort that what is kept stands for
 abbrev pub abort_of : Task → Undoing → TaskAbort
 abort_of t h = abort_by t.known h.at h.sweep h.end
 

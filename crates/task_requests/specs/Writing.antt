@@ -48,6 +48,7 @@ abbrev pub write_by : Task → ℕ → WriteStage → Option TaskEnd → Write
 write_by t place s None = at_stage (task_script t) t.minimum s (drop place t.files)
 write_by t place s (Some end) = writes.WriteOver end
 
+-- a write of a plan at so many whole files and a stage of the next
 abbrev pub seen_write : Task → ℕ → WriteStage → Option TaskEnd → Attempting Write
 seen_write t place s end = record { plan = t; operation = write_by t place s end }
 
@@ -78,6 +79,7 @@ one_more tag size d = record { key = d.key; upload = d.upload; tags = d.tags ++ 
 abbrev pub with_tag : Known → Spelled → ℕ → Known
 with_tag k tag size = record { drawn = with_last tag size k.drawn; put_sent = k.put_sent; publish_sent = k.publish_sent }
 
+-- what is known of the file that is under way: as many parts as its stage says
 abbrev pub HoldsAt : Script → ℕ → Known → WriteStage → List File → Type 0
 HoldsAt w minimum k s [] = Unit {0}
 HoldsAt w minimum k stage.Creating (f ∷ fs) = Unit {0}
@@ -118,16 +120,19 @@ FitsPart (Part tag) = is_plain_tag tag ≡ true
 FitsPart (Refused NoSuchUpload) = Unit {0}
 FitsPart _ = ⊥
 
+-- a reply that the upload of a file may be told
 abbrev pub FitsUpload : List Drawn → Uploading → Reply → Type 0
 FitsUpload ds Creating r = FitsCreate ds r
 FitsUpload ds (Sending p ps) r = FitsPart r
 
+-- a reply that a write may be told
 abbrev pub FitsWrite : Known → Write → Reply → Type 0
 FitsWrite k (writes.Uploads f fs u) r = FitsUpload k.drawn u r
 FitsWrite k (writes.Marking f fs) r = Unit {0}
 FitsWrite k (writes.Recording f fs) r = Unit {0}
 FitsWrite k (writes.WriteOver end) r = Unit {0}
 
+-- a reply that a write of a plan may be told
 abbrev pub write_fits : Attempting Write → Reply → Bool → Type 0
 write_fits m r repeated = FitsWrite m.plan.known m.operation r
 
@@ -135,20 +140,24 @@ write_fits m r repeated = FitsWrite m.plan.known m.operation r
 abbrev pub file_left : Script → ℕ → File → ℕ
 file_left w minimum f = 3 + length (file_parts w minimum f)
 
+-- the requests that these files have yet to send
 abbrev pub files_left : Script → ℕ → List File → ℕ
 files_left w minimum [] = 0
 files_left w minimum (f ∷ fs) = file_left w minimum f + files_left w minimum fs
 
+-- the requests that a file under way has yet to send
 abbrev pub upload_left : Script → ℕ → File → Uploading → ℕ
 upload_left w minimum f Creating = 3 + length (file_parts w minimum f)
 upload_left w minimum f (Sending p ps) = 3 + length ps
 
+-- the requests that a write has yet to send
 abbrev pub left_of : Script → ℕ → Write → ℕ
 left_of w minimum (writes.Uploads f fs u) = upload_left w minimum f u + files_left w minimum fs
 left_of w minimum (writes.Marking f fs) = 2 + files_left w minimum fs
 left_of w minimum (writes.Recording f fs) = 1 + files_left w minimum fs
 left_of w minimum (writes.WriteOver end) = 0
 
+-- the requests that a write of a plan has yet to send
 abbrev pub write_left : Attempting Write → Scene → ℕ
 write_left m s = left_of (task_script m.plan) m.plan.minimum m.operation
 
@@ -160,6 +169,7 @@ pub record IsNamed (t : Task) (path : List ℕ) : Type 0 where
   pub task : IsTask t
   pub placed : IsPlaced t.job.job path
 
+-- a file that a plan may have: its path, and its length within a script's
 pub record IsFile (t : Task) (f : File) : Type 0 where
   pub named : IsNamed t f.0
   pub short : length f.1 ≤ MOST_SCRIPT_BYTES
@@ -182,16 +192,19 @@ parts_in t f = file_parts (task_script t) t.minimum f
 
 -- ---- what a reply says
 
+-- the upload's id that a reply has, or none
 abbrev pub upload_in : Reply → Option ℕ
 upload_in (Upload id) = Some id
 upload_in _ = None
 
+-- the part's tag that a reply has, or none
 abbrev pub tag_in : Reply → Option Spelled
 tag_in (Part tag) = Some tag
 tag_in _ = None
 
 -- ---- what is asked behind a part
 
+-- the stage of a file of which a part was just answered
 abbrev pub IsBehind : List (List ℕ) → List Drawn → WriteStage → Type 0
 IsBehind parts ds (stage.Sending n) = (n < length parts) × (0 < length ds)
 IsBehind parts ds stage.Creating = Unit {0}

@@ -39,10 +39,12 @@ abbrev pub sending_from : File → List File → List (List ℕ) → TaskCommit
 sending_from f fs [] = storing fs
 sending_from f fs (p ∷ ps) = commits.Uploads f fs (Sending p ps)
 
+-- the commit with the first of these files under way, of which so many parts came back
 abbrev pub sending_at : Script → ℕ → ℕ → List File → TaskCommit
 sending_at w minimum n [] = Storing
 sending_at w minimum n (f ∷ fs) = sending_from f fs (drop n (file_parts w minimum f))
 
+-- the commit at a stage
 abbrev pub staged_at : Script → ℕ → Stage → List (List ℕ) → List File → TaskCommit
 staged_at w minimum stages.Opening ds fs = opening ds fs
 staged_at w minimum (stages.Sending n) ds fs = sending_at w minimum n fs
@@ -53,9 +55,11 @@ abbrev pub staged_by : Task → Stage → List (List ℕ) → ℕ → Option Tas
 staged_by t s ds place None = staged_at (task_script t) t.minimum s ds (drop place t.files)
 staged_by t s ds place (Some end) = TaskCommitOver end
 
+-- the task's commit that what is kept stands for
 abbrev pub commit_of : Task → Staging → TaskCommit
 commit_of t h = staged_by t h.stage h.checks h.place h.end
 
+-- a task's commit with its plan
 abbrev pub seen : Task → Staging → Attempting TaskCommit
 seen t h = record { plan = t; operation = commit_of t h }
 
@@ -82,14 +86,17 @@ HoldsAt t stages.Renaming ds place = Unit {0}
 abbrev pub set_of : Task → ℕ → PendingSet
 set_of t place = files_set (task_script t) (who_of t) (take place t.files) t.known
 
+-- the set that is kept is that of the files that are uploaded, and the file under way is known
 pub record Holds (t : Task) (s : Stage) (ds : List (List ℕ)) (place : ℕ) (held : PendingSet) : Type 0 where
   pub set : held ≡ set_of t place
   pub at : HoldsAt t s ds place
 
+-- what is kept is true as long as the commit goes on
 abbrev pub KeepsBy : Task → Staging → Option TaskEnd → Type 0
 KeepsBy t h None = Holds t h.stage h.checks h.place h.set
 KeepsBy t h (Some end) = Unit {0}
 
+-- what is kept of a commit is true of its plan
 abbrev pub Keeps : Task → Staging → Type 0
 Keeps t h = KeepsBy t h h.end
 
@@ -120,6 +127,7 @@ pub record Heard {E : Type 0} (t u : Task) (h g : Staging) (r : Reply) (result :
 
 -- ---- requests and replies
 
+-- the text of a set
 abbrev pub text_of : PendingSet → List ℕ
 text_of set = compact_text (set_tree set)
 
@@ -128,6 +136,7 @@ abbrev pub next_asks : Task → PendingSet → List File → Request
 next_asks t set [] = ClusterPut (temporary_path (task_script t) (who_of t)) (text_of set)
 next_asks t set (f ∷ fs) = CreateUpload t.job.dest.bucket (file_key (task_script t) f)
 
+-- the reply is NoSuchFile
 abbrev pub is_no_file : Reply → Bool
 is_no_file (Refused NoSuchFile) = true
 is_no_file _ = false

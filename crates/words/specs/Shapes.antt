@@ -2,11 +2,13 @@
 use Rattle.std.specs.Prelude.{ℕ, List, [], ◌∷◌, Option, Some, None}
 use Rattle.words.specs.Words.{joined}
 
+-- the word of a list of exactly one, or none
 abbrev pub one : List (List ℕ) → Option (List ℕ)
 one [] = None
 one (w ∷ []) = Some w
 one (w ∷ v ∷ vs) = None
 
+-- the words of a list of exactly two, or none
 abbrev pub two : List (List ℕ) → Option (List ℕ × List ℕ)
 two [] = None
 two (w ∷ []) = None

@@ -40,6 +40,7 @@ use Rattle.worked_runs.specs.FourFiles.{directory, set_key, of_file, the_set, at
 
 -- ---- the job
 
+-- the attempt's files
 abbrev pub four : List File
 four = (codes "a", codes "hello") ∷ (codes "b", codes "hello") ∷ (codes "c", codes "hello") ∷ (codes "d", codes "hello") ∷ []
 
@@ -53,21 +54,27 @@ script retries lanes fates events = record (job Magic Append 1 retries lanes (at
 abbrev pub out : List ℕ → List ℕ
 out name = codes "out/" ++ name
 
+-- the key of a file's marker
 abbrev pub below_attempt : List ℕ → List ℕ
 below_attempt name = directory ++ name
 
+-- the key of a file's record
 abbrev pub pending : List ℕ → List ℕ
 pending name = below_attempt (name ++ codes ".pending")
 
+-- the text of a file's record
 abbrev pub record_bytes : List ℕ → ℕ → List ℕ
 record_bytes name id = compact_text (pending_tree (of_file name id))
 
+-- the text of the set
 abbrev pub set_bytes : List ℕ
 set_bytes = compact_text (set_tree the_set)
 
+-- what `_SUCCESS` says
 abbrev pub the_mark : SuccessMark
 the_mark = record { job = codes "j1"; committer = Magic; files = codes "a" ∷ codes "b" ∷ codes "c" ∷ codes "d" ∷ []; stamp = None }
 
+-- the text of `_SUCCESS`
 abbrev pub mark_bytes : List ℕ
 mark_bytes = compact_text (success_tree the_mark)
 
@@ -81,20 +88,25 @@ read_entries k = attempt_entries ++ reads_set k set_key the_set ∷ []
 abbrev pub completion : List ℕ → ℕ → Request
 completion name id = CompleteUpload lake (out name) id (record { number = 1; tag = hello_tag } ∷ [])
 
+-- the completion of a file's upload is answered
 abbrev pub completes : ℕ → List ℕ → ℕ → Entry
 completes k name id = said k Driver (completion name id) (Completed (joined_tag (hello_tag ∷ [])))
 
+-- the reply to the completion of a file's upload is lost
 abbrev pub loses : ℕ → List ℕ → ℕ → Entry
 loses k name id = entry k Driver (completion name id) ReplyLost
 
+-- a repeated completion finds no upload
 abbrev pub finds_none : ℕ → List ℕ → ℕ → Entry
 finds_none k name id = said k Driver (completion name id) (Refused NoSuchUpload)
 
+-- the put of `_SUCCESS`
 abbrev pub the_marking : Entry
 the_marking = puts 4 Driver (codes "out/_SUCCESS") mark_bytes
 
 -- ---- what is said of a run
 
+-- set-up, write and task's commit are done
 abbrev pub done_events : List EventEnd
 done_events = Ended (ends.Setup setups.Done) ∷ Ended (ends.Task tasks.Done) ∷ Ended (ends.Task tasks.Done) ∷ []
 

@@ -29,18 +29,23 @@ script lanes = files.script 3 lanes (fin.insert fin.empty 27 After) (Start Drive
 abbrev pub two_entries : List Entry
 two_entries = loses 5 (codes "a") 1 ∷ completes 5 (codes "b") 2 ∷ finds_none 5 (codes "a") 1 ∷ completes 5 (codes "d") 4 ∷ []
 
+-- the sendings of the commit in one lane
 abbrev pub one_entries : List Entry
 one_entries = loses 5 (codes "a") 1 ∷ finds_none 5 (codes "a") 1 ∷ completes 5 (codes "b") 2 ∷ completes 5 (codes "c") 3 ∷ []
 
+-- the journal in two lanes
 abbrev pub in_two : List Entry
 in_two = read_entries 5 ++ two_entries
 
+-- the journal in one lane
 abbrev pub in_one : List Entry
 in_one = read_entries 5 ++ one_entries
 
+-- the ends of the run's events
 abbrev pub the_ends : List EventEnd
 the_ends = done_events ++ Done ∷ Done ∷ Done ∷ []
 
+-- what is seen after the first m entries
 abbrev pub at : ℕ → List Entry → ℕ → Seen
 at lanes journal m = seen (script lanes) (Some 4) opening journal m
 
@@ -63,6 +68,7 @@ pub record KilledWith (lanes : ℕ) (journal : List Entry) (names : List (List �
   pub unmarked : (at lanes journal 30).put_mark ≡ false
   pub unmade : object_at (moment opening journal 30).content lake (codes "out/_SUCCESS") ≡ None
 
+-- three whole files are shown in either, other ones, and no marker
 pub record LanesKilled : Type 0 where
   pub two : KilledWith 2 in_two (codes "a" ∷ codes "b" ∷ codes "d" ∷ [])
   pub one : KilledWith 1 in_one (codes "a" ∷ codes "b" ∷ codes "c" ∷ [])

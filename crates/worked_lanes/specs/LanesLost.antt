@@ -34,9 +34,11 @@ script = files.script 3 2 (fin.insert fin.empty 27 After) (Do Driver ops.Commit 
 abbrev pub commit_entries : List Entry
 commit_entries = loses 4 (codes "a") 1 ∷ completes 4 (codes "b") 2 ∷ finds_none 4 (codes "a") 1 ∷ completes 4 (codes "d") 4 ∷ completes 4 (codes "c") 3 ∷ the_marking ∷ []
 
+-- the run's journal
 abbrev pub journal : List Entry
 journal = read_entries 4 ++ commit_entries
 
+-- the ends of the run's events
 abbrev pub the_ends : List EventEnd
 the_ends = done_events ++ Ended (ends.Commit commits.Committed) ∷ []
 
@@ -48,6 +50,7 @@ at m = seen script (Some 4) opening journal m
 abbrev pub marker_at : ℕ → Option Object
 marker_at m = object_at (moment opening journal m).content lake (codes "out/_SUCCESS")
 
+-- the commit ends committed, with all four files
 pub record LanesLost : Type 0 where
   pub sent : length journal ≡ 32
   pub always : Always script (Some 4) opening journal

@@ -44,9 +44,11 @@ commit_entries =
     ∷ said 4 Driver (AbortUpload lake (out (codes "d")) 4) Aborted
     ∷ []
 
+-- the run's journal
 abbrev pub journal : List Entry
 journal = read_entries 4 ++ commit_entries
 
+-- the ends of the run's events
 abbrev pub the_ends : List EventEnd
 the_ends = done_events ++ Ended (ends.Commit (commits.StoreFault stages.Complete)) ∷ []
 
@@ -54,6 +56,7 @@ the_ends = done_events ++ Ended (ends.Commit (commits.StoreFault stages.Complete
 abbrev pub at : ℕ → Seen
 at m = seen script (Some 4) opening journal m
 
+-- the commit is reverted, and nothing is shown
 pub record LanesReverted : Type 0 where
   pub sent : length journal ≡ 33
   pub always : Always script (Some 4) opening journal

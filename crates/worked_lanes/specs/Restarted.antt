@@ -65,6 +65,7 @@ abort_entries =
 abbrev pub later_entries : List Entry
 later_entries = completes 5 (codes "a") 1 ∷ completes 5 (codes "b") 2 ∷ abort_entries
 
+-- the run's journal
 abbrev pub journal : List Entry
 journal = read_entries 5 ++ later_entries
 
@@ -72,18 +73,23 @@ journal = read_entries 5 ++ later_entries
 abbrev pub restart_ends : List EventEnd
 restart_ends = done_events ++ Done ∷ Done ∷ Done ∷ Done ∷ []
 
+-- the ends of the events up to the abort
 abbrev pub abort_ends : List EventEnd
 abort_ends = restart_ends ++ Refused faults.WrongState ∷ Ended (ends.Clean cleans.Done) ∷ []
 
+-- the ends of the run's events
 abbrev pub the_ends : List EventEnd
 the_ends = abort_ends ++ Refused faults.NotDead ∷ Refused faults.NoRecovery ∷ []
 
+-- what is seen after the first m entries
 abbrev pub at : ℕ → Seen
 at m = seen script (Some 4) opening journal m
 
+-- the two objects that are left
 abbrev pub two_objects : List (List ℕ × Object)
 two_objects = (out (codes "a"), record { bytes = codes "hello"; header = None }) ∷ (out (codes "b"), record { bytes = codes "hello"; header = None }) ∷ []
 
+-- the abort leaves two whole files, and no live upload
 pub record Restarted : Type 0 where
   pub sent : length journal ≡ 33
   pub always : Always script (Some 4) opening journal

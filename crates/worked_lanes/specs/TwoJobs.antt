@@ -41,43 +41,55 @@ use Rattle.worked_lanes.specs.FourFiles.{out, record_bytes, Shows, hellos, Goes,
 
 -- ---- the jobs
 
+-- the script of a job with one file
 abbrev pub script : List ℕ → List ℕ → List Event → Script
 script id name later = record (job Magic Append 1 3 1 (attempt 0 0 ((name, codes "hello") ∷ []) ∷ []) (Do Driver ops.Setup ∷ Do worker ops.Write ∷ Do worker ops.Commit ∷ Do Driver ops.Commit ∷ later)) { job = id }
 
+-- the first job, with the file `x`
 abbrev pub ja : Script
 ja = script (codes "ja") (codes "x") (Do Driver ops.Clean ∷ [])
 
+-- the second job, with the file `y`
 abbrev pub jb : Script
 jb = script (codes "jb") (codes "y") []
 
 -- ---- a job's keys and records
 
+-- a job's magic directory
 abbrev pub magic : List ℕ → List ℕ
 magic id = codes "out/__magic/job-" ++ (id ++ codes "/")
 
+-- the key of a file's marker
 abbrev pub below_attempt : List ℕ → List ℕ → List ℕ
 below_attempt id name = magic id ++ (codes "tasks/0_0/__base/" ++ name)
 
+-- the key of a file's record
 abbrev pub pending : List ℕ → List ℕ → List ℕ
 pending id name = below_attempt id (name ++ codes ".pending")
 
+-- the key of the task's set
 abbrev pub set_key : List ℕ → List ℕ
 set_key id = magic id ++ codes "sets/task_0.pendingset"
 
+-- a job's set
 abbrev pub set_of : List ℕ → List ℕ → ℕ → PendingSet
 set_of id name upload = record { job = id; task = 0; attempt = 0; commits = of_file name upload ∷ [] }
 
+-- the text of the set
 abbrev pub set_bytes : List ℕ → List ℕ → ℕ → List ℕ
 set_bytes id name upload = compact_text (set_tree (set_of id name upload))
 
+-- what `_SUCCESS` says of a job
 abbrev pub mark_of : List ℕ → List ℕ → SuccessMark
 mark_of id name = record { job = id; committer = Magic; files = name ∷ []; stamp = None }
 
+-- the text of `_SUCCESS`
 abbrev pub mark_bytes : List ℕ → List ℕ → List ℕ
 mark_bytes id name = compact_text (success_tree (mark_of id name))
 
 -- ---- its entries: set-up, write and task's commit are the events from k on
 
+-- a job's entries up to its task's commit; its set-up is event k
 abbrev pub prepares : List ℕ → List ℕ → ℕ → ℕ → List Entry
 prepares id name upload k =
     said k Driver (HeadObject lake (codes "out")) (Refused NoSuchKey)
@@ -96,9 +108,11 @@ prepares id name upload k =
 abbrev pub reads : List ℕ → List ℕ → ℕ → ℕ → Entry
 reads id name upload k = said k Driver (GetObject lake (set_key id)) (Read (set_bytes id name upload) None)
 
+-- the completion of a job's upload
 abbrev pub completes : List ℕ → ℕ → ℕ → Entry
 completes name upload k = said k Driver (CompleteUpload lake (out name) upload (record { number = 1; tag = hello_tag } ∷ [])) (Completed (joined_tag (hello_tag ∷ [])))
 
+-- the put of a job's `_SUCCESS`
 abbrev pub marks : List ℕ → List ℕ → ℕ → Entry
 marks id name k = said k Driver (PutObject lake (codes "out/_SUCCESS") (mark_bytes id name) None) (Stored (plain_tag (mark_bytes id name)))
 
@@ -122,6 +136,7 @@ clean_entries =
 abbrev pub quiet_entries : List Entry
 quiet_entries = prepares (codes "ja") (codes "x") 1 1 ++ prepares (codes "jb") (codes "y") 2 4 ++ reads (codes "jb") (codes "y") 2 7 ∷ []
 
+-- the entries behind the read of jb's commit
 abbrev pub later_entries : List Entry
 later_entries =
     completes (codes "y") 2 7
@@ -131,6 +146,7 @@ later_entries =
     ∷ marks (codes "ja") (codes "x") 8
     ∷ clean_entries
 
+-- the run's journal
 abbrev pub journal : List Entry
 journal = quiet_entries ++ later_entries
 
@@ -138,15 +154,19 @@ journal = quiet_entries ++ later_entries
 abbrev pub mine : ℕ → Bool
 mine n = nat_le n 3 || nat_le 8 n
 
+-- the journal in the eyes of ja
 abbrev pub eyes : List Entry
 eyes = in_eyes mine journal
 
+-- the ends of the run's events
 abbrev pub the_ends : List EventEnd
 the_ends = done_events ++ Ended (ends.Commit commits.Committed) ∷ Ended (ends.Clean cleans.Done) ∷ []
 
+-- what is seen after the first m entries
 abbrev pub at : ℕ → Seen
 at m = seen ja (Some 4) opening eyes m
 
+-- the object at a key after the first m entries
 abbrev pub object_then : ℕ → List ℕ → Option Object
 object_then m key = object_at (moment opening eyes m).content lake key
 
@@ -160,6 +180,7 @@ pub record Kept (m : ℕ) : Type 0 where
   pub marker : object_then m (below_attempt (codes "jb") (codes "y")) ≡ Some (record { bytes = []; header = Some 5 })
   pub pending : Holds m (pending (codes "jb") (codes "y")) (record_bytes (codes "y") 2)
 
+-- what ja keeps and sees beside jb
 pub record TwoJobs : Type 0 where
   pub sent : length eyes ≡ 30
   pub honest : IsHonest opening eyes
@@ -195,6 +216,7 @@ pub record TwoJobs : Type 0 where
 abbrev pub other_eyes : List Entry
 other_eyes = in_eyes (λ n. not (mine n)) journal
 
+-- what jb keeps and sees beside ja
 pub record TheOther : Type 0 where
   pub zero_rename : ZeroRename jb opening other_eyes
   pub prepared : Prepared jb other_eyes

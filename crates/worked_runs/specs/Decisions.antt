@@ -22,9 +22,11 @@ use Rattle.worked_runs.specs.Jobs.{job, attempt, worker}
 abbrev pub script : List Event → Script
 script events = job Magic Append 1 3 1 (attempt 0 0 ((codes "part-00000", codes "hello") ∷ []) ∷ []) events
 
+-- a set-up that is done
 abbrev pub done_setup : EventEnd
 done_setup = Ended (ends.Setup setups.Done)
 
+-- an attempt's operation that is done
 abbrev pub done_task : EventEnd
 done_task = Ended (ends.Task tasks.Done)
 
@@ -32,6 +34,7 @@ done_task = Ended (ends.Task tasks.Done)
 abbrev pub killed_setup : Script
 killed_setup = script (Do Driver Setup ∷ Start Driver Setup ∷ Kill Driver ∷ [])
 
+-- the ends of a set-up that wore out and of one whose driver was killed
 abbrev pub killed_setup_ends : List EventEnd
 killed_setup_ends = Ended (ends.Setup setups.StoreFault) ∷ Done ∷ Done ∷ []
 
@@ -39,6 +42,7 @@ killed_setup_ends = Ended (ends.Setup setups.StoreFault) ∷ Done ∷ Done ∷ [
 abbrev pub whole : Script
 whole = script (Do Driver Setup ∷ Do worker Write ∷ Do worker Commit ∷ Do Driver Commit ∷ [])
 
+-- the ends of a whole run, with that of its commit
 abbrev pub whole_ends : EventEnd → List EventEnd
 whole_ends end = done_setup ∷ done_task ∷ done_task ∷ end ∷ []
 
@@ -50,6 +54,7 @@ refused_commit = script (Do Driver Setup ∷ Do Driver Commit ∷ [])
 abbrev pub killed_commit : Script
 killed_commit = script (Do Driver Setup ∷ Do worker Write ∷ Do worker Commit ∷ Start Driver Commit ∷ Kill Driver ∷ Restart ∷ Restart ∷ Recover worker ∷ Do Driver Commit ∷ Do Driver Abort ∷ [])
 
+-- the ends of a run whose driver is killed in its commit and restarted
 abbrev pub killed_commit_ends : List EventEnd
 killed_commit_ends = done_setup ∷ done_task ∷ done_task ∷ Done ∷ Done ∷ Done ∷ []
 
@@ -57,9 +62,11 @@ killed_commit_ends = done_setup ∷ done_task ∷ done_task ∷ Done ∷ Done �
 abbrev pub forgotten : Script
 forgotten = script (Do Driver Setup ∷ Do worker Write ∷ Do worker Commit ∷ Kill Driver ∷ Restart ∷ Do Driver Commit ∷ [])
 
+-- the ends of a run whose driver is killed after a task's commit and restarted
 abbrev pub forgotten_ends : List EventEnd
 forgotten_ends = done_setup ∷ done_task ∷ done_task ∷ Done ∷ Done ∷ []
 
+-- the verdict that is due of each of these runs
 pub record DecidesSo : Type 0 where
   -- nothing was begun
   pub nothing : verdict whole [] ≡ 1
@@ -77,6 +84,7 @@ pub record DecidesSo : Type 0 where
   -- one whose driver was killed in it decides, also after a restart
   pub killed_commit : verdict killed_commit killed_commit_ends ≡ 1
 
+-- what a restart changes, and what is refused behind it
 pub record RestartsSo : Type 0 where
   -- the dead driver is committing; a restart makes it idle and its commit failed, and gives the next number
   pub before : (past killed_commit (done_setup ∷ done_task ∷ done_task ∷ Done ∷ Done ∷ [])).state Driver ≡ dead stage.Committing

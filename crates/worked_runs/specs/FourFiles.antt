@@ -29,14 +29,17 @@ use Rattle.worked_runs.specs.OneFile.{opening, setup_entries, doing as begun_so}
 use Rattle.worked_runs.specs.RefusedEnds.{completes}
 use Rattle.worked_runs.specs.Runs.{hello, upload, set_of, held, writes, lists, reads_record, puts_set, reads_set, setting, Goes, Keeps}
 
+-- the job's script
 abbrev pub script : Script
 script = job Magic Append 1 3 1
     (attempt 0 0 ((codes "a", codes "hello") ∷ (codes "b", codes "hello") ∷ (codes "c", codes "hello") ∷ (codes "d", codes "hello") ∷ []) ∷ [])
     (Do Driver Setup ∷ Do worker Write ∷ Do worker Commit ∷ Start Driver Commit ∷ Step Driver 3 ∷ Kill Driver ∷ [])
 
+-- the attempt's magic directory
 abbrev pub directory : List ℕ
 directory = codes "out/__magic/job-j1/tasks/0_0/__base/"
 
+-- the key of the task's set
 abbrev pub set_key : List ℕ
 set_key = codes "out/__magic/job-j1/sets/task_0.pendingset"
 
@@ -44,6 +47,7 @@ set_key = codes "out/__magic/job-j1/sets/task_0.pendingset"
 abbrev pub of_file : List ℕ → ℕ → Pending
 of_file path id = upload hello 0 0 path id
 
+-- the task's set
 abbrev pub the_set : PendingSet
 the_set = set_of 0 0 (of_file (codes "a") 1 ∷ of_file (codes "b") 2 ∷ of_file (codes "c") 3 ∷ of_file (codes "d") 4 ∷ [])
 
@@ -71,6 +75,7 @@ attempt_entries =
 abbrev pub journal : List Entry
 journal = attempt_entries ++ reads_set 5 set_key the_set ∷ completes 5 (codes "out/a") 1 ∷ completes 5 (codes "out/b") 2 ∷ []
 
+-- the ends of the run's events
 abbrev pub the_ends : List EventEnd
 the_ends = Ended (ends.Setup setups.Done) ∷ Ended (ends.Task tasks.Done) ∷ Ended (ends.Task tasks.Done) ∷ Done ∷ Done ∷ Done ∷ []
 
@@ -78,6 +83,7 @@ the_ends = Ended (ends.Setup setups.Done) ∷ Ended (ends.Task tasks.Done) ∷ E
 abbrev pub at : ℕ → Seen
 at m = seen script (Some 4) opening journal m
 
+-- the driver is killed behind two completions: two whole files are shown, and no marker
 pub record FourFiles : Type 0 where
   pub sent : length journal ≡ 28
   pub event : commit_event script the_ends ≡ Some 4

@@ -16,6 +16,7 @@ use Rattle.job_model.specs.Attempts.{Declared}
 use Rattle.job_model.specs.JobScript.{Script}
 use Rattle.job_model.specs.declared.events.Event.{Event}
 
+-- the bucket
 abbrev pub lake : List ℕ
 lake = codes "lake"
 
@@ -41,6 +42,7 @@ job committer mode tasks retries lanes attempts events = record {
 abbrev pub attempt : ℕ → ℕ → List File → Declared
 attempt task number files = (record { task = task; attempt = number }, files)
 
+-- the attempt 0.0
 abbrev pub worker : Actor
 worker = Attempt 0 0
 
@@ -48,8 +50,10 @@ worker = Attempt 0 0
 abbrev pub hello_tag : Spelled
 hello_tag = record { digits = codes "5d41402abc4b2a76b9719d911017c592"; parts = 0 }
 
+-- an entry of the journal
 abbrev pub entry : ℕ → Actor → Request → Outcome → Entry
 entry k a r o = record { event = k; actor = a; request = r; outcome = o }
 
+-- an entry that was answered
 abbrev pub said : ℕ → Actor → Request → Reply → Entry
 said k a r reply = entry k a r (Answered reply)

@@ -21,9 +21,11 @@ use Rattle.job_operations.specs.Operations.{TheCommit}
 use Rattle.worked_runs.specs.Jobs.{lake, job, attempt, hello_tag}
 use Rattle.worked_runs.specs.Steps.{Course, course_of}
 
+-- the job's script
 abbrev pub script : ℕ → ℕ → Script
 script retries lanes = job Magic Append 1 retries lanes (attempt 0 0 ((codes "a", codes "hello") ∷ (codes "b", codes "hello") ∷ (codes "c", codes "hello") ∷ (codes "d", codes "hello") ∷ []) ∷ []) []
 
+-- a pending upload of five bytes
 abbrev pub upload : List ℕ → ℕ → Pending
 upload key id = record { task = 0; attempt = 0; bucket = lake; destination = key; upload = id; length = 5; tags = hello_tag ∷ []; sizes = Some (5 ∷ []) }
 
@@ -31,21 +33,27 @@ upload key id = record { task = 0; attempt = 0; bucket = lake; destination = key
 abbrev pub sets : Sets
 sets = record { job = codes "j1"; task = 0; attempt = 0; commits = upload (codes "out/a") 1 ∷ upload (codes "out/b") 2 ∷ upload (codes "out/c") 3 ∷ upload (codes "out/d") 4 ∷ [] } ∷ []
 
+-- the completion of an upload
 abbrev pub completes : List ℕ → ℕ → Option Request
 completes key id = Some (CompleteUpload lake key id (record { number = 1; tag = hello_tag } ∷ []))
 
+-- the abort of an upload
 abbrev pub aborts : List ℕ → ℕ → Option Request
 aborts key id = Some (AbortUpload lake key id)
 
+-- the deletion of a key
 abbrev pub deletes : List ℕ → Option Request
 deletes key = Some (DeleteObject lake key)
 
+-- the put of `_SUCCESS`
 abbrev pub marks : Script → Option Request
 marks w = Some (PutObject lake (codes "out/_SUCCESS") (mark_text w (picks_of sets)) None)
 
+-- a completion is answered
 abbrev pub done : Outcome
 done = Answered (Completed hello_tag)
 
+-- the put of the marker is answered
 abbrev pub put_done : Outcome
 put_done = Answered (Stored hello_tag)
 
@@ -53,6 +61,7 @@ put_done = Answered (Stored hello_tag)
 abbrev pub goes : ℕ → ℕ → List Outcome → Course
 goes retries lanes os = course_of (record { script = script retries lanes; minimum = 5242880 }) Driver (record { operation = TheCommit (replacing (script retries lanes) sets []); known = nothing_known }) os
 
+-- what a commit sends in one lane and in two, and what its revert takes back
 pub record LanesRun : Type 0 where
   -- in one lane one after the other; a lost one is sent again at once
   pub one : goes 3 1 (ReplyLost ∷ Answered (Refused NoSuchUpload) ∷ done ∷ done ∷ done ∷ put_done ∷ [])

@@ -34,18 +34,23 @@ use Rattle.worked_runs.specs.OneFile.{opening, attempt_entries, the_read, the_co
 abbrev pub script : Script
 script = record one.script { retries = 1; fates = fin.insert (fin.insert fin.empty 13 After) 14 After }
 
+-- a put of the marker whose reply is lost
 abbrev pub lost_put : Entry
 lost_put = entry 4 Driver (PutObject lake (codes "out/_SUCCESS") (compact_text (success_tree the_mark)) None) ReplyLost
 
+-- the run's journal
 abbrev pub journal : List Entry
 journal = attempt_entries ++ the_read ∷ the_completion 4 ∷ lost_put ∷ lost_put ∷ []
 
+-- the ends of the run's events
 abbrev pub the_ends : List EventEnd
 the_ends = before_commit ++ Ended (ends.Commit (commits.StoreFault stages.Success)) ∷ []
 
+-- what stays while the run goes on
 abbrev pub setting : Setting
 setting = record { script = script; minimum = 5242880 }
 
+-- the commit is at fault, and the file and the marker stand
 pub record LostMark : Type 0 where
   -- at each moment a reader is shown what he may rely on: the marker stands from the thirteenth sending on, and with it the whole file
   pub always : Always script (Some 4) opening journal

@@ -40,12 +40,15 @@ script = record one.script {
   events = Do Driver Setup ∷ Do worker Write ∷ Do worker Commit ∷ Do worker Abort ∷ Do Driver Commit ∷ [];
 }
 
+-- the attempt's magic directory
 abbrev pub directory : List ℕ
 directory = codes "out/__magic/job-j1/tasks/0_0/__base/"
 
+-- the put of the set
 abbrev pub set_put : Request
 set_put = PutObject lake (codes "out/__magic/job-j1/sets/task_0.pendingset") (compact_text (set_tree the_set)) None
 
+-- a put of the set whose reply is lost
 abbrev pub lost_put : Entry
 lost_put = entry 3 worker set_put ReplyLost
 
@@ -60,6 +63,7 @@ journal =
     ∷ lost_put
     ∷ []
 
+-- the ends of the run's events
 abbrev pub the_ends : List EventEnd
 the_ends = Ended (ends.Setup setups.Done) ∷ Ended (ends.Task tasks.Done) ∷ Ended (ends.Task tasks.StoreFault) ∷ Ended (ends.Task tasks.Kept) ∷ Ended (ends.Commit (commits.Missing 0)) ∷ []
 
@@ -67,6 +71,7 @@ the_ends = Ended (ends.Setup setups.Done) ∷ Ended (ends.Task tasks.Done) ∷ E
 abbrev pub at : ℕ → Seen
 at m = seen script (Some 5) opening journal m
 
+-- the set stands, its abort is kept, and the job's commit misses the task
 pub record LostSet : Type 0 where
   pub sent : length journal ≡ 11
   pub event : commit_event script the_ends ≡ Some 5

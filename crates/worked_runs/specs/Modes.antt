@@ -31,12 +31,15 @@ use Rattle.job_operations.specs.Operations.{Setting, TheCommit, start_of}
 use Rattle.worked_runs.specs.Jobs.{lake, job, attempt, worker, hello_tag}
 use Rattle.worked_runs.specs.Steps.{Course, course, course_of}
 
+-- what stays while the run goes on
 abbrev pub setting : Script → Setting
 setting w = record { script = w; minimum = 5242880 }
 
+-- the script of one attempt with these files, of this committer and mode
 abbrev pub with_files : Committer → Mode → List File → Script
 with_files committer mode files = job committer mode 1 3 1 (attempt 0 0 files ∷ []) []
 
+-- a page of these keys, which is the last
 abbrev pub page : List (List ℕ) → Outcome
 page keys = Answered (Page (entries keys) false)
   where
@@ -44,14 +47,17 @@ page keys = Answered (Page (entries keys) false)
     entries [] = []
     entries (k ∷ ks) = Listed k 1 ∷ entries ks
 
+-- a sending that was answered
 abbrev pub answers : Reply → Outcome
 answers r = Answered r
 
 -- ---- set-up
 
+-- what a set-up asks over these outcomes, and how it ends
 abbrev pub sets_up : Committer → Mode → List Outcome → Course
 sets_up committer mode os = course (setting (with_files committer mode [])) Driver (start_of (setting (with_files committer mode [])) Driver Setup None nothing_known) nothing_known os
 
+-- what set-ups ask, and how they end
 pub record SetupsRun : Type 0 where
   pub file : sets_up Magic Append (answers (Head 1 None) ∷ []) ≡ record { requests = Some (HeadObject lake (codes "out")) ∷ []; end = Some (ends.Setup setups.DestIsFile) }
   pub bucket : sets_up Magic Append (answers (Refused NoSuchBucket) ∷ []) ≡ record { requests = Some (HeadObject lake (codes "out")) ∷ []; end = Some (ends.Setup setups.NoSuchBucket) }
@@ -78,9 +84,11 @@ pub record SetupsRun : Type 0 where
 abbrev pub staged : Mode → Script
 staged mode = with_files Partitioned mode ((codes "d=1/x", codes "hello") ∷ [])
 
+-- the pending upload of that file
 abbrev pub staged_upload : Pending
 staged_upload = record { task = 0; attempt = 0; bucket = lake; destination = codes "out/d=1/x"; upload = 7; length = 5; tags = hello_tag ∷ []; sizes = None }
 
+-- the set of that upload
 abbrev pub staged_set : PendingSet
 staged_set = record { job = codes "j1"; task = 0; attempt = 0; commits = staged_upload ∷ [] }
 
@@ -92,15 +100,19 @@ staged_text =
     ++ codes "\"kind\":\"pending\",\"length\":5,\"task\":0,\"upload\":7,\"version\":1}"
     ++ codes "],\"job\":\"j1\",\"kind\":\"pendingset\",\"task\":0,\"version\":1}"
 
+-- what a staging attempt's commit asks over these outcomes, and how it ends
 abbrev pub commits_task : Mode → List Outcome → Course
 commits_task mode os = course (setting (staged mode)) worker (start_of (setting (staged mode)) worker Commit None nothing_known) nothing_known os
 
+-- the file is uploaded and the set put into the temporary file
 abbrev pub uploads : List Outcome
 uploads = answers (Upload 7) ∷ answers (Part hello_tag) ∷ answers ClusterDone ∷ []
 
+-- the rename that publishes
 abbrev pub renames : Option Request
 renames = Some (ClusterRename (codes "jobs/j1/tmp/0_0.pendingset") (codes "jobs/j1/sets/task_0.pendingset"))
 
+-- all that a staging attempt's commit sends
 abbrev pub publishes : List (Option Request)
 publishes = Some (CreateUpload lake (codes "out/d=1/x")) ∷ Some (UploadPart lake (codes "out/d=1/x") 7 1 (codes "hello")) ∷ Some (ClusterPut (codes "jobs/j1/tmp/0_0.pendingset") staged_text) ∷ renames ∷ []
 
@@ -108,12 +120,15 @@ publishes = Some (CreateUpload lake (codes "out/d=1/x")) ∷ Some (UploadPart la
 abbrev pub knows_upload : Known
 knows_upload = record { drawn = record { key = codes "out/d=1/x"; upload = 7; tags = []; sizes = [] } ∷ []; put_sent = true; publish_sent = false }
 
+-- what an attempt knows that has sent its publishing request
 abbrev pub knows_published : Known
 knows_published = record { drawn = record { key = codes "out/d=1/x"; upload = 7; tags = []; sizes = [] } ∷ []; put_sent = true; publish_sent = true }
 
+-- what a staging attempt's abort asks over these outcomes, and how it ends
 abbrev pub aborts_task : Known → List Outcome → Course
 aborts_task k os = course (setting (staged Fail)) worker (start_of (setting (staged Fail)) worker Abort None k) k os
 
+-- what a staging attempt's operations ask, and how they end
 pub record StagingRuns : Type 0 where
   pub write : course (setting (staged Append)) worker (start_of (setting (staged Append)) worker Write None nothing_known) nothing_known [] ≡ record { requests = []; end = Some (ends.Task tasks.Done) }
   -- a rename that is repeated and finds nothing counts as done, one that is not does not
@@ -131,6 +146,7 @@ pub record StagingRuns : Type 0 where
 
 -- ---- the driver
 
+-- the sets that the driver has read
 abbrev pub read_sets : Sets
 read_sets = staged_set ∷ []
 
@@ -138,6 +154,7 @@ read_sets = staged_set ∷ []
 abbrev pub replaces : Committer → Mode → List Outcome → Course
 replaces committer mode os = course_of (setting (with_files committer mode ((codes "d=1/x", codes "hello") ∷ []))) Driver (record { operation = TheCommit (decided (with_files committer mode ((codes "d=1/x", codes "hello") ∷ [])) read_sets None); known = nothing_known }) os
 
+-- the completion of the upload
 abbrev pub completes : Option Request
 completes = Some (CompleteUpload lake (codes "out/d=1/x") 7 (record { number = 1; tag = hello_tag } ∷ []))
 
@@ -156,9 +173,11 @@ marks = Some (PutObject lake (codes "out/_SUCCESS") mark None)
 abbrev pub shared : Script
 shared = job Magic Append 2 3 1 (attempt 0 0 ((codes "p", codes "x") ∷ []) ∷ attempt 1 0 ((codes "p", codes "y") ∷ (codes "a", codes "y") ∷ []) ∷ []) []
 
+-- what a clean asks over these outcomes, and how it ends
 abbrev pub cleans_up : Committer → List Outcome → Course
 cleans_up committer os = course (setting (with_files committer Append [])) Driver (start_of (setting (with_files committer Append [])) Driver Clean None nothing_known) nothing_known os
 
+-- what the driver deletes, completes and cleans by each mode and committer
 pub record DriversRun : Type 0 where
   -- the replace mode of a directory deletes all of the destination but the magic directory, that of partitions those that are written
   pub directory : (replaces Directory Replace (page (codes "out/__magic/x" ∷ codes "out/old" ∷ []) ∷ answers Deleted ∷ answers (Completed hello_tag) ∷ [])).requests

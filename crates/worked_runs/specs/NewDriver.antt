@@ -34,15 +34,19 @@ restart_ends = Ended (ends.Setup setups.Done) ∷ done_task ∷ done_task ∷ Do
 
 -- ---- the second attempt commits
 
+-- the job's script
 abbrev pub script : Script
 script = with_events (Do Driver Setup ∷ Do worker Write ∷ Do worker Commit ∷ Kill Driver ∷ Restart ∷ Do other Write ∷ Do other Commit ∷ Do Driver Commit ∷ Do Driver Clean ∷ [])
 
+-- the run's journal
 abbrev pub journal : List Entry
 journal = journal_of 6 7 8 9
 
+-- the ends of the run's events
 abbrev pub the_ends : List EventEnd
 the_ends = restart_ends ++ done_task ∷ done_task ∷ Ended (ends.Commit commits.Committed) ∷ Ended (ends.Clean cleans.Done) ∷ []
 
+-- the second attempt's commit, behind the restart, is picked and shown
 pub record NewDriver : Type 0 where
   pub replaces : Replaces script 8 the_ends journal
   pub setup : Goes script the_ends journal Driver Setup 1 (Some 0) (ends.Setup setups.Done)
@@ -72,9 +76,11 @@ pub record NewDriver : Type 0 where
 
 -- ---- the new driver commits at once
 
+-- the script in which the new driver commits at once
 abbrev pub early_script : Script
 early_script = with_events (Do Driver Setup ∷ Do worker Write ∷ Do worker Commit ∷ Kill Driver ∷ Restart ∷ Do Driver Commit ∷ [])
 
+-- the ends of its events
 abbrev pub early_ends : List EventEnd
 early_ends = restart_ends ++ Ended (ends.Commit (commits.Missing 0)) ∷ []
 
@@ -82,6 +88,7 @@ early_ends = restart_ends ++ Ended (ends.Commit (commits.Missing 0)) ∷ []
 abbrev pub early_at : ℕ → Seen
 early_at m = seen early_script (Some 6) opening first_entries m
 
+-- the new driver's commit misses the task though its set stands
 pub record Forgotten : Type 0 where
   pub sent : length first_entries ≡ 10
   pub event : commit_event early_script early_ends ≡ Some 6

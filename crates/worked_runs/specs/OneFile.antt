@@ -37,6 +37,7 @@ use Rattle.job_promise.specs.Turns.{until, by_actor}
 use Rattle.job_promise.specs.Follows.{OpFollows, op_over}
 use Rattle.worked_runs.specs.Jobs.{lake, job, attempt, worker, said, hello_tag}
 
+-- the job's script
 abbrev pub script : Script
 script = job Magic Append 1 3 1 (attempt 0 0 ((codes "part-00000", codes "hello") ∷ []) ∷ []) (Do Driver Setup ∷ Do worker Write ∷ Do worker Commit ∷ Do Driver Commit ∷ [])
 
@@ -44,12 +45,15 @@ script = job Magic Append 1 3 1 (attempt 0 0 ((codes "part-00000", codes "hello"
 abbrev pub the_record : Pending
 the_record = record { task = 0; attempt = 0; bucket = lake; destination = codes "out/part-00000"; upload = 1; length = 5; tags = hello_tag ∷ []; sizes = Some (5 ∷ []) }
 
+-- the task's set
 abbrev pub the_set : PendingSet
 the_set = record { job = codes "j1"; task = 0; attempt = 0; commits = the_record ∷ [] }
 
+-- what `_SUCCESS` says
 abbrev pub the_mark : SuccessMark
 the_mark = record { job = codes "j1"; committer = Magic; files = codes "part-00000" ∷ []; stamp = None }
 
+-- the entries of the set-up
 abbrev pub setup_entries : List Entry
 setup_entries =
     said 1 Driver (HeadObject lake (codes "out")) (Refused NoSuchKey)
@@ -57,6 +61,7 @@ setup_entries =
     ∷ said 1 Driver (ListPage lake (codes "out/__magic/job-j1/") false [] 1000) (Page [] false)
     ∷ []
 
+-- the entries of the write
 abbrev pub write_entries : List Entry
 write_entries =
     said 2 worker (CreateUpload lake (codes "out/part-00000")) (Upload 1)
@@ -69,6 +74,7 @@ write_entries =
 abbrev pub the_publishing : Entry
 the_publishing = said 3 worker (PutObject lake (codes "out/__magic/job-j1/sets/task_0.pendingset") (compact_text (set_tree the_set)) None) (Stored (plain_tag (compact_text (set_tree the_set))))
 
+-- the entries of the task's commit
 abbrev pub task_entries : List Entry
 task_entries =
     said 3 worker (ListPage lake (codes "out/__magic/job-j1/tasks/0_0/__base/") false [] 1000)
@@ -85,18 +91,23 @@ attempt_entries = setup_entries ++ write_entries ++ task_entries
 abbrev pub the_read : Entry
 the_read = said 4 Driver (GetObject lake (codes "out/__magic/job-j1/sets/task_0.pendingset")) (Object (compact_text (set_tree the_set)) None)
 
+-- the completion of the upload
 abbrev pub the_completion : ℕ → Entry
 the_completion k = said k Driver (CompleteUpload lake (codes "out/part-00000") 1 (record { number = 1; tag = hello_tag } ∷ [])) (Completed (joined_tag (hello_tag ∷ [])))
 
+-- the put of `_SUCCESS`
 abbrev pub the_marking : Entry
 the_marking = said 4 Driver (PutObject lake (codes "out/_SUCCESS") (compact_text (success_tree the_mark)) None) (Stored (plain_tag (compact_text (success_tree the_mark))))
 
+-- the entries of the job's commit
 abbrev pub commit_entries : List Entry
 commit_entries = the_read ∷ the_completion 4 ∷ the_marking ∷ []
 
+-- the run's journal
 abbrev pub journal : List Entry
 journal = setup_entries ++ write_entries ++ task_entries ++ commit_entries
 
+-- what stays while the run goes on
 abbrev pub setting : Setting
 setting = record { script = script; minimum = 5242880 }
 
@@ -108,6 +119,7 @@ doing op k missing = record { op = op; since = k; missing = missing }
 abbrev pub Goes : Actor → Op → ℕ → Option ℕ → OpEnd → Type 0
 Goes a op k missing end = OpFollows setting a (doing op k missing) (by_actor a (until k journal)) × (op_over setting a (doing op k missing) (by_actor a (until k journal)) ≡ Some end)
 
+-- each operation asks what it should, and ends so
 pub record OneFileRuns : Type 0 where
   pub setup : Goes Driver Setup 1 (Some 0) (ends.Setup setups.Done)
   pub write : Goes worker Write 2 (Some 0) (ends.Task tasks.Done)
@@ -126,6 +138,7 @@ at m = seen script (Some 4) opening journal m
 abbrev pub strange : ℕ → Seen
 strange m = seen script (Some 4) opening (in_eyes (λ n. false) journal) m
 
+-- what is seen at each moment
 pub record OneFileSeen : Type 0 where
   -- the commit begins with the read of the set, the eleventh entry
   pub not_begun : (at 10).begun ≡ false

@@ -11,12 +11,15 @@ use Rattle.job_promise.specs.Promise.{Finished}
 use Rattle.job_promise.specs.States.{verdict}
 use Rattle.worked_runs.specs.OneFile.{script, opening, journal}
 
+-- the ends of the run's events
 abbrev pub the_ends : List EventEnd
 the_ends = Ended (ends.Setup setups.Done) ∷ Ended (ends.Task tasks.Done) ∷ Ended (ends.Task tasks.Done) ∷ Ended (ends.Commit commits.Committed) ∷ []
 
+-- the picks that are told
 abbrev pub the_picks : List Pick
 the_picks = record { task = 0; attempt = 0 } ∷ []
 
+-- the run is finished, with verdict 0
 pub record OneFileFinished : Type 0 where
   pub finished : Finished script opening journal the_picks the_ends
   pub verdict : verdict script the_ends ≡ 0

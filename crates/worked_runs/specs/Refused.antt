@@ -67,6 +67,7 @@ pub record Misshown : Type 0 where
   pub marked_early : Always script (Some 4) opening marked_early → ⊥
   pub kept_gone : Always script (Some 4) old_opening kept_gone → ⊥
 
+-- no such run is promised, whatever picks are told
 pub record MisshownRuns : Type 0 where
   pub foreign : (ps : List Pick) → Promised script opening foreign ps before_commit → ⊥
   pub torn : (ps : List Pick) → Promised script opening torn ps before_commit → ⊥

@@ -32,9 +32,11 @@ use Rattle.worked_runs.specs.Jobs.{lake, job, attempt, worker, entry, said, hell
 use Rattle.worked_runs.specs.OneFile.{opening, journal, setting, attempt_entries}
 use Rattle.worked_runs.specs.OneFinished.{the_ends}
 
+-- a set-up that is done
 abbrev pub done_setup : EventEnd
 done_setup = Ended (ends.Setup setups.Done)
 
+-- an attempt's operation that is done
 abbrev pub done_task : EventEnd
 done_task = Ended (ends.Task tasks.Done)
 
@@ -42,25 +44,31 @@ done_task = Ended (ends.Task tasks.Done)
 abbrev pub drafts : ℕ → Actor → List ℕ → ℕ → List Entry
 drafts k a key id = said k a (CreateUpload lake key) (Upload id) ∷ said k a (UploadPart lake key id 1 (codes "hello")) (Part hello_tag) ∷ []
 
+-- the completion of an upload by the driver
 abbrev pub completes : ℕ → List ℕ → ℕ → Entry
 completes k key id = said k Driver (CompleteUpload lake key id (record { number = 1; tag = hello_tag } ∷ [])) (Completed (joined_tag (hello_tag ∷ [])))
 
 -- ---- two attempts of one task
 
+-- the other attempt
 abbrev pub other : Actor
 other = Attempt 0 1
 
+-- the script of two attempts of one task
 abbrev pub both_script : Script
 both_script = job Magic Append 1 3 1
     (attempt 0 0 ((codes "a", codes "hello") ∷ []) ∷ attempt 0 1 ((codes "b", codes "hello") ∷ []) ∷ [])
     (Do Driver ops.Setup ∷ Do worker ops.Write ∷ Do worker ops.Commit ∷ Do other ops.Write ∷ Do other ops.Commit ∷ Do Driver ops.Commit ∷ [])
 
+-- the second attempt's pending upload
 abbrev pub b_record : Pending
 b_record = record { task = 0; attempt = 1; bucket = lake; destination = codes "out/b"; upload = 2; length = 5; tags = hello_tag ∷ []; sizes = Some (5 ∷ []) }
 
+-- the second attempt's set
 abbrev pub b_set : PendingSet
 b_set = record { job = codes "j1"; task = 0; attempt = 1; commits = b_record ∷ [] }
 
+-- what `_SUCCESS` says of the second attempt
 abbrev pub b_mark : SuccessMark
 b_mark = record { job = codes "j1"; committer = Magic; files = codes "b" ∷ []; stamp = None }
 
@@ -93,11 +101,13 @@ half_reverted =
     ∷ said 4 Driver (DeleteObject lake (codes "out/b")) Deleted
     ∷ []
 
+-- the ends of a run whose commit is reverted
 abbrev pub revert_ends : List EventEnd
 revert_ends = done_setup ∷ done_task ∷ done_task ∷ Ended (ends.Commit (commits.StoreFault stages.Complete)) ∷ []
 
 -- ---- a task that is reported after a restart
 
+-- the script in which a task is reported behind the restart
 abbrev pub anew_script : Script
 anew_script = job Magic Append 1 3 1 (attempt 0 0 ((codes "part-00000", codes "hello") ∷ []) ∷ [])
     (Do Driver ops.Setup ∷ Do worker ops.Write ∷ Kill Driver ∷ Restart ∷ Do worker ops.Commit ∷ Do Driver ops.Commit ∷ [])
@@ -112,6 +122,7 @@ anew_ends = done_setup ∷ done_task ∷ Done ∷ Done ∷ done_task ∷ Ended (
 abbrev pub strange_ends : List EventEnd
 strange_ends = done_setup ∷ done_task ∷ done_task ∷ Ended (ends.Clean cleans.NoMemory) ∷ []
 
+-- no such end is due
 pub record Misended : Type 0 where
   -- the marker stands over the files of two attempts of one task
   pub both : Always both_script (Some 6) opening both_attempts → ⊥

@@ -36,6 +36,7 @@ pub record Text : Type 0 where
   pub bytes : List ℕ
   pub tag : Spelled
 
+-- the text `hello`
 abbrev pub hello : Text
 hello = record { bytes = codes "hello"; tag = hello_tag }
 
@@ -55,9 +56,11 @@ held path = record { key = codes "out/" ++ path; parts = fin.insert fin.empty 1 
 abbrev pub puts : ℕ → Actor → List ℕ → List ℕ → Entry
 puts k a key text = said k a (PutObject lake key text None) (Stored (plain_tag text))
 
+-- a read of a text
 abbrev pub reads : ℕ → Actor → List ℕ → List ℕ → Entry
 reads k a key text = said k a (GetObject lake key) (Object text None)
 
+-- a page of a listing, which is the last
 abbrev pub lists : ℕ → Actor → List ℕ → List PageEntry → Entry
 lists k a prefix found = said k a (ListPage lake prefix false [] 1000) (Page found false)
 
@@ -70,17 +73,21 @@ writes text k a directory path u =
     ∷ puts k a (directory ++ path ++ codes ".pending") (compact_text (pending_tree u))
     ∷ []
 
+-- the read of a file's record
 abbrev pub reads_record : ℕ → Actor → List ℕ → List ℕ → Pending → Entry
 reads_record k a directory path u = reads k a (directory ++ path ++ codes ".pending") (compact_text (pending_tree u))
 
+-- the put of a set
 abbrev pub puts_set : ℕ → Actor → List ℕ → PendingSet → Entry
 puts_set k a key s = puts k a key (compact_text (set_tree s))
 
+-- the driver's read of a set
 abbrev pub reads_set : ℕ → List ℕ → PendingSet → Entry
 reads_set k key s = reads k Driver key (compact_text (set_tree s))
 
 -- ---- runs
 
+-- what stays while the run goes on
 abbrev pub setting : Script → Setting
 setting w = record { script = w; minimum = 5242880 }
 

@@ -29,29 +29,37 @@ use Rattle.worked_runs.specs.Jobs.{lake, job, attempt, worker}
 use Rattle.worked_runs.specs.OneFile.{opening, setup_entries}
 use Rattle.worked_runs.specs.Runs.{hello, upload, set_of, held, writes, lists, reads_record, puts_set, reads_set, Goes, Keeps}
 
+-- the other attempt
 abbrev pub other : Actor
 other = Attempt 1 0
 
+-- the job's script
 abbrev pub script : Script
 script = job Magic Append 2 3 1
     (attempt 0 0 ((codes "p", codes "hello") ∷ []) ∷ attempt 1 0 ((codes "p", codes "hello") ∷ []) ∷ [])
     (Do Driver Setup ∷ Do worker Write ∷ Do other Write ∷ Do worker Commit ∷ Do other Commit ∷ Do Driver Commit ∷ [])
 
+-- the first attempt's magic directory
 abbrev pub first_directory : List ℕ
 first_directory = codes "out/__magic/job-j1/tasks/0_0/__base/"
 
+-- the second attempt's magic directory
 abbrev pub second_directory : List ℕ
 second_directory = codes "out/__magic/job-j1/tasks/1_0/__base/"
 
+-- the first attempt's upload
 abbrev pub first_upload : Pending
 first_upload = upload hello 0 0 (codes "p") 1
 
+-- the second attempt's upload
 abbrev pub second_upload : Pending
 second_upload = upload hello 1 0 (codes "p") 2
 
+-- the first attempt's set
 abbrev pub first_set : PendingSet
 first_set = set_of 0 0 (first_upload ∷ [])
 
+-- the second attempt's set
 abbrev pub second_set : PendingSet
 second_set = set_of 1 0 (second_upload ∷ [])
 
@@ -75,9 +83,11 @@ journal =
     ∷ reads_set 6 (codes "out/__magic/job-j1/sets/task_1.pendingset") second_set
     ∷ []
 
+-- an attempt's operation that is done
 abbrev pub done_task : EventEnd
 done_task = Ended (ends.Task tasks.Done)
 
+-- the ends of the run's events
 abbrev pub the_ends : List EventEnd
 the_ends = Ended (ends.Setup setups.Done) ∷ done_task ∷ done_task ∷ done_task ∷ done_task ∷ Ended (ends.Commit (commits.SamePath (codes "p") 0 1)) ∷ []
 
@@ -85,6 +95,7 @@ the_ends = Ended (ends.Setup setups.Done) ∷ done_task ∷ done_task ∷ done_t
 abbrev pub at : ℕ → Seen
 at m = seen script (Some 6) opening journal m
 
+-- the commit ends SamePath, and nothing is shown
 pub record SharedPath : Type 0 where
   pub sent : length journal ≡ 19
   pub event : commit_event script the_ends ≡ Some 6

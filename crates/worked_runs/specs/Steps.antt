@@ -22,6 +22,7 @@ pub record Course : Type 0 where
   pub requests : List (Option Request)
   pub end : Option OpEnd
 
+-- what an operation asks over these outcomes, and how it ends
 abbrev pub course_of : Setting → Actor → Running → List Outcome → Course
 course_of g a m os = record { requests = asked g a m os; end = over (reached g a m os).operation }
 

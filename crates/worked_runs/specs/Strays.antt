@@ -14,6 +14,7 @@ use Rattle.worked_runs.specs.OneFinished.{the_ends}
 abbrev pub stray : ℕ → Actor → List Entry
 stray k a = said k a (PutObject lake (codes "out/__magic/job-j1/sets/task_0.pendingset") (codes "hello") None) (Stored hello_tag) ∷ []
 
+-- an entry that is nobody's turn is in no run
 pub record StraysAreRefused : Type 0 where
   -- before the first event
   pub no_event : Plays setting [] (stray 0 worker) → ⊥

@@ -31,10 +31,12 @@ use Rattle.job_promise.specs.Turns.{by_actor, since}
 use Rattle.worked_runs.specs.Jobs.{lake, job, attempt, worker, said}
 use Rattle.worked_runs.specs.Runs.{Goes, Keeps}
 
+-- the job's script
 abbrev pub script : Script
 script = job Partitioned Fail 1 3 1 (attempt 0 0 ((codes "d=1/x", codes "hello") ∷ []) ∷ [])
     (Do Driver Setup ∷ Do worker Write ∷ Do worker Commit ∷ Do worker Abort ∷ Do Driver Commit ∷ [])
 
+-- the file that stands in the partition
 abbrev pub old_file : Object
 old_file = record { bytes = codes "x"; header = None }
 
@@ -54,6 +56,7 @@ journal =
     ∷ said 3 worker (ListPage lake (codes "out/d=1/") false [] 1) (Page (Listed (codes "out/d=1/a") 1 ∷ []) false)
     ∷ []
 
+-- the ends of the run's events
 abbrev pub the_ends : List EventEnd
 the_ends = Ended (ends.Setup setups.Done) ∷ Ended (ends.Task tasks.Done) ∷ Ended (ends.Task (tasks.Conflict (codes "d=1"))) ∷ Ended (ends.Task tasks.Done) ∷ Ended (ends.Commit (commits.Missing 0)) ∷ []
 
@@ -61,6 +64,7 @@ the_ends = Ended (ends.Setup setups.Done) ∷ Ended (ends.Task tasks.Done) ∷ E
 abbrev pub at : ℕ → Seen
 at m = seen script (Some 5) opening journal m
 
+-- the task's commit ends with the conflict, and the destination shows what it showed
 pub record Taken : Type 0 where
   pub sent : length journal ≡ 3
   pub event : commit_event script the_ends ≡ Some 5

@@ -39,9 +39,11 @@ use Rattle.worked_runs.specs.Jobs.{lake, job, attempt, worker, said}
 use Rattle.worked_runs.specs.OneFile.{opening, setup_entries}
 use Rattle.worked_runs.specs.Runs.{Text, hello, upload, set_of, writes, lists, reads_record, puts, puts_set, reads_set, Goes, Keeps}
 
+-- the text `world`
 abbrev pub world : Text
 world = record { bytes = codes "world"; tag = record { digits = codes "7d793037a0760186574b0282f2f435e7"; parts = 0 } }
 
+-- the other attempt
 abbrev pub other : Actor
 other = Attempt 0 1
 
@@ -49,30 +51,39 @@ other = Attempt 0 1
 abbrev pub with_events : List Event → Script
 with_events events = job Magic Append 1 3 1 (attempt 0 0 ((codes "p", codes "hello") ∷ []) ∷ attempt 0 1 ((codes "p", codes "world") ∷ []) ∷ []) events
 
+-- the job's script
 abbrev pub script : Script
 script = with_events (Do Driver Setup ∷ Do worker Write ∷ Do worker Commit ∷ Do other Write ∷ Do other Commit ∷ Do Driver Commit ∷ Do Driver Clean ∷ [])
 
+-- the first attempt's magic directory
 abbrev pub first_directory : List ℕ
 first_directory = codes "out/__magic/job-j1/tasks/0_0/__base/"
 
+-- the second attempt's magic directory
 abbrev pub second_directory : List ℕ
 second_directory = codes "out/__magic/job-j1/tasks/0_1/__base/"
 
+-- the key of the task's set
 abbrev pub set_key : List ℕ
 set_key = codes "out/__magic/job-j1/sets/task_0.pendingset"
 
+-- the first attempt's upload
 abbrev pub first_upload : Pending
 first_upload = upload hello 0 0 (codes "p") 1
 
+-- the second attempt's upload
 abbrev pub second_upload : Pending
 second_upload = upload world 0 1 (codes "p") 2
 
+-- the first attempt's set
 abbrev pub first_set : PendingSet
 first_set = set_of 0 0 (first_upload ∷ [])
 
+-- the second attempt's set
 abbrev pub second_set : PendingSet
 second_set = set_of 0 1 (second_upload ∷ [])
 
+-- what `_SUCCESS` says
 abbrev pub the_mark : SuccessMark
 the_mark = record { job = codes "j1"; committer = Magic; files = codes "p" ∷ []; stamp = None }
 
@@ -84,6 +95,7 @@ commits_task k a directory u s =
     ∷ puts_set k a set_key s
     ∷ []
 
+-- the entries of the job's commit
 abbrev pub commit_entries : ℕ → List Entry
 commit_entries k =
     reads_set k set_key second_set
@@ -122,15 +134,19 @@ journal_of write task commit clean =
     ++ commit_entries commit
     ++ clean_entries clean
 
+-- the run's journal
 abbrev pub journal : List Entry
 journal = journal_of 4 5 6 7
 
+-- an attempt's operation that is done
 abbrev pub done_task : EventEnd
 done_task = Ended (ends.Task tasks.Done)
 
+-- the ends of the run's events
 abbrev pub the_ends : List EventEnd
 the_ends = Ended (ends.Setup setups.Done) ∷ done_task ∷ done_task ∷ done_task ∷ done_task ∷ Ended (ends.Commit commits.Committed) ∷ Ended (ends.Clean cleans.Done) ∷ []
 
+-- the picks that are told
 abbrev pub the_picks : List Pick
 the_picks = record { task = 0; attempt = 1 } ∷ []
 
@@ -157,6 +173,7 @@ pub record Replaces (w : Script) (k : ℕ) (xs : List EventEnd) (journal : List 
   pub stands : object_at (moment opening journal 24).content lake (codes "out/_SUCCESS") ≡ Some (record { bytes = compact_text (success_tree the_mark); header = None })
   pub verdict : verdict w xs ≡ 0
 
+-- the later attempt is picked and shown, and a clean leaves nothing of the job
 pub record TwoAttempts : Type 0 where
   pub replaces : Replaces script 6 the_ends journal
   pub setup : Goes script the_ends journal Driver Setup 1 (Some 0) (ends.Setup setups.Done)

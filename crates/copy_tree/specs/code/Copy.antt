@@ -36,6 +36,7 @@ pub record CopyPaths : Type 0 where
   pub source : List ℕ
   pub target : List ℕ
 
+-- what a copy answers
 abbrev pub Answer : Type 0
 Answer = Result CopyCount CopyRefusal
 
@@ -48,6 +49,7 @@ abbrev pub one_of : Option (List ℕ) → List (List ℕ)
 one_of None = []
 one_of (Some k) = k ∷ []
 
+-- the keys at which a file would be in the way: those above the target, and its own
 abbrev pub climb : List ℕ → List (List ℕ)
 climb t = keys_above t ++ one_of (key_if t)
 
@@ -56,9 +58,11 @@ abbrev pub read_of : List (List ℕ) → Ask
 read_of [] = Page [] false [] 1
 read_of (k ∷ ks) = Get k
 
+-- a copy begins with a look at the source
 abbrev pub first : CopyPaths → CopyStage
 first o = Here
 
+-- what a copy asks at each stage
 abbrev pub asks : CopyPaths → CopyStage → Ask
 asks o Here = look_asks o.source
 asks o (Walk w) = walk_asks (prefix_of o.source) w
@@ -74,6 +78,7 @@ asks o (Copy c count) = copy_asks c
 abbrev pub count_of : Parts → CopyCount
 count_of c = record { copied = length c.places; skipped = length c.stood_at }
 
+-- the absent keys are copied, or there is none
 abbrev pub copies : CopyCount → List (List ℕ) → List (List ℕ) → Step CopyStage Answer
 copies count [] ls = End (Ok count)
 copies count (k ∷ ks) ls = Next (Copy (record { keys = k ∷ ks; places = ls; from = 0 }) count)
@@ -82,19 +87,23 @@ copies count (k ∷ ks) ls = Next (Copy (record { keys = k ∷ ks; places = ls; 
 abbrev pub begun : Parts → Step CopyStage Answer
 begun c = copies (count_of c) c.keys c.places
 
+-- the next copy, or the answer behind the last one
 abbrev pub on_copied : CopyCount → CopyStep → Step CopyStage Answer
 on_copied count (NextCopy c) = Next (Copy c count)
 on_copied count (All ks) = End (Ok count)
 
 -- ---- the pairs of which both stand
 
+-- the pairs of which both stand are compared first
 abbrev pub pairs : Parts → List (List ℕ) → Step CopyStage Answer
 pairs c [] = begun c
 pairs c (k ∷ ks) = Next (Source c 0)
 
+-- the keys whose new key stands, and those whose new key is absent
 abbrev pub parts_of : List (List ℕ) → List (List ℕ) → List PageEntry → Parts
 parts_of ks ls es = record { stood = chosen true ks ls es; stood_at = chosen true ls ls es; keys = chosen false ks ls es; places = chosen false ls ls es }
 
+-- what is compared and copied, once both sides were listed
 abbrev pub parted : Parts → Step CopyStage Answer
 parted c = pairs c c.stood
 
@@ -103,6 +112,7 @@ abbrev pub on_read : Parts → ℕ → Reply → Step CopyStage Answer
 on_read c n (Found b h) = Next (Target c n b h)
 on_read c n _ = End (Err SourceMissing)
 
+-- two length headers are the same
 abbrev pub same_header : Option ℕ → Option ℕ → Bool
 same_header None None = true
 same_header (Some a) (Some b) = nat_eq a b
@@ -117,30 +127,36 @@ differ (l ∷ ls) = End (Err (Differs l))
 abbrev pub agreed : Parts → ℕ → Step CopyStage Answer
 agreed c n = cond (nat_lt 1 (length (drop n c.stood))) (Next (Source c (n + 1))) (begun c)
 
+-- a pair agrees, or its new key is told
 abbrev pub compared : Parts → ℕ → Bool → Step CopyStage Answer
 compared c n true = agreed c n
 compared c n false = differ (drop n c.stood_at)
 
+-- the read of a new key is compared with that of its source
 abbrev pub on_compare : Parts → ℕ → List ℕ → Option ℕ → Reply → Step CopyStage Answer
 on_compare c n b h (Found d g) = compared c n (text_eq b d && same_header h g)
 on_compare c n b h _ = End (Err SourceMissing)
 
 -- ---- the walk below the target
 
+-- where a page of the target's keys leads
 abbrev pub on_shown : List (List ℕ) → List (List ℕ) → Walked PageEntry → Step CopyStage Answer
 on_shown ks ls (More w) = Next (WalkTarget ks ls w)
 on_shown ks ls (Whole es) = parted (parts_of ks ls es)
 
+-- where a reply that fits leads the walk below the target
 abbrev pub on_show : List (List ℕ) → List (List ℕ) → List PageEntry → Reply → Bool → Step CopyStage Answer
 on_show ks ls w r true = on_shown ks ls (walked_entries w r)
 on_show ks ls w r false = Next (WalkTarget ks ls w)
 
 -- ---- the paths above the target
 
+-- the target's keys are listed, or the first that would be too long is told
 abbrev pub with_places : List (List ℕ) → Result (List (List ℕ)) (List ℕ) → Step CopyStage Answer
 with_places ks (Ok ls) = Next (WalkTarget ks ls [])
 with_places ks (Err k) = End (Err (TooLong k))
 
+-- the new keys of what was listed
 abbrev pub placed : CopyPaths → Option (List ℕ) → List (List ℕ) → Step CopyStage Answer
 placed o None ks = End (Err SourceMissing)
 placed o (Some t) ks = with_places ks (new_keys (prefix_of o.source) (marker_of t) ks)
@@ -153,18 +169,22 @@ on_climb o ks Free = placed o (place_of o.source o.target) ks
 
 -- ---- the source
 
+-- a source below which nothing is listed is missing
 abbrev pub listed : CopyPaths → List (List ℕ) → Step CopyStage Answer
 listed o [] = End (Err SourceMissing)
 listed o (k ∷ ks) = on_climb o (k ∷ ks) (climbing (climb o.target))
 
+-- where a page of the source's keys leads
 abbrev pub on_walked : CopyPaths → Walked PageEntry → Step CopyStage Answer
 on_walked o (More w) = Next (Walk w)
 on_walked o (Whole es) = listed o (keys_on es)
 
+-- where a reply that fits leads the walk below the source
 abbrev pub on_walk : CopyPaths → List PageEntry → Reply → Bool → Step CopyStage Answer
 on_walk o w r true = on_walked o (walked_entries w r)
 on_walk o w r false = Next (Walk w)
 
+-- what is refused at once, or the walk below the source begins
 abbrev pub here : Bool → Look → Step CopyStage Answer
 here true l = End (Err Overlap)
 here false There = End (Err SourceIsFile)
@@ -172,6 +192,7 @@ here false _ = Next (Walk [])
 
 -- ---- where a reply leads
 
+-- where a reply leads at each stage
 abbrev pub on : CopyPaths → CopyStage → Reply → Step CopyStage Answer
 on o Here r = here (overlaps o) (look_of r)
 on o (Walk w) r = on_walk o w r (fits r)
@@ -181,5 +202,6 @@ on o (Source c n) r = on_read c n r
 on o (Target c n b h) r = on_compare c n b h r
 on o (Copy c count) r = on_copied count (copied_next (has_more c) c)
 
+-- where a reply leads; without the bucket it ends so
 abbrev pub goes : CopyPaths → CopyStage → Reply → Step CopyStage Answer
 goes o x r = unless (look_of r) (End (Err NoSuchBucket)) (on o x r)

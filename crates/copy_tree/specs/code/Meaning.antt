@@ -16,13 +16,15 @@ use Rattle.copy_tree.specs.declared.stages.CopyStage.TheVariants.{Here, Walk, Up
 use Rattle.copy_tree.specs.Parts.{kept}
 use Rattle.copy_tree.specs.code.Copy.{CopyPaths, Answer, count_of, climb}
 
--- all moves of the source; those whose new key stands, and those whose new key is absent
+-- each key of the source with its new key
 abbrev pub moves : CopyPaths → Objects → List Move
 moves o z = moves_of true o.source o.target z
 
+-- the keys whose new key stands
 abbrev pub standing : CopyPaths → Objects → List Move
 standing o z = kept true (moves o z) (all_below (prefix_of o.target) z)
 
+-- the keys whose new key is absent
 abbrev pub absent : CopyPaths → Objects → List Move
 absent o z = kept false (moves o z) (all_below (prefix_of o.target) z)
 
@@ -75,5 +77,6 @@ left o (Copy c count) m = copies_left c
 abbrev pub gives : CopyPaths → Objects → Answer → Objects → Type 0
 gives o z a m = Copies o.source o.target z a m
 
+-- what stands at any moment of a copy
 abbrev pub always : CopyPaths → Objects → Objects → Type 0
 always o z m = MayStandCopied o.source o.target z m

@@ -35,14 +35,17 @@ use Rattle.fs_files.specs.code.Hearing.{heard}
 use Rattle.fs_files.specs.Creation.{Creation, IsCreation}
 use Rattle.block_stream.specs.Holds.{HasRoom, Holds}
 
+-- what the making of a file answers
 abbrev pub Answer : Type 0
 Answer = Result (Unit {0}) FsRefusal
 
+-- where the making of a file goes on, or its answer
 abbrev pub CreateStep : Type 0
 CreateStep = Step CreateStage Answer
 
 -- ---- the stages
 
+-- what it asks at each stage
 abbrev pub asks : Creation → CreateStage → Request
 asks o Here = request_of o.path.bucket (look_asks o.path.key)
 asks o Below = request_of o.path.bucket (below_asks o.path.key 1)
@@ -61,6 +64,7 @@ on_climb o (File k) = End (Err (NotDirectory k))
 on_climb o (Goes_on c) = Next (Up c)
 on_climb o Free = write_at o.path.key o
 
+-- the directories above are looked at, one by one
 abbrev pub climb : Creation → CreateStep
 climb o = on_climb o (climbing (keys_above o.path.key))
 
@@ -69,14 +73,17 @@ abbrev pub replace : Bool → Creation → CreateStep
 replace true o = climb o
 replace false o = End (Err AlreadyExists)
 
+-- a file that stands there is replaced or refused; else a directory is looked for
 abbrev pub here : Creation → Look → CreateStep
 here o There = replace o.overwrite o
 here o _ = Next Below
 
+-- the root is a directory
 abbrev pub on_here : List ℕ → Creation → Look → CreateStep
 on_here [] o l = End (Err IsDirectory)
 on_here (x ∷ p) o l = here o l
 
+-- a directory is refused
 abbrev pub on_below : Creation → Look → CreateStep
 on_below o There = End (Err IsDirectory)
 on_below o _ = climb o
@@ -86,11 +93,13 @@ abbrev pub drop_from : List (List ℕ) → CreateStep
 drop_from [] = End (Ok tt)
 drop_from (k ∷ ks) = Next DropMarkers
 
+-- where the writing of its bytes leads
 abbrev pub written : Creation → Heard → CreateStep
 written o Done = drop_from (created o.policy o.path)
 written o (On w) = Next (Write w)
 written o Refusing = End (Err NotFound)
 
+-- where a reply leads at each stage
 abbrev pub on : Creation → CreateStage → Reply → Bool → CreateStep
 on o Here r repeated = on_here o.path.key o (look_of r)
 on o Below r repeated = on_below o (look_of r)
@@ -98,6 +107,7 @@ on o (Up c) r repeated = on_climb o (climbed c (look_of r))
 on o (Write w) r repeated = written o (heard w r repeated)
 on o DropMarkers r repeated = End (Ok tt)
 
+-- where a reply leads; without the bucket it ends so
 abbrev pub goes : Creation → CreateStage → Reply → Bool → CreateStep
 goes o x r repeated = unless (look_of r) (End (Err NoSuchBucket)) (on o x r repeated)
 
@@ -117,6 +127,7 @@ abbrev pub SomeDue : Creation → Option BucketContent → Type 0
 SomeDue o None = ⊥
 SomeDue o (Some c) = IsDue o c.objects
 
+-- the objects with the file
 abbrev pub file_in : Creation → Objects → Objects
 file_in o z = fin.insert z o.path.key (object_of o.bytes)
 
@@ -124,6 +135,7 @@ file_in o z = fin.insert z o.path.key (object_of o.bytes)
 abbrev pub IsMade : Creation → Objects → Objects → Type 0
 IsMade o z m = (m ≡ file_in o z) ⊎ (m ≡ without (file_in o z) (created o.policy o.path))
 
+-- a part has at least the store's least size
 abbrev pub least : Creation → Scene → Type 0
 least o z = z.content.minimum ≤ o.block
 
@@ -141,9 +153,11 @@ HoldsIn o z c (Up d) s repeated = (s ≡ z) × IsOpen o c.objects × IsClimb c.o
 HoldsIn o z c (Write w) s repeated = IsDue o c.objects × HasRoom (stream_of o.path.bucket w) × (w.key ≡ o.path.key) × (w.block ≡ o.block) × (least o z → Writes z o.path.bucket o.bytes c w s repeated)
 HoldsIn o z c DropMarkers s repeated = IsDue o c.objects × (least o z → IsBeside z o.path.bucket c (IsMade o c.objects) s)
 
+-- what a bucket of the scene holds, where it is there
 abbrev pub bucket_at : Scene → List ℕ → Option BucketContent
 bucket_at z b = fin.get z.content.buckets b
 
+-- what holds at each stage, by what the bucket held
 abbrev pub HoldsAt : Option BucketContent → Creation → Scene → CreateStage → Scene → Bool → Type 0
 HoldsAt None o z x s repeated = (s ≡ z) × (x ≡ Here)
 HoldsAt (Some c) o z x s repeated = HoldsIn o z c x s repeated
@@ -165,25 +179,32 @@ GivesFile o z a s = least o z → InFile (bucket_at z o.path.bucket) (λ m n. Cr
 abbrev pub always_in : Creation → Objects → Objects → Type 0
 always_in o z m = (m ≡ z) ⊎ (IsDue o z × IsMade o z m)
 
+-- what stands at any moment
 abbrev pub AlwaysFile : Creation → Scene → Scene → Type 0
 AlwaysFile o z s = least o z → InFile (bucket_at z o.path.bucket) (always_in o) (Unit {0}) z o.path.bucket s
 
+-- it stands at its beginning
 abbrev pub starts : CreateFile → Type 0
 starts p = IsCreation p.file × (p.stage ≡ Here)
 
+-- what it asks next
 abbrev pub request : CreateFile → Request
 request p = asks p.file p.stage
 
+-- where a step of it leads
 abbrev pub stepped : Creation → CreateStep → Step CreateFile Answer
 stepped o (Next x) = Next (record { file = o; stage = x })
 stepped o (End a) = End a
 
+-- where a reply leads it
 abbrev pub led : CreateFile → Reply → Bool → Step CreateFile Answer
 led p r repeated = stepped p.file (goes p.file p.stage r repeated)
 
+-- what it answers and leaves
 abbrev pub gives : CreateFile → Scene → Answer → Scene → Type 0
 gives o z a s = GivesFile o.file z a s
 
+-- what stands at any moment of it
 abbrev pub always : CreateFile → Scene → Scene → Type 0
 always o z s = AlwaysFile o.file z s
 
@@ -200,12 +221,15 @@ upload_of _ = None
 abbrev pub calm : CreateFile → Scene → CreateFile → Scene → Type 0
 calm o z p s = holds o z p s false × (least o.file z → NoneBut (upload_of p.stage) z o.file.path.bucket s)
 
+-- what it answers and leaves where each sending was answered
 abbrev pub leaves : CreateFile → Scene → Answer → Scene → Type 0
 leaves o z a s = gives o z a s × (least o.file z → NoneLeft z o.file.path.bucket s)
 
+-- the most requests that the writing has yet to send
 abbrev pub write_left : Creation → ℕ
 write_left o = length o.bytes + 4
 
+-- the most requests that are to come at each stage
 abbrev pub left_at : Creation → CreateStage → ℕ
 left_at o Here = length (keys_above o.path.key) + 1 + write_left o
 left_at o Below = length (keys_above o.path.key) + write_left o
@@ -213,5 +237,6 @@ left_at o (Up c) = length c.rest + write_left o
 left_at o (Write w) = hearing.left w + 1
 left_at o DropMarkers = 0
 
+-- the most requests that it has yet to send
 abbrev pub left : CreateFile → Scene → ℕ
 left p s = left_at p.file p.stage

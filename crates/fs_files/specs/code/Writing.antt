@@ -15,6 +15,7 @@ use Rattle.block_stream.specs.Coded.{coded_spelled}
 use Rattle.block_stream.specs.Stream.{Stream, has_some}
 use Rattle.block_stream.specs.Holds.{HasRoom}
 
+-- a file that is written
 pub record Writing : Type 0 where
   pub key : List ℕ
   -- the length in bytes of each part but the last
@@ -44,6 +45,7 @@ stream_of bucket w = record { mode = Direct; bucket = bucket; key = w.key; block
 abbrev pub seen : List ℕ → ℕ → List ℕ → ℕ → Option ℕ → List Spelled → Writing
 seen key block bytes from upload tags = record { key = key; block = block; pending = drop from bytes; upload = upload; tags = tags }
 
+-- how the writing is kept: so many of the file's bytes are in parts that were answered
 pub record IsKept (key : List ℕ) (block : ℕ) (bytes : List ℕ) (from : ℕ) (upload : Option ℕ) (tags : List Spelled) : Type 0 where
   pub within : from ≤ length bytes
   pub room : HasRoom (stream_of [] (seen key block bytes from upload tags))
@@ -52,10 +54,12 @@ pub record IsKept (key : List ℕ) (block : ℕ) (bytes : List ℕ) (from : ℕ)
 
 -- ---- what is asked
 
+-- a short file is put, a longer one begun as an upload
 abbrev pub first_stage : Bool → Stage
 first_stage true = Putting
 first_stage false = Beginning
 
+-- the next part is sent, or the upload completed
 abbrev pub later_stage : Bool → Stage
 later_stage true = Sending
 later_stage false = Completing
@@ -68,6 +72,7 @@ is_short w = nat_lt (length w.pending) w.block
 abbrev pub is_due : Writing → Bool
 is_due w = has_some w.pending || not (has_some w.tags)
 
+-- what is due next, by whether the upload is begun
 abbrev pub stage_by : Option ℕ → Writing → Stage
 stage_by None w = first_stage (is_short w)
 stage_by (Some id) w = later_stage (is_due w)
@@ -76,14 +81,17 @@ stage_by (Some id) w = later_stage (is_due w)
 abbrev pub stage_in : Writing → Stage
 stage_in w = stage_by w.upload w
 
+-- the id of its upload
 abbrev pub id_in : Writing → ℕ
 id_in w = unwrap_or w.upload 0
 
+-- the request of each stage
 abbrev pub asks_at : Stage → List ℕ → Writing → Request
 asks_at Putting bucket w = PutObject bucket w.key w.pending None
 asks_at Beginning bucket w = CreateUpload bucket w.key
 asks_at Sending bucket w = UploadPart bucket w.key (id_in w) (length w.tags + 1) (take w.block w.pending)
 asks_at _ bucket w = CompleteUpload bucket w.key (id_in w) (named_from 1 w.tags)
 
+-- what the writing asks next
 abbrev pub asks : List ℕ → Writing → Request
 asks bucket w = asks_at (stage_in w) bucket w

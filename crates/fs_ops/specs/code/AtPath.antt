@@ -14,6 +14,7 @@ use Rattle.fs_ops.specs.declared.at_path.PathStage.{PathStage}
 use Rattle.fs_ops.specs.declared.at_path.PathStage.TheVariants.{Here, Below}
 use Rattle.fs_ops.specs.Places.{below_asks, NoFileAt}
 
+-- it begins with a look for a file
 abbrev pub first : List ℕ → PathStage
 first o = Here
 
@@ -32,10 +33,12 @@ abbrev pub on_here : {A : Type 0} → Result A FsRefusal → Option A → List �
 on_here directory found [] = End directory
 on_here directory found (x ∷ p) = told found
 
+-- a directory stands where something is below, and else nothing
 abbrev pub on_below : {A : Type 0} → Result A FsRefusal → Look → Step PathStage (Result A FsRefusal)
 on_below directory There = End directory
 on_below directory _ = End (Err NotFound)
 
+-- where a look leads
 abbrev pub heard : {A : Type 0} → Result A FsRefusal → Option A → List ℕ → PathStage → Look → Step PathStage (Result A FsRefusal)
 heard directory found o Here l = on_here directory found o
 heard directory found o Below l = on_below directory l
@@ -44,10 +47,12 @@ heard directory found o Below l = on_below directory l
 abbrev pub on : {A : Type 0} → Result A FsRefusal → (Reply → Option A) → List ℕ → PathStage → Reply → Step PathStage (Result A FsRefusal)
 on directory file o x r = heard directory (file r) o x (look_of r)
 
+-- nothing has changed, and what was seen so far is so
 abbrev pub holds : List ℕ → Objects → PathStage → Objects → Type 0
 holds o z Here m = m ≡ z
 holds o z Below m = (m ≡ z) × NoFileAt z o
 
+-- the looks that are to come
 abbrev pub left : List ℕ → PathStage → Objects → ℕ
 left o Here m = 1
 left o Below m = 0

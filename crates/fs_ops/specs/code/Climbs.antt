@@ -8,10 +8,12 @@ use Rattle.fs_ops.specs.declared.climb.Climb.{Climb}
 use Rattle.fs_ops.specs.declared.climb.Climbed.{Climbed}
 use Rattle.fs_ops.specs.declared.climb.Climbed.TheVariants.{File, On, Free}
 
+-- the first of these directories is looked at, until none is left
 abbrev pub climbing : List (List ℕ) → Climbed
 climbing [] = Free
 climbing (k ∷ ks) = On (record { first = k; rest = ks })
 
+-- a file ends the climb, and else it goes on
 abbrev pub climbed : Climb → Look → Climbed
 climbed c There = File c.first
 climbed c _ = climbing c.rest

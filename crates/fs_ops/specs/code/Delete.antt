@@ -34,12 +34,15 @@ pub record Deletion : Type 0 where
   pub path : List ℕ
   pub recursive : Bool
 
+-- what a deletion answers
 abbrev pub Answer : Type 0
 Answer = Result (Unit {0}) FsRefusal
 
+-- a deletion begins with a look for a file
 abbrev pub first : Deletion → DeleteStage
 first o = Here
 
+-- what a deletion asks at each stage
 abbrev pub asks : Deletion → DeleteStage → Ask
 asks o Here = look_asks o.path
 asks o DropFile = drop_asks o.path
@@ -54,13 +57,16 @@ abbrev pub up_to : Option (List ℕ) → Step DeleteStage Answer
 up_to None = End (Ok tt)
 up_to (Some k) = Next (Parent k)
 
+-- the directory above is looked at, unless it is the root
 abbrev pub up : Deletion → Step DeleteStage Answer
 up o = up_to (marker_if (parent o.path))
 
+-- a file is deleted, or a directory looked for
 abbrev pub here : Look → Step DeleteStage Answer
 here There = Next DropFile
 here _ = Next Below
 
+-- the root is refused
 abbrev pub on_here : List ℕ → Look → Step DeleteStage Answer
 on_here [] l = End (Err IsRoot)
 on_here (x ∷ p) l = here l
@@ -70,34 +76,42 @@ abbrev pub inside : List ℕ → List PageEntry → Inside
 inside q [] = Empty
 inside q (e ∷ es) = if (length (e ∷ es) == 1) && text_eq (text_in e) q then MarkerAlone else Children
 
+-- the entries of a page
 abbrev pub entries_in : Reply → List PageEntry
 entries_in (APage es more) = es
 entries_in _ = []
 
+-- a directory with children is swept, where that is asked for, and else refused
 abbrev pub children : Bool → Step DeleteStage Answer
 children true = Next (Sweep sweep_start)
 children false = End (Err NotEmpty)
 
+-- where what is below the directory leads
 abbrev pub on_inside : Bool → Inside → Step DeleteStage Answer
 on_inside recursive Empty = End (Err NotFound)
 on_inside recursive MarkerAlone = Next DropMarker
 on_inside recursive Children = children recursive
 
+-- where the look below the path leads
 abbrev pub on_below : Deletion → Reply → Step DeleteStage Answer
 on_below o r = on_inside o.recursive (inside (prefix_of o.path) (entries_in r))
 
+-- where a reply to the sweep leads
 abbrev pub swept : Deletion → Option walks.Sweep → Step DeleteStage Answer
 swept o (Some w) = Next (Sweep w)
 swept o None = up o
 
+-- where a reply that fits leads the sweep
 abbrev pub on_sweep : Deletion → walks.Sweep → Reply → Bool → Step DeleteStage Answer
 on_sweep o w r true = swept o (sweep_hears all_go w r)
 on_sweep o w r false = Next (Sweep w)
 
+-- the marker of the directory above is put, where nothing is left below it
 abbrev pub on_parent : List ℕ → Look → Step DeleteStage Answer
 on_parent k There = End (Ok tt)
 on_parent k _ = Next (PutMarker k)
 
+-- where a reply leads at each stage
 abbrev pub on : Deletion → DeleteStage → Reply → Step DeleteStage Answer
 on o Here r = on_here o.path (look_of r)
 on o DropFile r = up o
@@ -113,6 +127,7 @@ on o (PutMarker k) r = End (Ok tt)
 abbrev pub Removed : Deletion → Objects → Objects → Type 0
 Removed o z n = (HasFile z o.path × (n ≡ fin.remove z o.path)) ⊎ (NoFileAt z o.path × SomeBelow z (prefix_of o.path) × (o.recursive ≡ false → IsEmpty z o.path) × IsWithoutBelow (prefix_of o.path) z n)
 
+-- what holds at each stage
 abbrev pub holds : Deletion → Objects → DeleteStage → Objects → Type 0
 holds o z Here m = m ≡ z
 holds o z DropFile m = HasFile z o.path × (m ≡ z)
@@ -154,6 +169,7 @@ always o z m = (m ≡ z) ⊎ (IsDue o z × ((k : List ℕ) → IsKept o z m k))
 abbrev pub gives : Deletion → Objects → Answer → Objects → Type 0
 gives o z a m = (is_key o.path ≡ true → Deletes o.recursive o.path z a m) × always o z m
 
+-- the requests that are to come
 abbrev pub left : Deletion → DeleteStage → Objects → ℕ
 left o Here m = sweep_left (prefix_of o.path) sweep_start m + 4
 left o DropFile m = 2

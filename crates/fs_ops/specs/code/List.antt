@@ -25,6 +25,7 @@ use Rattle.fs_ops.specs.Places.{look_asks, prefix_of}
 use Rattle.fs_ops.specs.code.Stat.{length_in}
 use Rattle.fs_ops.specs.code.Delete.{entries_in}
 
+-- what a listing answers
 abbrev pub Answer : Type 0
 Answer = Result (List DirEntry) FsRefusal
 
@@ -34,10 +35,12 @@ Answer = Result (List DirEntry) FsRefusal
 abbrev pub rest_of : List ℕ → List ℕ → Option (List ℕ)
 rest_of q t = if starts_with nat_eq t q then Some (drop (length q) t) else None
 
+-- a status is a file's
 abbrev pub is_file : Status → Bool
 is_file Directory = false
 is_file (File n) = true
 
+-- an entry is a file of this name
 abbrev pub is_file_named : List ℕ → DirEntry → Bool
 is_file_named n e = is_file e.status && text_eq e.name n
 
@@ -56,6 +59,7 @@ abbrev pub first_of : List (List ℕ) → List ℕ
 first_of [] = []
 first_of (p ∷ ps) = p
 
+-- the entry of a directory, unless it is a file too
 abbrev pub dir_named : Bool → List ℕ → Option DirEntry
 dir_named true n = None
 dir_named false n = Some (record { name = n; status = Directory })
@@ -65,10 +69,12 @@ abbrev pub dir_by : List DirEntry → Option (List ℕ) → Option DirEntry
 dir_by found None = None
 dir_by found (Some r) = dir_named (has_file found (first_of (parts_of 47 r))) (first_of (parts_of 47 r))
 
+-- the entry of a child that an entry of a page is, if it is one
 abbrev pub shown : List ℕ → List DirEntry → PageEntry → Option DirEntry
 shown q found (Single k n) = file_by (rest_of q k) n
 shown q found (Prefix t) = dir_by found (rest_of q t)
 
+-- the entries with one more, where it is one
 abbrev pub added : List DirEntry → Option DirEntry → List DirEntry
 added found None = found
 added found (Some e) = found ++ e ∷ []
@@ -90,14 +96,17 @@ abbrev pub first : List ℕ → ListStage
 first [] = Pages [] []
 first (x ∷ p) = Here
 
+-- what a listing asks at each stage
 abbrev pub asks : List ℕ → ListStage → Ask
 asks o Here = look_asks o
 asks o (Pages found mark) = Page (prefix_of o) true mark 1000
 
+-- a file is listed by itself, and else what is below the path
 abbrev pub told : List ℕ → Option ℕ → Step ListStage Answer
 told p (Some n) = End (Ok (record { name = own_name p; status = File n } ∷ []))
 told p None = Next (Pages [] [])
 
+-- more pages are to come
 abbrev pub more_in : Reply → Bool
 more_in (APage es more) = more
 more_in _ = false
@@ -108,10 +117,12 @@ whole [] found mark = End (Ok found)
 whole (x ∷ p) found [] = End (Err NotFound)
 whole (x ∷ p) found (y ∷ mark) = End (Ok found)
 
+-- the next page, or the answer behind the last one
 abbrev pub paged : List ℕ → Bool → List DirEntry → List ℕ → Step ListStage Answer
 paged o true found mark = Next (Pages found mark)
 paged o false found mark = whole o found mark
 
+-- where a reply leads at each stage
 abbrev pub on : List ℕ → ListStage → Reply → Step ListStage Answer
 on o Here r = told o (length_in r)
 on o (Pages found mark) r = paged o (more_in r) (all_added (prefix_of o) found (entries_in r)) (last_text mark (entries_in r))
@@ -127,6 +138,7 @@ abbrev pub holds : List ℕ → Objects → ListStage → Objects → Type 0
 holds o z Here m = m ≡ z
 holds o z (Pages found mark) m = (m ≡ z) × NoFile z o × ((mark ≡ []) ⊎ HasDir z o) × (all_added (prefix_of o) found (listed (prefix_of o) true mark z) ≡ children (prefix_of o) z)
 
+-- the requests that are to come
 abbrev pub left : List ℕ → ListStage → Objects → ℕ
 left o Here m = 1 + length (listed (prefix_of o) true [] m)
 left o (Pages found mark) m = length (listed (prefix_of o) true mark m)

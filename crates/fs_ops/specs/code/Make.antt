@@ -20,12 +20,15 @@ use Rattle.fs_ops.specs.declared.make_dirs.MakeStage.{MakeStage}
 use Rattle.fs_ops.specs.declared.make_dirs.MakeStage.TheVariants.{Here, Below, Up, PutMarker}
 use Rattle.fs_ops.specs.Places.{look_asks, below_asks, put_marker_asks, NoFileAt}
 
+-- what the making of a directory answers
 abbrev pub Answer : Type 0
 Answer = Result (Unit {0}) FsRefusal
 
+-- it begins with a look for a file
 abbrev pub first : List ℕ → MakeStage
 first o = Here
 
+-- what it asks at each stage
 abbrev pub asks : List ℕ → MakeStage → Ask
 asks o Here = look_asks o
 asks o Below = below_asks o 1
@@ -38,18 +41,22 @@ on_climb (File k) = End (Err (NotDirectory k))
 on_climb (On c) = Next (Up c)
 on_climb Free = Next PutMarker
 
+-- a file is refused, or a directory looked for
 abbrev pub here : Look → Step MakeStage Answer
 here There = End (Err AlreadyExists)
 here _ = Next Below
 
+-- the root is there already
 abbrev pub on_here : List ℕ → Look → Step MakeStage Answer
 on_here [] l = End (Ok tt)
 on_here (x ∷ p) l = here l
 
+-- a directory is there already, or those above are looked at
 abbrev pub on_below : List ℕ → Look → Step MakeStage Answer
 on_below o There = End (Ok tt)
 on_below o _ = on_climb (climbing (keys_above o))
 
+-- where a reply leads at each stage
 abbrev pub on : List ℕ → MakeStage → Reply → Step MakeStage Answer
 on o Here r = on_here o (look_of r)
 on o Below r = on_below o (look_of r)
@@ -58,6 +65,7 @@ on o PutMarker r = End (Ok tt)
 
 -- ---- what holds
 
+-- what holds at each stage
 abbrev pub holds : List ℕ → Objects → MakeStage → Objects → Type 0
 holds o z Here m = m ≡ z
 holds o z Below m = (m ≡ z) × NoFileAt z o
@@ -72,6 +80,7 @@ always o z m = (m ≡ z) ⊎ (IsAbsent z o × NoFiles z (keys_above o) × (m ≡
 abbrev pub sends : List ℕ → Objects → Ask → Type 0
 sends o z a = (is_look a ≡ true) ⊎ (IsAbsent z o × NoFiles z (keys_above o) × (a ≡ put_marker_asks o))
 
+-- the requests that are to come
 abbrev pub left : List ℕ → MakeStage → Objects → ℕ
 left o Here m = length (keys_above o) + 2
 left o Below m = length (keys_above o) + 1

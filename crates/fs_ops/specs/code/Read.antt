@@ -10,9 +10,11 @@ use Rattle.fs_ops.specs.declared.at_path.PathStage.{PathStage}
 use Rattle.fs_ops.specs.Places.{get_asks}
 use Rattle.fs_ops.specs.code.AtPath as path
 
+-- what a read answers
 abbrev pub Answer : Type 0
 Answer = Result (List ℕ) FsRefusal
 
+-- what a read asks at each stage
 abbrev pub asks : List ℕ → PathStage → Ask
 asks o x = path.asks get_asks o x
 
@@ -21,5 +23,6 @@ abbrev pub bytes_in : Reply → Option (List ℕ)
 bytes_in (Found bytes h) = Some bytes
 bytes_in _ = None
 
+-- where a reply leads at each stage
 abbrev pub on : List ℕ → PathStage → Reply → Step PathStage Answer
 on o x r = path.on (Err IsDirectory) bytes_in o x r

@@ -11,9 +11,11 @@ use Rattle.fs_ops.specs.declared.at_path.PathStage.{PathStage}
 use Rattle.fs_ops.specs.Places.{look_asks}
 use Rattle.fs_ops.specs.code.AtPath as path
 
+-- what a look at a path answers
 abbrev pub Answer : Type 0
 Answer = Result Status FsRefusal
 
+-- what it asks at each stage
 abbrev pub asks : List ℕ → PathStage → Ask
 asks o x = path.asks look_asks o x
 
@@ -27,5 +29,6 @@ abbrev pub status_in : Reply → Option Status
 status_in (Head n h) = Some (File n)
 status_in _ = None
 
+-- where a reply leads at each stage
 abbrev pub on : List ℕ → PathStage → Reply → Step PathStage Answer
 on o x r = path.on (Ok Directory) status_in o x r

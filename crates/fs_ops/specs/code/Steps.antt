@@ -17,6 +17,7 @@ abbrev pub unless : {Y : Type 0} → Look → Y → Y → Y
 unless NoBucket absent y = absent
 unless _ absent y = y
 
+-- where a reply leads; without the bucket it ends so
 abbrev pub goes_by : {O X A : Type 0} → (O → X → Reply → Step X (Result A FsRefusal)) → O → X → Reply → Step X (Result A FsRefusal)
 goes_by on o x r = unless (look_of r) (End (Err NoSuchBucket)) (on o x r)
 

@@ -35,12 +35,14 @@ Before o z Target d = Begun o z d
 Before o z Inside d = Begun o z d × IsDirectory z o.target
 Before o z Above d = Begun o z d × IsAbsent z o.target
 
+-- the path that a look is at
 abbrev pub path_at : Renaming → Spot → List ℕ
 path_at o Source = o.source
 path_at o Target = o.target
 path_at o Inside = inside o.source o.target
 path_at o Above = parent o.target
 
+-- no file stands at a path, where that was seen
 abbrev pub NoFileIf : Bool → Objects → List ℕ → Type 0
 NoFileIf true z p = NoFileAt z p
 NoFileIf false z p = Unit {0}
@@ -61,9 +63,11 @@ pub record MayGo (o : Renaming) (z : Objects) (d i : Bool) (q : List ℕ) : Type
 abbrev pub moved : Renaming → Objects → Bool → List ℕ → Objects
 moved o z d q = without (copied_all z (moves_of d o.source q z)) (sources (moves_of d o.source q z))
 
+-- all keys are moved
 abbrev pub IsMoved : Renaming → Objects → Objects → Type 0
 IsMoved o z n = (d : Bool) × (i : Bool) × (q : List ℕ) × MayGo o z d i q × (n ≡ moved o z d q)
 
+-- what holds at each stage
 abbrev pub holds : Renaming → Objects → RenameStage → Objects → Type 0
 holds o z (Looking s b d) m = (m ≡ z) × Before o z s d × NoFileIf b z (path_at o s)
 holds o z (Walk i found) m = (m ≡ z) × ((q : List ℕ) × IsReady o z true i q) × IsWalking (prefix_of o.source) z found

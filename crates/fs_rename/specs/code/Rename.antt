@@ -38,6 +38,7 @@ pub record Renaming : Type 0 where
   pub source : List ℕ
   pub target : List ℕ
 
+-- what a renaming answers
 abbrev pub Answer : Type 0
 Answer = Result (Unit {0}) RenameRefusal
 
@@ -51,11 +52,13 @@ abbrev pub place_by : List ℕ → List ℕ → Bool → Option (List ℕ)
 place_by p t true = inside_of p t
 place_by p t false = place_of p t
 
+-- the new place: the target, or inside it
 abbrev pub place_at : Renaming → Bool → Option (List ℕ)
 place_at o i = place_by o.source o.target i
 
 -- ---- looks
 
+-- the look for a file, or for what is below a path
 abbrev pub asks_at : List ℕ → Bool → Ask
 asks_at p true = below_asks p 1
 asks_at p false = look_asks p
@@ -65,10 +68,12 @@ abbrev pub inside_asks : List ℕ → Bool → Ask
 inside_asks q true = Page (marker_of q) false [] 1
 inside_asks q false = Page q false [] 1
 
+-- the look at the place inside the target, where that can have a key
 abbrev pub inside_asks_if : Renaming → Option (List ℕ) → Bool → Ask
 inside_asks_if o (Some q) b = inside_asks q b
 inside_asks_if o None b = asks_at o.source b
 
+-- what a look asks at each path
 abbrev pub look_at_asks : Renaming → Spot → Bool → Ask
 look_at_asks o Source b = asks_at o.source b
 look_at_asks o Target b = asks_at o.target b
@@ -80,25 +85,30 @@ abbrev pub first_is : List ℕ → List PageEntry → Look
 first_is q [] = NothingThere
 first_is q (e ∷ es) = if text_eq (text_in e) q then There else NothingThere
 
+-- what the look inside the target saw
 abbrev pub seen_inside : Option (List ℕ) → Bool → Reply → Look
 seen_inside (Some q) false r = first_is q (entries_in r)
 seen_inside (Some q) true r = look_of r
 seen_inside None b r = NothingThere
 
+-- what a look saw at each path
 abbrev pub seen_at : Renaming → Spot → Bool → Reply → Look
 seen_at o Inside b r = seen_inside (place_at o true) b r
 seen_at o Source b r = look_of r
 seen_at o Target b r = look_of r
 seen_at o Above b r = look_of r
 
+-- the path is a bucket's root
 abbrev pub is_root : List ℕ → Bool
 is_root [] = true
 is_root (x ∷ p) = false
 
+-- there is no such place
 abbrev pub is_none : Option (List ℕ) → Bool
 is_none None = true
 is_none (Some q) = false
 
+-- the path that is looked at has no key
 abbrev pub is_root_at : Renaming → Spot → Bool
 is_root_at o Source = is_root o.source
 is_root_at o Target = is_root o.target
@@ -121,42 +131,51 @@ one_copy None l = End (Err SourceMissing)
 one_copy (Some k) None = End (Err (TooLong k))
 one_copy (Some k) (Some l) = Next (Copy (record { keys = k ∷ []; places = l ∷ []; from = 0 }))
 
+-- a file goes to its new place, if its key fits there
 abbrev pub file_to : Renaming → Option (List ℕ) → Step RenameStage Answer
 file_to o None = End (Err SourceMissing)
 file_to o (Some q) = one_copy (key_if o.source) (fitting q)
 
+-- the keys below a directory are listed, or a file is copied
 abbrev pub go : Renaming → Bool → Bool → Step RenameStage Answer
 go o true i = Next (Walk i [])
 go o false i = file_to o (place_at o i)
 
+-- the target is looked at next, unless it is below the source
 abbrev pub begun : Bool → Bool → Step RenameStage Answer
 begun true d = End (Err UnderSource)
 begun false d = Next (Looking Target false d)
 
+-- where what stands at the source leads
 abbrev pub on_kind : Bool → Kind → Step RenameStage Answer
 on_kind under File = begun under false
 on_kind under Directory = begun under true
 on_kind under Nothing = End (Err SourceMissing)
 
+-- the root is refused, and else what stands at the source leads on
 abbrev pub on_source : Renaming → Bool → Kind → Step RenameStage Answer
 on_source o true k = End (Err SourceRoot)
 on_source o false k = on_kind (begins (prefix_of o.source) (prefix_of o.target)) k
 
+-- where what stands at the target leads
 abbrev pub on_target : Bool → Kind → Step RenameStage Answer
 on_target d File = End (Err TargetFile)
 on_target d Directory = Next (Looking Inside false d)
 on_target d Nothing = Next (Looking Above false d)
 
+-- where what stands inside the target leads
 abbrev pub on_inside : Renaming → Bool → Kind → Step RenameStage Answer
 on_inside o d File = End (Err TargetFile)
 on_inside o d Directory = End (Err TargetExists)
 on_inside o d Nothing = go o d true
 
+-- where what stands above the target leads
 abbrev pub on_above : Renaming → Bool → Kind → Step RenameStage Answer
 on_above o d File = End (Err ParentIsFile)
 on_above o d Directory = go o d false
 on_above o d Nothing = End (Err ParentMissing)
 
+-- where what stands at each path leads
 abbrev pub found : Renaming → Spot → Bool → Kind → Step RenameStage Answer
 found o Source d k = on_source o (is_root o.source) k
 found o Target d k = on_target d k
@@ -170,15 +189,18 @@ looked o s d (Some k) = found o s d k
 
 -- ---- the walk, the copies and the batches
 
+-- the keys are copied to their new keys, or the first that would be too long is told
 abbrev pub with_places : List (List ℕ) → Result (List (List ℕ)) (List ℕ) → Step RenameStage Answer
 with_places ks (Err k) = End (Err (TooLong k))
 with_places [] (Ok ls) = End (Err SourceMissing)
 with_places (k ∷ ks) (Ok ls) = Next (Copy (record { keys = k ∷ ks; places = ls; from = 0 }))
 
+-- the new keys of what was listed
 abbrev pub listed_to : Renaming → Option (List ℕ) → List (List ℕ) → Step RenameStage Answer
 listed_to o None ks = End (Err SourceMissing)
 listed_to o (Some q) ks = with_places ks (new_keys (prefix_of o.source) (marker_of q) ks)
 
+-- where a page leads
 abbrev pub on_walked : Renaming → Bool → Walked PageEntry → Step RenameStage Answer
 on_walked o i (More found) = Next (Walk i found)
 on_walked o i (Whole found) = listed_to o (place_at o i) (keys_on found)
@@ -193,30 +215,37 @@ abbrev pub up_to : Option (List ℕ) → Step RenameStage Answer
 up_to None = End (Ok tt)
 up_to (Some k) = Next (Parent k)
 
+-- the directory above the source is looked at, unless it is the root
 abbrev pub up : Renaming → Step RenameStage Answer
 up o = up_to (marker_if (parent o.source))
 
+-- where a reply to a batch leads
 abbrev pub swept : Renaming → Option walks.Sweep → Step RenameStage Answer
 swept o (Some w) = Next (Batch w)
 swept o None = up o
 
+-- the next copy, or the deletion of the old keys
 abbrev pub on_copied : Renaming → CopyStep → Step RenameStage Answer
 on_copied o (NextCopy c) = Next (Copy c)
 on_copied o (All ks) = swept o (deleting ks)
 
+-- where a reply that fits leads the batches
 abbrev pub on_batch : Renaming → walks.Sweep → Reply → Bool → Step RenameStage Answer
 on_batch o w r true = swept o (sweep_hears all_go w r)
 on_batch o w r false = Next (Batch w)
 
+-- the marker of the directory above is put, where nothing is left below it
 abbrev pub on_parent : List ℕ → Look → Step RenameStage Answer
 on_parent k There = End (Ok tt)
 on_parent k l = Next (PutMarker k)
 
 -- ---- the stages
 
+-- a renaming begins with a look at the source
 abbrev pub first : Renaming → RenameStage
 first o = Looking Source false false
 
+-- what a renaming asks at each stage
 abbrev pub asks : Renaming → RenameStage → Ask
 asks o (Looking s b d) = look_at_asks o s b
 asks o (Walk i found) = walk_asks (prefix_of o.source) found
@@ -225,6 +254,7 @@ asks o (Batch w) = sweep_asks (prefix_of o.source) w
 asks o (Parent k) = Page k false [] 1
 asks o (PutMarker k) = Put k []
 
+-- where a reply leads at each stage
 abbrev pub on : Renaming → RenameStage → Reply → Step RenameStage Answer
 on o (Looking s b d) r = looked o s d (kind_of (is_root_at o s) b (seen_at o s b r))
 on o (Walk i found) r = on_walk o i found r (fits r)
@@ -233,5 +263,6 @@ on o (Batch w) r = on_batch o w r (fits r)
 on o (Parent k) r = on_parent k (look_of r)
 on o (PutMarker k) r = End (Ok tt)
 
+-- where a reply leads; without the bucket it ends so
 abbrev pub goes : Renaming → RenameStage → Reply → Step RenameStage Answer
 goes o x r = unless (look_of r) (End (Err NoSuchBucket)) (on o x r)
