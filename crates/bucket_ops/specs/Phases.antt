@@ -53,7 +53,7 @@ module _ {O X : Type 0} where
 abbrev pub GivesIn : {A : Type 0} → List ℕ → (Objects → A → Objects → Type 0) → A → Scene → A → Scene → Type 0
 GivesIn b gives absent z a s = InBucketHolds z b (λ m n. gives m a n) (a ≡ absent) s
 
--- and so at any moment
+-- at any moment of an operation nothing but the bucket's objects changed, and of those something holds
 abbrev pub AlwaysIn : List ℕ → (Objects → Objects → Type 0) → Scene → Scene → Type 0
 AlwaysIn b always z s = InBucketHolds z b (λ m n. always m n) (Unit {0}) s
 
@@ -65,7 +65,7 @@ Gives gives absent o z a s = GivesIn o.bucket (gives o.names) absent z a s
 abbrev pub Always : {O X : Type 0} → (O → Objects → Objects → Type 0) → InBucket O X → Scene → Scene → Type 0
 Always always o z s = AlwaysIn o.bucket (always o.names) z s
 
--- of a bucket that is there an operation asks what it may ask; of one that is not, its first look alone
+-- what an operation may ask of a bucket: of one that is not there its first look alone
 abbrev pub SendsAt : Option Objects → List ℕ → Ask → (Objects → Ask → Type 0) → Request → Type 0
 SendsAt None b look sends r = r ≡ request_of b look
 SendsAt (Some m) b look sends r = (a : Ask) × (r ≡ request_of b a) × sends m a

@@ -55,7 +55,7 @@ due None (Some r) shared = ends.StoreFault (stage_of r)
 due None None (Some end) = end
 due None None None = ends.Committed
 
--- it ends so by its own entries alone
+-- a job's commit ends so by its own entries alone
 pub record EndsByEntries : Type 0 where
   pub ends : (j : Job) (missing : Option ℕ) → 0 < j.lanes → (es : List Entry) → Follows commit_wants commit_told (start j missing) es → AllFit (start j missing) es
       → (end : CommitEnd) → commit_over (run commit_told (start j missing) es).operation ≡ Some end
@@ -120,7 +120,7 @@ left_of most j (CommitOver end) s = 0
 abbrev pub left : ℕ → Committing → Scene → ℕ
 left most m s = left_of most m.plan m.operation s
 
--- by at most so many a key that another adds raises that
+-- by how much a key that another adds may raise what is left
 abbrev pub rise_of : ℕ → Job → Commit → ℕ
 rise_of most j (Fetching sets m) = if_staging j.committer (prefixes_most j (widest most sets) * (j.retries + 1))
 rise_of most j (Replacing sets p ps w m) = (1 + length ps) * (j.retries + 1)

@@ -21,7 +21,7 @@ abbrev pub number_in : Undo → ℕ
 number_in (undos.Abort n) = n
 number_in (undos.Delete n) = n
 
--- they are of so many uploads
+-- each of these requests takes back one of so many uploads
 abbrev pub NumbersWithin : ℕ → List Undo → Type 0
 NumbersWithin total u = (x : Undo) → In x u → number_in x < total
 

@@ -21,13 +21,13 @@ abbrev pub is_wanted : Bool → Bool → Bool
 is_wanted true stands = stands
 is_wanted false stands = not stands
 
--- of keys those whose new key stands, or those whose new key does not
+-- the keys whose new key stands, or those whose new key does not
 abbrev pub chosen : Bool → List (List ℕ) → List (List ℕ) → List PageEntry → List (List ℕ)
 chosen wanted [] ls es = []
 chosen wanted (k ∷ ks) [] es = []
 chosen wanted (k ∷ ks) (l ∷ ls) es = cond (is_wanted wanted (is_first l (from_text l es))) (k ∷ []) [] ++ chosen wanted ks ls (from_text l es)
 
--- and of moves
+-- the moves whose new key stands, or those whose new key does not
 abbrev pub kept : Bool → List Move → List PageEntry → List Move
 kept wanted [] es = []
 kept wanted (p ∷ ps) es = cond (is_wanted wanted (is_first p.1 (from_text p.1 es))) (p ∷ []) [] ++ kept wanted ps (from_text p.1 es)

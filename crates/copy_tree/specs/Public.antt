@@ -13,7 +13,7 @@ use Rattle.copy_tree.specs.code.Meaning.{sends}
 abbrev pub CopiesIn : Route → Scene → Answer → Scene → Type 0
 CopiesIn r z a s = GivesBetween r.bucket r.to_bucket (Copies r.source r.target) (Err NoSuchBucket) (Err OtherBucket) z a s
 
--- by its keys alone
+-- the paths of a route by their keys alone
 abbrev pub paths_of : Route → CopyPaths
 paths_of r = record { source = r.source; target = r.target }
 

@@ -18,7 +18,7 @@ abbrev pub is_within : ℕ → File → Bool
 is_within at None = false
 is_within at (Some bytes) = nat_le at (length bytes)
 
--- with one range more, in which the file has these bytes now
+-- the disk once these bytes were written at a place
 abbrev pub wrote : State → ℕ → List ℕ → State
 wrote s place bytes = record { synced = s.synced; now = file_after place bytes s.now; ranges = s.ranges ++ record { place = place; length = length bytes } ∷ [] }
 
@@ -71,7 +71,7 @@ pub record Recorded : Type 0 where
 abbrev pub state_in : Recorded → State
 state_in d = state_of d.first d.calls
 
--- with one call more
+-- a disk in memory with one call more
 abbrev pub recorded : Recorded → DiskCall → Recorded
 recorded d call = record { first = d.first; calls = d.calls ++ call ∷ []; turns = d.turns }
 

@@ -24,7 +24,7 @@ abbrev pub holding_of : File → Holding
 holding_of None = Nothing
 holding_of (Some bytes) = as_holding (held_in bytes)
 
--- the same with the two lengths
+-- what a file holds, with its two lengths
 abbrev pub stored_of : File → Stored
 stored_of None = record { holding = Nothing; base_length = 0; file_length = 0 }
 stored_of (Some bytes) = record { holding = as_holding (held_in bytes); base_length = base_length bytes; file_length = length bytes }
@@ -52,7 +52,7 @@ IsSettled None leaves gate = Unit {0}
 IsSettled (Some None) leaves gate = ⊥
 IsSettled (Some (Some bytes)) leaves gate = IsAtRest gate bytes × Only (Some bytes) leaves
 
--- the same at the place of the gate, which is kept while appends are taken
+-- the file is a log at rest at the gate that is kept, as long as appends are taken
 abbrev pub TakesAppends : Option File → (File → Type 0) → Option ℕ → Type 0
 TakesAppends seen leaves None = ⊥
 TakesAppends seen leaves (Some gate) = IsSettled seen leaves gate

@@ -32,7 +32,7 @@ abbrev pub policy_and_back : (p : MarkerPolicy) → policy_of (deletes p) ≡ p
 policy_and_back Keep = refl
 policy_and_back Delete = refl
 
--- by its code proofs tell one from another
+-- the code of the making of a file
 abbrev pub coded_creation : Coded Creation
 coded_creation =
     code_by (List ℕ × (List ℕ × (List ℕ × (ℕ × (Bool × MarkerPolicy))))) (coded× coded_text (coded× coded_text (coded× coded_text (coded× coded_ℕ (coded× coded_bool (code_by Bool coded_bool deletes policy_of policy_and_back))))))

@@ -93,7 +93,7 @@ pub record AreFree (z : Objects) (ps : List Move) : Type 0 where
 abbrev pub moves_to : List ℕ → List ℕ → List (List ℕ) → List Move
 moves_to from to ks = map (λ k. (k, new_key from to k)) ks
 
--- those of a directory with all that is below it, or of a file
+-- each key of a directory with all that is below it, or of a file, and what it becomes
 abbrev pub moves_of : Bool → List ℕ → List ℕ → Objects → List Move
 moves_of true p q z = moves_to (marker_of p) (marker_of q) (keys_below (marker_of p) z)
 moves_of false p q z = (p, q) ∷ []

@@ -14,7 +14,7 @@ use Rattle.fs_rename.specs.code.Meaning.{sends}
 abbrev pub RenamesIn : Route → Scene → Answer → Scene → Type 0
 RenamesIn r z a s = GivesBetween r.bucket r.to_bucket (Renames r.source r.target) (Err NoSuchBucket) (Err OtherBucket) z a s
 
--- by its keys alone
+-- the paths of a route by their keys alone
 abbrev pub renaming_of : Route → Renaming
 renaming_of r = record { source = r.source; target = r.target }
 

@@ -27,7 +27,7 @@ pub record HasSource (z : Objects) (p t : List ℕ) : Type 0 where
   pub apart : IsOverlap p t → ⊥
   pub directory : IsDirectory z p
 
--- and no file stands at the target or above it
+-- a directory stands at the source, neither path is below the other, and no file stands at the target or above it
 pub record HasPlace (z : Objects) (p t : List ℕ) : Type 0 where
   pub source : HasSource z p t
   pub free : NoFiles z (to_target t)

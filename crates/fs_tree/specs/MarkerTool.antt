@@ -16,7 +16,7 @@ use Rattle.fs_tree.specs.declared.markers.MarkerEntry.{MarkerEntry}
 use Rattle.fs_tree.specs.Tree.{Stands, SomeBelow, is_marker, marker, HasDir, HasFile, IsDirectory, IsAbsent}
 use Rattle.fs_tree.specs.Changes.{SameFiles}
 
--- the same files, headers included, and the same directories
+-- both show the same files, headers included, and the same directories
 pub record SameTree (z m : Objects) : Type 0 where
   pub files : SameFiles z m
   pub kept : (q : List ℕ) → HasDir z q → HasDir m q
@@ -52,7 +52,7 @@ IsSurplus p z k = IsMarkerBelow p k × IsKind z k Surplus
 abbrev pub IsMissing : List ℕ → Objects → List ℕ → Type 0
 IsMissing p z k = IsMarkerBelow p k × (fin.get z k ≡ None) × SomeBelow z k
 
--- these are all such keys, each once
+-- these are all keys of which P holds, each once
 pub record AreAll (P : List ℕ → Type 0) (ks : List (List ℕ)) : Type 0 where
   pub each : (k : List ℕ) → IsIn k ks → P k
   pub all : (k : List ℕ) → P k → IsIn k ks

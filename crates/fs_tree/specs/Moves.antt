@@ -72,7 +72,7 @@ pub record IsDirMoved (p q : List ℕ) (z n : Objects) : Type 0 where
   pub gone : (k : List ℕ) → begins (marker_of p) k ≡ true → fin.get n k ≡ None
   pub others : (k : List ℕ) → begins (marker_of p) k ≡ false → begins (marker_of q) k ≡ false → fin.get n k ≡ fin.get z k
 
--- in the tree: q is the file that p was, and p is none; every other file and every directory is as it was
+-- of the tree of a renaming: q is the file that p was, and p is none; every other file and every directory is as it was
 pub record MovesFile (p q : List ℕ) (z m : Objects) : Type 0 where
   pub moved : fin.get m q ≡ fin.get z p
   pub gone : fin.get m p ≡ None
@@ -80,7 +80,7 @@ pub record MovesFile (p q : List ℕ) (z m : Objects) : Type 0 where
   pub kept : (d : List ℕ) → HasDir z d → HasDir m d
   pub only : (d : List ℕ) → HasDir m d → HasDir z d
 
--- in the tree: each file and directory at p or below it stands at q with the same rest, and no longer at p; every other one is as it was
+-- of the tree of a renaming: what stood at p or below it stands at q with the same rest; all else is as it was
 pub record MovesDir (p q : List ℕ) (z m : Objects) : Type 0 where
   pub moved : (rest : List ℕ) → fin.get m (marker_of q ++ rest) ≡ fin.get z (marker_of p ++ rest)
   pub directory : HasDir m q

@@ -66,7 +66,7 @@ tells_of (AbortTask t) o = AbortTask (stepped task_abort_told t o)
 tells_of (Commit c) o = Commit (commit_told c o)
 tells_of (Clean t) o = Clean (stepped clean_told t o)
 
--- such an outcome may come
+-- an outcome that an actor may be told of its operation
 abbrev pub FitsAct : Act → Outcome → Type 0
 FitsAct (Setup t) o = FitsOutcome setup_fits t o
 FitsAct (Write t) o = FitsOutcome write_fits t o
@@ -93,7 +93,7 @@ left_of (AbortTask t) s = sendings_left task_abort_left t s
 left_of (Commit c) s = left most_commits c s
 left_of (Clean t) s = sendings_left clean_left t s
 
--- by at most so many a request of another actor raises that
+-- by how much a request of another actor may raise what is left
 abbrev pub rise_of : Act → Request → ℕ
 rise_of (Setup t) r = 2 * (t.retries + 1)
 rise_of (Write t) r = 0

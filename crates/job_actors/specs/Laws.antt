@@ -61,7 +61,7 @@ commit_task_of t = CommitTask (unsent t.job.retries (record { plan = t; operatio
 abbrev pub abort_task_of : Task → Act
 abort_task_of t = AbortTask (unsent t.job.retries (record { plan = t; operation = task_abort_start (task_script t) t.known }))
 
--- of which these tasks are reported
+-- a job's commit of which nothing was sent yet, where these tasks are reported
 abbrev pub commit_of : Job → List ℕ → Act
 commit_of j reported = Commit (record { plan = j; picked = []; operation = commit_start (read_script j []) (least_missing j.tasks reported) })
 
@@ -79,7 +79,7 @@ pub record Begun (g : Setting) (a : Actor) (op : Op) (missing : Option ℕ) (k :
 abbrev pub BeginsTask : Op → Task → Act → Type 0
 BeginsTask op t act = (g : Setting) (a : Actor) (missing : Option ℕ) (k : Known) → IsPlanOf g a k (plans.Task t) → Begun g a op missing k act
 
--- and whoever has this plan of the job, which is the driver
+-- whoever has this plan of the job, which is the driver, begins an operation so
 abbrev pub BeginsJob : Op → Job → Act → Type 0
 BeginsJob op j act = (g : Setting) (a : Actor) (missing : Option ℕ) (k : Known) → IsPlanOf g a k (plans.Job j) → Begun g a op missing k act
 

@@ -80,12 +80,12 @@ IsOf g a (AbortTask t) = OfAttempt g a t
 IsOf g a (Commit c) = (a ≡ Driver) × (c.plan ≡ job_of g.script)
 IsOf g a (Clean t) = OfDriver g.script a t
 
--- by the sets that a job's commit read it asks what the script asks
+-- by the sets that it read a job's commit asks what the script asks
 abbrev pub AsksSo : Script → Act → Type 0
 AsksSo w (Commit c) = commit_asks (read_script (job_of w) (sets_in c.operation)) c.operation ≡ commit_asks w c.operation
 AsksSo w _ = Unit {0}
 
--- and goes where the script goes
+-- by the sets that it read a job's commit goes where the script goes
 abbrev pub GoesSo : Script → Act → Outcome → Type 0
 GoesSo w (Commit c) o = commit_tells (read_script (job_of w) (sets_after c.operation o)) c.operation o ≡ commit_tells w c.operation o
 GoesSo w _ o = Unit {0}

@@ -12,15 +12,15 @@ use Rattle.job_operations.specs.AtWork.{Attempting, Driving, Committing, job_of,
 
 -- ---- operations with the plans that the script gives
 
--- of an attempt that knows this, over a store of this least size of a part
+-- an operation with the plan of an attempt that knows this
 abbrev pub at_work : {O : Type 0} → Script → ℕ → Who → Known → O → Attempting O
 at_work w minimum a k op = record { plan = task_of w minimum a k; operation = op }
 
--- the same under its retries
+-- an attempt's operation under retries, with the plan that the script gives
 abbrev pub planned : {O : Type 0} → Script → ℕ → Who → Known → Retried O → Retried (Attempting O)
 planned w minimum a k t = record { operation = at_work w minimum a k t.operation; spare = t.spare; repeated = t.repeated }
 
--- of the driver
+-- an operation with the driver's plan
 abbrev pub driving : {O : Type 0} → Script → O → Driving O
 driving w op = record { plan = job_of w; operation = op }
 

@@ -86,7 +86,7 @@ pub record IsNext (j : Job) (sets : Sets) (places : List Place) (c : Commit) (ne
   pub asked : next.asked ≡ asks j c
   pub step : StepHolds j sets places next.step
 
--- the same after an answer: the sets, the places and the picks became these
+-- what the machine does next after an answer, with the sets, the places and the picks that it then has
 pub record Heard (j : Job) (sets : Sets) (picks : List Pick) (c : Commit) (r : Reply) (sets' : Sets) (places' : List Place) (picks' : List Pick) (after : Next) : Type 0 where
   pub next : IsNext j sets' places' (commit_hears (read_script j (sets_after c (Answered r))) c r) after
   pub picked : attempts_of picks' ≡ picked_after (attempts_of picks) c (Answered r)
@@ -113,11 +113,11 @@ IsAt b step = StepHolds b.plan b.sets b.places step
 abbrev pub GoesTo : Basis → Commit → Next → Type 0
 GoesTo b c next = IsNext b.plan b.sets b.places c next
 
--- the same after an answer, where its sets and places became these
+-- what it does next after an answer, with the sets and places that it then has
 abbrev pub Hears : Basis → List Pick → Commit → Reply → Basis → List Pick → Next → Type 0
 Hears b picks c r b' picks' next = Heard b.plan b.sets picks c r b'.sets b'.places picks' next
 
--- and after a sending without an answer, which was lost or slow
+-- what it does next after a sending without an answer, which was lost or slow
 abbrev pub Misses : Basis → Step → Bool → Next → Type 0
 Misses b step lost next = let c = operation_of b.sets step in GoesTo b (commit_misses (read_script b.plan (sets_in c)) c lost) next
 

@@ -12,7 +12,7 @@ use Rattle.commit_laws.specs.Fitting.{missed_of}
 abbrev pub turn_unanswered : Committing → Turn
 turn_unanswered m = cond (nat_lt (missed_of m.operation) m.plan.retries) turns.Again turns.WornOut
 
--- by its outcome
+-- what a sending was, by its outcome: answered, made again, or the last one
 abbrev pub turn_of : Committing → Outcome → Turn
 turn_of m (Answered r) = turns.Moved
 turn_of m _ = turn_unanswered m

@@ -21,7 +21,7 @@ use Rattle.job_promise.specs.OperationEnds.{CleanIs, Cleaned}
 abbrev pub cleaning : Setting → Known → Running
 cleaning g k = record { operation = TheClean (fresh g.script.retries clean_start); known = k }
 
--- of every committer
+-- how a job's abort or clean ends, for every committer
 pub record CleanEnds : Type 0 where
   -- by its own entries alone, whatever was answered and whoever sent between them
   pub ends : (g : Setting) (a : Actor) (k : Known) (es : List Entry) → Follows (wants g a) (advance g a) (cleaning g k) es → (e : CleanEnd) → over (run (advance g a) (cleaning g k) es).operation ≡ Some (op_ends.Clean e)

@@ -51,7 +51,7 @@ IsAt w missing sets (Marking s n) = (missing ≡ None) × (s ≡ sets)
 IsAt w missing sets (Reverting r rs n) = missing ≡ None
 IsAt w missing sets (CommitOver end) = IsDue w missing sets end
 
--- where it ended Committed
+-- P holds where the commit ended Committed
 abbrev pub WhereCommitted : Type 0 → Commit → Type 0
 WhereCommitted P (CommitOver commits.Committed) = P
 WhereCommitted P _ = Unit {0}

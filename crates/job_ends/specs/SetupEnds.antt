@@ -53,7 +53,7 @@ SetupListed w keys None (setups.Conflict p) = (checks_all w.committer w.mode ≡
 SetupListed w keys None setups.Done = checks_all w.committer w.mode ≡ true → first_shown w keys ≡ None
 SetupListed w keys None _ = ⊥
 
--- of every committer and mode, over every store, whatever became of its sendings
+-- how a set-up ends, for every committer and mode, over every store, whatever became of its sendings
 pub record SetupEnds : Type 0 where
   pub ends : (w : Script) → IsLegal w → (s : Scene) (es : List Entry) → Follows (wants_of (setup_asks w)) (step w.retries (setup_after w)) (fresh w.retries setup_start) es → AreHonest s es
       → (e : SetupEnd) → setup_over (run (step w.retries (setup_after w)) (fresh w.retries setup_start) es).operation ≡ Some e → (worn : Option Request) × WornFirst w.retries es worn × SetupIs w s.content worn e

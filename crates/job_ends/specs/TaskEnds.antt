@@ -27,7 +27,7 @@ abbrev pub is_abort : Operation → Bool
 is_abort (TheTaskAbort t) = true
 is_abort _ = false
 
--- of every committer and mode
+-- how an attempt's operations end, for every committer and mode
 pub record TaskEnds : Type 0 where
   -- by its own entries alone, whatever was answered, as if the driver had cleaned up
   pub ends : (g : Setting) (t a : ℕ) (op : Op) (missing : Option ℕ) (k : Known) (m : Operation) → start_of g (Attempt t a) op missing k ≡ Some m → (es : List Entry) → Follows (wants g (Attempt t a)) (advance g (Attempt t a)) (record { operation = m; known = k }) es

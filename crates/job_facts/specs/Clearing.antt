@@ -32,7 +32,7 @@ ref_at id u = record { key = u.key; upload = id }
 abbrev pub LiveIn : Script → Content → List UploadRef → Type 0
 LiveIn w c found = (id : ℕ) (u : Upload) → at_id w c id ≡ Some u → begins (dest_prefix w) u.key ≡ true → IsIn (ref_at id u) found
 
--- or come behind the last of them
+-- the live uploads below the destination are among these, or come behind the last of them
 abbrev pub LiveOrBehind : Script → Content → List UploadRef → Type 0
 LiveOrBehind w c found = (id : ℕ) (u : Upload) → at_id w c id ≡ Some u → begins (dest_prefix w) u.key ≡ true → IsIn (ref_at id u) found ⊎ (is_behind (last_ref None found) (ref_at id u) ≡ true)
 

@@ -34,7 +34,7 @@ AllCluster w paths = (p : List ℕ) → IsIn p paths → begins (cluster_prefix 
 abbrev pub AllBelow : Script → List UploadRef → Type 0
 AllBelow w refs = (u : UploadRef) → IsIn u refs → begins (dest_prefix w) u.key ≡ true
 
--- of a sweep below a prefix
+-- a sweep has keys below a prefix alone
 abbrev pub SweepsUnder : List ℕ → Sweep → Type 0
 SweepsUnder p (Listing keys) = AllUnder p keys
 SweepsUnder p (Deleting q qs) = AllUnder p (q ∷ qs)

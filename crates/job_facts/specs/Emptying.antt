@@ -20,7 +20,7 @@ use Rattle.job_facts.specs.Driver.{FitsSweep}
 abbrev pub OnlyThose : Script → List ℕ → (List ℕ → Bool) → Content → List (List ℕ) → Type 0
 OnlyThose w p goes c keys = (k : List ℕ) (x : Object) → begins p k ≡ true → goes k ≡ true → at_key w c k ≡ Some x → IsIn k keys
 
--- or a key behind the last of them
+-- what stands below a prefix and is to go has one of these keys, or one behind the last of them
 abbrev pub ThoseOrBehind : Script → List ℕ → (List ℕ → Bool) → Content → List (List ℕ) → Type 0
 ThoseOrBehind w p goes c keys = (k : List ℕ) (x : Object) → begins p k ≡ true → goes k ≡ true → at_key w c k ≡ Some x → IsIn k keys ⊎ (is_lt (text_cmp (last_of keys) k) ≡ true)
 
@@ -29,7 +29,7 @@ abbrev pub EmptiesBy : Script → List ℕ → (List ℕ → Bool) → Content �
 EmptiesBy w p goes c (Listing keys) = ThoseOrBehind w p goes c keys
 EmptiesBy w p goes c (Deleting q qs) = OnlyThose w p goes c (q ∷ qs)
 
--- of the job's magic directory, where all goes
+-- each key that stands below the job's magic directory is one of these
 abbrev pub OnlyThese : Script → Content → List (List ℕ) → Type 0
 OnlyThese w c keys = OnlyThose w (magic_prefix w.dest.key w.job) all_go c keys
 

@@ -155,6 +155,6 @@ pub record Facts (w : Script) (minimum : ℕ) (s : Scene) (last : ℕ → Option
   pub temporaries : is_staging w.committer ≡ true → Temporaries w minimum (at_path w s) m.put_sent m.drawn
   pub kept : Kept m.publish_sent m.undone
 
--- they hold of what is seen and told at a moment
+-- the facts hold of what is seen and told at a moment
 abbrev pub Hold : Script → ℕ → Seen → Told → Type 0
 Hold w minimum s m = Facts w minimum s.scene s.last m

@@ -94,7 +94,7 @@ AttemptGoes = (g : Setting) → IsLegal g.script → (k : Option ℕ) (s : Seen)
     → (op : Operation) → Fits g.script g.minimum a m op → (r : Request) → asks g a (known m a) op ≡ Some r → (o : Outcome) → IsHonestOutcome o (answer s.scene r)
     → Goes g k s m a n r o (tells g a op o)
 
--- its operations fit as they begin: a write where it knows nothing, a commit where its write is done, and an abort
+-- an attempt's operations fit as they begin: a write where it knows nothing, a commit where its write is done, an abort always
 pub record AttemptBegins : Type 0 where
   pub write : (g : Setting) → IsLegal g.script → (m : Told) (a : Who) → m.drawn a ≡ [] → IsOpen (known m a) → FitsWrite g.script g.minimum a (known m a) (write_start g.script a)
   pub commit : (g : Setting) → IsLegal g.script → (m : Told) (a : Who) → FitsWrite g.script g.minimum a (known m a) (WriteOver tasks.Done) → FitsCommit g.script g.minimum a (known m a) (task_commit_start g.script a)
@@ -144,7 +144,7 @@ pub record Commits (g : Setting) (k : Option ℕ) (s : Seen) (m : Told) (n : ℕ
   pub hold : Hold g.script g.minimum (see g.script k s (driver_entry n r o)) (tell g.script m (driver_entry n r o))
   pub fits : FitsJobCommit g.script g.minimum (tell g.script m (driver_entry n r o)).publish_sent (tell g.script m (driver_entry n r o)).drawn c
 
--- its commit, for every committer and every number of lanes
+-- each request of the driver's commit keeps the facts, for every committer and every number of lanes
 pub record CommitGoes : Type 0 where
   pub begins : (w : Script) (minimum : ℕ) → IsLegal w → (m : Told) (missing : Option ℕ) → FitsJobCommit w minimum m.publish_sent m.drawn (commit_start w missing)
   pub goes : (g : Setting) → IsLegal g.script → (k : Option ℕ) (s : Seen) (m : Told) (n : ℕ) → Hold g.script g.minimum s m → s.scene.content.next ≤ 2 ^ 64

@@ -123,7 +123,7 @@ begun_attempts g x (BeginPublish a) = put_who x.attempts a (Some (TheTaskCommit 
 begun_attempts g x (BeginAbort a) = put_who x.attempts a (Some (TheTaskAbort (fresh g.script.retries (task_abort_start g.script (known x.told a)))))
 begun_attempts g x _ = x.attempts
 
--- and all of it
+-- a run once an actor begins an operation
 abbrev pub begin : Setting → Stand → Beginning → Stand
 begin g x b = record { seen = x.seen; told = x.told; attempts = begun_attempts g x b; driver = begun_driver g x b; commit = begun_commit x b }
 

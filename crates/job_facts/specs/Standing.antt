@@ -55,11 +55,11 @@ Reverts sent drawn (CommitOver end) = Unit {0}
 abbrev pub HasRecord : Script → Seen → Who → File → Type 0
 HasRecord w s a f = (x : Object) × (at_key w s.scene.content (record_key w a f) ≡ Some x)
 
--- and so do those of its files but these
+-- the records of an attempt's files stand, but for these files
 abbrev pub HasRecords : Script → Seen → Who → List File → Type 0
 HasRecords w s a left = (f : File) → IsIn f (files w a) → IsIn f left ⊎ HasRecord w s a f
 
--- its temporary file stands
+-- an attempt's temporary file stands
 abbrev pub HasTemporary : Script → Seen → Who → Type 0
 HasTemporary w s a = (bytes : List ℕ) × (at_path w s.scene (TemporaryPlace a.task a.attempt) ≡ Some bytes)
 
@@ -67,7 +67,7 @@ HasTemporary w s a = (bytes : List ℕ) × (at_path w s.scene (TemporaryPlace a.
 abbrev pub HasPublished : Seen → ℕ → Type 0
 HasPublished s t = (n : ℕ) × (s.last t ≡ Some n)
 
--- its records are among the keys that were listed, or behind the last of them
+-- an attempt's records are among the keys that were listed, or behind the last of them
 abbrev pub Listed : Script → Who → List (List ℕ) → Type 0
 Listed w a keys = (f : File) → IsIn f (files w a) → IsIn (record_key w a f) keys ⊎ (is_lt (text_cmp (last_of keys) (record_key w a f)) ≡ true)
 

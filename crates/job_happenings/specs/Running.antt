@@ -33,7 +33,7 @@ pub record Times : Type 0 where
 abbrev pub times : Script → List EventEnd → Times
 times w ends = record { commit = commit_event w ends; clean = clean_event w ends }
 
--- the same run, request by request
+-- what happened is one of the job's runs, told request by request
 pub record IsRun (g : Setting) (opening : Content) (x : Play) (k : Times) : Type 0 where
   pub stand : Stand
   pub runs : Runs g k.commit opening x.journal stand

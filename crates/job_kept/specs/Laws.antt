@@ -44,7 +44,7 @@ TasksEndAmong w opening journal xs = (j t a : ℕ) (d : Doing) (e : TaskEnd) (es
     → (e ≡ tasks.NoMemory) ⊎ ((worn : Option Request) × WornFirst w.retries es worn
     × TaskIs d.op w (record { task = t; attempt = a }) es (known_then (setting w opening) (Attempt t a) d (by_actor (Attempt t a) journal)).publish_sent (has_cleaned (clean_event w xs) (until_last (Attempt t a) (until (j + 1) journal))) worn e)
 
--- and its commit that ended Done has published so
+-- among strangers too, a task's commit that ended Done has published
 abbrev pub PublishesAmong : Script → Content → List Entry → List EventEnd → Type 0
 PublishesAmong w opening journal xs = (j t a : ℕ) (d : Doing) (es : List Entry) → EndedIn w xs journal j (Attempt t a) d (ends.Task tasks.Done) es → d.op ≡ ops.Commit
     → has_cleaned (clean_event w xs) (until_last (Attempt t a) (until (j + 1) journal)) ≡ false → WasPublished w opening journal t a (j + 1)
@@ -67,12 +67,12 @@ pub record KeptAmong (w : Script) (opening : Content) (journal : List Entry) (ps
 
 -- ---- the laws
 
--- of what has happened, between events, all that no stranger can break holds, where some of the picks that are seen are told
+-- between events all that no stranger can break holds of what has happened
 abbrev pub RunsAreKeptAmong : Type 0
 RunsAreKeptAmong = (g : Setting) (opening : Content) (x : Play) → IsLegal g.script → IsOpening g opening → Happened g opening x → x.now ≡ None
     → (ps : List Pick) → ArePicked ps (all_picks g.script opening x.journal x.ends) → KeptAmong g.script opening x.journal ps x.ends
 
--- and so does all that is promised, of which what a reader is shown is said where no stranger has sent anything
+-- between events all that is promised holds of what has happened
 abbrev pub RunsAreKept : Type 0
 RunsAreKept = (g : Setting) (opening : Content) (x : Play) → IsLegal g.script → IsOpening g opening → Happened g opening x → x.now ≡ None
     → (ps : List Pick) → ArePicked ps (all_picks g.script opening x.journal x.ends) → Promised g.script opening x.journal ps x.ends
@@ -85,6 +85,6 @@ is_set_up w xs = not (is_new ((past w xs).state Driver).stage)
 abbrev pub FactsHold : Script → Content → List Entry → List EventEnd → Type 0
 FactsHold w opening journal xs = is_set_up w xs ≡ true → Hold w opening.minimum (see_all w (commit_event w xs) (nothing_seen opening) journal) (tell_all w (nothing_told (clean_event w xs)) journal)
 
--- and so it is wherever no event goes on
+-- between events the facts hold of what has happened, from the end of a set-up on
 abbrev pub RunsHoldFacts : Type 0
 RunsHoldFacts = (g : Setting) (opening : Content) (x : Play) → IsLegal g.script → IsOpening g opening → Happened g opening x → x.now ≡ None → FactsHold g.script opening x.journal x.ends

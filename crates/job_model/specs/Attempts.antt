@@ -14,7 +14,7 @@ Who = AttemptName
 abbrev pub actor_of : Who → Actor
 actor_of a = actor.Attempt a.task a.attempt
 
--- both are the same attempt
+-- two names are of one attempt
 abbrev pub same_name : Who → Who → Bool
 same_name x y = nat_eq x.task y.task && nat_eq x.attempt y.attempt
 

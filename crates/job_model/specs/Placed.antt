@@ -13,7 +13,7 @@ abbrev pub with_id : List ℕ → List ℕ → List ℕ
 with_id id [] = 45 ∷ id
 with_id id (x ∷ name) = if x == 46 then 45 ∷ (id ++ x ∷ name) else x ∷ with_id id name
 
--- the same of the last element of a path
+-- a path's elements, with the job's id in the last one
 abbrev pub with_id_last : List ℕ → List (List ℕ) → List (List ℕ)
 with_id_last id [] = []
 with_id_last id (e ∷ []) = with_id id e ∷ []

@@ -45,11 +45,11 @@ script_of j block attempts = record {
 abbrev pub who_of : Task → Who
 who_of t = record { task = t.task; attempt = t.attempt }
 
--- of an attempt: it alone is declared, with its files at the paths where they go
+-- the script that an attempt's plan stands for: it alone is declared, with its files at the paths where they go
 abbrev pub task_script : Task → Script
 task_script t = script_of t.job t.block ((who_of t, t.files) ∷ [])
 
--- of the driver, which knows no attempt before it has read their sets
+-- the script that the driver's plan stands for, which knows no attempt before it has read their sets
 abbrev pub job_script : Job → Script
 job_script j = script_of j 0 []
 
@@ -57,7 +57,7 @@ job_script j = script_of j 0 []
 abbrev pub declared_of : Path → PendingSet → Declared
 declared_of dest s = (record { task = s.task; attempt = s.attempt }, map (λ c. (unwrap_or (relative_in dest.key c.destination) [], [])) s.commits)
 
--- of the driver that has read these sets
+-- the script that the driver's plan stands for once it has read these sets
 abbrev pub read_script : Job → Sets → Script
 read_script j sets = script_of j 0 (map (declared_of j.dest) sets)
 
@@ -177,10 +177,10 @@ commit_told m o = record { plan = m.plan; picked = picked_after m.picked m.opera
 
 -- ---- the plans that a script gives
 
--- of its driver
+-- the plan of the job's driver
 abbrev pub job_of : Script → Job
 job_of w = record { job = w.job; dest = w.dest; committer = w.committer; mode = w.mode; tasks = w.tasks; retries = w.retries; lanes = w.lanes; stamp = w.stamp }
 
--- of an attempt that knows this, over a store of this least size of a part
+-- the plan of an attempt that knows this, over a store of this least size of a part
 abbrev pub task_of : Script → ℕ → Who → Known → Task
 task_of w minimum a k = record { job = job_of w; task = a.task; attempt = a.attempt; files = files w a; block = w.block; minimum = minimum; known = k }

@@ -43,7 +43,7 @@ keeps Directory Replace dirs p = false
 keeps Partitioned Replace dirs p = not (is_below_any dirs p)
 keeps _ _ dirs p = true
 
--- the same of what these picks write
+-- a path that stood before the job stays, where these picks are written
 abbrev pub keeps_of : Script → Picks → List ℕ → Bool
 keeps_of w picks p = keeps w.committer w.mode (partitions (wanted_paths w picks)) p
 

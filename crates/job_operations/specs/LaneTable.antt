@@ -50,7 +50,7 @@ Tabled w (CommitOver end) = Unit {0}
 abbrev pub RequestsApart : Sets → Type 0
 RequestsApart sets = (m n : ℕ) → m < length (all_commits sets) → n < length (all_commits sets) → same_request (completion (nth (all_commits sets) m)) (completion (nth (all_commits sets) n)) ≡ true → m ≡ n
 
--- the same while it completes
+-- two of the uploads that a commit completes are two requests
 abbrev pub Sound : Commit → Type 0
 Sound (Completing sets x xs finished) = RequestsApart sets
 Sound (Fetching sets m) = Unit {0}
@@ -59,7 +59,7 @@ Sound (Marking sets m) = Unit {0}
 Sound (Reverting q qs m) = Unit {0}
 Sound (CommitOver end) = Unit {0}
 
--- the same at each of these sendings
+-- two of the uploads are two requests at each of these sendings
 abbrev pub AllSound : Script → Commit → List Entry → Type 0
 AllSound w c [] = Unit {0}
 AllSound w c (e ∷ es) = Sound c × AllSound w (commit_tells w c e.outcome) es

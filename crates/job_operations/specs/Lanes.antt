@@ -59,7 +59,7 @@ deletion p = DeleteObject p.bucket p.destination
 
 -- ---- the revert
 
--- its upload is in turn, and was sent
+-- an upload is in turn, and was sent
 abbrev pub is_tried : List Turn → ℕ → Bool
 is_tried [] n = false
 is_tried (x ∷ xs) n = (nat_eq n x.number && nat_lt 0 x.missed) || is_tried xs n

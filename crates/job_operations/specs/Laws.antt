@@ -119,7 +119,7 @@ EndIs (Some r) end = end ≡ commits.StoreFault (stage_of r)
 EndIs None (commits.StoreFault stage) = ⊥
 EndIs None end = Unit {0}
 
--- of a job's commit in lanes
+-- how a job's commit in lanes ends, and which upload it completes next
 pub record CommitsInLanes : Type 0 where
   -- it ends by the first of its requests that wore out, by its entries alone
   pub ends : (w : Script) → 0 < w.lanes → (es : List Entry) → Follows (commit_asks w) (commit_tells w) (commit_start w None) es → AllSound w (commit_start w None) es

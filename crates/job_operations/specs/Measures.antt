@@ -19,7 +19,7 @@ pub record FallsAmong {M : Type 0} (wants : M → Option Request) (after : M →
   -- and by one request of another actor by at most this
   pub others : (m : M) (s : Scene) (r : Request) → left m (apply s r) ≤ left m s + rise
 
--- the same of an operation of outcomes, which counts its own sendings: it falls with each
+-- what is left of an operation that counts its own sendings falls with each of them
 pub record FallsByOutcomes {M : Type 0} (wants : M → Option Request) (tells : M → Outcome → M) (fits : M → Outcome → Type 0) (left : M → Scene → ℕ) (rise : ℕ) : Type 0 where
   pub falls : (m : M) (s : Scene) (r : Request) (o : Outcome) → wants m ≡ Some r → fits m o → ((a : Reply) → o ≡ Answered a → a ≡ answer s r) → left (tells m o) (effect s r o) < left m s
   pub others : (m : M) (s : Scene) (r : Request) → left m (apply s r) ≤ left m s + rise

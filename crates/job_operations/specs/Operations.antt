@@ -50,7 +50,7 @@ asks g a k (TheTaskAbort t) = task_abort_asks g.script a t.operation
 asks g a k (TheCommit c) = commit_asks g.script c
 asks g a k (TheClean t) = clean_asks g.script t.operation
 
--- where the outcome of its sending leads
+-- where the outcome of an operation's sending leads
 abbrev pub tells : Setting → Who → Operation → Outcome → Operation
 tells g a (TheSetup t) o = TheSetup (step g.script.retries (setup_after g.script) t o)
 tells g a (TheWrite t) o = TheWrite (step g.script.retries (write_after g.script g.minimum) t o)
@@ -59,7 +59,7 @@ tells g a (TheTaskAbort t) o = TheTaskAbort (step g.script.retries (task_abort_a
 tells g a (TheCommit c) o = TheCommit (commit_tells g.script c o)
 tells g a (TheClean t) o = TheClean (step g.script.retries (clean_after g.script) t o)
 
--- its end, where it is over
+-- how an operation ended, where it is over
 abbrev pub over : Operation → Option OpEnd
 over (TheSetup t) = option_map ends.Setup (setup_over t.operation)
 over (TheWrite t) = option_map ends.Task (write_over t.operation)

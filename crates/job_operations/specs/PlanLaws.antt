@@ -25,7 +25,7 @@ pub record TasksTell : Type 0 where
   pub abort_asks : (w : Script) (n : ℕ) (a : Who) (k : Known) (o : TaskAbort) → task_abort_asks (task_script (task_of w n a k)) a o ≡ task_abort_asks w a o
   pub abort_goes : (w : Script) (n : ℕ) (a : Who) (k : Known) (o : TaskAbort) (i : Item) → task_abort_after (task_script (task_of w n a k)) o i ≡ task_abort_after w o i
 
--- so do a set-up and a clean by the driver's plan
+-- a set-up and a clean ask and go on by the driver's plan as by the script
 pub record JobsTell : Type 0 where
   pub setup_asks : (w : Script) (o : Setup) → setup_asks (job_script (job_of w)) o ≡ setup_asks w o
   pub setup_goes : (w : Script) (o : Setup) (i : Item) → setup_after (job_script (job_of w)) o i ≡ setup_after w o i

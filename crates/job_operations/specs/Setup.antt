@@ -91,7 +91,7 @@ abbrev pub sweeping : Option Sweep → Setup
 sweeping (Some s) = Sweeping s
 sweeping None = SetupOver ends.Done
 
--- it says that there is no bucket
+-- the reply is NoSuchBucket
 abbrev pub lacks_bucket : Reply → Bool
 lacks_bucket (Refused NoSuchBucket) = true
 lacks_bucket _ = false
@@ -113,7 +113,7 @@ abbrev pub setup_over : Setup → Option SetupEnd
 setup_over (SetupOver end) = Some end
 setup_over _ = None
 
--- it ends where a request wears out, and where memory is wanting
+-- where it stands after an answer, after a request that wore out, or after want of memory
 abbrev pub setup_after : Script → Setup → Item → Setup
 setup_after w s (Got r repeated) = setup_hears w s r
 setup_after w s WornOut = SetupOver ends.StoreFault

@@ -5,6 +5,6 @@ use Rattle.job_model.specs.Known.{nothing_known}
 use Rattle.job_model.specs.JobScript.{Script}
 use Rattle.job_operations.specs.AtWork.{task_of}
 
--- of the attempt that is declared behind so many others, which knows nothing yet, over a store of this least size of a part; none where none is
+-- the plan of the attempt that is declared behind so many others, before it knows anything; none where none is
 abbrev pub task_at : Script → ℕ → ℕ → Option Task
 task_at w minimum place = option_map (λ a. task_of w minimum a.0 nothing_known) (slice_get w.attempts place)

@@ -30,7 +30,7 @@ may_show (DeleteObject bucket key) = true
 may_show (DeleteObjects bucket keys) = true
 may_show _ = false
 
--- of one own entry, and the contents before and after it
+-- what an own entry changes of the content before it: it copies nothing, and nothing outside the destination changes
 pub record IsZeroRename (w : Script) (e : Entry) (c d : Content) : Type 0 where
   -- files are never copied
   pub uncopied : is_copy e.request ≡ false

@@ -62,7 +62,7 @@ pub record RestartsAnew : Type 0 where
   -- attempts stay as they are
   pub attempts : (w : Script) (xs : List EventEnd) → slice_get w.events (length xs) ≡ Some Restart → (t a : ℕ) → (past w (xs ++ Done ∷ [])).state (Attempt t a) ≡ (past w xs).state (Attempt t a)
 
--- which operation decides the status of a run
+-- the driver's commit decides the status of a run where one was begun, and else its last set-up
 pub record CommitDecides : Type 0 where
   -- of a commit that was begun 0 comes only where it ended Committed, and of a set-up it never comes
   pub zero : (w : Script) (xs : List EventEnd) → verdict w xs ≡ 0 → ((past w xs).commit ≡ EndedSo (ends.Commit commits.Committed)) ⊎ ((past w xs).commit ≡ NotBegun)

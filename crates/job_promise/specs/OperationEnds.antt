@@ -122,7 +122,7 @@ pub record Cleaned (w : Script) (s t : Scene) : Type 0 where
 
 -- ---- the driver's commit
 
--- it ended before anything was deleted or completed
+-- the commit ended before anything was deleted or completed
 abbrev pub is_untouched : CommitEnd → Bool
 is_untouched (commits.Missing t) = true
 is_untouched (commits.SamePath p t u) = true

@@ -132,7 +132,7 @@ lacked_memory (EndedSo e) = is_memory e
 lacked_memory NotBegun = false
 lacked_memory Unended = false
 
--- the same of a run that went to its end
+-- what a run promises that went to its end
 pub record Finished (w : Script) (opening : Content) (journal : List Entry) (ps : List Pick) (xs : List EventEnd) : Type 0 where
   pub promised : Promised w opening journal ps xs
   pub sent : Sent w opening journal

@@ -21,7 +21,7 @@ upload_in (Some b) id = fin.get b.uploads id
 abbrev pub upload_at : Content → List ℕ → ℕ → Option Upload
 upload_at c bucket id = upload_in (fin.get c.buckets bucket) id
 
--- the same live uploads whose keys are not below the destination
+-- a live upload is the same, unless its key is below the destination
 abbrev pub SameOutsideUpload : Script → Option Upload → Option Upload → Type 0
 SameOutsideUpload w (Some u) (Some v) = begins (dest_prefix w) u.key ≡ false → u ≡ v
 SameOutsideUpload w (Some u) None = begins (dest_prefix w) u.key ≡ true

@@ -410,7 +410,7 @@ event_from p n [] xs = None
 event_from p n (ev ∷ evs) [] = cond (p ev) (Some n) (event_from p (n + 1) evs [])
 event_from p n (ev ∷ evs) (x ∷ xs) = cond (p ev && not (is_refused x)) (Some n) (event_from p (n + 1) evs xs)
 
--- that begins the driver's commit
+-- the number of the first event from n on that begins the driver's commit and is not refused
 abbrev pub commit_from : ℕ → List Event → List EventEnd → Option ℕ
 commit_from n evs xs = event_from begins_commit n evs xs
 
@@ -418,7 +418,7 @@ commit_from n evs xs = event_from begins_commit n evs xs
 abbrev pub commit_event : Script → List EventEnd → Option ℕ
 commit_event w xs = commit_from 1 w.events xs
 
--- and that begins the first abort or clean of the job
+-- the number of the first event that begins the driver's abort or clean and is not refused, if one does
 abbrev pub clean_event : Script → List EventEnd → Option ℕ
 clean_event w xs = event_from begins_clean 1 w.events xs
 

@@ -22,7 +22,7 @@ pick_bytes w p = bytes_of (files w (picked p))
 abbrev pub shown_bytes : List Pick → List EventEnd → Script → ℕ
 shown_bytes picks xs w = if verdict w xs == 0 then sum_by (pick_bytes w) picks else 0
 
--- of a job of so many tasks with so many files each: the status that was due, how many requests were sent, the picks and the events' ends, of a script
+-- the line that sums up a made job: its tasks and files, the bytes shown, the requests sent and the status
 unfoldable pub summary : (tasks files due sent : ℕ) → List Pick → List EventEnd → Script → List ℕ
 summary tasks files due sent picks xs w = line (
     codes "tasks" ∷ decimal tasks

@@ -19,7 +19,7 @@ AreApart (x ∷ xs) = IsNotIn x xs × AreApart xs
 abbrev pub AreGoing : Table → List ℕ → Type 0
 AreGoing s places = (i q : ℕ) → slice_get places i ≡ Some q → s.goes_on q ≡ true
 
--- they were mixed until none had
+-- the actors at these places were mixed until none had more to send
 pub record Mixed (seed : ℕ) (places : List ℕ) (s t : Table) : Type 0 where
   pub part : List Entry
   pub ends : List ActorEnd
@@ -30,7 +30,7 @@ pub record Mixed (seed : ℕ) (places : List ℕ) (s t : Table) : Type 0 where
   pub others : (q : ℕ) → ((i : ℕ) → slice_get places i ≡ Some q → ⊥) → t.goes_on q ≡ s.goes_on q
   pub actors : (q : ℕ) → t.actor q ≡ s.actor q
 
--- the same in the midst of it, while these have more to send
+-- a mix that goes on, while the actors at these places have more to send
 pub record Mixes (seed : ℕ) (places busy : List ℕ) (last : ℕ) (s t : Table) : Type 0 where
   pub part : List Entry
   pub ends : List ActorEnd

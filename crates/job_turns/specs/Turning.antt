@@ -26,13 +26,13 @@ pub record Beside (place : ℕ) (s t : Table) : Type 0 where
   pub others : (q : ℕ) → (q ≡ place → ⊥) → t.goes_on q ≡ s.goes_on q
   pub less : t.left < s.left
 
--- it sent one request
+-- what one turn did: one request was sent
 pub record Sending (place : ℕ) (s t : Table) : Type 0 where
   pub entry : Entry
   pub by : entry.actor ≡ s.actor place
   pub appended : t.entries ≡ s.entries ++ entry ∷ []
 
--- its operation ended
+-- what one turn did: the actor's operation ended
 pub record Ending (place : ℕ) (s t : Table) : Type 0 where
   pub end : OpEnd
   pub told : t.ended ≡ s.ended ++ record { actor = s.actor place; end = end } ∷ []
@@ -52,7 +52,7 @@ pub record KeepsLaws {A : Type 0} (keeps : A → A → Type 0) : Type 0 where
 
 -- ---- one actor alone
 
--- so far the actor at a place has sent these, and goes on
+-- the actor at a place has sent these requests, and goes on
 pub record Going (place : ℕ) (s t : Table) : Type 0 where
   pub part : List Entry
   pub by : AllBy (s.actor place) part
@@ -63,7 +63,7 @@ pub record Going (place : ℕ) (s t : Table) : Type 0 where
   pub actors : (q : ℕ) → t.actor q ≡ s.actor q
   pub others : (q : ℕ) → (q ≡ place → ⊥) → t.goes_on q ≡ s.goes_on q
 
--- it has sent these, and its operation ended
+-- the actor at a place has sent these requests, and its operation ended
 pub record Ran (place : ℕ) (s t : Table) : Type 0 where
   pub part : List Entry
   pub by : AllBy (s.actor place) part

@@ -30,15 +30,15 @@ use Rattle.job_world.specs.declared.body.Body.{Body}
 abbrev pub Next : {W : Type 0} → Body W → Event → Type 0
 Next b event = slice_get b.script.events (length b.ends.items) ≡ Some event
 
--- it is refused so
+-- the event is refused so
 abbrev pub Refuses : {W : Type 0} → Body W → Event → EventFault → Type 0
 Refuses b event fault = refusal (past b.script b.ends.items).state event ≡ Some fault
 
--- it is not refused
+-- the event is not refused
 abbrev pub IsFine : {W : Type 0} → Body W → Event → Type 0
 IsFine b event = refusal (past b.script b.ends.items).state event ≡ None
 
--- there is room for its end, and for the ends of all actors' operations
+-- there is room for the event's end, and for the ends of all actors' operations
 pub record HasRoom {W : Type 0} (b : Body W) : Type 0 where
   pub ends : vec_len b.ends < vec_capacity b.ends
   pub finished : length b.hands.items ≤ vec_capacity b.finished - vec_len b.finished
@@ -63,7 +63,7 @@ end_of (Recover a) xs = one_end xs
 abbrev pub event_entries : {W : Type 0} → Body W → List Entry
 event_entries b = of_event (length b.ends.items + 1) b.journal.entries
 
--- its entries are by turns, and its end tells what ended in it
+-- the event's entries are by turns, and its end tells what ended in it
 pub record ByTurns {W : Type 0} (b : Body W) (event : Event) : Type 0 where
   pub turns : Turns b.script (past b.script b.ends.items).state event (end_of event b.finished.items) (event_entries b)
   pub told : told event (end_of event b.finished.items) ≡ b.finished.items
@@ -84,7 +84,7 @@ pub record MayPlay {W : Type 0} (wants : W → Option Request) (is_of : Setting 
   pub room : HasRoom b
   pub quiet : Quiet wants is_of running picks_of b
 
--- it is over, and has its end
+-- the event is over, and has its end
 pub record IsPast {W : Type 0} (wants : W → Option Request) (is_of : Setting → Actor → W → Type 0) (running : Known → W → Running) (picks_of : W → Option (List Pick)) (b c : Body W) : Type 0 where
   pub quiet : Quiet wants is_of running picks_of c
   pub grown : Grown b c
@@ -100,7 +100,7 @@ pub record IsAsBefore {W : Type 0} (b c : Body W) : Type 0 where
 
 -- ---- kinds of events
 
--- it begins this operation of an actor
+-- the event begins this operation of an actor
 abbrev pub BeginsBy : Event → Actor → Op → Type 0
 BeginsBy (Do b o) a op = (b ≡ a) × (o ≡ op)
 BeginsBy (Start b o) a op = (b ≡ a) × (o ≡ op)
@@ -111,7 +111,7 @@ BeginsBy (Mix seed) a op = ⊥
 BeginsBy Restart a op = ⊥
 BeginsBy (Recover b) a op = ⊥
 
--- it begins none
+-- the event begins no operation
 abbrev pub BeginsNone : Event → Type 0
 BeginsNone (Do a op) = ⊥
 BeginsNone (Start a op) = ⊥
@@ -122,7 +122,7 @@ BeginsNone (Mix seed) = Unit {0}
 BeginsNone Restart = Unit {0}
 BeginsNone (Recover a) = Unit {0}
 
--- it moves nobody
+-- the event moves nobody
 abbrev pub IsStill : Event → Type 0
 IsStill (Do a op) = ⊥
 IsStill (Start a op) = ⊥
@@ -215,7 +215,7 @@ pub record Entered {W : Type 0} (event : Event) (b c : Body W) : Type 0 where
   pub journal : c.journal ≡ b.journal
   pub fresh : event_entries c ≡ []
 
--- in it the actor at a place began an operation, and goes on or not
+-- the actor at a place began an operation in the event, and goes on or not
 pub record HasBegun {W : Type 0} (wants : W → Option Request) (is_of : Setting → Actor → W → Type 0) (running : Known → W → Running) (picks_of : W → Option (List Pick)) (event : Event) (place : ℕ) (a : Actor) (b c : Body W) (goes_on : Bool) : Type 0 where
   pub going : Going wants is_of running picks_of c
   pub entered : Entered event b c

@@ -38,7 +38,7 @@ use Rattle.job_world.specs.declared.body.Body.{Body}
 abbrev pub setting_of : {W : Type 0} → Body W → Setting
 setting_of b = record { script = b.script; minimum = b.opening.minimum }
 
--- it ended for want of memory; of the job's commit that is told
+-- the operation ended for want of memory; of the job's commit that is told
 pub record IsLost (x : Play) (a : Actor) : Type 0 where
   pub idle : is_busy (x.live.state a).life ≡ false
   pub wanting : a ≡ Driver → is_committing (x.running Driver) ≡ true → lacked_memory x.live.commit ≡ true
@@ -121,7 +121,7 @@ pub record Quiet {W : Type 0} (wants : W → Option Request) (is_of : Setting �
   pub idle : b.event ≡ None
   pub none : b.finished.items ≡ []
 
--- they are entries of this event
+-- these are entries of one event
 abbrev pub AreOf : ℕ → List Entry → Type 0
 AreOf n es = AllByRecursion (λ e. e.event ≡ n) es
 
@@ -175,7 +175,7 @@ abbrev pub actor_or : Option Actor → Actor
 actor_or (Some a) = a
 actor_or None = Shell
 
--- of a hand what it has left
+-- what a hand has left to send
 abbrev pub hand_left : {W : Type 0} → (W → Scene → ℕ) → Scene → Hand W → ℕ
 hand_left left s (At m) = left m s
 hand_left left s (Plan p) = 0

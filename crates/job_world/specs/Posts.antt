@@ -32,7 +32,7 @@ pub record Wrote {W : Type 0} (actor : Actor) (b c : Body W) : Type 0 where
   pub number : entry.event ≡ length b.ends.items + 1
   pub appended : c.journal.entries ≡ b.journal.entries ++ entry ∷ []
 
--- by so much another actor's request may raise what the actor at a place has left: the driver's alone rises
+-- by how much another actor's request may raise what the actor at a place has left; the driver's alone rises
 abbrev pub raised : ℕ → ℕ → ℕ
 raised rise zero = rise
 raised rise (suc place) = 0
@@ -45,7 +45,7 @@ RaisedBy left rise place b s = (q : ℕ) (h : Hand _) → (q ≡ place → ⊥) 
 abbrev pub FellAt : {W : Type 0} → (W → Scene → ℕ) → ℕ → Body W → Body W → Type 0
 FellAt left place b c = (h k : Hand _) → slice_get b.hands.items place ≡ Some h → slice_get c.hands.items place ≡ Some k → hand_left left c.store.scene k < hand_left left b.store.scene h
 
--- it is at an operation
+-- the hand is at an operation
 abbrev pub IsWorking : {W : Type 0} → ℕ → Body W → Type 0
 IsWorking place b = (m : _) × (slice_get b.hands.items place ≡ Some (At m))
 

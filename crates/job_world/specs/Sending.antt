@@ -10,7 +10,7 @@ use Rattle.acting.specs.declared.posting.Posted.{Posted}
 use Rattle.job_world.specs.declared.hands.Hand.{Hand}
 use Rattle.job_world.specs.declared.hands.Hand.TheVariants.{Plan, At, Empty}
 
--- it is at an operation that asks a request
+-- the hand is at an operation that asks a request
 abbrev pub Asks : {W : Type 0} → (W → Option Request) → Hand W → Type 0
 Asks wants (At m) = IsSome (wants m)
 Asks wants (Plan p) = ⊥

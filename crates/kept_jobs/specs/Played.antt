@@ -16,7 +16,7 @@ use Rattle.kept_runs.specs.Crashes.{WhereTold}
 use Rattle.kept_appends.specs.Appends.{AreCalled}
 use Rattle.kept_jobs.specs.Pace.{Stops}
 
--- of a script over a store with this content: what was played keeps all that is promised of the job
+-- what was played of a script over this store keeps all that is promised of the job
 pub record IsPlayed (w : Script) (c : Content) (p : Played) : Type 0 where
   pub script : p.script ≡ w
   pub service : p.service ≡ (moment c p.journal.entries (length p.journal.entries)).content

@@ -19,7 +19,7 @@ abbrev pub IsBetween : Option Stored → List Request → Holding → Type 0
 IsBetween None rs h = Unit {0}
 IsBetween (Some s) rs h = (front : List Request) × Begins front rs × (h ≡ grown_by s.holding front)
 
--- it stands for the last moment of the run, or is nothing where nothing is held
+-- what is held stands for the last moment of the run, or is nothing where nothing was held
 abbrev pub IsLast : Option Stored → Content → List Entry → Holding → Type 0
 IsLast None opening es h = Unit {0}
 IsLast (Some s) opening es h = StandsFor h (moment opening es (length es)).content ⊎ ((s.holding ≡ Nothing) × (h ≡ Nothing))

@@ -25,7 +25,7 @@ StandsFor Nothing c = ⊥
 StandsFor (Stands held) c = Unfolds held c
 StandsFor (BadAt place) c = ⊥
 
--- it stands for a moment of the run
+-- what is held stands for a moment of the run
 abbrev pub IsMoment : Content → List Entry → Holding → Type 0
 IsMoment opening es h = (m : ℕ) × (m ≤ length es) × StandsFor h (moment opening es m).content
 
@@ -35,7 +35,7 @@ IsMoment opening es h = (m : ℕ) × (m ≤ length es) × StandsFor h (moment op
 abbrev pub kept : Content → List Request → Holding
 kept opening rs = Stands (record { base = image opening; changes = rs })
 
--- that is held, where it is told
+-- the image of a run's opening content with these changes is held, where that is told
 abbrev pub Holds : Option Stored → Content → List Request → Type 0
 Holds None opening rs = Unit {0}
 Holds (Some s) opening rs = s.holding ≡ kept opening rs
@@ -67,7 +67,7 @@ pub record IsKept (due : ℕ) (held : Option Stored) (opening : Content) (es : L
 
 -- ---- how it grows
 
--- the same with these changes more
+-- what is held with these changes more
 abbrev pub grown_by : Holding → List Request → Holding
 grown_by Nothing rs = Nothing
 grown_by (Stands held) rs = Stands (record { base = held.base; changes = held.changes ++ rs })
@@ -77,6 +77,6 @@ grown_by (BadAt place) rs = BadAt place
 abbrev pub HoldsGrownBy : Option Stored → Option Stored → List Request → Type 0
 HoldsGrownBy before after rs = told after ≡ option_map (λ s. grown_by s.holding rs) before
 
--- or by the first ones of them
+-- what is held grew by the first ones of these changes, where it is told
 abbrev pub HoldsSome : Option Stored → Option Stored → List Request → Type 0
 HoldsSome before after rs = (front : List Request) × Begins front rs × HoldsGrownBy before after front

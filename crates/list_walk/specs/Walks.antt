@@ -40,7 +40,7 @@ abbrev pub walked : List (List ℕ) → Reply → Walked (List ℕ)
 walked keys (Page entries more) = walked_by more (keys ++ keys_on entries)
 walked keys _ = More keys
 
--- the same with the entries themselves
+-- a page adds its entries, and says whether more remain
 abbrev pub walked_entries : List PageEntry → Reply → Walked PageEntry
 walked_entries found (Page entries more) = walked_by more (found ++ entries)
 walked_entries found _ = More found

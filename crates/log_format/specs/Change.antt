@@ -60,7 +60,7 @@ AreDigits text = (length text ≡ 32) × (list_all is_hex text ≡ true)
 abbrev pub IsNamed : NamedPart → Type 0
 IsNamed p = ((p.number < 2 ^ 32) × AreDigits p.tag.digits) × (p.tag.parts < 2 ^ 32)
 
--- both of a pair
+-- one holds of the first of a pair, the other of the second
 abbrev pub AreBoth : {A B : Type 0} → (A → Type 0) → (B → Type 0) → A × B → Type 0
 AreBoth IsFirst IsSecond x = IsFirst x.0 × IsSecond x.1
 

@@ -91,7 +91,7 @@ pub record Drove {M T : Type 0} (wants : M → Option Request) (after : M → It
   pub literal : retried t ≡ fresh t.retries t.machine → IsFaultBy t.retries part result
   pub ended : Ended (IsOver wants after ready standing t part t' s') before now result
 
--- the same in the middle of it
+-- a machine that was alone, in the midst of being driven
 pub record Driving {M : Type 0} (after : M → Item → M) (wants : M → Option Request) (ready : M → Scene → Bool → Type 0) (standing : M → Standing) (actor : Actor) (event : ℕ) (t t' : Retrying M) (s s' : Scene) (old new : List Entry) (before now : ℕ) (told tells : ℕ → Option Fate) (first requests : ℕ) (worn : Bool) : Type 0 where
   pub part : List Entry
   pub appended : new ≡ old ++ part

@@ -6,7 +6,7 @@ use Rattle.proof_base.specs.Order.{text_cmp}
 use Rattle.s3_types.specs.Pages.{begins}
 use Rattle.s3_types.specs.declared.request.UploadRef.{UploadRef}
 
--- those whose keys begin with p
+-- the uploads whose keys begin with p
 abbrev pub below : List ℕ → List UploadRef → List UploadRef
 below p rs = filter (λ r. begins p r.key) rs
 

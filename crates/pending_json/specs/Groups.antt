@@ -13,7 +13,7 @@ use Rattle.pending_json.specs.Pending.{Pending}
 use Rattle.pending_json.specs.Fields.{field, as_whole, as_u32, as_word, as_bucket, as_key, as_tags, sizes_in, members_in, version_in, is_sized, only_fields}
 use Rattle.pending_json.specs.Reading.{is_field_of, pending_table, pendings_in}
 
--- of which attempt a pending upload is, and where its file will be
+-- whose a pending upload is, and where its file will be
 unfoldable pub target_in : Data → Result Target RecordFault
 target_in d = do
   attempt ← field as_u32 (codes "attempt") d

@@ -24,7 +24,7 @@ pub record IsPending (p : Pending) : Type 0 where
   pub tags : are_tags p.tags ≡ true
   pub sizes : are_sizes p.sizes p.tags p.length ≡ true
 
--- the same of a set's
+-- a set whose numbers have their widths, and whose texts and uploads are such
 pub record IsSet (s : PendingSet) : Type 0 where
   pub job : is_utf8 s.job ≡ true
   pub task : s.task < 2 ^ 32
@@ -36,7 +36,7 @@ abbrev pub IsStamp : Option ℕ → Type 0
 IsStamp None = ⊤
 IsStamp (Some stamp) = stamp < 2 ^ 64
 
--- the same of a marker's
+-- a marker whose texts are UTF-8 and whose stamp has 64 bits
 pub record IsMark (m : SuccessMark) : Type 0 where
   pub job : is_utf8 m.job ≡ true
   pub files : AllByRecursion (λ file. is_utf8 file ≡ true) m.files

@@ -22,7 +22,7 @@ pub record RequestsKeep : Type 0 where
 abbrev pub keys_listed : ℕ → List ℕ → List ℕ → Objects → List (List ℕ)
 keys_listed limit p after m = map text_in (take limit (listed p false after m))
 
--- of listings without a delimiter
+-- a listing without a delimiter has, page by page, each key that stands, in order, and no other
 pub record PagesCover : Type 0 where
   -- the keys of a page rise behind the last one before it
   pub rises : (limit : ℕ) (p after : List ℕ) (m : Objects) → RisesFrom after (keys_listed limit p after m)

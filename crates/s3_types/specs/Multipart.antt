@@ -51,7 +51,7 @@ rises (x ∷ xs) = rises_from x.number xs
 abbrev pub tag_eq : Spelled → Spelled → Bool
 tag_eq a b = text_eq a.digits b.digits && nat_eq a.parts b.parts
 
--- whether a part is there and has this tag
+-- an upload has this part with this tag
 abbrev pub has_tag : Spelled → Option (List ℕ) → Bool
 has_tag t None = false
 has_tag t (Some bytes) = tag_eq (plain_tag bytes) t
@@ -64,7 +64,7 @@ is_sent m n = has_tag n.tag (fin.get m n.number)
 abbrev pub bytes_of : Parts → NamedPart → List ℕ
 bytes_of m n = unwrap_or (fin.get m n.number) []
 
--- whether a named part has the minimum
+-- a named part has at least the store's least size
 abbrev pub is_large : Parts → ℕ → NamedPart → Bool
 is_large m minimum n = nat_le minimum (length (bytes_of m n))
 
@@ -108,7 +108,7 @@ ref_of e = (record { key = e.1.key; upload = e.0 }, tt)
 abbrev pub refs : Uploads → fin.FinMap ref_cmp (Unit {0})
 refs m = fin.from_entries (map ref_of (fin.entries m))
 
--- whether an upload comes behind the last that was given
+-- an upload comes behind the last that was given
 abbrev pub is_behind : Option UploadRef → UploadRef → Bool
 is_behind None r = true
 is_behind (Some a) r = is_lt (ref_cmp a r)

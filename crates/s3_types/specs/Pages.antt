@@ -12,7 +12,7 @@ use Rattle.s3_types.specs.declared.reply.PageEntry.TheVariants.{Object as Single
 use Rattle.s3_types.specs.declared.reply.Reply.{Reply}
 use Rattle.s3_types.specs.declared.reply.Reply.TheVariants.{Page}
 
--- whether a text begins with p
+-- a text begins with p
 abbrev pub begins : List ℕ → List ℕ → Bool
 begins [] q = true
 begins (x ∷ p) [] = false

@@ -67,7 +67,7 @@ with_file path bytes m = fin.insert m path.key (object_of bytes)
 abbrev pub IsMadeOrNot : MarkerPolicy → Path → List ℕ → Objects → Objects → Type 0
 IsMadeOrNot policy path bytes m n = (n ≡ m) ⊎ ((n ≡ with_file path bytes m) ⊎ (n ≡ without (with_file path bytes m) (created policy path)))
 
--- so it is at any moment
+-- what stands at any moment while a file is made: all as it was, or the whole file
 abbrev pub FileOrNot : MarkerPolicy → Path → List ℕ → Scene → Scene → Type 0
 FileOrNot policy path bytes z s = InFile (fin.get z.content.buckets path.bucket) (IsMadeOrNot policy path bytes) (Unit {0}) z path.bucket s
 

@@ -73,12 +73,12 @@ AbortedIn (Some c) path z what s = (what ≡ fine (aborted_line (length (uploads
 abbrev pub DidAbort : Path → Scene → Said → Scene → Type 0
 DidAbort path z what s = AbortedIn (fin.get z.content.buckets path.bucket) path z what s
 
--- of these uploads the first so many are gone
+-- the first so many of the live uploads below a path are gone
 abbrev pub EndedSome : Option BucketContent → Path → Scene → Scene → Type 0
 EndedSome None path z s = s ≡ z
 EndedSome (Some c) path z s = (n : ℕ) × AreEnded path.bucket c (take n (uploads_below path c)) z s
 
--- so it is at any moment while uploads are aborted
+-- what stands at any moment while uploads are aborted
 abbrev pub AbortedSome : Path → Scene → Scene → Type 0
 AbortedSome path z s = EndedSome (fin.get z.content.buckets path.bucket) path z s
 

@@ -8,7 +8,7 @@ abbrev pub IsTaken : (left rest : Option (List ℕ)) → Type 0
 IsTaken None rest = rest ≡ None
 IsTaken (Some left) rest = rest ≡ Some (drop (MOST_SCRIPT_BYTES + 1) left)
 
--- and these bytes were read
+-- these are the bytes that were left of the input, to one byte over the limit, and they were taken
 abbrev pub IsRead : Option (List ℕ) → Option (List ℕ) → List ℕ → Type 0
 IsRead None after all = IsTaken None after
 IsRead (Some left) after all = (all ≡ take (MOST_SCRIPT_BYTES + 1) left) × IsTaken (Some left) after

@@ -26,7 +26,7 @@ pub record NoCommand {S : Type 0} (due : ℕ) (old new : S) (es : List Entry) (p
 
 -- ---- what is taken from the input
 
--- by the words
+-- words of which the input may be read
 abbrev pub may_read : Option Command → Bool
 may_read None = false
 may_read (Some Job) = true

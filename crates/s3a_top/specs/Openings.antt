@@ -40,7 +40,7 @@ opening_in Nothing w = Some (apply_store (new_content MOST_MINIMUM) (MakeBucket 
 opening_in (Store c) w = Some c
 opening_in (Faulty number place) w = None
 
--- the same by what the shelf holds, where it tells it
+-- the store that a job opens with, where the shelf tells what it holds
 abbrev pub Opens : Option Stored → Script → Content → Type 0
 Opens None w c = Unit {0}
 Opens (Some s) w c = opening_in (found s) w ≡ Some c

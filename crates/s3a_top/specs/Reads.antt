@@ -20,7 +20,7 @@ IsReadStop Usage command left rest = ⊥
 IsReadStop ShelfFault command left rest = ⊥
 IsReadStop (Image number place) command left rest = ⊥
 
--- the same of the bytes that were read
+-- why the bytes that were read are no script
 abbrev pub IsNone : Stop → List ℕ → Type 0
 IsNone (BadScript e) bytes = (script_of bytes ≡ Err e) × (e ≢ faults.NoMemory)
 IsNone NoMemory bytes = Unit {0}

@@ -28,12 +28,12 @@ pub record MayDo (input shelf : ℕ) (command : Command) : Type 0 where
   pub shelf_count : shelf < 2 ^ 64 - 1
   pub fit : IsBounded command
 
--- and it plays a job
+-- the counts of faults may rise, and the command plays a job
 pub record MayPlay (input shelf : ℕ) (command : Command) : Type 0 where
   pub ready : MayDo input shelf command
   pub one : plays command ≡ true
 
--- or another
+-- the counts of faults may rise, and the command plays no job
 pub record MayWork (input shelf : ℕ) (command : Command) : Type 0 where
   pub ready : MayDo input shelf command
   pub no_job : plays command ≡ false
@@ -96,7 +96,7 @@ HasReasonIn ReadFault command before left rest = is_sound before × ((takes_inpu
 HasReasonIn NoMemory command before left rest = (rest ≡ left) ⊎ (is_sound before × ((takes_input command ≡ true) × TakesPart left rest))
 HasReasonIn _ command before left rest = ⊥
 
--- it was done
+-- another command's work was done
 pub record StoreOver {S : Type 0} (held : S → Option Stored) (may_leave : S → Holding → Type 0) (answers fails : S → S → Type 0) (moment_of : S → ℕ) (left_since : S → ℕ → Holding → Type 0) (command : Command) (before : Held) (left rest : Option (List ℕ)) (old new : S)
     (due : ℕ) (es : List Entry) (Says : List ℕ → Type 0) : Type 0 where
   pub bytes : List ℕ
@@ -108,7 +108,7 @@ pub record StoreOver {S : Type 0} (held : S → Option Stored) (may_leave : S �
 
 -- ---- what comes of it
 
--- this is to be written
+-- the text that is to be written
 abbrev pub IsWritten : Work → List ℕ → Type 0
 IsWritten work text = written_text work.due work.text ≡ text
 
@@ -116,13 +116,13 @@ IsWritten work text = written_text work.due work.text ≡ text
 abbrev pub IsOfAnswer : ℕ → Type 0
 IsOfAnswer due = (due ≡ 0) ⊎ ((due ≡ 1) ⊎ ((due ≡ 5) ⊎ ((due ≡ 7) ⊎ (due ≡ 9))))
 
--- of a job
+-- what comes of a job before the text of a stop is made
 abbrev pub JobGoes : {S : Type 0} → (held : S → Option Stored) (may_leave : S → Holding → Type 0) (answers fails : S → S → Type 0) (moment_of : S → ℕ) (left_since : S → ℕ → Holding → Type 0) → Command → (left rest : Option (List ℕ)) (old new : S) → Result Work Stop → Type 0
 JobGoes held may_leave answers fails moment_of left_since command left rest old new (Ok work) =
     JobPlayed held may_leave answers fails moment_of left_since command left rest old new (code work.due) work.journal.entries work.picks work.ends (IsWritten work)
 JobGoes held may_leave answers fails moment_of left_since command left rest old new (Err stop) = JobHalted held may_leave answers fails moment_of left_since command left rest old new stop
 
--- of another command
+-- what comes of another command before the text of a stop is made
 abbrev pub StoreGoes : {S : Type 0} → (held : S → Option Stored) (may_leave : S → Holding → Type 0) (answers fails : S → S → Type 0) (moment_of : S → ℕ) (left_since : S → ℕ → Holding → Type 0) → Command → (left rest : Option (List ℕ)) (old new : S) → Result Work Stop → Type 0
 StoreGoes held may_leave answers fails moment_of left_since command left rest old new (Ok work) = StoreDone held may_leave answers fails moment_of left_since command left rest old new (code work.due) work.journal.entries (IsWritten work)
 StoreGoes held may_leave answers fails moment_of left_since command left rest old new (Err stop) = StoreHalted held may_leave answers fails moment_of left_since command left rest old new stop

@@ -13,7 +13,7 @@ was_answered Slow = false
 was_answered RequestLost = false
 was_answered ReplyLost = false
 
--- of each sending of that very request, in turn, whether it was answered
+-- of each sending of one request, in turn, whether it was answered
 abbrev pub answers : Request → List Entry → List Bool
 answers r [] = []
 answers r (e ∷ es) = cond (same_request r e.request) (was_answered e.outcome ∷ answers r es) (answers r es)

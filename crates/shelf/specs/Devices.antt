@@ -13,7 +13,7 @@ pub record TakesFirst (left rest : List ℕ) (n : ℕ) (buffer : List ℕ) : Typ
   pub others : rest ≡ drop n left
   pub ends : n ≡ 0 → 0 < length buffer → left ≡ []
 
--- the same, where the source tells what is left
+-- what a call of a source takes, where the source tells what is left
 abbrev pub Takes : Option (List ℕ) → Option (List ℕ) → ℕ → List ℕ → Type 0
 Takes None rest n buffer = rest ≡ None
 Takes (Some left) None n buffer = ⊥

@@ -48,7 +48,7 @@ IsBad (Some s) place = (s.holding ≡ BadAt place) × IsSmall s
 abbrev pub fresh : List ℕ → Holding
 fresh bytes = Stands (record { base = bytes; changes = [] })
 
--- the same with one change more
+-- what is held with one change more
 abbrev pub grown : Holding → Request → Holding
 grown Nothing change = Nothing
 grown (Stands held) change = Stands (record { base = held.base; changes = held.changes ++ change ∷ [] })

@@ -44,7 +44,7 @@ use Rattle.worked_runs.specs.FourFiles.{directory, set_key, of_file, the_set, at
 abbrev pub four : List File
 four = (codes "a", codes "hello") ∷ (codes "b", codes "hello") ∷ (codes "c", codes "hello") ∷ (codes "d", codes "hello") ∷ []
 
--- with so many retries and lanes, and these losses; its first three events are a set-up, a write and the task's commit
+-- the job's script with so many retries and lanes and these losses
 abbrev pub script : ℕ → ℕ → FateMap → List Event → Script
 script retries lanes fates events = record (job Magic Append 1 retries lanes (attempt 0 0 four ∷ []) (Do Driver ops.Setup ∷ Do worker ops.Write ∷ Do worker ops.Commit ∷ events)) { fates = fates }
 

@@ -212,7 +212,7 @@ pub record TwoJobs : Type 0 where
   pub before : Kept 26
   pub stay : Kept 30
 
--- the same run in the eyes of jb
+-- the journal in the eyes of jb
 abbrev pub other_eyes : List Entry
 other_eyes = in_eyes (λ n. not (mine n)) journal
 

@@ -134,7 +134,7 @@ opening = record { buckets = fin.insert fin.empty lake new_bucket; next = 1; min
 abbrev pub at : ℕ → Seen
 at m = seen script (Some 4) opening journal m
 
--- the same where the job's entries are told as a stranger's
+-- what is seen where the job's entries are told as a stranger's
 abbrev pub strange : ℕ → Seen
 strange m = seen script (Some 4) opening (in_eyes (λ n. false) journal) m
 

@@ -26,7 +26,7 @@ pub record Course : Type 0 where
 abbrev pub course_of : Setting → Actor → Running → List Outcome → Course
 course_of g a m os = record { requests = asked g a m os; end = over (reached g a m os).operation }
 
--- the same of an operation as it begins, by an actor that knows this
+-- what an operation asks from its beginning over these outcomes, and how it ends
 abbrev pub course : Setting → Actor → Option Operation → Known → List Outcome → Course
 course g a None k os = record { requests = []; end = None }
 course g a (Some op) k os = course_of g a (record { operation = op; known = k }) os

@@ -161,7 +161,7 @@ abbrev pub placed : CopyPaths → Option (List ℕ) → List (List ℕ) → Step
 placed o None ks = End (Err SourceMissing)
 placed o (Some t) ks = with_places ks (new_keys (prefix_of o.source) (marker_of t) ks)
 
--- they are looked at one by one
+-- the paths above the target are looked at one by one
 abbrev pub on_climb : CopyPaths → List (List ℕ) → Climbed → Step CopyStage Answer
 on_climb o ks (File a) = End (Err (TargetFile a))
 on_climb o ks (Goes_on c) = Next (Up ks c)

@@ -117,7 +117,7 @@ goes o x r repeated = unless (look_of r) (End (Err NoSuchBucket)) (on o x r repe
 abbrev pub IsOpen : Creation → Objects → Type 0
 IsOpen o z = (HasFile z o.path.key × (o.overwrite ≡ true)) ⊎ IsAbsent z o.path.key
 
--- and no file above it
+-- the file may be made: nothing is in the way at its path or above it
 pub record IsDue (o : Creation) (z : Objects) : Type 0 where
   pub allowed : IsOpen o z
   pub free : NoFiles z (keys_above o.path.key)
@@ -183,7 +183,7 @@ always_in o z m = (m ≡ z) ⊎ (IsDue o z × IsMade o z m)
 abbrev pub AlwaysFile : Creation → Scene → Scene → Type 0
 AlwaysFile o z s = least o z → InFile (bucket_at z o.path.bucket) (always_in o) (Unit {0}) z o.path.bucket s
 
--- it stands at its beginning
+-- the making of a file stands at its beginning
 abbrev pub starts : CreateFile → Type 0
 starts p = IsCreation p.file × (p.stage ≡ Here)
 

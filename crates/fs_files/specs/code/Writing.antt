@@ -27,7 +27,7 @@ pub record Writing : Type 0 where
   -- the tags of the parts that were answered, from the first on
   pub tags : List Spelled
 
--- by its code proofs tell one from another
+-- the code of a file that is written
 abbrev pub coded_writing : Coded Writing
 coded_writing =
     code_by (List ℕ × (ℕ × (List ℕ × (Option ℕ × List Spelled)))) (coded× coded_text (coded× coded_ℕ (coded× coded_text (coded× (coded_option coded_ℕ) (coded_list coded_spelled)))))

@@ -18,17 +18,17 @@ use Rattle.fs_ops.specs.Places.{below_asks, NoFileAt}
 abbrev pub first : List ℕ → PathStage
 first o = Here
 
--- by what is asked of a file
+-- what is asked at each stage, by how a file is asked for
 abbrev pub asks : (List ℕ → Ask) → List ℕ → PathStage → Ask
 asks file o Here = file o
 asks file o Below = below_asks o 1
 
--- with what is answered where a file stands, if one does
+-- what is answered where a file stands; where none does, it is looked below
 abbrev pub told : {A : Type 0} → Option A → Step PathStage (Result A FsRefusal)
 told (Some a) = End (Ok a)
 told None = Next Below
 
--- and with what is answered where a directory stands, as the root does
+-- what is answered of a file; the root is a directory
 abbrev pub on_here : {A : Type 0} → Result A FsRefusal → Option A → List ℕ → Step PathStage (Result A FsRefusal)
 on_here directory found [] = End directory
 on_here directory found (x ∷ p) = told found

@@ -34,6 +34,6 @@ pub record IsStages {O X A : Type 0} (first : O → X) (asks : O → X → Ask) 
 abbrev pub IsStill : {O : Type 0} → O → Objects → Objects → Type 0
 IsStill o z m = m ≡ z
 
--- and asks nothing but looks
+-- an operation asks nothing but looks
 abbrev pub OnlyLooks : {O : Type 0} → O → Objects → Ask → Type 0
 OnlyLooks o z a = is_look a ≡ true

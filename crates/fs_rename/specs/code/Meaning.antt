@@ -23,7 +23,7 @@ abbrev pub IsSource : Bool → Objects → List ℕ → Type 0
 IsSource true z p = NoFileAt z p × HasDir z p
 IsSource false z p = HasFile z p
 
--- and the target is neither it nor below it
+-- something stands at the source, and the target is neither it nor below it
 pub record Begun (o : Renaming) (z : Objects) (d : Bool) : Type 0 where
   pub source : IsSource d z o.source
   pub apart : IsAtOrBelow o.source o.target → ⊥
@@ -54,7 +54,7 @@ pub record IsReady (o : Renaming) (z : Objects) (d i : Bool) (q : List ℕ) : Ty
   pub free : IsAbsent z q
   pub at : place_at o i ≡ Some q
 
--- and no new key is over its limit
+-- the source may be moved to the new place q, and no new key is over its limit
 pub record MayGo (o : Renaming) (z : Objects) (d i : Bool) (q : List ℕ) : Type 0 where
   pub ready : IsReady o z d i q
   pub fit : AllFit z o.source q
@@ -105,7 +105,7 @@ looks_left Target true = 3
 looks_left s false = 2
 looks_left s true = 1
 
--- and at most so many stages
+-- the most requests that are to come
 abbrev pub left : Renaming → RenameStage → Objects → ℕ
 left o (Looking s b d) m = 2 * sweep_left (prefix_of o.source) sweep_start m + 4 + looks_left s b
 left o (Walk i found) m = 2 * walk_left (prefix_of o.source) found m + 4
