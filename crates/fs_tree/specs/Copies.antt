@@ -77,7 +77,9 @@ Copies p t z (Err r) m = ⊥
 
 -- at any moment: each new key that was absent is so or is its source's copy, whole, and every other key is as it was
 pub record IsCopiedInPart (p t : List ℕ) (z m : Objects) : Type 0 where
+  -- a new key that was absent is so or has its source's object
   pub new : (k l : List ℕ) → IsMove z p t k l → fin.get z l ≡ None → (fin.get m l ≡ None) ⊎ (fin.get m l ≡ fin.get z k)
+  -- what stood there stays
   pub old : (q : List ℕ) → Stands z q → fin.get m q ≡ fin.get z q
   pub others : (q : List ℕ) → ((k : List ℕ) → IsMove z p t k q → ⊥) → fin.get m q ≡ fin.get z q
 
@@ -87,6 +89,8 @@ MayStandCopied p t z m = (m ≡ z) ⊎ (MayCopy z p t × IsCopiedInPart p t z m)
 
 -- after a stop anywhere a second copy is not refused, and ends with the objects of one that was never stopped
 pub record CopiesResume : Type 0 where
+  -- it is not refused
   pub again : (p t : List ℕ) (z m : Objects) → MayCopy z p t → IsCopiedInPart p t z m → MayCopy m p t
+  -- it ends alike
   pub same : (p t : List ℕ) (z m n o : Objects) (c d : CopyCount) → MayCopy z p t → IsCopiedInPart p t z m → CopiesTree p t m c n → CopiesTree p t z d o
       → (q : List ℕ) → fin.get n q ≡ fin.get o q

@@ -100,9 +100,13 @@ IsElsewhere z p q k = ((l : List ℕ) → IsMove z p q k l → ⊥) × ((j : Lis
 
 -- each object of the source stands whole at its old or at its new place, and nothing else is at the new places; they come there in the order of their keys, and only when all are there does one leave its old place; every file that is at neither is as it was, header included, and so is every marker but that of the directory above the source
 pub record IsWhole (p q : List ℕ) (z m : Objects) : Type 0 where
+  -- a key of the source that is gone stands at its new place
   pub moved : (k l : List ℕ) → IsMove z p q k l → (fin.get m k ≡ fin.get z k) ⊎ ((fin.get m k ≡ None) × (fin.get m l ≡ fin.get z k))
+  -- a new key is absent or has its source's object
   pub new : (k l : List ℕ) → IsMove z p q k l → (fin.get m l ≡ None) ⊎ (fin.get m l ≡ fin.get z k)
+  -- copies come in the order of their keys
   pub in_order : (k l j i : List ℕ) → IsMove z p q k l → IsMove z p q j i → is_lt (text_cmp j k) ≡ true → fin.get m l ≡ fin.get z k → fin.get m i ≡ fin.get z j
+  -- nothing goes before all are copied
   pub all_first : (k l j i : List ℕ) → IsMove z p q k l → IsMove z p q j i → fin.get m k ≡ None → fin.get m i ≡ fin.get z j
   pub files : (k : List ℕ) → is_marker k ≡ false → IsElsewhere z p q k → fin.get m k ≡ fin.get z k
   pub markers : (k : List ℕ) → IsElsewhere z p q k → (fin.get m k ≡ fin.get z k) ⊎ ((marker_if (parent p) ≡ Some k) × (fin.get m k ≡ Some marker))

@@ -40,8 +40,11 @@ pub record Ids (uploads : ℕ → Option Upload) (next : ℕ) (drawn : Who → L
 -- a live upload whose parts are blocks of its file at their numbers, those that came back among them
 pub record IsHeld (w : Script) (minimum : ℕ) (uploads : ℕ → Option Upload) (d : Drawn) (f : File) : Type 0 where
   pub parts : Parts
+  -- it lives with its key
   pub stands : uploads d.upload ≡ Some (record { key = d.key; parts = parts })
+  -- each of its parts is the file's part of that number
   pub blocks : (n : ℕ) (b : List ℕ) → fin.get parts n ≡ Some b → (i : ℕ) × (n ≡ suc i) × (slice_get (file_parts w minimum f) i ≡ Some b)
+  -- the parts that came back are there
   pub back : (i : ℕ) → i < length d.tags → (b : List ℕ) × (fin.get parts (suc i) ≡ Some b)
 
 -- a known upload is of a file of its attempt, with the tags and sizes of the file's first blocks, and is held until the driver has ended it or its attempt takes back what it did
@@ -143,16 +146,25 @@ Kept sent undone = (a : Who) → sent a ≡ true → undone a ≡ false
 
 -- what holds of the job's store, the cluster and what its attempts know, between any two requests
 pub record Facts (w : Script) (minimum : ℕ) (s : Scene) (last : ℕ → Option ℕ) (m : Told) : Type 0 where
+  -- the destination's bucket is there
   pub there : HasBucket s.content w.dest.bucket
+  -- the store's least size of a part is this
   pub least : s.content.minimum ≡ minimum
+  -- upload ids are apart
   pub ids : Ids (at_id w s.content) s.content.next m.drawn
+  -- known uploads are whole as far as they came back
   pub owned : Owned w minimum (at_id w s.content) m.ended m.undone m.drawn
+  -- magic: the job's magic directory has its own keys alone
   pub below : is_magic w.committer ≡ true → Below w (at_key w s.content)
+  -- magic: records tell the uploads of their files
   pub records : is_magic w.committer ≡ true → Records w minimum (at_place w s.content) m.drawn
+  -- sets are whole, and of the last publisher
   pub sets : Sets w minimum (sets_at w s) last m.publish_sent m.drawn
   -- until the driver's abort or clean begins
   pub standing : m.cleaned ≡ false → Standing w (sets_at w s) last
+  -- staging: temporary files are whole sets
   pub temporaries : is_staging w.committer ≡ true → Temporaries w minimum (at_path w s) m.put_sent m.drawn
+  -- who has published takes nothing back
   pub kept : Kept m.publish_sent m.undone
 
 -- the facts hold of what is seen and told at a moment

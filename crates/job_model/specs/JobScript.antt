@@ -9,16 +9,24 @@ use Rattle.job_model.specs.declared.events.Event.{Event}
 
 -- a job's head, its attempts with their files, and the events of its run
 pub record Script : Type 0 where
+  -- the job's id
   pub job : List ℕ
+  -- the destination of the job
   pub dest : Path
   pub committer : Committer
   pub mode : Mode
+  -- names of files are made unique to the job
   pub unique : Bool
   pub tasks : ℕ
+  -- how often a request without an answer is sent again
   pub retries : ℕ
+  -- the length in bytes of a part; 0 is the store's least size
   pub block : ℕ
+  -- how many completions the job's commit goes on with in turn
   pub lanes : ℕ
+  -- a number that `_SUCCESS` repeats
   pub stamp : Option ℕ
+  -- which sendings are lost or slow
   pub fates : FateMap
   pub attempts : List Declared
   pub events : List Event

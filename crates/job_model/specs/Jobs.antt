@@ -24,7 +24,9 @@ pub record Task : Type 0 where
   pub task : ℕ
   pub attempt : ℕ
   pub files : List File
+  -- the length in bytes of a part; 0 is the store's least size
   pub block : ℕ
+  -- the store's least size in bytes of a part
   pub minimum : ℕ
   pub known : Known
 

@@ -23,13 +23,17 @@ use Rattle.job_promise.specs.Turns.{until, since, by_actor}
 
 -- In event j this actor's operation ended so: it was begun so, and these are its entries.
 pub record EndedIn (w : Script) (xs : List EventEnd) (journal : List Entry) (j : ℕ) (a : Actor) (d : Doing) (end : OpEnd) (entries : List Entry) : Type 0 where
+  -- the event in which it ended, and that event's end
   pub event : Event
   pub event_end : EventEnd
   pub is_event : slice_get w.events j ≡ Some event
   pub has_ended : slice_get xs j ≡ Some event_end
+  -- its place among the ends that the event tells
   pub place : ℕ
   pub told_there : slice_get (told event event_end) place ≡ Some (record { actor = a; end = end })
+  -- the operation that the actor had begun
   pub doing : (after_event w (past w (take j xs)) event event_end).doing a ≡ Some d
+  -- the operation's own entries
   pub entries_are : entries ≡ since d.since (by_actor a (until (j + 1) journal))
 
 -- ---- the driver's commit
@@ -58,9 +62,12 @@ is_mark_answered w es = list_any (λ e. is_driver e.actor && (is_marking w e.req
 -- were reported as it began, by the first of its requests that wore out, and by the picks; and where it ended Committed, the
 -- put of the marker was answered.
 pub record CommitEnded (w : Script) (s : Seen) (missing : Option ℕ) (entries : List Entry) (e : CommitEnd) : Type 0 where
+  -- the first of its requests that wore out, if one did
   pub worn : Option Request
   pub first : WornFirst w.retries entries worn
+  -- want of memory, or the end that is due
   pub due : (e ≡ commits.NoMemory) ⊎ (e ≡ commit_due w s.picks missing worn)
+  -- where it is Committed, the put of the marker was answered
   pub answered : e ≡ commits.Committed → is_mark_answered w entries ≡ true
 
 -- ---- the driver's abort and clean

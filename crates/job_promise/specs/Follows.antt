@@ -54,11 +54,13 @@ pub record Obeyed (g : Setting) (before_it : List EventEnd) (journal : List Entr
   -- it is refused exactly by the table, and has no entry then
   pub refused : (f : EventFault) → end ≡ Refused f → refusal (past g.script before_it).state ev ≡ Some f
   pub refuses : (f : EventFault) → refusal (past g.script before_it).state ev ≡ Some f → end ≡ Refused f
+  -- a refused event sends nothing
   pub silent : (f : EventFault) → end ≡ Refused f → of_event (length before_it + 1) journal ≡ []
   -- its entries are by turns
   pub turns : refusal (past g.script before_it).state ev ≡ None → Turns g.script (past g.script before_it).state ev end (of_event (length before_it + 1) journal)
   -- each operation sends what is asked next; who is busy afterwards has more to send
   pub follow : (a : Actor) (d : Doing) → (after_event g.script (past g.script before_it) ev end).doing a ≡ Some d → OpFollows g a d (by_actor a journal)
+  -- who is busy afterwards has more to send
   pub goes_on : (a : Actor) (d : Doing) → (after_event g.script (past g.script before_it) ev end).doing a ≡ Some d → is_busy ((after_event g.script (past g.script before_it) ev end).state a).life ≡ true → op_over g a d (by_actor a journal) ≡ None
   -- each end is that of an operation, or its want of memory
   pub over : (i : ℕ) (x : ActorEnd) → slice_get (told ev end) i ≡ Some x → (d : Doing) × ((after_event g.script (past g.script before_it) ev end).doing x.actor ≡ Some d)
@@ -82,10 +84,13 @@ IsUnended g xs journal = (ev : Event) → slice_get g.script.events (length xs) 
 
 -- What ties a journal and ends to a script, where the store's least size of a part is given
 pub record Plays (g : Setting) (xs : List EventEnd) (journal : List Entry) : Type 0 where
+  -- each event that has its end went by the rules
   pub obeyed : AllObeyed g xs journal
+  -- the one that has begun and has no end goes by them
   pub unended : IsUnended g xs journal
   -- the job has no entry outside its events, which are numbered from 1
   pub numbered : AllFrom 1 (own journal)
+  -- behind the script's last event nothing is sent
   pub none : slice_get g.script.events (length xs) ≡ None → of_event (length xs + 1) journal ≡ []
   -- the events of the entries never fall, and none is of a later event
   pub rising : IsRising journal

@@ -27,15 +27,22 @@ done w picks opening p = or_else (wanted_at w picks p) (cond (keeps_of w picks p
 -- Between the opening files and those of the picks: until each task has a pick and no two write one path, the opening ones;
 -- then only opening files and whole wanted ones, with each kept opening file where none is wanted.
 pub record Between (w : Script) (opening : Shown) (picks : Picks) (v : Shown) : Type 0 where
+  -- while some task has no pick, or two picks write one path, exactly the opening files
   pub untouched : is_decided w picks ≡ false → Same v opening
+  -- then only opening files and whole files of the picks
   pub only : is_decided w picks ≡ true → (p b : List ℕ) → v p ≡ Some b → (opening p ≡ Some b) ⊎ (wanted_at w picks p ≡ Some b)
+  -- and each opening file that the mode keeps and that no pick writes
   pub kept : is_decided w picks ≡ true → (p b : List ℕ) → opening p ≡ Some b → keeps_of w picks p ≡ true → wanted_at w picks p ≡ None → v p ≡ Some b
 
 -- the whole job stands: exactly the kept files and all files of the picks, and the marker says so
 pub record Whole (w : Script) (opening : Shown) (picks : Picks) (c : Content) : Type 0 where
+  -- each task has its pick
   pub picked : is_picked w picks ≡ true
+  -- no two picks write one path
   pub apart : is_clash w picks ≡ false
+  -- exactly the kept files and all files of the picks
   pub files : Same (view w.dest c) (done w picks opening)
+  -- the marker's text says so
   pub mark : (o : Object) → object_at c w.dest.bucket (success_key w.dest.key) ≡ Some o → o.bytes ≡ mark_text w picks
 
 -- what holds of what is seen at a moment

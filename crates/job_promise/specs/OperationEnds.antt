@@ -117,7 +117,9 @@ CleanIs None e = e ≡ cleans.Done
 
 -- what it leaves at its end, and that it hides nothing: of the scenes before it and at its end
 pub record Cleaned (w : Script) (s t : Scene) : Type 0 where
+  -- nothing is left of the job
   pub nothing : NothingLeft w.committer w t
+  -- a reader is shown what he was shown before
   pub view_stays : Same (view w.dest t.content) (view w.dest s.content)
 
 -- ---- the driver's commit

@@ -110,20 +110,27 @@ pub record Promised (w : Script) (opening : Content) (journal : List Entry) (ps 
   pub always : AreOwn journal → Always w (commit_event w xs) opening journal
   -- events, turns and operations are as the script says
   pub plays : Plays (setting w opening) xs journal
+  -- the picks that are told are those of the journal, or the first ones of them
   pub picks : ArePicked ps (all_picks w opening journal xs)
   -- files are published without a copy of their bytes, and nothing outside the destination is touched
   pub zero_rename : ZeroRename w opening journal
+  -- other buckets and what is not below the destination are as in the opening
   pub outside : OutsideStays w opening journal
   -- each operation ends as is due, and leaves what it should
   pub setups : SetupsEnd w opening journal xs
+  -- an attempt's operations
   pub tasks : TasksEnd w opening journal xs
+  -- a task's commit that is Done has published
   pub publishes : Publishes w opening journal xs
+  -- the abort or clean of the job
   pub cleans : CleansEnd w opening journal xs
+  -- the job's commit
   pub commits : CommitsEnd w opening journal xs
 
 -- each answer is the one that was due, and each sending has the outcome that the script names for its number
 pub record Sent (w : Script) (opening : Content) (journal : List Entry) : Type 0 where
   pub honest : IsHonest opening journal
+  -- each sending has the fate that the script names for its number
   pub fated : AreForetold (λ n. Some (fate_at w.fates n)) 1 journal
 
 -- what decided ended for want of memory

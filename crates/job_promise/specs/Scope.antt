@@ -30,8 +30,11 @@ SameOutsideUpload w None None = Unit {0}
 
 -- two contents differ at most below the job's destination: in its objects and live uploads there
 pub record SameOutside (w : Script) (c d : Content) : Type 0 where
+  -- other buckets are the same
   pub buckets : (b : List ℕ) → text_eq b w.dest.bucket ≡ false → fin.get d.buckets b ≡ fin.get c.buckets b
+  -- objects that are not below the destination are the same
   pub objects : (k : List ℕ) → begins (dest_prefix w) k ≡ false → object_at d w.dest.bucket k ≡ object_at c w.dest.bucket k
+  -- live uploads whose keys are not below the destination are the same
   pub uploads : (id : ℕ) → SameOutsideUpload w (upload_at c w.dest.bucket id) (upload_at d w.dest.bucket id)
 
 -- no live upload's key is below the destination

@@ -26,7 +26,9 @@ IsLast (Some s) opening es h = StandsFor h (moment opening es (length es)).conte
 
 -- Crashes of a run with this status and with this held at its end: what one at its beginning may leave, what one since then might have left, and what one at its end may leave.
 pub record SurvivesCrashes (due : ℕ) (held : Option Stored) (at_first since_then at_last : Holding → Type 0) (opening : Content) (es : List Entry) : Type 0 where
+  -- during the run: what one at its beginning may leave, or a moment of the run
   pub within : (h : Holding) → since_then h → WhereTold held (at_first h ⊎ IsMoment opening es h)
+  -- behind a run that went to its end: its last moment
   pub behind : IsToEnd due → (h : Holding) → at_last h → IsLast held opening es h
 
 -- a change was appended, and a crash meanwhile left it out or had it

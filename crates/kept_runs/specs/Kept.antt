@@ -51,9 +51,11 @@ HasEarlier es rs = (front back : List Entry) (e : Entry) → es ≡ front ++ e �
 
 -- the first changes of a run that was cut short, with all of the earlier events
 pub record HoldsPart (held : Option Stored) (opening : Content) (es : List Entry) : Type 0 where
+  -- the changes that are held
   pub part : List Request
   pub holds : Holds held opening part
   pub begins : Begins part (changes es)
+  -- all changes of earlier events are among them
   pub earlier : HasEarlier es part
 
 -- the status of a run that went to its end
@@ -62,7 +64,9 @@ IsToEnd due = (due ≡ 0) ⊎ ((due ≡ 1) ⊎ (due ≡ 8))
 
 -- what is held at the end of a run with this status
 pub record IsKept (due : ℕ) (held : Option Stored) (opening : Content) (es : List Entry) : Type 0 where
+  -- of a run that went to its end every change
   pub whole : IsToEnd due → Holds held opening (changes es)
+  -- of one that was cut the first changes
   pub partly : (due ≡ 5) ⊎ (due ≡ 9) → es ≢ [] → HoldsPart held opening es
 
 -- ---- how it grows

@@ -76,8 +76,11 @@ pub record WorkDone {S : Type 0} (held : S → Option Stored) (may_leave : S →
   pub text : List ℕ
   pub answer : IsAnswer work due text es
   pub said : Says (answer_text due text)
+  -- what the shelf holds then
   pub holds : IsHeld work due (held old) (held new)
+  -- what a crash meanwhile might have left
   pub leaves : LeavesOnly moment_of left_since old new (MightLeave work (held new) (may_leave old))
+  -- what a crash leaves behind it
   pub durable : IsDurableNow work due (held new) (may_leave new)
   -- from a store that can have an image, as one that was found and a new one can, what it saves leads through such stores
   pub images : HasImages work
@@ -85,12 +88,15 @@ pub record WorkDone {S : Type 0} (held : S → Option Stored) (may_leave : S →
 -- A command's work was done, on what the shelf holds and with the bytes of its input.
 pub record StoreDone {S : Type 0} (held : S → Option Stored) (may_leave : S → Holding → Type 0) (answers fails : S → S → Type 0) (moment_of : S → ℕ) (left_since : S → ℕ → Holding → Type 0) (command : Command) (left rest : Option (List ℕ)) (old new : S)
     (due : ℕ) (es : List Entry) (Says : List ℕ → Type 0) : Type 0 where
+  -- what the shelf held
   pub before : Held
   pub found : IsFound (held old) before
   -- a store that was found can have an image
   pub sound : IsSound before
+  -- the bytes of the input
   pub bytes : List ℕ
   pub input : IsInput (reads_input command before) left rest bytes
+  -- what the command is to say or to keep
   pub work : Work
   pub does : IsWork command bytes before work
   pub done : WorkDone held may_leave moment_of left_since work old new due es Says

@@ -65,6 +65,7 @@ MayHaveLeft at_first command told left rest h = at_first h ⊎ ((w : Script) × 
 -- a job stopped before its first event: nothing was sent, what was held is held, and its status has its cause
 pub record JobStopped {S : Type 0} (held : S → Option Stored) (may_leave : S → Holding → Type 0) (answers fails : S → S → Type 0) (moment_of : S → ℕ) (left_since : S → ℕ → Holding → Type 0) (command : Command) (left rest : Option (List ℕ)) (old new : S)
     (due : ℕ) (es : List Entry) (ps : List Pick) (xs : List EventEnd) (Says : List ℕ → Type 0) : Type 0 where
+  -- why it stopped
   pub stop : Stop
   pub status : due ≡ code (status_of stop)
   pub cause : HasCause stop command (held old) left rest
@@ -72,7 +73,9 @@ pub record JobStopped {S : Type 0} (held : S → Option Stored) (may_leave : S �
   -- nothing was sent, and the shelf holds what it held
   pub idle : IsIdle es ps xs
   pub same : held new ≡ held old
+  -- the shelf was called to load, and once more at most
   pub calls : AreFew answers fails left rest old new
+  -- what a crash meanwhile might have left
   pub leaves : LeavesOnly moment_of left_since old new (MayHaveLeft (may_leave old) command (held old) left rest)
 
 -- ---- it was played
@@ -84,8 +87,11 @@ job_text _ due sent ps xs w = report_text due sent ps xs w
 
 -- all events ended, all that was sent is kept, and the status is the verdict of the job's commit
 pub record JobEnded {S : Type 0} (held : S → Option Stored) (may_leave : S → Holding → Type 0) (answers : S → S → Type 0) (command : Command) (w : Script) (c : Content) (loaded new : S) (due : ℕ) (es : List Entry) (ps : List Pick) (xs : List EventEnd) (Says : List ℕ → Type 0) : Type 0 where
+  -- the promise of a run that went to its end
   pub finished : Finished w c es ps xs
+  -- the shelf holds the opening image with every change of the run
   pub holds : Holds (held new) c (changes es)
+  -- a crash leaves that, and nothing else
   pub durable : IsDurable (held new) (may_leave new)
   -- the shelf was called to take the image, and once for each change
   pub calls : AreCalled answers (changes es) loaded new
@@ -94,8 +100,11 @@ pub record JobEnded {S : Type 0} (held : S → Option Stored) (may_leave : S →
 
 -- an append failed, or memory was wanting between two events
 pub record JobCut {S : Type 0} (held : S → Option Stored) (answers fails : S → S → Type 0) (c : Content) (loaded new : S) (due : ℕ) (es : List Entry) (Says : List ℕ → Type 0) : Type 0 where
+  -- the shelf holds the first changes of the run, with those of all earlier events
   pub holds : HoldsPart (held new) c es
+  -- the shelf was called for the first changes alone, and the last call may have failed
   pub calls : (mid : S) × (answers loaded mid × Stops answers fails (changes es) mid new)
+  -- the status is that of the shelf, or of want of memory
   pub said : ((due ≡ 5) × Says shelf_text) ⊎ ((due ≡ 9) × Says memory_text)
 
 -- Of a script over a store with this content, since the shelf was loaded: what was sent keeps all that is promised of the job.
@@ -115,10 +124,12 @@ pub record JobRan {S : Type 0} (held : S → Option Stored) (may_leave : S → H
 -- The headline. Of a job that was played: its script is the command's, the store that it opened with is the shelf's, and the promise holds of all that was sent.
 pub record JobPlayed {S : Type 0} (held : S → Option Stored) (may_leave : S → Holding → Type 0) (answers fails : S → S → Type 0) (moment_of : S → ℕ) (left_since : S → ℕ → Holding → Type 0) (command : Command) (left rest : Option (List ℕ)) (old new : S)
     (due : ℕ) (es : List Entry) (ps : List Pick) (xs : List EventEnd) (Says : List ℕ → Type 0) : Type 0 where
+  -- the script that was played, and the store that it opened with
   pub script : Script
   pub opening : Content
   pub reads : IsScriptOf command left rest script
   pub opens : Opens (held old) script opening
+  -- the shelf once it was loaded
   pub loaded : S
   pub load : answers old loaded
   pub ran : JobRan held may_leave answers fails command script opening loaded new due es ps xs Says
