@@ -50,18 +50,21 @@ impl LaneTurn {
         }
     }
 
+    /// The number of the upload that is in turn.
     pub fn number(self) -> usize
         ensures { result ≡ self.number }
     {
         self.number
     }
 
+    /// How many sendings of its completion got no answer.
     pub fn missed(self) -> u32
         ensures { result ≡ self.missed }
     {
         self.missed
     }
 
+    /// Whether one of these was lost, and not merely slow.
     pub fn lost(self) -> bool
         ensures { result ≡ self.lost }
     {

@@ -53,6 +53,7 @@ pub fn completion(alloc: Global, upload: &PendingUpload) -> Result<Request, Allo
     })
 }
 
+/// The abort of an upload.
 pub fn abort(upload: &PendingUpload) -> Result<Request, AllocError>
     ensures { IfOk result (λ request. request ≡ abort upload.now) }
 {

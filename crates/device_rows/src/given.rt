@@ -21,6 +21,7 @@ pub struct Given {
 }
 
 impl Given {
+    /// No words, no input and no file.
     pub fn new(alloc: Global) -> Given {
         Given {
             words: Vec::new(alloc),

@@ -16,6 +16,7 @@ pub struct Known {
 }
 
 impl Known {
+    /// Before a run is known: no text, no file and no images.
     pub fn new(alloc: Global) -> Known {
         Known {
             text: Bytes::empty(),

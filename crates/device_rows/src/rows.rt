@@ -52,6 +52,7 @@ fn show_played(rt: &impl Print, alloc: Global, known: &Known, played: &Played) -
 }
 
 impl Rows {
+    /// Before the first row: nothing is given.
     pub fn new(alloc: Global) -> Rows {
         Rows {
             given: Given::new(alloc),

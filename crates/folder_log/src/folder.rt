@@ -50,6 +50,7 @@ pub struct Stamp {
 }
 
 impl Stamp {
+    /// The stamp of a file with this metadata.
     pub fn of(metadata: &Metadata) -> Stamp {
         Stamp {
             device: metadata.dev(),

@@ -40,12 +40,14 @@ impl Attempts {
         }
     }
 
+    /// How many attempts are declared.
     pub fn len(&self) -> usize
         ensures { result ≡ length self.now }
     {
         self.declared.len()
     }
 
+    /// Whether this attempt is declared.
     pub fn declares(&self, name: AttemptName) -> bool
         ensures { result ≡ declares self.now name }
     {

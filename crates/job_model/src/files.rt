@@ -30,6 +30,7 @@ impl FileList {
         }
     }
 
+    /// How many files there are.
     pub fn len(&self) -> usize
         ensures { result ≡ length self.now }
     {

@@ -21,6 +21,7 @@ pub enum HeadWord {
     Loss,
 }
 
+/// The words with which lines of events begin.
 #[derive(Clone, Copy, Debug, PartialEq, Eq)]
 pub enum EventWord {
     Do,
@@ -42,6 +43,7 @@ pub enum Kind {
     Event(EventWord),
 }
 
+/// The head line that begins with this word, if one does.
 pub fn head_word(word: &str) -> Option<HeadWord>
     ensures { result ≡ table.named table.head_words word.now }
 {
@@ -61,6 +63,7 @@ pub fn head_word(word: &str) -> Option<HeadWord>
     }
 }
 
+/// The event that begins with this word, if one does.
 pub fn event_word(word: &str) -> Option<EventWord>
     ensures { result ≡ table.named table.event_words word.now }
 {
@@ -94,6 +97,7 @@ pub fn kind_of(word: &str) -> Option<Kind>
     }
 }
 
+/// The committer of this name, if there is one.
 pub fn committer_of(word: &str) -> Option<Committer>
     ensures { result ≡ table.named table.committers word.now }
 {
@@ -105,6 +109,7 @@ pub fn committer_of(word: &str) -> Option<Committer>
     }
 }
 
+/// The conflict mode of this name, if there is one.
 pub fn mode_of(word: &str) -> Option<Mode>
     ensures { result ≡ table.named table.modes word.now }
 {
@@ -116,6 +121,7 @@ pub fn mode_of(word: &str) -> Option<Mode>
     }
 }
 
+/// True for `yes`, false for `no`, and else none.
 pub fn answer_of(word: &str) -> Option<bool>
     ensures { result ≡ table.named table.answers word.now }
 {
@@ -126,6 +132,7 @@ pub fn answer_of(word: &str) -> Option<bool>
     }
 }
 
+/// The fate of this name, if there is one.
 pub fn fate_of(word: &str) -> Option<Fate>
     ensures { result ≡ table.named table.fates word.now }
 {
@@ -137,6 +144,7 @@ pub fn fate_of(word: &str) -> Option<Fate>
     }
 }
 
+/// The driver's operation of this name, if it has one.
 pub fn driver_op(word: &str) -> Option<Op>
     ensures { result ≡ table.named table.driver_ops word.now }
 {
@@ -149,6 +157,7 @@ pub fn driver_op(word: &str) -> Option<Op>
     }
 }
 
+/// An attempt's operation of this name, if it has one.
 pub fn attempt_op(word: &str) -> Option<Op>
     ensures { result ≡ table.named table.attempt_ops word.now }
 {

@@ -11,6 +11,7 @@ fn put_event(out: &mut String, event: Event) -> Result<(), AllocError>
     write!(out, "{event}\n")
 }
 
+/// Appends the lines of the events.
 pub fn put_events(out: &mut String, events: &[Event]) -> Result<(), AllocError>
     ensures { OnOk result (string_bytes out.new ≡ string_bytes out.old ++ text_of (map event_line events.now)) }
 {

@@ -60,6 +60,7 @@ fn put_attempt(
     put_files(alloc, out, files)
 }
 
+/// Appends the lines of the attempts, each with its files behind it.
 pub fn put_attempts(alloc: Global, out: &mut String, attempts: &Attempts) -> Result<(), AllocError>
     ensures { OnOk result (string_bytes out.new ≡ string_bytes out.old
         ++ text_of (flat_map attempt_lines attempts.now)) }

@@ -4,6 +4,7 @@ ghost use Rattle.job_script.specs.Print as print;
 
 use s3_types::{Committer, Fate, Mode};
 
+/// The name of a committer.
 pub fn committer_word(committer: Committer) -> &'static str
     ensures { result.now ≡ committer_word committer }
 {
@@ -14,6 +15,7 @@ pub fn committer_word(committer: Committer) -> &'static str
     }
 }
 
+/// The name of a conflict mode.
 pub fn mode_word(mode: Mode) -> &'static str
     ensures { result.now ≡ print.mode_word mode }
 {
@@ -24,12 +26,14 @@ pub fn mode_word(mode: Mode) -> &'static str
     }
 }
 
+/// `yes` or `no`.
 pub fn answer_word(answer: bool) -> &'static str
     ensures { result.now ≡ print.answer_word answer }
 {
     if answer { "yes" } else { "no" }
 }
 
+/// The name of a fate.
 pub fn fate_word(fate: Fate) -> &'static str
     ensures { result.now ≡ print.fate_word fate }
 {

@@ -34,6 +34,7 @@ pub fn front<'b>(at: u64, count: u64, bytes: &'b [u8]) -> Result<(&'b [u8], &'b 
     Ok(bytes.split_at(count as usize))
 }
 
+/// The next byte, and the bytes behind it; else Bad with the place `at`.
 #[tactic(auto, unfolding(crate::specs::Reading::bytes_at, crate::specs::Reading::byte_at))]
 pub fn byte_of(at: u64, bytes: &[u8]) -> Result<(u8, &[u8]), LogFault>
     ensures { GivesBy (λ x. (x.0, x.1.now)) result (byte_at at bytes.now) }
@@ -42,6 +43,7 @@ pub fn byte_of(at: u64, bytes: &[u8]) -> Result<(u8, &[u8]), LogFault>
     Ok((b[0], rest))
 }
 
+/// The next 4 bytes as a number, and the bytes behind them; else Bad with the place `at`.
 #[tactic(auto, unfolding(crate::specs::Reading::bytes_at, crate::specs::Reading::number_at))]
 pub fn u32_of(at: u64, bytes: &[u8]) -> Result<(u32, &[u8]), LogFault>
     ensures { GivesBy (λ x. (x.0, x.1.now)) result (number_at w32 at bytes.now) }
@@ -50,6 +52,7 @@ pub fn u32_of(at: u64, bytes: &[u8]) -> Result<(u32, &[u8]), LogFault>
     Ok((u32::from_be_bytes([n[0], n[1], n[2], n[3]]), rest))
 }
 
+/// The next 8 bytes as a number, and the bytes behind them; else Bad with the place `at`.
 #[tactic(auto, unfolding(crate::specs::Reading::bytes_at, crate::specs::Reading::number_at))]
 pub fn u64_of(at: u64, bytes: &[u8]) -> Result<(u64, &[u8]), LogFault>
     ensures exact { GivesBy (λ x. (x.0, x.1.now)) result (number_at w64 at bytes.now) }

@@ -91,6 +91,7 @@ pub enum Call {
     Sync,
 }
 
+/// The name of a call of a disk.
 pub fn call_text(call: Call) -> &'static str {
     match call {
         Call::First => "first",

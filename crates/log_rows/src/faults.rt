@@ -51,6 +51,7 @@ pub struct FaultyFile<'r, F> {
 }
 
 impl<'r, R> Faulty<'r, R> {
+    /// A runtime of which the call fails that `fault` names.
     pub fn new(rt: &'r R, fault: &'r Cell<Fault>) -> Faulty<'r, R> {
         Faulty { rt, fault }
     }

@@ -44,6 +44,7 @@ pub fn written(alloc: Global, base: &[u8], changes: &[Request]) -> Result<Vec<u8
     Ok(bytes)
 }
 
+/// What a crash may leave of a play, by what is held.
 pub fn held_left(alloc: Global, play: Play<'_>, held: &Held) -> Result<Left, AllocError> {
     let bytes = written(alloc, held.base.as_slice(), held.changes.as_slice())?;
     if play.whole.starts_with(&bytes) {

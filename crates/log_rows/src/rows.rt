@@ -60,6 +60,7 @@ fn with_number(alloc: Global, bytes: &[u8], place: usize, number: u64) -> Result
 }
 
 impl Rows {
+    /// Before the first row: nothing is given.
     pub fn new(alloc: Global) -> Rows {
         let log = Held {
             base: Bytes::empty(),

@@ -15,6 +15,7 @@ fn with_room(alloc: Global, dest: &str, job: &str) -> Result<String, AllocError>
     String::with_capacity(alloc, named.saturating_add(MOST_BETWEEN))
 }
 
+/// The directory that an attempt of the magic committer writes below.
 pub fn attempt_text(
     alloc: Global,
     dest: &str,
@@ -30,6 +31,7 @@ pub fn attempt_text(
     Ok(text)
 }
 
+/// The key of a task's set.
 pub fn set_text(alloc: Global, dest: &str, job: &str, task: u32) -> Result<String, AllocError>
     ensures { IfOk result (λ text. string_bytes text ≡ keys.set_key dest.now job.now task) }
 {
@@ -38,24 +40,28 @@ pub fn set_text(alloc: Global, dest: &str, job: &str, task: u32) -> Result<Strin
     Ok(text)
 }
 
+/// The key of `_SUCCESS`.
 pub fn success_text(alloc: Global, dest: &str) -> Result<String, AllocError>
     ensures { IfOk result (λ text. string_bytes text ≡ keys.success_key dest.now) }
 {
     format!(in alloc; "{dest}/_SUCCESS")
 }
 
+/// What all keys of the job's own magic directory begin with.
 pub fn prefix_text(alloc: Global, dest: &str, job: &str) -> Result<String, AllocError>
     ensures { IfOk result (λ text. string_bytes text ≡ keys.magic_prefix dest.now job.now) }
 {
     format!(in alloc; "{dest}/__magic/job-{job}/")
 }
 
+/// What the cluster's paths of the job begin with.
 pub fn cluster_text(alloc: Global, job: &str) -> Result<String, AllocError>
     ensures { IfOk result (λ text. string_bytes text ≡ keys.cluster_prefix job.now) }
 {
     format!(in alloc; "jobs/{job}/")
 }
 
+/// The cluster path of an attempt's temporary file.
 pub fn temporary_text(
     alloc: Global,
     job: &str,
@@ -67,12 +73,14 @@ pub fn temporary_text(
     format!(in alloc; "jobs/{job}/tmp/{task}_{attempt}.pendingset")
 }
 
+/// The cluster path of a task's set.
 pub fn staged_set_text(alloc: Global, job: &str, task: u32) -> Result<String, AllocError>
     ensures { IfOk result (λ text. string_bytes text ≡ keys.staged_set_path job.now task) }
 {
     format!(in alloc; "jobs/{job}/sets/task_{task}.pendingset")
 }
 
+/// The two texts, one behind the other.
 pub fn final_text(alloc: Global, front: &str, kept: &str) -> Result<String, AllocError>
     ensures { IfOk result (λ text. string_bytes text ≡ front.now ++ kept.now) }
 {

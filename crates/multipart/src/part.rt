@@ -32,6 +32,7 @@ impl Model for Part {
 }
 
 impl Part {
+    /// A part of these bytes, with their tag.
     pub fn new(bytes: Bytes) -> Part
         ensures { result ≡ bytes }
     {
@@ -39,12 +40,14 @@ impl Part {
         Part { bytes, tag }
     }
 
+    /// The tag of the part's bytes.
     pub fn tag(&self) -> Tag
         ensures { result ≡ plain_tag self.now }
     {
         self.tag
     }
 
+    /// The part's bytes.
     pub fn bytes(&self) -> &Bytes
         ensures { result.now ≡ self.now }
     {

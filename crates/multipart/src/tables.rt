@@ -50,18 +50,21 @@ impl Live {
         })
     }
 
+    /// The key of the upload.
     pub fn key(&self) -> &Key
         ensures { result.now ≡ self.now.key }
     {
         &self.key
     }
 
+    /// The parts that were uploaded.
     pub fn parts(&self) -> &Parts
         ensures { result.now ≡ self.now.parts }
     {
         &self.parts
     }
 
+    /// The text of the upload's key.
     pub fn into_text(self) -> Text
         ensures { result ≡ self.key }
     {
@@ -118,6 +121,7 @@ impl Clone for Lives {
 }
 
 impl Lives {
+    /// No live upload.
     pub fn new(alloc: Global) -> Lives
         ensures { result ≡ fin.empty }
     {
@@ -126,6 +130,7 @@ impl Lives {
         }
     }
 
+    /// Puts a live upload at this id. After want of memory the uploads are as before.
     pub fn insert(&mut self, upload: u64, live: Live) -> Result<(), AllocError>
         ensures ok { OnOk result (self.new ≡ fin.insert self.old upload live) }
         ensures err { OnErr result (self.new ≡ self.old) }
@@ -134,12 +139,14 @@ impl Lives {
         Ok(())
     }
 
+    /// The live upload of this id, if there is one.
     pub fn get(&self, upload: u64) -> Option<&Live>
         ensures { option_copied result ≡ fin.get self.now upload }
     {
         self.held.get(&upload)
     }
 
+    /// Takes away the live upload of this id, and gives it back.
     pub fn remove(&mut self, upload: u64) -> Option<Live>
         ensures value { result ≡ fin.get self.old upload }
         ensures removed { self.new ≡ fin.remove self.old upload }
@@ -164,6 +171,7 @@ impl Lives {
         Err(error)
     }
 
+    /// How many uploads are live.
     pub fn count(&self) -> u64
         ensures { result ≡ fin.len self.now }
     {
@@ -243,6 +251,7 @@ impl Clone for Index {
 }
 
 impl Index {
+    /// An index of no upload.
     pub fn new(alloc: Global) -> Index
         ensures { result ≡ fin.empty }
     {
@@ -251,6 +260,7 @@ impl Index {
         }
     }
 
+    /// Adds an upload's key and id. After want of memory the index is as before.
     pub fn insert(&mut self, place: Place, key: Key) -> Result<(), AllocError>
         ensures ok { OnOk result (self.new ≡ fin.insert self.old place key) }
         ensures err { OnErr result (self.new ≡ self.old) }
@@ -259,6 +269,7 @@ impl Index {
         Ok(())
     }
 
+    /// Takes away an upload's key and id.
     pub fn remove(&mut self, place: &Place)
         ensures { self.new ≡ fin.remove self.old place.now }
     {

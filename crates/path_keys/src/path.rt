@@ -86,6 +86,7 @@ impl S3Path {
         Ok(S3Path { bucket, key })
     }
 
+    /// The bucket of the path.
     pub fn bucket(&self) -> &Bucket
         ensures { result.now ≡ self.now.bucket }
     {

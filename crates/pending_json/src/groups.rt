@@ -38,6 +38,7 @@ pub struct Numbers {
     pub upload: u64,
 }
 
+/// Whose upload it is and where its file will be, or the first fault of these fields.
 #[tactic(auto, unfolding(crate::specs::Groups::target_in))]
 pub fn target_of(alloc: Global, value: &Value) -> Result<Target, RecordFault>
     ensures { Gives result (target_in (view value.now)) }
@@ -52,6 +53,7 @@ pub fn target_of(alloc: Global, value: &Value) -> Result<Target, RecordFault>
     })
 }
 
+/// The tags and, where `sized`, the sizes of the parts, or the first fault of these fields.
 #[tactic(auto, unfolding(crate::specs::Groups::parts_in))]
 pub fn parts_of(alloc: Global, value: &Value, sized: bool) -> Result<Parts, RecordFault>
     ensures read { Gives result (parts_in sized (view value.now)) }

@@ -77,18 +77,21 @@ impl PendingUpload {
         }
     }
 
+    /// The task's number.
     pub fn task(&self) -> u32
         ensures { result ≡ self.now.task }
     {
         self.task
     }
 
+    /// The attempt's number.
     pub fn attempt(&self) -> u32
         ensures { result ≡ self.now.attempt }
     {
         self.attempt
     }
 
+    /// The bucket of the file.
     pub fn bucket(&self) -> &Bucket
         ensures { result.now ≡ self.now.bucket }
     {

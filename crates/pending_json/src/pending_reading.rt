@@ -37,6 +37,7 @@ fn pending_by(alloc: Global, value: &Value) -> Result<PendingUpload, RecordFault
     ))
 }
 
+/// The pending upload that a value spells, or its first fault.
 pub fn pending_in(alloc: Global, value: &Value) -> Result<PendingUpload, RecordFault>
     ensures { Gives result (pending_in (view value.now)) }
 {

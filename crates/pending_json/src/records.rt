@@ -1,6 +1,7 @@
 use crate::pending::PendingUpload;
 use s3_types::{Committer, Sequence, Text, TextList};
 
+/// A list of pending uploads.
 pub type PendingList = Sequence<PendingUpload>;
 
 /// What a committed task leaves for its job's commit: the job's id, which task and which attempt of it,

@@ -59,12 +59,14 @@ impl BucketStore {
         BucketStore { objects, uploads }
     }
 
+    /// The bucket's objects.
     pub fn objects(&self) -> &Objects
         ensures { result.now ≡ self.now.objects }
     {
         &self.objects
     }
 
+    /// The bucket's live uploads.
     pub fn uploads(&self) -> &Uploads
         ensures { result.now ≡ self.now.uploads }
     {

@@ -40,6 +40,7 @@ impl Clone for Buckets {
 }
 
 impl Buckets {
+    /// A store of no bucket.
     pub fn new(alloc: Global) -> Buckets
         ensures { result ≡ map.empty }
     {
@@ -48,12 +49,14 @@ impl Buckets {
         }
     }
 
+    /// The bucket of this name, if it is there.
     pub fn get(&self, name: &Bucket) -> Option<&BucketStore>
         ensures { option_copied result ≡ map.get self.now name.now }
     {
         self.held.get(name)
     }
 
+    /// How many buckets there are.
     pub fn count(&self) -> u64
         ensures { result ≡ map.len self.now }
     {

@@ -10,6 +10,7 @@ use object_store::{CopyFault, Objects};
 use s3_types::{Bytes, Key, KeyList, LengthHeader, PageLimit, Refusal, Reply, Text};
 use std::alloc::AllocError;
 
+/// PutObject: stores the object, and answers the tag of its bytes. After want of memory the objects are as before.
 pub fn put(
     objects: &mut Objects,
     key: &Key,
@@ -30,6 +31,7 @@ pub fn put(
     Ok(Reply::Stored(tag))
 }
 
+/// GetObject: the object's bytes and length header, or NoSuchKey.
 pub fn get(objects: &Objects, key: &Key) -> Result<Reply, AllocError>
     ensures { IfOk result (λ r. r ≡ found (map.get objects.now key.now)) }
 {
@@ -43,6 +45,7 @@ pub fn get(objects: &Objects, key: &Key) -> Result<Reply, AllocError>
     })
 }
 
+/// HeadObject: the object's length in bytes and its header, or NoSuchKey.
 pub fn head(objects: &Objects, key: &Key) -> Reply
     ensures { result ≡ head (map.get objects.now key.now) }
 {
@@ -55,6 +58,7 @@ pub fn head(objects: &Objects, key: &Key) -> Reply
     }
 }
 
+/// DeleteObjects: the keys stand no more; those that did not stand are passed over.
 pub fn delete_many(objects: &mut Objects, keys: &KeyList) -> Reply
     ensures reply { result ≡ cond (nat_lt MOST_ENTRIES (length keys.now)) (Reply.Refused Refusal.TooManyKeys)
         Reply.Deleted }
@@ -67,6 +71,7 @@ pub fn delete_many(objects: &mut Objects, keys: &KeyList) -> Reply
     }
 }
 
+/// CopyObject: the target has the source's object, or NoSuchKey. After want of memory the objects are as before.
 pub fn copy(objects: &mut Objects, source: &Key, target: &Key) -> Result<Reply, AllocError>
     ensures reply { IfOk result (λ r. r ≡ copy_answer (map.get objects.old source.now)) }
     ensures ok { OnOk result (objects.new ≡ copied objects.old target.now (map.get objects.old source.now)) }
@@ -79,6 +84,7 @@ pub fn copy(objects: &mut Objects, source: &Key, target: &Key) -> Result<Reply, 
     }
 }
 
+/// ListObjectsV2: the first `limit` entries behind `after`, and whether more remain.
 pub fn list_page(
     objects: &Objects,
     prefix: &Text,

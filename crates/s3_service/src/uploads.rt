@@ -10,6 +10,7 @@ use multipart::{UploadFault, Uploads};
 use s3_types::{Bytes, Key, PageLimit, PartList, Refusal, Reply, Text, UploadRef};
 use std::alloc::AllocError;
 
+/// CreateMultipartUpload: begins an upload with the id `next`. After want of memory the uploads are as before.
 pub fn create(uploads: &mut Uploads, key: &Key, next: u64) -> Result<Reply, AllocError>
     requires { (i : ℕ) → next ≤ i → fin.get uploads.old i ≡ None }
     ensures reply { IfOk result (λ r. r ≡ Reply.Upload next) }
@@ -21,6 +22,7 @@ pub fn create(uploads: &mut Uploads, key: &Key, next: u64) -> Result<Reply, Allo
     Ok(Reply::Upload(next))
 }
 
+/// UploadPart: stores the part and answers its tag, or why it is refused. After want of memory all is as before.
 pub fn part(
     uploads: &mut Uploads,
     key: &Key,
@@ -41,6 +43,7 @@ pub fn part(
     }
 }
 
+/// AbortMultipartUpload: the upload is live no more, or NoSuchUpload.
 pub fn abort(uploads: &mut Uploads, key: &Key, upload: u64) -> Reply
     ensures reply { result ≡ abort_answer (live uploads.old key.now upload) }
     ensures left { uploads.new ≡ aborted uploads.old upload (live uploads.old key.now upload) }
@@ -51,6 +54,7 @@ pub fn abort(uploads: &mut Uploads, key: &Key, upload: u64) -> Reply
     }
 }
 
+/// ListParts: the parts by number, each with its length in bytes and its tag, or NoSuchUpload.
 pub fn list_parts(uploads: &Uploads, key: &Key, upload: u64) -> Result<Reply, AllocError>
     ensures { IfOk result (λ r. r ≡ parts_answer (live uploads.now key.now upload)) }
 {
@@ -61,6 +65,7 @@ pub fn list_parts(uploads: &Uploads, key: &Key, upload: u64) -> Result<Reply, Al
     }
 }
 
+/// ListMultipartUploads: the first `limit` live uploads behind the last that was given, and whether more remain.
 pub fn list(
     uploads: &Uploads,
     prefix: &Text,

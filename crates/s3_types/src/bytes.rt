@@ -43,6 +43,7 @@ impl Bytes {
         Bytes::new(alloc, Vec::from_slice(alloc, bytes)?)
     }
 
+    /// The bytes.
     pub fn as_slice(&self) -> &[u8]
         ensures { result.now ≡ self.now }
     {

@@ -77,6 +77,7 @@ impl Journal {
         let _ = self.entries.push(entry);
     }
 
+    /// The entries, in the order in which they were sent.
     pub fn as_slice(&self) -> &[Entry]
         ensures entries { result.now ≡ self.now.entries }
         ensures few { length result.now < 2 ^ 62 }
@@ -84,6 +85,7 @@ impl Journal {
         self.entries.as_slice()
     }
 
+    /// How many entries there are.
     pub fn len(&self) -> usize
         ensures len { result ≡ length self.now.entries }
         ensures few { result < 2 ^ 62 }

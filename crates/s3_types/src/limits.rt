@@ -40,6 +40,7 @@ impl Model for LengthHeader {
 }
 
 impl LengthHeader {
+    /// A header of this length in bytes.
     pub fn new(length: u64) -> LengthHeader
         requires { length < 2 ^ 64 - 1 }
         ensures { result ≡ length }
@@ -79,6 +80,7 @@ impl PageLimit {
     /// The most that a page may have.
     pub const MOST: u16 = MOST_ENTRIES;
 
+    /// A limit of so many entries.
     pub fn new(entries: u16) -> PageLimit
         requires some { 1 ≤ entries }
         requires most { entries ≤ MOST_ENTRIES }
@@ -87,6 +89,7 @@ impl PageLimit {
         PageLimit { entries }
     }
 
+    /// The most entries of a page.
     pub fn get(self) -> u16
         ensures value { result ≡ self }
         ensures some { 1 ≤ result }

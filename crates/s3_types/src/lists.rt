@@ -10,10 +10,13 @@ use crate::tag::Tag;
 use crate::text::Text;
 use std::alloc::{AllocError, Global};
 
+/// A list of keys.
 pub type KeyList = Sequence<Key>;
 
+/// A list of texts.
 pub type TextList = Sequence<Text>;
 
+/// A list of tags.
 pub type TagList = Sequence<Tag>;
 /// Lengths in bytes.
 pub type SizeList = Sequence<u64>;

@@ -143,6 +143,7 @@ impl Key {
         Ok(Key { text })
     }
 
+    /// The key as a text.
     pub fn as_text(&self) -> &Text
         ensures text { result.now ≡ self.now }
         ensures key { is_key_path self.now ≡ true }
@@ -150,6 +151,7 @@ impl Key {
         &self.text
     }
 
+    /// The bytes of the key.
     pub fn as_bytes(&self) -> &[u8]
         ensures text { result.now ≡ self.now }
         ensures key { is_key_path self.now ≡ true }
@@ -275,6 +277,7 @@ impl Bucket {
         Ok(Bucket { text })
     }
 
+    /// The bucket's name as a text.
     pub fn as_text(&self) -> &Text
         ensures text { result.now ≡ self.now }
         ensures bucket { is_bucket self.now ≡ true }
@@ -282,6 +285,7 @@ impl Bucket {
         &self.text
     }
 
+    /// The bytes of the bucket's name.
     pub fn as_bytes(&self) -> &[u8]
         ensures text { result.now ≡ self.now }
         ensures bucket { is_bucket self.now ≡ true }

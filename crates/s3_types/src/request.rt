@@ -184,6 +184,7 @@ fn copied_ref(after: &Option<UploadRef>) -> Result<Option<UploadRef>, AllocError
 
 /// Requests from borrowed parts. Bytes, texts and keys are shared and not copied.
 impl Request {
+    /// A request for a new bucket.
     pub fn make_bucket(name: &Text) -> Result<Request, AllocError>
         ensures { IfOk result (λ request. request ≡ Request.MakeBucket name.now) }
     {
@@ -192,6 +193,7 @@ impl Request {
         })
     }
 
+    /// A PutObject with these bytes and, where one is given, a length header.
     pub fn put_object(
         bucket: &Bucket,
         key: &Key,
@@ -209,6 +211,7 @@ impl Request {
         })
     }
 
+    /// A GetObject.
     pub fn get_object(bucket: &Bucket, key: &Key) -> Result<Request, AllocError>
         ensures { IfOk result (λ request. request ≡ Request.GetObject bucket.now key.now) }
     {
@@ -216,6 +219,7 @@ impl Request {
         Ok(Request::GetObject { bucket, key })
     }
 
+    /// A HeadObject.
     pub fn head_object(bucket: &Bucket, key: &Key) -> Result<Request, AllocError>
         ensures { IfOk result (λ request. request ≡ Request.HeadObject bucket.now key.now) }
     {
@@ -223,6 +227,7 @@ impl Request {
         Ok(Request::HeadObject { bucket, key })
     }
 
+    /// A DeleteObject.
     pub fn delete_object(bucket: &Bucket, key: &Key) -> Result<Request, AllocError>
         ensures { IfOk result (λ request. request ≡ Request.DeleteObject bucket.now key.now) }
     {
@@ -230,6 +235,7 @@ impl Request {
         Ok(Request::DeleteObject { bucket, key })
     }
 
+    /// A CopyObject within a bucket.
     pub fn copy_object(bucket: &Bucket, source: &Key, target: &Key) -> Result<Request, AllocError>
         ensures { IfOk result (λ request. request ≡ Request.CopyObject bucket.now source.now target.now) }
     {
@@ -241,6 +247,7 @@ impl Request {
         })
     }
 
+    /// A ListObjectsV2 of the keys that begin with a prefix, behind `after`.
     pub fn list_page(
         bucket: &Bucket,
         prefix: &Text,
@@ -260,6 +267,7 @@ impl Request {
         })
     }
 
+    /// A CreateMultipartUpload.
     pub fn create_upload(bucket: &Bucket, key: &Key) -> Result<Request, AllocError>
         ensures { IfOk result (λ request. request ≡ Request.CreateUpload bucket.now key.now) }
     {
@@ -267,6 +275,7 @@ impl Request {
         Ok(Request::CreateUpload { bucket, key })
     }
 
+    /// An UploadPart with these bytes.
     pub fn upload_part(
         bucket: &Bucket,
         key: &Key,
@@ -286,6 +295,7 @@ impl Request {
         })
     }
 
+    /// An AbortMultipartUpload.
     pub fn abort_upload(bucket: &Bucket, key: &Key, upload: u64) -> Result<Request, AllocError>
         ensures { IfOk result (λ request. request ≡ Request.AbortUpload bucket.now key.now upload) }
     {
@@ -297,6 +307,7 @@ impl Request {
         })
     }
 
+    /// A ListParts.
     pub fn list_parts(bucket: &Bucket, key: &Key, upload: u64) -> Result<Request, AllocError>
         ensures { IfOk result (λ request. request ≡ Request.ListParts bucket.now key.now upload) }
     {
@@ -308,6 +319,7 @@ impl Request {
         })
     }
 
+    /// The put of a file of the cluster.
     pub fn cluster_put(path: &Text, bytes: &Bytes) -> Result<Request, AllocError>
         ensures { IfOk result (λ request. request ≡ Request.ClusterPut path.now bytes.now) }
     {
@@ -315,6 +327,7 @@ impl Request {
         Ok(Request::ClusterPut { path, bytes })
     }
 
+    /// The rename of a file of the cluster.
     pub fn cluster_rename(source: &Text, target: &Text) -> Result<Request, AllocError>
         ensures { IfOk result (λ request. request ≡ Request.ClusterRename source.now target.now) }
     {
@@ -322,6 +335,7 @@ impl Request {
         Ok(Request::ClusterRename { source, target })
     }
 
+    /// The read of a file of the cluster.
     pub fn cluster_get(path: &Text) -> Result<Request, AllocError>
         ensures { IfOk result (λ request. request ≡ Request.ClusterGet path.now) }
     {
@@ -330,6 +344,7 @@ impl Request {
         })
     }
 
+    /// The deletion of a file of the cluster.
     pub fn cluster_delete(path: &Text) -> Result<Request, AllocError>
         ensures { IfOk result (λ request. request ≡ Request.ClusterDelete path.now) }
     {
@@ -338,6 +353,7 @@ impl Request {
         })
     }
 
+    /// The list of the cluster's files whose paths begin with a prefix.
     pub fn cluster_list(prefix: &Text) -> Result<Request, AllocError>
         ensures { IfOk result (λ request. request ≡ Request.ClusterList prefix.now) }
     {
@@ -346,6 +362,7 @@ impl Request {
         })
     }
 
+    /// A DeleteObjects of these keys.
     pub fn delete_objects(
         alloc: Global,
         bucket: &Bucket,
@@ -358,6 +375,7 @@ impl Request {
         Ok(Request::DeleteObjects { bucket, keys })
     }
 
+    /// A CompleteMultipartUpload that names these parts.
     pub fn complete_upload(
         alloc: Global,
         bucket: &Bucket,
@@ -377,6 +395,7 @@ impl Request {
         })
     }
 
+    /// A ListMultipartUploads of the uploads whose keys begin with a prefix, behind the last that was given.
     pub fn list_uploads(
         bucket: &Bucket,
         prefix: &Text,

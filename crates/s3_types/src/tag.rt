@@ -43,6 +43,7 @@ impl Model for Tag {
 }
 
 impl Tag {
+    /// A tag of these hex digits, of an object of so many parts; 0 where it was put at once.
     pub fn new(digits: [u8; 32], parts: u32) -> Tag
         requires { list_all is_hex digits ≡ true }
         ensures { result ≡ record { digits = digits; parts = parts } }
@@ -50,6 +51,7 @@ impl Tag {
         Tag { digits, parts }
     }
 
+    /// The 32 hex digits of the tag.
     pub fn digits(&self) -> &[u8; 32]
         ensures digits { result.now ≡ self.now.digits }
         ensures hex { list_all is_hex result.now ≡ true }

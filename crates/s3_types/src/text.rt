@@ -49,6 +49,7 @@ impl Text {
         Text::new(alloc, String::from_str(alloc, text)?)
     }
 
+    /// The text.
     pub fn as_str(&self) -> &str
         ensures { result.now ≡ self.now }
     {
@@ -58,6 +59,7 @@ impl Text {
         }
     }
 
+    /// The text's bytes.
     pub fn as_bytes(&self) -> &[u8]
         ensures { result.now ≡ self.now }
     {

@@ -20,6 +20,7 @@ impl<I> Model for StdSource<I> {
 }
 
 impl<I: io::Read + Drop> StdSource<I> {
+    /// A source over this reader, of which nothing is told.
     pub fn new(input: I) -> StdSource<I>
         ensures { result ≡ 0 }
     {
@@ -64,6 +65,7 @@ impl<O> Model for StdSink<O> {
 }
 
 impl<O: io::Write + Drop> StdSink<O> {
+    /// A sink over this writer, of which nothing is told.
     pub fn new(output: O) -> StdSink<O>
         ensures { result ≡ record { is_out = true; faults = 0 } }
     {

@@ -32,6 +32,7 @@ fn front<'b>(whole: u64, count: u64, bytes: &'b [u8]) -> Result<(&'b [u8], &'b [
     Ok(bytes.split_at(count as usize))
 }
 
+/// The next 2 bytes as a number, and the bytes behind them; else Short at their place.
 #[tactic(auto, unfolding(crate::specs::Reading::bytes_at, crate::specs::Reading::number_at))]
 pub fn u16_of(whole: u64, bytes: &[u8]) -> Result<(u16, &[u8]), ImageFault>
     ensures { GivesBy (λ x. (x.0, x.1.now)) result (number_at w16 whole bytes.now) }
@@ -40,6 +41,7 @@ pub fn u16_of(whole: u64, bytes: &[u8]) -> Result<(u16, &[u8]), ImageFault>
     Ok((u16::from_be_bytes([n[0], n[1]]), rest))
 }
 
+/// The next 8 bytes as a number, and the bytes behind them; else Short at their place.
 #[tactic(auto, unfolding(crate::specs::Reading::bytes_at, crate::specs::Reading::number_at))]
 pub fn u64_of(whole: u64, bytes: &[u8]) -> Result<(u64, &[u8]), ImageFault>
     ensures { GivesBy (λ x. (x.0, x.1.now)) result (number_at w64 whole bytes.now) }

@@ -20,6 +20,7 @@ pub struct Stores {
 }
 
 impl Stores {
+    /// Two stores with no bucket, whose parts have 4 bytes at least.
     pub fn new(alloc: Global) -> Stores {
         Stores {
             now: Service::new(alloc, 4),
