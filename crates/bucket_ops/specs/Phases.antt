@@ -70,7 +70,7 @@ abbrev pub SendsAt : Option Objects → List ℕ → Ask → (Objects → Ask �
 SendsAt None b look sends r = r ≡ request_of b look
 SendsAt (Some m) b look sends r = (a : Ask) × (r ≡ request_of b a) × sends m a
 
--- what an operation may ask of a bucket: of one that is not there its first look alone
+-- what an operation may ask of a scene's bucket
 abbrev pub SendsIn : List ℕ → Ask → (Objects → Ask → Type 0) → Scene → Request → Type 0
 SendsIn b look sends z r = SendsAt (objects_at z b) b look sends r
 

@@ -28,7 +28,7 @@ abbrev pub IsSweeping : List ℕ → Objects → Sweep → Objects → Type 0
 IsSweeping q z (Listing keys) m = (m ≡ z) × ((found : List PageEntry) × (keys ≡ keys_on found) × IsWalking q z found)
 IsSweeping q z (Deleting k ks) m = IsDeleting z (keys_below q z) (k ∷ ks) m
 
--- it goes on, or all of them are deleted
+-- a sweep goes on as it should, or all is deleted
 abbrev pub IsSwept : List ℕ → Objects → Option Sweep → Objects → Type 0
 IsSwept q z (Some w) m = IsSweeping q z w m
 IsSwept q z None m = m ≡ without z (keys_below q z)

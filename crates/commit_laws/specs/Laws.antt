@@ -120,7 +120,7 @@ left_of most j (CommitOver end) s = 0
 abbrev pub left : ℕ → Committing → Scene → ℕ
 left most m s = left_of most m.plan m.operation s
 
--- by how much a key that another adds may raise what is left
+-- by how much a key that another adds may raise what is left of a commit at this stage
 abbrev pub rise_of : ℕ → Job → Commit → ℕ
 rise_of most j (Fetching sets m) = if_staging j.committer (prefixes_most j (widest most sets) * (j.retries + 1))
 rise_of most j (Replacing sets p ps w m) = (1 + length ps) * (j.retries + 1)

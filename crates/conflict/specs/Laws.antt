@@ -40,7 +40,7 @@ abbrev pub deleting_below : Script → Sets → Sweep → List (List ℕ) → Co
 deleting_below w sets sweep [] = replacing w sets []
 deleting_below w sets sweep (p ∷ ps) = Replacing sets p ps sweep 0
 
--- a commit that holds these sets, of which so much is to be deleted
+-- the commit whose deletion has come so far
 abbrev pub commit_deleting : Script → Sets → Deletion → Commit
 commit_deleting w sets d = deleting_below w sets d.sweep d.prefixes
 

@@ -82,13 +82,13 @@ pub record ListChildren : Type 0 where
   pub children : (p : List ℕ) (z : Objects) (es : List DirEntry) → ((k : List ℕ) → Stands z k → is_key k ≡ true) → HasEntries p z es
       → (e : DirEntry) → IsIn e es → IsName e.name × IsStatus z (below p e.name) e.status
 
--- the last element of a path
+-- the last of a path's elements
 abbrev pub last_of : List (List ℕ) → List ℕ
 last_of [] = []
 last_of (e ∷ []) = e
 last_of (e ∷ f ∷ es) = last_of (f ∷ es)
 
--- the last element of a path
+-- a path's own name: its last element
 abbrev pub own_name : List ℕ → List ℕ
 own_name p = last_of (parts_of 47 p)
 

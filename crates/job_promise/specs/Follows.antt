@@ -25,7 +25,7 @@ known_then g a d es = knows g.script (who a) (before d.since es)
 abbrev pub begun_as : Setting → Actor → Doing → List Entry → Option Operation
 begun_as g a d es = start_of g a d.op d.missing (known_then g a d es)
 
--- the operation that an actor began, with what it knew then
+-- an operation that an actor began, with what it knew then
 abbrev pub running : Setting → Actor → Doing → List Entry → Operation → Running
 running g a d es op = record { operation = op; known = known_then g a d es }
 

@@ -55,7 +55,7 @@ lines_at n d (text ∷ texts) = do
   next ← line_at n d text
   lines_at (n + 1) next texts
 
--- before the first line
+-- no head line yet
 abbrev pub no_head : Head
 no_head = record { job = None; dest = None; committer = None; tasks = None; mode = None; unique = None; retries = None; block = None; lanes = None; stamp = None; fates = map.empty; losses = 0 }
 

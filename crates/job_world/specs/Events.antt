@@ -48,7 +48,7 @@ abbrev pub one_end : List ActorEnd → EventEnd
 one_end [] = Done
 one_end (x ∷ xs) = Ended x.end
 
--- the end that an event has by the operations that ended in it
+-- the end that an event has, by its kind and the operations that ended in it
 abbrev pub end_of : Event → List ActorEnd → EventEnd
 end_of (Mix seed) xs = Mixed xs
 end_of (Do a op) xs = one_end xs

@@ -14,7 +14,7 @@ pub data Walked (X : Type 0) : Type 0 where
   More : (found : List X) → Walked X
   Whole : (found : List X) → Walked X
 
--- a walk after a page: what was listed so far, or all of it
+-- a walk that goes on, or all of it, by whether more remain
 abbrev pub walked_by : {X : Type 0} → Bool → List X → Walked X
 walked_by true found = More found
 walked_by false found = Whole found

@@ -88,7 +88,7 @@ joined (Some u) ns minimum =
 
 -- ---- listings
 
--- an upload's parts by rising number, each with its length and tag
+-- a part as ListParts gives it: its number, length and tag
 abbrev pub size_of : ℕ × List ℕ → PartSize
 size_of e = record { number = e.0; length = length e.1; tag = plain_tag e.1 }
 

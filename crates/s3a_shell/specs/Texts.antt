@@ -28,7 +28,7 @@ named_line name Directory = codes "d " ++ (name ++ 10 ∷ [])
 abbrev pub entry_line : DirEntry → List ℕ
 entry_line entry = named_line entry.name entry.status
 
--- a line for each of them
+-- a line for each child of a directory
 abbrev pub entry_lines : List DirEntry → List ℕ
 entry_lines entries = flat_map entry_line entries
 
@@ -42,7 +42,7 @@ kind_word Odd = codes "odd"
 abbrev pub marker_line : MarkerEntry → List ℕ
 marker_line entry = kind_word entry.kind ++ (codes " " ++ (entry.key ++ 10 ∷ []))
 
--- a line for each of them
+-- a line for each marker
 abbrev pub marker_lines : List MarkerEntry → List ℕ
 marker_lines entries = flat_map marker_line entries
 

@@ -63,7 +63,7 @@ pub record MayGo (o : Renaming) (z : Objects) (d i : Bool) (q : List ℕ) : Type
 abbrev pub moved : Renaming → Objects → Bool → List ℕ → Objects
 moved o z d q = without (copied_all z (moves_of d o.source q z)) (sources (moves_of d o.source q z))
 
--- all keys are moved
+-- every key of the source is at its new place, whichever that is
 abbrev pub IsMoved : Renaming → Objects → Objects → Type 0
 IsMoved o z n = (d : Bool) × (i : Bool) × (q : List ℕ) × MayGo o z d i q × (n ≡ moved o z d q)
 
