@@ -1,5 +1,7 @@
 -- The bytes of a file.
-use Rattle.std.specs.Prelude.{ℕ, ◌+◌, ◌*◌, ◌-◌, List, [], ◌∷◌, length, Option, Some, None, Result, Ok, Err, nat_le, nat_lt, codes, bytes_eq, option_map, option_and_then, replicate, if◌then◌else◌, ◌&&◌}
+use Rattle.std.specs.Prelude.{ℕ, List, [], length, Option, Some, None, Result, Ok, Err, nat_lt, codes, bytes_eq, replicate, if◌then◌else◌}
+use Rattle.std.specs.Result.{result_ok}
+use Rattle.hex.specs.Hex.{decode_of}
 use Rattle.proof_base.specs.Reading.{◌>>=◌, need}
 use Rattle.words.specs.Numbers.{number_in}
 use Rattle.words.specs.Shapes.{one, two, text}
@@ -7,19 +9,9 @@ use Rattle.s3_types.specs.declared.limits.TheConstants.{MOST_SCRIPT_BYTES}
 use Rattle.job_script.specs.declared.fault.ScriptFault.{ScriptFault}
 use Rattle.job_script.specs.declared.fault.ScriptFault.TheVariants.{BadLine, BadNumber}
 
--- the value of a hex digit in either case
-abbrev pub hex_digit : ℕ → Option ℕ
-hex_digit b = if nat_le 48 b && nat_le b 57 then Some (b - 48) else (if nat_le 97 b && nat_le b 102 then Some (b - 87) else (if nat_le 65 b && nat_le b 70 then Some (b - 55) else None))
-
--- the bytes of hex digits, two a byte
-unfoldable pub unhex : List ℕ → Option (List ℕ)
-unhex [] = Some []
-unhex (a ∷ []) = None
-unhex (a ∷ b ∷ rest) = option_and_then (λ x. option_and_then (λ y. option_map (λ bytes. (x * 16 + y) ∷ bytes) (unhex rest)) (hex_digit b)) (hex_digit a)
-
--- hex digits, or `-` for no bytes
+-- hex digits in either case, two a byte, or `-` for no bytes
 abbrev pub hex_bytes : List ℕ → Option (List ℕ)
-hex_bytes digits = if bytes_eq digits (codes "-") then Some [] else (if nat_lt 0 (length digits) then unhex digits else None)
+hex_bytes digits = if bytes_eq digits (codes "-") then Some [] else (if nat_lt 0 (length digits) then result_ok (decode_of digits) else None)
 
 -- text REST
 unfoldable pub text_at : ℕ → List (List ℕ) → Result (List ℕ) ScriptFault

@@ -15,6 +15,7 @@ use Rattle.job_script.specs.declared.draft.Draft.{Draft}
 use Rattle.job_script.specs.declared.kinds.EventWord.{EventWord}
 use Rattle.job_script.specs.declared.kinds.EventWord.TheVariants as words
 use Rattle.job_script.specs.Kinds.{named, driver_ops, attempt_ops}
+use Rattle.job_script.specs.HeadLines.{value_at, number}
 use Rattle.job_script.specs.AttemptLines.{name_at}
 
 -- the word `driver`
@@ -46,14 +47,6 @@ alone_at n d values = do
   known ← check (is_known d.attempts actor) (UnknownActor n)
   Ok actor
 
--- do ACTOR OP
-unfoldable pub do_at : ℕ → Draft → List (List ℕ) → Result Event ScriptFault
-do_at n d values = order_at n d values >>= λ order. Ok (event.Do order.0 order.1)
-
--- start ACTOR OP
-unfoldable pub start_at : ℕ → Draft → List (List ℕ) → Result Event ScriptFault
-start_at n d values = order_at n d values >>= λ order. Ok (event.Start order.0 order.1)
-
 -- step ACTOR N
 unfoldable pub step_at : ℕ → Draft → List (List ℕ) → Result Event ScriptFault
 step_at n d values = do
@@ -62,21 +55,6 @@ step_at n d values = do
   count ← need (number_in 1 1000000 words.1) (BadNumber n)
   known ← check (is_known d.attempts actor) (UnknownActor n)
   Ok (event.Step actor count)
-
--- run ACTOR
-unfoldable pub run_at : ℕ → Draft → List (List ℕ) → Result Event ScriptFault
-run_at n d values = alone_at n d values >>= λ actor. Ok (event.Run actor)
-
--- kill ACTOR
-unfoldable pub kill_at : ℕ → Draft → List (List ℕ) → Result Event ScriptFault
-kill_at n d values = alone_at n d values >>= λ actor. Ok (event.Kill actor)
-
--- mix SEED
-unfoldable pub mix_at : ℕ → List (List ℕ) → Result Event ScriptFault
-mix_at n values = do
-  word ← need (one values) (BadLine n)
-  seed ← need (number_in 0 2147483647 word) (BadNumber n)
-  Ok (event.Mix seed)
 
 -- restart driver
 unfoldable pub restart_at : ℕ → List (List ℕ) → Result Event ScriptFault
@@ -93,14 +71,14 @@ recover_at n d values = do
   known ← check (declares d.attempts name) (UnknownActor n)
   Ok (event.Recover (actor_of name))
 
--- the event of a line of this kind
+-- the event of a line of this kind: do ACTOR OP, start ACTOR OP, step ACTOR N, run ACTOR, kill ACTOR, mix SEED, restart driver, recover T.A
 abbrev pub event_at : ℕ → EventWord → Draft → List (List ℕ) → Result Event ScriptFault
-event_at n words.Do d values = do_at n d values
-event_at n words.Start d values = start_at n d values
+event_at n words.Do d values = order_at n d values >>= λ order. Ok (event.Do order.0 order.1)
+event_at n words.Start d values = order_at n d values >>= λ order. Ok (event.Start order.0 order.1)
 event_at n words.Step d values = step_at n d values
-event_at n words.Run d values = run_at n d values
-event_at n words.Kill d values = kill_at n d values
-event_at n words.Mix d values = mix_at n values
+event_at n words.Run d values = alone_at n d values >>= λ actor. Ok (event.Run actor)
+event_at n words.Kill d values = alone_at n d values >>= λ actor. Ok (event.Kill actor)
+event_at n words.Mix d values = value_at (number 0 2147483647) n values >>= λ seed. Ok (event.Mix seed)
 event_at n words.Restart d values = restart_at n values
 event_at n words.Recover d values = recover_at n d values
 

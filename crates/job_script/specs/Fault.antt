@@ -21,18 +21,14 @@ number_of NoMemory = 12
 
 -- a fault's line, 0 where it has none
 abbrev pub line_of : ScriptFault → ℕ
-line_of NotUtf8 = 0
 line_of (BadLine n) = n
 line_of (UnknownWord n) = n
-line_of MissingHead = 0
 line_of (RepeatedName n) = n
 line_of (BadPath n) = n
 line_of (HiddenPath n) = n
 line_of (UnknownActor n) = n
-line_of DestIsRoot = 0
-line_of TooLarge = 0
 line_of (BadNumber n) = n
-line_of NoMemory = 0
+line_of fault = 0
 
 -- want of memory
 abbrev pub wanting : ScriptFault → Bool

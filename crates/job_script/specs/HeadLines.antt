@@ -1,85 +1,144 @@
--- What a head line with these values says, after the head lines before it.
-use Rattle.std.specs.Prelude.{ℕ, ◌+◌, not, ◌||◌, Bool, zero, suc, false, is_some, List, Option, Some, None, Result, Ok, Err, length, nat_le, nat_lt}
-use Rattle.std.specs.FinMap as map
+-- What a head line with these values says, after the head lines before it, and how a script's head is printed.
+use Rattle.std.specs.Prelude.{ℕ, ◌+◌, ◌==◌, not, ◌||◌, Bool, zero, suc, false, is_some, List, [], ◌∷◌, ◌++◌, map, Option, Some, None, option_map, Result, Ok, Err, length, nat_le, nat_lt, codes, if◌then◌else◌}
+use Rattle.std.specs.List.{flat_map}
+use Rattle.std.specs.Fmt.{decimal}
+use Rattle.std.specs.FinMap as fin
 use Rattle.proof_base.specs.Reading.{◌>>=◌, need, check, free}
 use Rattle.words.specs.Numbers.{number_in}
 use Rattle.words.specs.Shapes.{one, two_and_more, at_most_one}
 use Rattle.s3_types.specs.Fates.{FateMap, with_fates}
+use Rattle.s3_types.specs.Names.{is_job_id}
+use Rattle.s3_types.specs.declared.fates.Fate.{Fate}
 use Rattle.s3_types.specs.declared.limits.TheConstants.{MOST_SCRIPT_BYTES}
+use Rattle.s3_types.specs.declared.request.Committer.{Committer}
+use Rattle.s3_types.specs.declared.request.Mode.{Mode}
 use Rattle.path_keys.specs.Paths.{Path, path_in}
 use Rattle.path_keys.specs.declared.fault.PathFault.{PathFault}
-use Rattle.s3_types.specs.Names.{is_job_id}
+use Rattle.pending_json.specs.Trees.{committer_word}
+use Rattle.job_model.specs.JobScript.{Script}
+use Rattle.job_model.specs.Paths.{is_dest_key}
 use Rattle.job_script.specs.declared.fault.ScriptFault.{ScriptFault}
 use Rattle.job_script.specs.declared.fault.ScriptFault.TheVariants.{BadLine, RepeatedName, BadPath, DestIsRoot, TooLarge, BadNumber}
-use Rattle.job_script.specs.declared.draft.Head.{Head}
 use Rattle.job_script.specs.declared.draft.Loss.{Loss}
-use Rattle.job_script.specs.declared.kinds.HeadWord.{HeadWord}
-use Rattle.job_script.specs.declared.kinds.HeadWord.TheVariants as head
-use Rattle.job_script.specs.Kinds.{named, committers, modes, answers, fates}
-use Rattle.job_model.specs.Paths.{is_dest_key}
+use Rattle.job_script.specs.declared.head.Head.{Head}
+use Rattle.job_script.specs.declared.head.HeadWord.{HeadWord}
+use Rattle.job_script.specs.declared.head.HeadWord.TheVariants as head
+use Rattle.job_script.specs.Kinds.{Line, Names, named, committers, modes, answers, fates, mode_word, answer_word, fate_word}
 
--- job ID
-unfoldable pub job_at : ℕ → Head → List (List ℕ) → Result Head ScriptFault
-job_at n h values = do
-  word ← need (one values) (BadLine n)
-  stated ← check (is_job_id word) (BadLine n)
-  first ← free h.job (RepeatedName n)
-  Ok (record h { job = Some word })
+-- before the first line
+abbrev pub no_head : Head
+no_head = record { job = None; dest = None; committer = None; tasks = None; mode = None; unique = None; retries = None; block = None; lanes = None; stamp = None; fates = fin.empty; losses = 0 }
+
+-- ---- lines that give one value
+
+-- what the one word behind the first of the n-th line is
+abbrev pub value_at : {A : Type 0} → (ℕ → List ℕ → Result A ScriptFault) → ℕ → List (List ℕ) → Result A ScriptFault
+value_at read n values = need (one values) (BadLine n) >>= λ word. read n word
+
+-- the value that the n-th line gives, unless a line before it gave one
+abbrev pub first_value : {A : Type 0} → ℕ → Option A → A → Result (Option A) ScriptFault
+first_value n before value = free before (RepeatedName n) >>= λ first. Ok (Some value)
+
+-- a job's id
+unfoldable pub job_of : ℕ → List ℕ → Result (List ℕ) ScriptFault
+job_of n word = check (is_job_id word) (BadLine n) >>= λ stated. Ok word
 
 -- the path that a word was read as
 abbrev pub as_path : ℕ → Result Path PathFault → Result Path ScriptFault
 as_path n (Ok path) = Ok path
 as_path n (Err fault) = Err (BadPath n)
 
--- dest PATH
-unfoldable pub dest_at : ℕ → Head → List (List ℕ) → Result Head ScriptFault
-dest_at n h values = do
-  word ← need (one values) (BadLine n)
+-- a destination
+unfoldable pub dest_of : ℕ → List ℕ → Result Path ScriptFault
+dest_of n word = do
   path ← as_path n (path_in word)
   below ← check (nat_lt 0 (length path.key)) DestIsRoot
   stated ← check (is_dest_key path.key) (BadPath n)
-  first ← free h.dest (RepeatedName n)
-  Ok (record h { dest = Some path })
+  Ok path
 
--- what the one value of a line is, where it is of this kind and no line before gave one
-abbrev pub first_value : {A B : Type 0} → ℕ → (List ℕ → Option A) → ScriptFault → Option B → List (List ℕ) → Result A ScriptFault
-first_value n kind fault before values = do
-  word ← need (one values) (BadLine n)
-  value ← need (kind word) fault
-  first ← free before (RepeatedName n)
-  Ok value
+-- s3a://BUCKET/KEY
+abbrev pub path_text : Path → List ℕ
+path_text p = codes "s3a://" ++ (p.bucket ++ 47 ∷ p.key)
 
--- committer NAME
-unfoldable pub committer_at : ℕ → Head → List (List ℕ) → Result Head ScriptFault
-committer_at n h values = first_value n (named committers) (BadLine n) h.committer values >>= λ committer. Ok (record h { committer = Some committer })
+-- a name of a table
+abbrev pub name : {A : Type 0} → Names A → ℕ → List ℕ → Result A ScriptFault
+name names n word = need (named names word) (BadLine n)
 
--- tasks N
-unfoldable pub tasks_at : ℕ → Head → List (List ℕ) → Result Head ScriptFault
-tasks_at n h values = first_value n (number_in 0 1000) (BadNumber n) h.tasks values >>= λ tasks. Ok (record h { tasks = Some tasks })
+-- a number from low to high
+unfoldable pub number : ℕ → ℕ → ℕ → List ℕ → Result ℕ ScriptFault
+number low high n word = need (number_in low high word) (BadNumber n)
 
--- mode NAME, kept with its line
-unfoldable pub mode_at : ℕ → Head → List (List ℕ) → Result Head ScriptFault
-mode_at n h values = first_value n (named modes) (BadLine n) h.mode values >>= λ mode. Ok (record h { mode = Some (n, mode) })
+-- the number, unless it is the one that stands for no line
+abbrev pub unless : ℕ → ℕ → Option ℕ
+unless default n = if n == default then None else Some n
 
--- unique NAME, kept with its line
-unfoldable pub unique_at : ℕ → Head → List (List ℕ) → Result Head ScriptFault
-unique_at n h values = first_value n (named answers) (BadLine n) h.unique values >>= λ unique. Ok (record h { unique = Some (n, unique) })
+-- what a line of this kind gives
+abbrev pub Value : HeadWord → Type 0
+Value head.Job = List ℕ
+Value head.Dest = Path
+Value head.Committer = Committer
+Value head.Mode = Mode
+Value head.Unique = Bool
+Value w = ℕ
 
--- retries N
-unfoldable pub retries_at : ℕ → Head → List (List ℕ) → Result Head ScriptFault
-retries_at n h values = first_value n (number_in 0 9) (BadNumber n) h.retries values >>= λ retries. Ok (record h { retries = Some retries })
+-- a kind of line that gives one value
+pub record Row (A : Type 0) : Type 0 where
+  -- its word
+  pub word : List ℕ
+  -- what the word behind it is, in the n-th line
+  pub read : ℕ → List ℕ → Result A ScriptFault
+  -- how a value is written
+  pub text : A → List ℕ
+  -- what such a line gave, if there was one
+  pub kept : Head → Option A
+  -- the head with what the n-th line gives, or with nothing
+  pub put : ℕ → Option A → Head → Head
+  -- what a script's line gives, or that it has none
+  pub said : Script → Option A
 
--- block N
-unfoldable pub block_at : ℕ → Head → List (List ℕ) → Result Head ScriptFault
-block_at n h values = first_value n (number_in 1 MOST_SCRIPT_BYTES) (BadNumber n) h.block values >>= λ block. Ok (record h { block = Some block })
+-- the kinds of such lines; a mode and a word `unique` are kept with their lines
+abbrev pub row : (w : HeadWord) → Row (Value w)
+row head.Job = record { word = codes "job"; read = job_of; text = λ id. id; kept = λ h. h.job; put = λ n x h. record h { job = x }; said = λ s. Some s.job }
+row head.Dest = record { word = codes "dest"; read = dest_of; text = path_text; kept = λ h. h.dest; put = λ n x h. record h { dest = x }; said = λ s. Some s.dest }
+row head.Committer = record { word = codes "committer"; read = name committers; text = committer_word; kept = λ h. h.committer; put = λ n x h. record h { committer = x }; said = λ s. Some s.committer }
+row head.Tasks = record { word = codes "tasks"; read = number 0 1000; text = decimal; kept = λ h. h.tasks; put = λ n x h. record h { tasks = x }; said = λ s. Some s.tasks }
+row head.Mode = record { word = codes "mode"; read = name modes; text = mode_word; kept = λ h. option_map (λ m. m.1) h.mode; put = λ n x h. record h { mode = option_map (λ m. (n, m)) x }; said = λ s. Some s.mode }
+row head.Unique = record { word = codes "unique"; read = name answers; text = answer_word; kept = λ h. option_map (λ u. u.1) h.unique; put = λ n x h. record h { unique = option_map (λ u. (n, u)) x }; said = λ s. Some s.unique }
+row head.Retries = record { word = codes "retries"; read = number 0 9; text = decimal; kept = λ h. h.retries; put = λ n x h. record h { retries = x }; said = λ s. Some s.retries }
+row head.Block = record { word = codes "block"; read = number 1 MOST_SCRIPT_BYTES; text = decimal; kept = λ h. h.block; put = λ n x h. record h { block = x }; said = λ s. unless 0 s.block }
+row head.Lanes = record { word = codes "lanes"; read = number 1 8; text = decimal; kept = λ h. h.lanes; put = λ n x h. record h { lanes = x }; said = λ s. unless 1 s.lanes }
+row head.Stamp = record { word = codes "stamp"; read = number 0 999999999999999999; text = decimal; kept = λ h. h.stamp; put = λ n x h. record h { stamp = x }; said = λ s. s.stamp }
 
--- lanes N
-unfoldable pub lanes_at : ℕ → Head → List (List ℕ) → Result Head ScriptFault
-lanes_at n h values = first_value n (number_in 1 8) (BadNumber n) h.lanes values >>= λ lanes. Ok (record h { lanes = Some lanes })
+-- the order in which the format lists them
+abbrev pub head_order : List HeadWord
+head_order = head.Job ∷ head.Dest ∷ head.Committer ∷ head.Tasks ∷ head.Mode ∷ head.Unique ∷ head.Retries ∷ head.Block ∷ head.Lanes ∷ head.Stamp ∷ []
 
--- stamp N
-unfoldable pub stamp_at : ℕ → Head → List (List ℕ) → Result Head ScriptFault
-stamp_at n h values = first_value n (number_in 0 999999999999999999) (BadNumber n) h.stamp values >>= λ stamp. Ok (record h { stamp = Some stamp })
+-- their words
+abbrev pub head_words : Names HeadWord
+head_words = map (λ w. ((row w).word, w)) head_order
+
+-- the head after the n-th line, of this kind
+abbrev pub row_at : {A : Type 0} → Row A → ℕ → Head → List (List ℕ) → Result Head ScriptFault
+row_at r n h values = do
+  value ← value_at r.read n values
+  first ← first_value n (r.kept h) value
+  Ok (r.put n first h)
+
+-- the same by the kind's word
+abbrev pub head_at : ℕ → HeadWord → Head → List (List ℕ) → Result Head ScriptFault
+head_at n head.Job h values = row_at (row head.Job) n h values
+head_at n w h values = row_at (row w) n h values
+
+-- the line of a word and a value, if there is one
+abbrev pub value_lines : List ℕ → Option (List ℕ) → List Line
+value_lines word None = []
+value_lines word (Some value) = (word ∷ value ∷ []) ∷ []
+
+-- the line of this kind that a script has
+abbrev pub row_lines : Script → HeadWord → List Line
+row_lines s w = value_lines (row w).word (option_map (row w).text ((row w).said s))
+
+-- ---- sendings that have a fate
 
 -- COUNT, which is 1 where it is absent
 abbrev pub count_of : Option (List ℕ) → Option ℕ
@@ -100,7 +159,7 @@ loss_of n values = do
 -- one of so many sendings from `first` on has a fate
 unfoldable pub has_one : FateMap → ℕ → ℕ → Bool
 has_one m first zero = false
-has_one m first (suc n) = has_one m first n || is_some (map.get m (first + n))
+has_one m first (suc n) = has_one m first n || is_some (fin.get m (first + n))
 
 -- the fates with these, none of whose sendings may have one
 unfoldable pub named_at : ℕ → Loss → FateMap → Result FateMap ScriptFault
@@ -116,16 +175,16 @@ loss_at n h values = do
   few ← check (nat_lt h.losses 10000) TooLarge
   Ok (record h { fates = fates; losses = h.losses + 1 })
 
--- the head after a line of this kind
-abbrev pub head_at : ℕ → HeadWord → Head → List (List ℕ) → Result Head ScriptFault
-head_at n head.Job h values = job_at n h values
-head_at n head.Dest h values = dest_at n h values
-head_at n head.Committer h values = committer_at n h values
-head_at n head.Tasks h values = tasks_at n h values
-head_at n head.Mode h values = mode_at n h values
-head_at n head.Unique h values = unique_at n h values
-head_at n head.Retries h values = retries_at n h values
-head_at n head.Block h values = block_at n h values
-head_at n head.Lanes h values = lanes_at n h values
-head_at n head.Stamp h values = stamp_at n h values
-head_at n head.Loss h values = loss_at n h values
+-- a line for one sending
+abbrev pub loss_line : ℕ × Fate → Line
+loss_line l = codes "loss" ∷ decimal l.0 ∷ fate_word l.1 ∷ []
+
+-- a line for each sending that has a fate, rising
+abbrev pub loss_lines : FateMap → List Line
+loss_lines fates = map loss_line (fin.entries fates)
+
+-- ---- the head of a script
+
+-- every head line, in the order in which the format lists them
+abbrev pub head_lines : Script → List Line
+head_lines s = flat_map (row_lines s) head_order ++ loss_lines s.fates

@@ -1,11 +1,10 @@
 -- What the bytes of a script mean.
-use Rattle.std.specs.Prelude.{ℕ, ◌+◌, ◌==◌, Bool, true, false, List, [], ◌∷◌, length, Option, Some, None, Result, Ok, Err, nat_le, ⊤, if◌then◌else◌}
-use Rattle.std.specs.Option.{unwrap_or}
+use Rattle.std.specs.Prelude.{ℕ, ◌+◌, ◌==◌, Bool, true, false, List, [], ◌∷◌, length, Option, Some, None, Result, Ok, Err, nat_le, ⊤, option_map, codes, if◌then◌else◌}
+use Rattle.std.specs.Option.{unwrap_or, option_or}
 use Rattle.std.specs.Str.{is_utf8}
 use Rattle.proof_base.specs.Reading.{◌>>=◌, need, check}
 use Rattle.words.specs.Lines.{lines_of}
 use Rattle.words.specs.Words.{words_of}
-use Rattle.std.specs.FinMap as map
 use Rattle.s3_types.specs.declared.limits.TheConstants.{MOST_SCRIPT_BYTES}
 use Rattle.s3_types.specs.declared.request.Committer.{Committer}
 use Rattle.s3_types.specs.declared.request.Committer.TheVariants as committer
@@ -14,15 +13,33 @@ use Rattle.s3_types.specs.declared.request.Mode.TheVariants as mode
 use Rattle.job_script.specs.declared.fault.ScriptFault.{ScriptFault}
 use Rattle.job_script.specs.declared.fault.ScriptFault.TheVariants.{NotUtf8, BadLine, UnknownWord, MissingHead, UnknownActor, TooLarge}
 use Rattle.job_script.specs.declared.draft.Draft.{Draft}
-use Rattle.job_script.specs.declared.draft.Head.{Head}
+use Rattle.job_script.specs.declared.draft.Group.{Group}
 use Rattle.job_script.specs.declared.draft.Group.TheVariants as group
 use Rattle.job_model.specs.JobScript.{Script}
 use Rattle.job_script.specs.declared.kinds.Kind.{Kind}
 use Rattle.job_script.specs.declared.kinds.Kind.TheVariants as kind
-use Rattle.job_script.specs.Kinds.{kind_of, enters}
-use Rattle.job_script.specs.HeadLines.{head_at}
+use Rattle.job_script.specs.Kinds.{Names, named, event_words}
+use Rattle.job_script.specs.HeadLines.{no_head, head_words, head_at, loss_at}
 use Rattle.job_script.specs.AttemptLines.{attempt_at, file_at}
 use Rattle.job_script.specs.EventLines.{event_line_at}
+
+-- the words of the other kinds of lines but events
+abbrev pub lone_words : Names Kind
+lone_words = (codes "loss", kind.Loss) ∷ (codes "attempt", kind.Attempt) ∷ (codes "file", kind.File) ∷ []
+
+-- the kind of line that begins with this word
+abbrev pub kind_of : List ℕ → Option Kind
+kind_of word = option_or (option_map kind.Head (named head_words word)) (option_or (named lone_words word) (option_map kind.Event (named event_words word)))
+
+-- the group after a line of this kind, where it may stand there
+abbrev pub enters : Kind → Group → Option Group
+enters (kind.Head w) group.Head = Some group.Head
+enters kind.Loss group.Head = Some group.Head
+enters kind.Attempt group.Events = None
+enters kind.Attempt g = Some group.Attempts
+enters kind.File group.Attempts = Some group.Attempts
+enters (kind.Event w) g = Some group.Events
+enters k g = None
 
 -- an empty line, and one that begins with #
 abbrev pub is_skipped : List ℕ → Bool
@@ -32,6 +49,7 @@ is_skipped (x ∷ xs) = x == 35
 -- what a line of this kind with these values behind its first word adds
 unfoldable pub said_at : ℕ → Kind → Draft → List (List ℕ) → Result Draft ScriptFault
 said_at n (kind.Head word) d values = head_at n word d.head values >>= λ head. Ok (record d { head = head })
+said_at n kind.Loss d values = loss_at n d.head values >>= λ head. Ok (record d { head = head })
 said_at n kind.Attempt d values = attempt_at n d values
 said_at n kind.File d values = file_at n d values
 said_at n (kind.Event word) d values = event_line_at n word d values
@@ -55,34 +73,22 @@ lines_at n d (text ∷ texts) = do
   next ← line_at n d text
   lines_at (n + 1) next texts
 
--- no head line yet
-abbrev pub no_head : Head
-no_head = record { job = None; dest = None; committer = None; tasks = None; mode = None; unique = None; retries = None; block = None; lanes = None; stamp = None; fates = map.empty; losses = 0 }
-
 -- before the first line
 abbrev pub nothing : Draft
 nothing = record { group = group.Head; head = no_head; attempts = []; outside = None; files = 0; bytes = 0; events = [] }
 
 -- the mode, which is `append` where no line gives one, and under `magic`
 abbrev pub mode_in : Committer → Option (ℕ × Mode) → Result Mode ScriptFault
-mode_in committer.Magic None = Ok mode.Append
+mode_in c None = Ok mode.Append
 mode_in committer.Magic (Some (n, mode.Append)) = Ok mode.Append
-mode_in committer.Magic (Some (n, mode.Fail)) = Err (BadLine n)
-mode_in committer.Magic (Some (n, mode.Replace)) = Err (BadLine n)
-mode_in committer.Directory None = Ok mode.Append
-mode_in committer.Directory (Some (n, mode)) = Ok mode
-mode_in committer.Partitioned None = Ok mode.Append
-mode_in committer.Partitioned (Some (n, mode)) = Ok mode
+mode_in committer.Magic (Some (n, m)) = Err (BadLine n)
+mode_in c (Some (n, m)) = Ok m
 
 -- whether names are made unique; not where no line says so, and not under `magic`
 abbrev pub unique_in : Committer → Option (ℕ × Bool) → Result Bool ScriptFault
-unique_in committer.Magic None = Ok false
-unique_in committer.Magic (Some (n, false)) = Ok false
+unique_in c None = Ok false
 unique_in committer.Magic (Some (n, true)) = Err (BadLine n)
-unique_in committer.Directory None = Ok false
-unique_in committer.Directory (Some (n, unique)) = Ok unique
-unique_in committer.Partitioned None = Ok false
-unique_in committer.Partitioned (Some (n, unique)) = Ok unique
+unique_in c (Some (n, unique)) = Ok unique
 
 -- the fault of the first attempt whose task is not below the number of tasks
 abbrev pub all_inside : Option ℕ → Result ⊤ ScriptFault

@@ -7,11 +7,12 @@ ghost use Rattle.std.specs.Option.{option_or};
 use crate::content::content_of;
 use crate::draft::Draft;
 use crate::fault::ScriptFault;
+use crate::head::one_word;
 use crate::paths::{is_hidden, is_path};
 use job_model::AttemptName;
 use s3_types::{MOST_SCRIPT_BYTES, Text};
 use std::alloc::Global;
-use words::{number_within, one, two_and_more, two_parts};
+use words::{number_within, two_and_more, two_parts};
 
 /// The attempt that a word T.A names, of a task from 0 to 999 and a number from 0 to 99.
 #[tactic(auto, unfolding(crate::specs::AttemptLines::name_at))]
@@ -55,9 +56,7 @@ pub fn attempt_line(
     ensures { Makes result draft.new (lines.attempt_at line draft.old
         (words_after (option_map (λ r. r.now) rest.entry))) }
 {
-    let Some(word) = one(rest) else {
-        return Err(ScriptFault::BadLine(line));
-    };
+    let word = one_word(line, rest)?;
     let name = name_of(line, word)?;
     if draft.attempts.declares(name) {
         return Err(ScriptFault::RepeatedName(line));

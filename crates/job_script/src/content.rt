@@ -1,65 +1,32 @@
-ghost use Rattle.std.specs.Prelude.{◌≡◌, option_map, ◌<◌, IfSome, IfOk};
+ghost use Rattle.std.specs.Prelude.{option_map};
+ghost use Rattle.proof_base.specs.Reading.{GivesBy, need};
 ghost use Rattle.words.specs.Words.{words_after};
-ghost use Rattle.job_script.specs.Fault.{Gives};
+ghost use Rattle.job_script.specs.Fault.{Gives, wanting};
 ghost use Rattle.job_script.specs.Content as content;
+ghost use Rattle.job_script.specs.declared.fault.ScriptFault.TheVariants.{BadLine};
 
 use crate::fault::ScriptFault;
+use crate::head::one_word;
+use hex::FromHexError;
 use s3_types::{Bytes, MOST_SCRIPT_BYTES};
-use std::alloc::{AllocError, Global};
-use words::{number_within, one, text, two};
-
-/// The value of a hex digit in either case.
-fn hex_digit(b: u8) -> Option<u8>
-    ensures value { result ≡ content.hex_digit b }
-    ensures small { IfSome result (λ d. d < 16) }
-{
-    if 48 <= b && b <= 57 {
-        return Some(b - 48);
-    }
-    if 97 <= b && b <= 102 {
-        return Some(b - 87);
-    }
-    if 65 <= b && b <= 70 {
-        return Some(b - 55);
-    }
-    None
-}
-
-/// The bytes that hex digits write.
-fn unhex(alloc: Global, digits: &[u8]) -> Result<Option<Vec<u8>>, AllocError>
-    ensures { IfOk result (λ o. option_map (λ v. v.items) o ≡ content.unhex digits.now) }
-{
-    let mut bytes = Vec::new(alloc);
-    let mut rest = digits;
-    while rest.len() >= 2 {
-        let (pair, after) = rest.split_at(2);
-        let Some(high) = hex_digit(pair[0]) else {
-            return Ok(None);
-        };
-        let Some(low) = hex_digit(pair[1]) else {
-            return Ok(None);
-        };
-        bytes.push(high * 16 + low)?;
-        rest = after;
-    }
-    if rest.is_empty() {
-        Ok(Some(bytes))
-    } else {
-        Ok(None)
-    }
-}
+use std::alloc::Global;
+use words::{number_within, text, two};
 
 /// The bytes that hex digits, two at least, or `-` write.
-fn hex_bytes(alloc: Global, digits: &str) -> Result<Option<Vec<u8>>, AllocError>
-    ensures { IfOk result (λ o. option_map (λ v. v.items) o ≡ content.hex_bytes digits.now) }
+fn hex_bytes(alloc: Global, line: u64, digits: &str) -> Result<Vec<u8>, ScriptFault>
+    ensures { GivesBy wanting (λ v. v.items) result (need (content.hex_bytes digits.now) (BadLine line)) }
 {
     if digits == "-" {
-        return Ok(Some(Vec::new(alloc)));
+        return Ok(Vec::new(alloc));
     }
     if digits.is_empty() {
-        return Ok(None);
+        return Err(ScriptFault::BadLine(line));
     }
-    unhex(alloc, digits.as_bytes())
+    match hex::decode(alloc, digits.as_bytes()) {
+        Ok(bytes) => Ok(bytes),
+        Err(FromHexError::OutOfMemory) => Err(ScriptFault::NoMemory),
+        Err(_) => Err(ScriptFault::BadLine(line)),
+    }
 }
 
 #[tactic(auto, unfolding(crate::specs::Content::text_at))]
@@ -76,13 +43,8 @@ fn text_of(alloc: Global, line: u64, rest: Option<&str>) -> Result<Bytes, Script
 fn hex_of(alloc: Global, line: u64, rest: Option<&str>) -> Result<Bytes, ScriptFault>
     ensures { Gives result (content.hex_at line (words_after (option_map (λ r. r.now) rest.entry))) }
 {
-    let Some(digits) = one(rest) else {
-        return Err(ScriptFault::BadLine(line));
-    };
-    let bytes = hex_bytes(alloc, digits)?;
-    let Some(bytes) = bytes else {
-        return Err(ScriptFault::BadLine(line));
-    };
+    let digits = one_word(line, rest)?;
+    let bytes = hex_bytes(alloc, line, digits)?;
     Ok(Bytes::new(alloc, bytes)?)
 }
 

@@ -1,6 +1,6 @@
+use crate::head::Head;
 use job_model::{Attempts, EventList};
-use path_keys::S3Path;
-use s3_types::{Committer, Fate, Fates, Mode, Text};
+use s3_types::Fate;
 
 /// Sendings in a row, counted from 1, and their fate.
 #[derive(Clone, Copy)]
@@ -8,24 +8,6 @@ pub struct Loss {
     pub first: u64,
     pub fate: Fate,
     pub count: u32,
-}
-
-/// What the head lines said so far. A mode and a word `unique` come with their lines.
-#[derive(Drop)]
-pub struct Head {
-    pub job: Option<Text>,
-    pub dest: Option<S3Path>,
-    pub committer: Option<Committer>,
-    pub tasks: Option<u32>,
-    pub mode: Option<(u64, Mode)>,
-    pub unique: Option<(u64, bool)>,
-    pub retries: Option<u32>,
-    pub block: Option<u64>,
-    pub lanes: Option<u32>,
-    pub stamp: Option<u64>,
-    pub fates: Fates,
-    /// The number of lines `loss`.
-    pub losses: u32,
 }
 
 /// The groups of lines in their order.

@@ -7,10 +7,11 @@ ghost use Rattle.job_script.specs.EventLines as lines;
 use crate::attempts::name_of;
 use crate::draft::Draft;
 use crate::fault::ScriptFault;
+use crate::head::{number, one_word};
 use crate::kinds::{EventWord, attempt_op, driver_op};
 use job_model::{AttemptName, Attempts, Event, Op};
 use s3_types::Actor;
-use words::{number_within, one, two};
+use words::{number_within, two};
 
 fn is_driver(word: &str) -> bool
     ensures { result ≡ lines.is_driver word.now }
@@ -72,30 +73,12 @@ fn order_of(draft: &Draft, line: u64, rest: Option<&str>) -> Result<(Actor, Op),
 fn alone_of(draft: &Draft, line: u64, rest: Option<&str>) -> Result<Actor, ScriptFault>
     ensures { Gives result (lines.alone_at line draft.now (words_after (option_map (λ r. r.now) rest.entry))) }
 {
-    let Some(word) = one(rest) else {
-        return Err(ScriptFault::BadLine(line));
-    };
+    let word = one_word(line, rest)?;
     let actor = actor_of(line, word)?;
     if !is_known(&draft.attempts, actor) {
         return Err(ScriptFault::UnknownActor(line));
     }
     Ok(actor)
-}
-
-#[tactic(auto, unfolding(crate::specs::EventLines::do_at))]
-fn do_event(draft: &Draft, line: u64, rest: Option<&str>) -> Result<Event, ScriptFault>
-    ensures { Gives result (lines.do_at line draft.now (words_after (option_map (λ r. r.now) rest.entry))) }
-{
-    let (actor, op) = order_of(draft, line, rest)?;
-    Ok(Event::Do { actor, op })
-}
-
-#[tactic(auto, unfolding(crate::specs::EventLines::start_at))]
-fn start_event(draft: &Draft, line: u64, rest: Option<&str>) -> Result<Event, ScriptFault>
-    ensures { Gives result (lines.start_at line draft.now (words_after (option_map (λ r. r.now) rest.entry))) }
-{
-    let (actor, op) = order_of(draft, line, rest)?;
-    Ok(Event::Start { actor, op })
 }
 
 #[tactic(auto, unfolding(crate::specs::EventLines::step_at))]
@@ -118,42 +101,11 @@ fn step_event(draft: &Draft, line: u64, rest: Option<&str>) -> Result<Event, Scr
     })
 }
 
-#[tactic(auto, unfolding(crate::specs::EventLines::run_at))]
-fn run_event(draft: &Draft, line: u64, rest: Option<&str>) -> Result<Event, ScriptFault>
-    ensures { Gives result (lines.run_at line draft.now (words_after (option_map (λ r. r.now) rest.entry))) }
-{
-    let actor = alone_of(draft, line, rest)?;
-    Ok(Event::Run { actor })
-}
-
-#[tactic(auto, unfolding(crate::specs::EventLines::kill_at))]
-fn kill_event(draft: &Draft, line: u64, rest: Option<&str>) -> Result<Event, ScriptFault>
-    ensures { Gives result (lines.kill_at line draft.now (words_after (option_map (λ r. r.now) rest.entry))) }
-{
-    let actor = alone_of(draft, line, rest)?;
-    Ok(Event::Kill { actor })
-}
-
-#[tactic(auto, unfolding(crate::specs::EventLines::mix_at))]
-fn mix_event(line: u64, rest: Option<&str>) -> Result<Event, ScriptFault>
-    ensures { Gives result (lines.mix_at line (words_after (option_map (λ r. r.now) rest.entry))) }
-{
-    let Some(word) = one(rest) else {
-        return Err(ScriptFault::BadLine(line));
-    };
-    let Some(seed) = number_within(0, 2_147_483_647, word) else {
-        return Err(ScriptFault::BadNumber(line));
-    };
-    Ok(Event::Mix { seed: seed as u32 })
-}
-
 #[tactic(auto, unfolding(crate::specs::EventLines::restart_at))]
 fn restart_event(line: u64, rest: Option<&str>) -> Result<Event, ScriptFault>
     ensures { Gives result (lines.restart_at line (words_after (option_map (λ r. r.now) rest.entry))) }
 {
-    let Some(word) = one(rest) else {
-        return Err(ScriptFault::BadLine(line));
-    };
+    let word = one_word(line, rest)?;
     if !is_driver(word) {
         return Err(ScriptFault::BadLine(line));
     }
@@ -164,9 +116,7 @@ fn restart_event(line: u64, rest: Option<&str>) -> Result<Event, ScriptFault>
 fn recover_event(draft: &Draft, line: u64, rest: Option<&str>) -> Result<Event, ScriptFault>
     ensures { Gives result (lines.recover_at line draft.now (words_after (option_map (λ r. r.now) rest.entry))) }
 {
-    let Some(word) = one(rest) else {
-        return Err(ScriptFault::BadLine(line));
-    };
+    let word = one_word(line, rest)?;
     let name = name_of(line, word)?;
     if !draft.attempts.declares(name) {
         return Err(ScriptFault::UnknownActor(line));
@@ -188,12 +138,24 @@ fn event_of(
     ensures { Gives result (lines.event_at line word draft.now (words_after (option_map (λ r. r.now) rest.entry))) }
 {
     match word {
-        EventWord::Do => do_event(draft, line, rest),
-        EventWord::Start => start_event(draft, line, rest),
+        EventWord::Do => {
+            let (actor, op) = order_of(draft, line, rest)?;
+            Ok(Event::Do { actor, op })
+        }
+        EventWord::Start => {
+            let (actor, op) = order_of(draft, line, rest)?;
+            Ok(Event::Start { actor, op })
+        }
         EventWord::Step => step_event(draft, line, rest),
-        EventWord::Run => run_event(draft, line, rest),
-        EventWord::Kill => kill_event(draft, line, rest),
-        EventWord::Mix => mix_event(line, rest),
+        EventWord::Run => Ok(Event::Run {
+            actor: alone_of(draft, line, rest)?,
+        }),
+        EventWord::Kill => Ok(Event::Kill {
+            actor: alone_of(draft, line, rest)?,
+        }),
+        EventWord::Mix => Ok(Event::Mix {
+            seed: number(0, 2_147_483_647, line, rest)? as u32,
+        }),
         EventWord::Restart => restart_event(line, rest),
         EventWord::Recover => recover_event(draft, line, rest),
     }

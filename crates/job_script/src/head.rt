@@ -1,20 +1,128 @@
-ghost use Rattle.std.specs.Prelude.{◌≡◌, option_map};
+ghost use Rattle.std.specs.Prelude.{◌≡◌, ◌≤◌, ◌++◌, Some, Ok, codes, option_map, string_bytes, IfOk, OnOk};
+ghost use Rattle.std.specs.Fmt.{decimal};
 ghost use Rattle.std.specs.List.{list_all};
-ghost use Rattle.words.specs.Words.{words_after};
-ghost use Rattle.job_script.specs.Fault.{Gives, Makes};
+ghost use Rattle.proof_base.specs.Reading.{GivesBy, need};
+ghost use Rattle.words.specs.Shapes.{one};
+ghost use Rattle.words.specs.Words.{text_of, words_after};
 ghost use Rattle.path_keys.specs.Paths.{path_in};
 ghost use Rattle.s3_types.specs.Names.{is_id_byte, is_job_id};
+ghost use Rattle.job_model.specs.JobScript.{Script};
+ghost use Rattle.job_model.specs.Legal.{IsLegal};
+ghost use Rattle.job_script.specs.Fault.{Gives, Makes, wanting};
+ghost use Rattle.job_script.specs.Kinds.{named};
 ghost use Rattle.job_script.specs.HeadLines as lines;
+ghost use Rattle.job_script.specs.Script as script;
+ghost use Rattle.job_script.specs.declared.fault.ScriptFault.TheVariants.{BadLine, MissingHead};
 
-use crate::draft::Head;
+use crate::draft::Draft;
 use crate::fault::ScriptFault;
-use crate::kinds::{HeadWord, answer_of, committer_of, mode_of};
-use crate::loss::loss_line;
+use crate::kinds::{answer_of, committer_of, mode_of};
 use crate::paths::is_dest_key;
+use crate::print_losses::put_losses;
+use crate::print_words::{answer_word, committer_word, mode_word};
+use job_model::Script;
 use path_keys::{PathFault, S3Path};
-use s3_types::{MOST_SCRIPT_BYTES, Text};
-use std::alloc::Global;
+use s3_types::{Committer, Fates, MOST_SCRIPT_BYTES, Mode, Text};
+use std::alloc::{AllocError, Global};
 use words::{number_within, one};
+
+/// The kinds of lines of the head that give one value.
+#[derive(Clone, Copy, Debug, PartialEq, Eq)]
+pub enum HeadWord {
+    Job,
+    Dest,
+    Committer,
+    Tasks,
+    Mode,
+    Unique,
+    Retries,
+    Block,
+    Lanes,
+    Stamp,
+}
+
+/// What the head lines said so far. A mode and a word `unique` come with their lines.
+#[derive(Drop)]
+pub struct Head {
+    pub job: Option<Text>,
+    pub dest: Option<S3Path>,
+    pub committer: Option<Committer>,
+    pub tasks: Option<u32>,
+    pub mode: Option<(u64, Mode)>,
+    pub unique: Option<(u64, bool)>,
+    pub retries: Option<u32>,
+    pub block: Option<u64>,
+    pub lanes: Option<u32>,
+    pub stamp: Option<u64>,
+    pub fates: Fates,
+    /// The number of lines `loss`.
+    pub losses: u32,
+}
+
+pub fn head_word(word: &str) -> Option<HeadWord>
+    ensures { result ≡ named lines.head_words word.now }
+{
+    match word {
+        "job" => Some(HeadWord::Job),
+        "dest" => Some(HeadWord::Dest),
+        "committer" => Some(HeadWord::Committer),
+        "tasks" => Some(HeadWord::Tasks),
+        "mode" => Some(HeadWord::Mode),
+        "unique" => Some(HeadWord::Unique),
+        "retries" => Some(HeadWord::Retries),
+        "block" => Some(HeadWord::Block),
+        "lanes" => Some(HeadWord::Lanes),
+        "stamp" => Some(HeadWord::Stamp),
+        _ => None,
+    }
+}
+
+/// Before the first line.
+pub fn no_head(alloc: Global) -> Head
+    ensures { result ≡ lines.no_head }
+{
+    Head {
+        job: None,
+        dest: None,
+        committer: None,
+        tasks: None,
+        mode: None,
+        unique: None,
+        retries: None,
+        block: None,
+        lanes: None,
+        stamp: None,
+        fates: Fates::new(alloc),
+        losses: 0,
+    }
+}
+
+// ---- what a line says
+
+/// The one word behind a line's first.
+pub fn one_word(line: u64, rest: Option<&str>) -> Result<&str, ScriptFault>
+    ensures { GivesBy wanting (λ w. w.now) result (need (one (words_after (option_map (λ r. r.now) rest.entry)))
+        (BadLine line)) }
+{
+    match one(rest) {
+        Some(word) => Ok(word),
+        None => Err(ScriptFault::BadLine(line)),
+    }
+}
+
+/// The one number behind a line's first word, from low to high.
+#[tactic(auto, unfolding(crate::specs::HeadLines::number))]
+pub fn number(low: u64, high: u64, line: u64, rest: Option<&str>) -> Result<u64, ScriptFault>
+    ensures number { Gives result (lines.value_at (lines.number low high) line
+        (words_after (option_map (λ r. r.now) rest.entry))) }
+    ensures within { IfOk result (λ n. n ≤ high) }
+{
+    let word = one_word(line, rest)?;
+    match number_within(low, high, word) {
+        Some(number) => Ok(number),
+        None => Err(ScriptFault::BadNumber(line)),
+    }
+}
 
 fn is_id_byte(b: u8) -> bool
     ensures { result ≡ is_id_byte b }
@@ -35,26 +143,15 @@ fn is_job_id(text: &str) -> bool
     1 <= text.len() && text.len() <= 64 && are_id_bytes(text.as_bytes())
 }
 
-#[tactic(auto, unfolding(crate::specs::HeadLines::job_at))]
-fn job_line(
-    alloc: Global,
-    head: &mut Head,
-    line: u64,
-    rest: Option<&str>,
-) -> Result<(), ScriptFault>
-    ensures { Makes result head.new (lines.job_at line head.old (words_after (option_map (λ r. r.now) rest.entry))) }
+/// The job's id that a word is.
+#[tactic(auto, unfolding(crate::specs::HeadLines::job_of))]
+fn job_of(alloc: Global, line: u64, word: &str) -> Result<Text, ScriptFault>
+    ensures { Gives result (lines.job_of line word.now) }
 {
-    let Some(word) = one(rest) else {
-        return Err(ScriptFault::BadLine(line));
-    };
     if !is_job_id(word) {
         return Err(ScriptFault::BadLine(line));
     }
-    if let Some(_) = head.job {
-        return Err(ScriptFault::RepeatedName(line));
-    }
-    head.job = Some(Text::copied(alloc, word)?);
-    Ok(())
+    Ok(Text::copied(alloc, word)?)
 }
 
 /// The path that a word is.
@@ -68,18 +165,11 @@ fn path_of(alloc: Global, line: u64, word: &str) -> Result<S3Path, ScriptFault>
     }
 }
 
-#[tactic(auto, unfolding(crate::specs::HeadLines::dest_at))]
-fn dest_line(
-    alloc: Global,
-    head: &mut Head,
-    line: u64,
-    rest: Option<&str>,
-) -> Result<(), ScriptFault>
-    ensures { Makes result head.new (lines.dest_at line head.old (words_after (option_map (λ r. r.now) rest.entry))) }
+/// The destination that a word is.
+#[tactic(auto, unfolding(crate::specs::HeadLines::dest_of))]
+fn dest_of(alloc: Global, line: u64, word: &str) -> Result<S3Path, ScriptFault>
+    ensures { Gives result (lines.dest_of line word.now) }
 {
-    let Some(word) = one(rest) else {
-        return Err(ScriptFault::BadLine(line));
-    };
     let path = path_of(alloc, line, word)?;
     if path.is_root() {
         return Err(ScriptFault::DestIsRoot);
@@ -87,148 +177,17 @@ fn dest_line(
     if !is_dest_key(path.key().as_bytes()) {
         return Err(ScriptFault::BadPath(line));
     }
-    if let Some(_) = head.dest {
-        return Err(ScriptFault::RepeatedName(line));
-    }
-    head.dest = Some(path);
-    Ok(())
+    Ok(path)
 }
 
-#[tactic(auto, unfolding(crate::specs::HeadLines::committer_at))]
-fn committer_line(head: &mut Head, line: u64, rest: Option<&str>) -> Result<(), ScriptFault>
-    ensures { Makes result head.new (lines.committer_at line head.old
-        (words_after (option_map (λ r. r.now) rest.entry))) }
+/// Keeps the value that a line gives, unless a line before it gave one.
+fn keep<T: Drop>(place: &mut Option<T>, line: u64, value: T) -> Result<(), ScriptFault>
+    ensures { Makes result place.new (lines.first_value line place.old value) }
 {
-    let Some(word) = one(rest) else {
-        return Err(ScriptFault::BadLine(line));
-    };
-    let Some(committer) = committer_of(word) else {
-        return Err(ScriptFault::BadLine(line));
-    };
-    if let Some(_) = head.committer {
+    if let Some(_) = place {
         return Err(ScriptFault::RepeatedName(line));
     }
-    head.committer = Some(committer);
-    Ok(())
-}
-
-#[tactic(auto, unfolding(crate::specs::HeadLines::mode_at))]
-fn mode_line(head: &mut Head, line: u64, rest: Option<&str>) -> Result<(), ScriptFault>
-    ensures { Makes result head.new (lines.mode_at line head.old (words_after (option_map (λ r. r.now) rest.entry))) }
-{
-    let Some(word) = one(rest) else {
-        return Err(ScriptFault::BadLine(line));
-    };
-    let Some(mode) = mode_of(word) else {
-        return Err(ScriptFault::BadLine(line));
-    };
-    if let Some(_) = head.mode {
-        return Err(ScriptFault::RepeatedName(line));
-    }
-    head.mode = Some((line, mode));
-    Ok(())
-}
-
-#[tactic(auto, unfolding(crate::specs::HeadLines::unique_at))]
-fn unique_line(head: &mut Head, line: u64, rest: Option<&str>) -> Result<(), ScriptFault>
-    ensures { Makes result head.new (lines.unique_at line head.old (words_after (option_map (λ r. r.now) rest.entry))) }
-{
-    let Some(word) = one(rest) else {
-        return Err(ScriptFault::BadLine(line));
-    };
-    let Some(unique) = answer_of(word) else {
-        return Err(ScriptFault::BadLine(line));
-    };
-    if let Some(_) = head.unique {
-        return Err(ScriptFault::RepeatedName(line));
-    }
-    head.unique = Some((line, unique));
-    Ok(())
-}
-
-#[tactic(auto, unfolding(crate::specs::HeadLines::tasks_at))]
-fn tasks_line(head: &mut Head, line: u64, rest: Option<&str>) -> Result<(), ScriptFault>
-    ensures { Makes result head.new (lines.tasks_at line head.old (words_after (option_map (λ r. r.now) rest.entry))) }
-{
-    let Some(word) = one(rest) else {
-        return Err(ScriptFault::BadLine(line));
-    };
-    let Some(tasks) = number_within(0, 1000, word) else {
-        return Err(ScriptFault::BadNumber(line));
-    };
-    if let Some(_) = head.tasks {
-        return Err(ScriptFault::RepeatedName(line));
-    }
-    head.tasks = Some(tasks as u32);
-    Ok(())
-}
-
-#[tactic(auto, unfolding(crate::specs::HeadLines::retries_at))]
-fn retries_line(head: &mut Head, line: u64, rest: Option<&str>) -> Result<(), ScriptFault>
-    ensures { Makes result head.new (lines.retries_at line head.old
-        (words_after (option_map (λ r. r.now) rest.entry))) }
-{
-    let Some(word) = one(rest) else {
-        return Err(ScriptFault::BadLine(line));
-    };
-    let Some(retries) = number_within(0, 9, word) else {
-        return Err(ScriptFault::BadNumber(line));
-    };
-    if let Some(_) = head.retries {
-        return Err(ScriptFault::RepeatedName(line));
-    }
-    head.retries = Some(retries as u32);
-    Ok(())
-}
-
-#[tactic(auto, unfolding(crate::specs::HeadLines::block_at))]
-fn block_line(head: &mut Head, line: u64, rest: Option<&str>) -> Result<(), ScriptFault>
-    ensures { Makes result head.new (lines.block_at line head.old (words_after (option_map (λ r. r.now) rest.entry))) }
-{
-    let Some(word) = one(rest) else {
-        return Err(ScriptFault::BadLine(line));
-    };
-    let Some(block) = number_within(1, MOST_SCRIPT_BYTES, word) else {
-        return Err(ScriptFault::BadNumber(line));
-    };
-    if let Some(_) = head.block {
-        return Err(ScriptFault::RepeatedName(line));
-    }
-    head.block = Some(block);
-    Ok(())
-}
-
-#[tactic(auto, unfolding(crate::specs::HeadLines::lanes_at))]
-fn lanes_line(head: &mut Head, line: u64, rest: Option<&str>) -> Result<(), ScriptFault>
-    ensures { Makes result head.new (lines.lanes_at line head.old (words_after (option_map (λ r. r.now) rest.entry))) }
-{
-    let Some(word) = one(rest) else {
-        return Err(ScriptFault::BadLine(line));
-    };
-    let Some(lanes) = number_within(1, 8, word) else {
-        return Err(ScriptFault::BadNumber(line));
-    };
-    if let Some(_) = head.lanes {
-        return Err(ScriptFault::RepeatedName(line));
-    }
-    head.lanes = Some(lanes as u32);
-    Ok(())
-}
-
-#[tactic(auto, unfolding(crate::specs::HeadLines::stamp_at))]
-fn stamp_line(head: &mut Head, line: u64, rest: Option<&str>) -> Result<(), ScriptFault>
-    ensures { Makes result head.new (lines.stamp_at line head.old (words_after (option_map (λ r. r.now) rest.entry))) }
-{
-    let Some(word) = one(rest) else {
-        return Err(ScriptFault::BadLine(line));
-    };
-    let Some(stamp) = number_within(0, 999_999_999_999_999_999, word) else {
-        return Err(ScriptFault::BadNumber(line));
-    };
-    if let Some(_) = head.stamp {
-        return Err(ScriptFault::RepeatedName(line));
-    }
-    head.stamp = Some(stamp);
+    *place = Some(value);
     Ok(())
 }
 
@@ -244,16 +203,182 @@ pub fn head_line(
         (words_after (option_map (λ r. r.now) rest.entry))) }
 {
     match word {
-        HeadWord::Job => job_line(alloc, head, line, rest),
-        HeadWord::Dest => dest_line(alloc, head, line, rest),
-        HeadWord::Committer => committer_line(head, line, rest),
-        HeadWord::Tasks => tasks_line(head, line, rest),
-        HeadWord::Mode => mode_line(head, line, rest),
-        HeadWord::Unique => unique_line(head, line, rest),
-        HeadWord::Retries => retries_line(head, line, rest),
-        HeadWord::Block => block_line(head, line, rest),
-        HeadWord::Lanes => lanes_line(head, line, rest),
-        HeadWord::Stamp => stamp_line(head, line, rest),
-        HeadWord::Loss => loss_line(head, line, rest),
+        HeadWord::Job => keep(
+            &mut head.job,
+            line,
+            job_of(alloc, line, one_word(line, rest)?)?,
+        ),
+        HeadWord::Dest => keep(
+            &mut head.dest,
+            line,
+            dest_of(alloc, line, one_word(line, rest)?)?,
+        ),
+        HeadWord::Committer => {
+            let Some(committer) = committer_of(one_word(line, rest)?) else {
+                return Err(ScriptFault::BadLine(line));
+            };
+            keep(&mut head.committer, line, committer)
+        }
+        HeadWord::Tasks => keep(&mut head.tasks, line, number(0, 1000, line, rest)? as u32),
+        HeadWord::Mode => {
+            let Some(mode) = mode_of(one_word(line, rest)?) else {
+                return Err(ScriptFault::BadLine(line));
+            };
+            keep(&mut head.mode, line, (line, mode))
+        }
+        HeadWord::Unique => {
+            let Some(unique) = answer_of(one_word(line, rest)?) else {
+                return Err(ScriptFault::BadLine(line));
+            };
+            keep(&mut head.unique, line, (line, unique))
+        }
+        HeadWord::Retries => keep(&mut head.retries, line, number(0, 9, line, rest)? as u32),
+        HeadWord::Block => keep(
+            &mut head.block,
+            line,
+            number(1, MOST_SCRIPT_BYTES, line, rest)?,
+        ),
+        HeadWord::Lanes => keep(&mut head.lanes, line, number(1, 8, line, rest)? as u32),
+        HeadWord::Stamp => {
+            keep(
+                &mut head.stamp,
+                line,
+                number(0, 999_999_999_999_999_999, line, rest)?,
+            )
+        }
     }
+}
+
+// ---- what all lines come to
+
+/// The value of a head line that must be there.
+fn required<T: Drop>(value: Option<T>) -> Result<T, ScriptFault>
+    ensures { Gives result (need value MissingHead) }
+{
+    match value {
+        Some(value) => Ok(value),
+        None => Err(ScriptFault::MissingHead),
+    }
+}
+
+/// The mode, which is `append` where no line gives one, and under `magic`.
+fn mode_in(committer: Committer, mode: Option<(u64, Mode)>) -> Result<Mode, ScriptFault>
+    ensures { Gives result (script.mode_in committer mode) }
+{
+    match (committer, mode) {
+        (_, None) => Ok(Mode::Append),
+        (Committer::Magic, Some((_, Mode::Append))) => Ok(Mode::Append),
+        (Committer::Magic, Some((line, _))) => Err(ScriptFault::BadLine(line)),
+        (_, Some((_, mode))) => Ok(mode),
+    }
+}
+
+/// Whether names are made unique: not where no line says so, and not under `magic`.
+fn unique_in(committer: Committer, unique: Option<(u64, bool)>) -> Result<bool, ScriptFault>
+    ensures { Gives result (script.unique_in committer unique) }
+{
+    match (committer, unique) {
+        (_, None) => Ok(false),
+        (Committer::Magic, Some((line, true))) => Err(ScriptFault::BadLine(line)),
+        (_, Some((_, unique))) => Ok(unique),
+    }
+}
+
+/// Whether each attempt's task is below the number of tasks.
+fn all_inside(outside: Option<u64>) -> Result<(), ScriptFault>
+    ensures { Gives result (script.all_inside outside) }
+{
+    match outside {
+        None => Ok(()),
+        Some(line) => Err(ScriptFault::UnknownActor(line)),
+    }
+}
+
+/// The script, where the checks after the last line find no fault.
+#[tactic(auto, unfolding(crate::specs::Script::complete))]
+pub fn complete(draft: Draft) -> Result<Script, ScriptFault>
+    requires legal { (s : Script) → script.complete draft ≡ Ok s → IsLegal s }
+    ensures { Gives result (script.complete draft) }
+{
+    let head = draft.head;
+    let job = required(head.job)?;
+    let dest = required(head.dest)?;
+    let committer = required(head.committer)?;
+    let tasks = required(head.tasks)?;
+    let mode = mode_in(committer, head.mode)?;
+    let unique = unique_in(committer, head.unique)?;
+    all_inside(draft.outside)?;
+    Ok(Script {
+        job,
+        dest,
+        committer,
+        mode,
+        unique,
+        tasks,
+        retries: head.retries.unwrap_or(3),
+        block: head.block.unwrap_or(0),
+        lanes: head.lanes.unwrap_or(1),
+        stamp: head.stamp,
+        fates: head.fates,
+        attempts: draft.attempts,
+        events: draft.events,
+    })
+}
+
+// ---- how lines are printed
+
+/// A line of a name and a word.
+fn put_word(out: &mut String, name: &str, word: &str) -> Result<(), AllocError>
+    ensures { OnOk result (string_bytes out.new ≡ string_bytes out.old
+        ++ text_of (lines.value_lines name.now (Some word.now))) }
+{
+    write!(out, "{name} {word}\n")
+}
+
+/// A line of a name and a number, if there is one.
+fn put_number(out: &mut String, name: &str, number: Option<u64>) -> Result<(), AllocError>
+    ensures { OnOk result (string_bytes out.new ≡ string_bytes out.old
+        ++ text_of (lines.value_lines name.now (option_map decimal number))) }
+{
+    match number {
+        Some(number) => write!(out, "{name} {number}\n"),
+        None => Ok(()),
+    }
+}
+
+fn put_dest(out: &mut String, dest: &S3Path) -> Result<(), AllocError>
+    ensures { OnOk result (string_bytes out.new ≡ string_bytes out.old
+        ++ text_of (lines.value_lines (codes "dest") (Some (lines.path_text dest.now)))) }
+{
+    let bucket = dest.bucket().as_text().as_str();
+    let key = dest.key().as_str();
+    write!(out, "dest s3a://{bucket}/{key}\n")
+}
+
+/// The number, unless it is the one that stands for no line.
+fn unless(default: u64, number: u64) -> Option<u64>
+    ensures { result ≡ lines.unless default number }
+{
+    if number == default {
+        None
+    } else {
+        Some(number)
+    }
+}
+
+/// The head's lines in the format's order.
+pub fn put_head(out: &mut String, script: &Script) -> Result<(), AllocError>
+    ensures { OnOk result (string_bytes out.new ≡ string_bytes out.old ++ text_of (lines.head_lines script.now)) }
+{
+    put_word(out, "job", script.job.as_str())?;
+    put_dest(out, &script.dest)?;
+    put_word(out, "committer", committer_word(script.committer))?;
+    put_number(out, "tasks", Some(u64::from(script.tasks)))?;
+    put_word(out, "mode", mode_word(script.mode))?;
+    put_word(out, "unique", answer_word(script.unique))?;
+    put_number(out, "retries", Some(u64::from(script.retries)))?;
+    put_number(out, "block", unless(0, script.block))?;
+    put_number(out, "lanes", unless(1, u64::from(script.lanes)))?;
+    put_number(out, "stamp", script.stamp)?;
+    put_losses(out, &script.fates)
 }

@@ -1,27 +1,12 @@
 ghost use Rattle.std.specs.Prelude.{◌≡◌};
 ghost use Rattle.job_script.specs.Kinds as table;
+ghost use Rattle.job_script.specs.Script as script;
 
 use crate::draft::Group;
+use crate::head::{HeadWord, head_word};
 use job_model::Op;
 use s3_types::{Committer, Fate, Mode};
 
-/// The head's kinds of lines.
-#[derive(Clone, Copy, Debug, PartialEq, Eq)]
-pub enum HeadWord {
-    Job,
-    Dest,
-    Committer,
-    Tasks,
-    Mode,
-    Unique,
-    Retries,
-    Block,
-    Lanes,
-    Stamp,
-    Loss,
-}
-
-/// The words with which lines of events begin.
 #[derive(Clone, Copy, Debug, PartialEq, Eq)]
 pub enum EventWord {
     Do,
@@ -38,32 +23,12 @@ pub enum EventWord {
 #[derive(Clone, Copy, Debug, PartialEq, Eq)]
 pub enum Kind {
     Head(HeadWord),
+    Loss,
     Attempt,
     File,
     Event(EventWord),
 }
 
-/// The head line that begins with this word, if one does.
-pub fn head_word(word: &str) -> Option<HeadWord>
-    ensures { result ≡ table.named table.head_words word.now }
-{
-    match word {
-        "job" => Some(HeadWord::Job),
-        "dest" => Some(HeadWord::Dest),
-        "committer" => Some(HeadWord::Committer),
-        "tasks" => Some(HeadWord::Tasks),
-        "mode" => Some(HeadWord::Mode),
-        "unique" => Some(HeadWord::Unique),
-        "retries" => Some(HeadWord::Retries),
-        "block" => Some(HeadWord::Block),
-        "lanes" => Some(HeadWord::Lanes),
-        "stamp" => Some(HeadWord::Stamp),
-        "loss" => Some(HeadWord::Loss),
-        _ => None,
-    }
-}
-
-/// The event that begins with this word, if one does.
 pub fn event_word(word: &str) -> Option<EventWord>
     ensures { result ≡ table.named table.event_words word.now }
 {
@@ -82,12 +47,13 @@ pub fn event_word(word: &str) -> Option<EventWord>
 
 /// The kind of line that begins with this word.
 pub fn kind_of(word: &str) -> Option<Kind>
-    ensures { result ≡ table.kind_of word.now }
+    ensures { result ≡ script.kind_of word.now }
 {
     if let Some(head) = head_word(word) {
         return Some(Kind::Head(head));
     }
     match word {
+        "loss" => Some(Kind::Loss),
         "attempt" => Some(Kind::Attempt),
         "file" => Some(Kind::File),
         _ => match event_word(word) {
@@ -171,10 +137,10 @@ pub fn attempt_op(word: &str) -> Option<Op>
 
 /// The group after a line of this kind, where it may stand there.
 pub fn enters(kind: Kind, group: Group) -> Option<Group>
-    ensures { result ≡ table.enters kind group }
+    ensures { result ≡ script.enters kind group }
 {
     match (kind, group) {
-        (Kind::Head(_), Group::Head) => Some(Group::Head),
+        (Kind::Head(_) | Kind::Loss, Group::Head) => Some(Group::Head),
         (Kind::Attempt, Group::Head | Group::Attempts) => Some(Group::Attempts),
         (Kind::File, Group::Attempts) => Some(Group::Attempts),
         (Kind::Event(_), _) => Some(Group::Events),

@@ -13,7 +13,6 @@
 #![tactic(auto)]
 
 mod attempts;
-mod complete;
 mod content;
 mod draft;
 mod events;
@@ -25,7 +24,6 @@ mod paths;
 mod print;
 mod print_events;
 mod print_files;
-mod print_head;
 mod print_losses;
 mod print_words;
 mod reading;

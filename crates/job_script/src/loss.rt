@@ -4,8 +4,9 @@ ghost use Rattle.s3_types.specs.Fates.{is_answer, with_fates};
 ghost use Rattle.job_script.specs.Fault.{Gives, Makes};
 ghost use Rattle.job_script.specs.HeadLines as lines;
 
-use crate::draft::{Head, Loss};
+use crate::draft::Loss;
 use crate::fault::ScriptFault;
+use crate::head::Head;
 use crate::kinds::fate_of;
 use s3_types::{FateFault, Fates};
 use words::{at_most_one, number_within, two_and_more};

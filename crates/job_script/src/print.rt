@@ -4,9 +4,9 @@ ghost use Rattle.job_script.specs.Print.{script_text};
 ghost use Rattle.job_script.specs.Script.{script_of};
 ghost use Rattle.s3_types.specs.declared.limits.TheConstants.{MOST_SCRIPT_BYTES};
 
+use crate::head::put_head;
 use crate::print_events::put_events;
 use crate::print_files::put_attempts;
-use crate::print_head::put_head;
 use job_model::Script;
 use s3_types::Bytes;
 use std::alloc::{AllocError, Global};

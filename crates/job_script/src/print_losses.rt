@@ -1,7 +1,7 @@
 ghost use Rattle.std.specs.Prelude.{◌≡◌, ◌++◌, string_bytes, OnOk};
 ghost use Rattle.words.specs.Words.{ended, text_of};
 ghost use Rattle.job_model.specs.Legal.{AreFates};
-ghost use Rattle.job_script.specs.Print.{loss_line, loss_lines};
+ghost use Rattle.job_script.specs.HeadLines.{loss_line, loss_lines};
 
 use crate::print_words::fate_word;
 use s3_types::{Fate, Fates};

@@ -1,6 +1,6 @@
 ghost use Rattle.std.specs.Prelude.{◌≡◌};
 ghost use Rattle.pending_json.specs.Trees.{committer_word};
-ghost use Rattle.job_script.specs.Print as print;
+ghost use Rattle.job_script.specs.Kinds as table;
 
 use s3_types::{Committer, Fate, Mode};
 
@@ -17,7 +17,7 @@ pub fn committer_word(committer: Committer) -> &'static str
 
 /// The name of a conflict mode.
 pub fn mode_word(mode: Mode) -> &'static str
-    ensures { result.now ≡ print.mode_word mode }
+    ensures { result.now ≡ table.mode_word mode }
 {
     match mode {
         Mode::Fail => "fail",
@@ -28,14 +28,14 @@ pub fn mode_word(mode: Mode) -> &'static str
 
 /// `yes` or `no`.
 pub fn answer_word(answer: bool) -> &'static str
-    ensures { result.now ≡ print.answer_word answer }
+    ensures { result.now ≡ table.answer_word answer }
 {
     if answer { "yes" } else { "no" }
 }
 
 /// The name of a fate.
 pub fn fate_word(fate: Fate) -> &'static str
-    ensures { result.now ≡ print.fate_word fate }
+    ensures { result.now ≡ table.fate_word fate }
 {
     match fate {
         Fate::Answer => "answer",

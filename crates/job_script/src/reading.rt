@@ -7,37 +7,23 @@ ghost use Rattle.job_script.specs.Fault.{Gives, Makes};
 ghost use Rattle.job_script.specs.Script as script;
 
 use crate::attempts::{attempt_line, file_line};
-use crate::complete::complete;
-use crate::draft::{Draft, Group, Head};
+use crate::draft::{Draft, Group};
 use crate::events::event_line;
 use crate::fault::ScriptFault;
-use crate::head::head_line;
+use crate::head::{complete, head_line, no_head};
 use crate::kinds::{Kind, enters, kind_of};
+use crate::loss::loss_line;
 use job_model::{Attempts, EventList, Script};
-use s3_types::{Fates, MOST_SCRIPT_BYTES};
+use s3_types::MOST_SCRIPT_BYTES;
 use std::alloc::Global;
 use words::{next_field, next_line};
 
 fn nothing(alloc: Global) -> Draft
     ensures { result ≡ script.nothing }
 {
-    let head = Head {
-        job: None,
-        dest: None,
-        committer: None,
-        tasks: None,
-        mode: None,
-        unique: None,
-        retries: None,
-        block: None,
-        lanes: None,
-        stamp: None,
-        fates: Fates::new(alloc),
-        losses: 0,
-    };
     Draft {
         group: Group::Head,
-        head,
+        head: no_head(alloc),
         attempts: Attempts::new(alloc),
         outside: None,
         files: 0,
@@ -59,6 +45,7 @@ fn kind_line(
 {
     match kind {
         Kind::Head(word) => head_line(alloc, &mut draft.head, line, word, rest),
+        Kind::Loss => loss_line(&mut draft.head, line, rest),
         Kind::Attempt => attempt_line(alloc, draft, line, rest),
         Kind::File => file_line(alloc, draft, line, rest),
         Kind::Event(word) => event_line(draft, line, word, rest),

@@ -1,4 +1,4 @@
-use Rattle.job_script.proofs.Losses.{named_where_ok, named_where_taken}
+use Rattle.job_script.proofs.LossLines.{named_where_ok, named_where_taken}
 use Rattle.job_script.proofs.loss.named.Goals as goal
 
 pub returns-in-Ok : goal.returns-in-Ok

@@ -5,7 +5,7 @@ use Rattle.job_model.specs.Legal.{IsLegal}
 use Rattle.job_script.specs.Print.{script_text}
 use Rattle.job_script.specs.Script.{script_of}
 use Rattle.job_script.proofs.PrintLines.{script_is}
-use Rattle.job_script.proofs.Again.{read_again}
+use Rattle.job_script.proofs.Whole.{read_again}
 use Rattle.job_script.proofs.print.print_script.Goals as goal
 
 pub returns : goal.returns

@@ -1,5 +1,5 @@
 use Rattle.std.proofs.Common.{arith}
-use Rattle.job_script.proofs.PrintLosses.{all_losses, next_loss, no_loss}
+use Rattle.job_script.proofs.LossLines.{all_losses, next_loss, no_loss}
 use Rattle.job_script.proofs.print_losses.put_losses.Goals as goal
 
 pub loop-sending-init : goal.loop-sending-init

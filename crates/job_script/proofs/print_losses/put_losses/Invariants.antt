@@ -1,7 +1,7 @@
 use Rattle.std.proofs.Common.{◌≡◌, ◌++◌, ◌-◌, ◌≤◌, string_bytes}
 use Rattle.words.specs.Words.{text_of}
-use Rattle.job_script.specs.Print.{loss_lines}
-use Rattle.job_script.proofs.PrintLosses.{losses_from}
+use Rattle.job_script.specs.HeadLines.{loss_lines}
+use Rattle.job_script.proofs.LossLines.{losses_from}
 use Rattle.job_script.proofs.print_losses.put_losses.Given as goal
 
 abbrev pub invariant-loop-sending : goal.invariant-loop-sending

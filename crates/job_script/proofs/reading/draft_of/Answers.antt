@@ -1,5 +1,5 @@
 use Rattle.std.proofs.Common.{◌∙◌, sym}
-use Rattle.job_script.proofs.Ends.{at_end}
+use Rattle.job_script.proofs.Whole.{at_end}
 use Rattle.job_script.proofs.reading.draft_of.Goals as goal
 
 pub returns : goal.returns

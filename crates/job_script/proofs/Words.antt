@@ -1,21 +1,95 @@
--- Lines and words of a text in UTF-8.
-use Rattle.std.proofs.Common.{◌≡◌, ℕ, ◌+◌, ◌-◌, ◌<◌, ◌==◌, Bool, true, false, cond, List, [], ◌∷◌, ◌++◌, length, take, drop, get_or, refl, sym, ap, subst, ◌∙◌, arith, append_assoc}
-use Rattle.std.specs.Prelude.{◌&&◌, nat_lt, slice_index}
+-- Numbers and names that words tell, words of letters, and the words of a text in UTF-8.
+use Rattle.std.proofs.Common.{◌≡◌, ℕ, ◌-◌, ◌<◌, ◌≤◌, ◌^◌, ◌==◌, Bool, true, false, cond, List, [], ◌∷◌, ◌++◌, length, take, drop, get_or, Option, Some, refl, sym, ap, subst, ◌∙◌, arith, append_assoc, decimal}
+use Rattle.std.specs.Prelude.{◌&&◌, nat_lt, bytes_eq, slice_index, if◌then◌else◌}
 use Rattle.std.specs.List.{list_all, AllByRecursion}
-use Rattle.std.specs.Str.{IsUtf8, is_utf8}
-use Rattle.std.proofs.lemmas.Bool.{and_parts, eqb-true, ltb-true}
+use Rattle.std.specs.Str.{IsAscii, IsUtf8, is_utf8}
+use Rattle.std.proofs.lemmas.Bool.{and_parts, eqb-true, leb-true, ltb-true, lt-ltb}
+use Rattle.std.proofs.lemmas.Bool.Decides.{nat_tests}
+use Rattle.std.proofs.lemmas.Fmt.{decimal_nonempty}
 use Rattle.std.proofs.lemmas.List.{append-nil, take-append-drop}
 use Rattle.std.proofs.lemmas.List.Folds.{list_all-append}
-use Rattle.std.proofs.lemmas.Str.{IsUtf8-take, IsCharBoundary-before_ascii, is_utf8-from_IsUtf8, IsUtf8-from_is_utf8}
+use Rattle.std.proofs.lemmas.Str.{IsUtf8-take, IsCharBoundary-before_ascii, IsUtf8-from_ascii, is_utf8-from_IsUtf8, IsUtf8-from_is_utf8}
+use Rattle.std.proofs.lemmas.Str.Ascii.{IsAscii-nil, IsAscii-cons}
+use Rattle.proof_base.proofs.Lists.{weaker}
 use Rattle.words.specs.Lines.{lines_of, lines_from, unless_empty, is_inside, without_return}
+use Rattle.words.specs.Numbers.{number_in, is_digit}
 use Rattle.words.specs.Parts.{parts_from}
-use Rattle.words.specs.Words.{words_of, is_bare, IsBare}
+use Rattle.words.specs.Words.{words_of, is_plain, IsWord, is_bare, IsBare}
+use Rattle.words.proofs.Round.{word_bare, digit_inside}
 use Rattle.words.proofs.Utf8.{utf8_cut}
+use Rattle.s3_types.specs.Names.{is_job_id, is_id_byte}
 use Rattle.job_model.specs.Legal.{IsScriptWord}
+use Rattle.job_script.specs.Kinds.{Names, named}
 
 pub either : {A : Type 0} (P : A → Type 0) (b : Bool) (x y : A) → (b ≡ true → P x) → (b ≡ false → P y) → P (cond b x y)
 either P true x y f g = f refl
 either P false x y f g = g refl
+
+-- ---- numbers and names
+
+-- a number that was read is within its bounds
+pub number_bounds : (low high : ℕ) (word : List ℕ) (x : ℕ) → number_in low high word ≡ Some x → (low ≤ x) × (x ≤ high)
+number_bounds low high word x h = grind arith
+
+named_at : {A : Type 0} (P : A → Type 0) (b : Bool) (y x : A) (later : Option A) → P y → (later ≡ Some x → P x) → (if b then Some y else later) ≡ Some x → P x
+named_at P b y x later p old h = grind arith
+
+-- what holds of each row of a table holds of what it names
+pub named_all : {A : Type 0} (P : A → Type 0) (rows : Names A) (word : List ℕ) (x : A) → AllByRecursion (λ row. P row.1) rows → named rows word ≡ Some x → P x
+named_all P [] word x all h = absurd cc
+named_all P (row ∷ rows) word x all h = named_at P (bytes_eq word row.0) row.1 x (named rows word) all.0 (λ k. named_all P rows word x all.1 k) h
+
+-- ---- words of letters
+
+-- ASCII without blank and line ends
+abbrev pub is_letter : ℕ → Bool
+is_letter b = nat_lt b 128 && is_plain b
+
+letters_ascii : (w : List ℕ) → list_all is_letter w ≡ true → IsAscii w
+letters_ascii [] h = IsAscii-nil
+letters_ascii (b ∷ w) h =
+    let p = and_parts (is_letter b) (list_all is_letter w) h in
+    let small : b < 128 = ltb-true b 128 (and_parts (nat_lt b 128) (is_plain b) p.0).0 in
+    IsAscii-cons b w small (letters_ascii w p.1)
+
+letter_plain : (b : ℕ) → is_letter b ≡ true → is_plain b ≡ true
+letter_plain b h = (and_parts (nat_lt b 128) (is_plain b) h).1
+
+pub plain_word : (w : List ℕ) → list_all is_letter w ≡ true → IsWord w
+plain_word w h = weaker is_letter is_plain letter_plain w h
+
+-- such a word may stand in a script
+pub literal_word : (w : List ℕ) → list_all is_letter w ≡ true → IsScriptWord w
+literal_word w h = (is_utf8-from_IsUtf8 w (IsUtf8-from_ascii w (letters_ascii w h)), word_bare w (plain_word w h))
+
+-- a word of letters, one at least
+abbrev pub is_lettered : List ℕ → Bool
+is_lettered w = nat_lt 0 (length w) && list_all is_letter w
+
+pub lettered : (w : List ℕ) → 0 < length w → list_all is_letter w ≡ true → is_lettered w ≡ true
+lettered w some h = rw (lt-ltb 0 (length w) some) h
+
+digit_letter : (b : ℕ) → is_digit b ≡ true → is_letter b ≡ true
+digit_letter b h = grind arith
+
+pub decimal_letters : (n : ℕ) → n < 2 ^ 64 → list_all is_letter (decimal n) ≡ true
+decimal_letters n h = weaker is_digit is_letter digit_letter (decimal n) (digit_inside n h)
+
+pub decimal_lettered : (n : ℕ) → n < 2 ^ 64 → is_lettered (decimal n) ≡ true
+decimal_lettered n h = lettered (decimal n) (decimal_nonempty n h) (decimal_letters n h)
+
+pub letters_end : (xs ys : List ℕ) → list_all is_letter xs ≡ true → list_all is_letter ys ≡ true → list_all is_letter (xs ++ ys) ≡ true
+letters_end xs ys h k = list_all-append is_letter xs ys ∙ rw (h, k) refl
+
+id_letter : (b : ℕ) → is_id_byte b ≡ true → is_letter b ≡ true
+id_letter b h = grind (arith, nat_tests)
+
+pub id_lettered : (id : List ℕ) → is_job_id id ≡ true → is_lettered id ≡ true
+id_lettered id h =
+    let p = and_parts _ (list_all is_id_byte id) h in
+    lettered id (leb-true 1 (length id) (and_parts _ _ p.0).0) (weaker is_id_byte is_letter id_letter id p.1)
+
+-- ---- a text in UTF-8
 
 -- UTF-8 whose bytes all pass a test
 pub record IsClean (p : ℕ → Bool) (w : List ℕ) : Type 0 where
@@ -30,7 +104,7 @@ clean_cut p b xs ys small h =
     (record { utf8 = u.0; all = e.0 }, record { utf8 = u.1; all = f.1 })
 
 -- a text up to an ASCII byte
-pub clean_take : (p : ℕ → Bool) (w : List ℕ) (i : ℕ) → i < length w → get_or w i 0 < 128 → IsClean p w → IsClean p (take i w)
+clean_take : (p : ℕ → Bool) (w : List ℕ) (i : ℕ) → i < length w → get_or w i 0 < 128 → IsClean p w → IsClean p (take i w)
 clean_take p w i fits at h =
     let whole : list_all p (take i w ++ drop i w) ≡ true = ap (list_all p) (take-append-drop i w) ∙ h.all in
     let e = and_parts (list_all p (take i w)) (list_all p (drop i w)) (sym (list_all-append p (take i w) (drop i w)) ∙ whole) in
@@ -47,8 +121,6 @@ clean_end p b w small h =
     clean_take p w (length w - 1) (omega (arith, some)) (omega (arith, at, small)) h)
     (λ e. h)
 
--- ---- lines
-
 unless_clean : (line : List ℕ) → IsClean is_inside line → AllByRecursion (IsClean is_inside) (unless_empty line)
 unless_clean [] h = tt
 unless_clean (x ∷ xs) h = (h, tt)
@@ -57,8 +129,7 @@ no_line_end : (x : ℕ) → (x == 10) ≡ false → is_inside x ≡ true
 no_line_end x e = rw e refl
 
 one_more : (p : ℕ → Bool) (xs : List ℕ) (x : ℕ) → list_all p xs ≡ true → p x ≡ true → list_all p (xs ++ x ∷ []) ≡ true
-one_more p [] x h e = rw e refl
-one_more p (y ∷ ys) x h e = let q = and_parts (p y) (list_all p ys) h in rw (q.0, one_more p ys x q.1 e) refl
+one_more p xs x h e = list_all-append p xs (x ∷ []) ∙ rw (h, e) refl
 
 lines_clean : (line rest : List ℕ) → IsUtf8 (line ++ rest) → list_all is_inside line ≡ true → AllByRecursion (IsClean is_inside) (lines_from line rest)
 unfolding lines_from
@@ -74,8 +145,6 @@ lines_clean line (x ∷ xs) h k =
 -- the lines of a text in UTF-8 are so, and have no LF
 pub text_clean : (bytes : List ℕ) → is_utf8 bytes ≡ true → AllByRecursion (IsClean is_inside) (lines_of bytes)
 text_clean bytes h = lines_clean [] bytes (IsUtf8-from_is_utf8 bytes h) refl
-
--- ---- words
 
 pub script_word : (w : List ℕ) → IsClean is_bare w → IsScriptWord w
 script_word w h = (is_utf8-from_IsUtf8 w h.utf8, h.all)

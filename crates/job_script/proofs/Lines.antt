@@ -1,0 +1,158 @@
+-- The lines of a printed text are read again, one after another.
+use Rattle.std.proofs.Common.{◌≡◌, ℕ, ◌+◌, ◌<◌, true, false, List, [], ◌∷◌, ◌++◌, length, map, Some, Ok, sym, ap, subst, ◌∙◌, arith, append_assoc}
+use Rattle.std.specs.Prelude.{nat_lt}
+use Rattle.std.specs.List.{list_all, AllByRecursion}
+use Rattle.std.specs.Str.{IsUtf8, is_utf8}
+use Rattle.std.proofs.lemmas.Bool.{and_parts}
+use Rattle.std.proofs.lemmas.List.{append-nil, length-append, map-append}
+use Rattle.std.proofs.lemmas.Str.{IsUtf8-append, IsUtf8-nil, IsUtf8-from_ascii, IsUtf8-from_is_utf8, is_utf8-from_IsUtf8}
+use Rattle.std.proofs.lemmas.Str.Ascii.{IsAscii-nil, IsAscii-cons}
+use Rattle.proof_base.specs.Reading.{◌>>=◌}
+use Rattle.words.specs.Lines.{lines_of, without_return}
+use Rattle.words.specs.Words.{joined, ended, text_of, IsBare}
+use Rattle.words.proofs.Round.{AreLines, lines_again, bare-joined, kept_end}
+use Rattle.job_model.specs.Legal.{IsScriptWord}
+use Rattle.job_script.specs.declared.draft.Draft.{Draft}
+use Rattle.job_script.specs.declared.draft.Group.{Group}
+use Rattle.job_script.specs.declared.kinds.Kind.{Kind}
+use Rattle.job_script.specs.Kinds.{Line}
+use Rattle.job_script.specs.Script.{kind_of, enters, is_skipped, said_at, words_at, line_at, lines_at}
+use Rattle.job_script.proofs.Words.{is_letter, is_lettered, literal_word, plain_word}
+
+-- ---- a printed line
+
+-- a last word that keeps its end
+abbrev pub IsLast : List ℕ → Type 0
+IsLast w = (front : List ℕ) → without_return (front ++ w) ≡ front ++ w
+
+-- a line whose last word is so
+abbrev pub IsKept : Line → Type 0
+IsKept [] = ⊥
+IsKept (w ∷ []) = IsLast w
+IsKept (w ∷ v ∷ ws) = IsKept (v ∷ ws)
+
+-- a line of words that is not skipped and keeps its end
+pub record IsPrinted (ws : Line) : Type 0 where
+  pub words : AllByRecursion IsScriptWord ws
+  pub kept : IsKept ws
+  pub shown : is_skipped (joined ws) ≡ false
+
+kept_joined : (front : List ℕ) (ws : Line) → IsKept ws → without_return (front ++ joined ws) ≡ front ++ joined ws
+kept_joined front [] k = absurd k
+kept_joined front (w ∷ []) k = k front
+kept_joined front (w ∷ v ∷ ws) k =
+    let e : front ++ (w ++ 32 ∷ joined (v ∷ ws)) ≡ (front ++ (w ++ 32 ∷ [])) ++ joined (v ∷ ws) = simp append_assoc in
+    ap without_return e ∙ kept_joined (front ++ (w ++ 32 ∷ [])) (v ∷ ws) k ∙ sym e
+
+-- a word of letters, one at least, keeps its end
+pub plain_last : (w : List ℕ) → is_lettered w ≡ true → IsLast w
+plain_last [] h = absurd cc
+plain_last (x ∷ xs) h = λ front. kept_end front x xs (plain_word (x ∷ xs) (and_parts (nat_lt 0 (length (x ∷ xs))) _ h).1)
+
+-- such a word may stand in a script
+pub lettered_word : (w : List ℕ) → is_lettered w ≡ true → IsScriptWord w
+lettered_word w h = literal_word w (and_parts (nat_lt 0 (length w)) (list_all is_letter w) h).1
+
+letters_kept : (w : List ℕ) (ws : Line) → list_all is_lettered (w ∷ ws) ≡ true → IsKept (w ∷ ws)
+letters_kept w [] h = plain_last w (and_parts (is_lettered w) true h).0
+letters_kept w (v ∷ ws) h = letters_kept v ws (and_parts (is_lettered w) _ h).1
+
+letters_words : (ws : Line) → list_all is_lettered ws ≡ true → AllByRecursion IsScriptWord ws
+letters_words [] h = tt
+letters_words (w ∷ ws) h = let p = and_parts (is_lettered w) _ h in (lettered_word w p.0, letters_words ws p.1)
+
+-- a line of words of letters
+pub printed : (w : List ℕ) (ws : Line) → list_all is_lettered (w ∷ ws) ≡ true → is_skipped (joined (w ∷ ws)) ≡ false → IsPrinted (w ∷ ws)
+printed w ws h shown = record { words = letters_words (w ∷ ws) h; kept = letters_kept w ws h; shown = shown }
+
+-- ---- the text of printed lines
+
+bares : (ws : Line) → AllByRecursion IsScriptWord ws → AllByRecursion IsBare ws
+bares [] h = tt
+bares (w ∷ ws) h = (h.0.1, bares ws h.1)
+
+are_lines : (ls : List Line) → AllByRecursion IsPrinted ls → AreLines ls
+are_lines [] h = tt
+are_lines ([] ∷ ls) h = absurd h.0.kept
+are_lines ((w ∷ ws) ∷ ls) h = (record { bare = bares (w ∷ ws) h.0.words; kept = kept_joined [] (w ∷ ws) h.0.kept }, are_lines ls h.1)
+
+-- what the text of printed lines is read as
+pub lines_printed : (ls : List Line) → AllByRecursion IsPrinted ls → lines_of (text_of ls) ≡ map joined ls
+lines_printed ls h = lines_again ls (are_lines ls h)
+
+one_byte : (b : ℕ) → b < 128 → IsUtf8 (b ∷ [])
+one_byte b h = IsUtf8-from_ascii (b ∷ []) (IsAscii-cons b [] h IsAscii-nil)
+
+joined_utf8 : (ws : Line) → AllByRecursion IsScriptWord ws → IsUtf8 (joined ws)
+joined_utf8 [] h = IsUtf8-nil
+joined_utf8 (w ∷ []) h = IsUtf8-from_is_utf8 w h.0.0
+joined_utf8 (w ∷ v ∷ ws) h = IsUtf8-append w (32 ∷ joined (v ∷ ws)) (IsUtf8-from_is_utf8 w h.0.0) (IsUtf8-append (32 ∷ []) (joined (v ∷ ws)) (one_byte 32 (omega arith)) (joined_utf8 (v ∷ ws) h.1))
+
+text_utf8 : (ls : List Line) → AllByRecursion IsPrinted ls → IsUtf8 (text_of ls)
+text_utf8 [] h = IsUtf8-nil
+text_utf8 (l ∷ ls) h = IsUtf8-append (ended l) (text_of ls) (IsUtf8-append (joined l) (10 ∷ []) (joined_utf8 l h.0.words) (one_byte 10 (omega arith))) (text_utf8 ls h.1)
+
+pub printed_utf8 : (ls : List Line) → AllByRecursion IsPrinted ls → is_utf8 (text_of ls) ≡ true
+printed_utf8 ls h = is_utf8-from_IsUtf8 (text_of ls) (text_utf8 ls h)
+
+-- ---- from one draft to the next
+
+-- these lines are printed, and reading goes over them from the draft d at line n to the draft e
+pub record Goes (n : ℕ) (d : Draft) (ls : List Line) (e : Draft) : Type 0 where
+  pub printed : AllByRecursion IsPrinted ls
+  pub reads : (rest : List (List ℕ)) → lines_at n d (map joined ls ++ rest) ≡ lines_at (n + length ls) e rest
+
+pub goes_nowhere : (n : ℕ) (d : Draft) → Goes n d [] d
+goes_nowhere n d = let e : n ≡ n + 0 = omega arith in record { printed = tt; reads = λ rest. ap (λ (m : ℕ). lines_at m d rest) e }
+
+line_printed : (n : ℕ) (d : Draft) (l : Line) → IsPrinted l → line_at n d (joined l) ≡ words_at n d l
+line_printed n d [] h = absurd h.kept
+line_printed n d (w ∷ ws) h = rw h.shown (ap (words_at n d) (bare-joined w ws (bares (w ∷ ws) h.words)))
+
+next_line : (n : ℕ) (d e : Draft) (text : List ℕ) (texts : List (List ℕ)) → line_at n d text ≡ Ok e → lines_at n d (text ∷ texts) ≡ lines_at (n + 1) e texts
+unfolding lines_at
+next_line n d e text texts h = ap (λ r. r >>= λ (next : Draft). lines_at (n + 1) next texts) h
+
+-- one line
+pub goes_on : (n : ℕ) (d e : Draft) (l : Line) → IsPrinted l → words_at n d l ≡ Ok e → Goes n d (l ∷ []) e
+goes_on n d e l is h = record { printed = (is, tt); reads = λ rest. next_line n d e (joined l) rest (line_printed n d l is ∙ h) }
+
+printed_end : (ls ms : List Line) → AllByRecursion IsPrinted ls → AllByRecursion IsPrinted ms → AllByRecursion IsPrinted (ls ++ ms)
+printed_end [] ms h k = k
+printed_end (l ∷ ls) ms h k = (h.0, printed_end ls ms h.1 k)
+
+-- lines behind lines
+pub goes_through : (n : ℕ) (d : Draft) (ls : List Line) (e : Draft) (ms : List Line) (f : Draft) → Goes n d ls e → Goes (n + length ls) e ms f → Goes n d (ls ++ ms) f
+goes_through n d ls e ms f first second =
+    let all : n + length ls + length ms ≡ n + length (ls ++ ms) = omega (arith, length-append ls ms) in
+    let split = λ (rest : List (List ℕ)). ap (λ (l : List (List ℕ)). l ++ rest) (map-append joined ls ms) ∙ append_assoc (map joined ls) (map joined ms) rest in
+    record {
+      printed = printed_end ls ms first.printed second.printed;
+      reads = λ rest. ap (lines_at n d) (split rest) ∙ first.reads (map joined ms ++ rest) ∙ second.reads rest ∙ ap (λ (m : ℕ). lines_at m f rest) all;
+    }
+
+-- lines up to the last
+pub goes_all : (n : ℕ) (d : Draft) (ls : List Line) (e : Draft) → Goes n d ls e → lines_at n d (map joined ls) ≡ Ok e
+unfolding lines_at
+goes_all n d ls e h = ap (lines_at n d) (sym (append-nil (map joined ls))) ∙ h.reads []
+
+-- a list of things, each printed in some lines: `state` is the draft behind those before, and `Are` is what holds of those before and those behind
+module _ {A : Type 0} (lines : A → List Line) (print : List A → List Line) (none : print [] ≡ []) (more : (x : A) (xs : List A) → print (x ∷ xs) ≡ lines x ++ print xs)
+    (state : List A → Draft) (whole : List A) (Are : List A → List A → Type 0) where
+  -- one more goes from the state before it to the one behind it
+  abbrev pub GoesOne : Type 0
+  GoesOne = (n : ℕ) (before : List A) (x : A) (after : List A) → before ++ x ∷ after ≡ whole → Are before (x ∷ after) → Goes n (state before) (lines x) (state (before ++ x ∷ [])) × Are (before ++ x ∷ []) after
+
+  pub each_goes : GoesOne → (n : ℕ) (before after : List A) → before ++ after ≡ whole → Are before after → Goes n (state before) (print after) (state whole)
+  each_goes one n before [] e are = subst (λ (ls : List Line). Goes n (state before) ls (state whole)) (sym none) (subst (λ (l : List A). Goes n (state before) [] (state l)) (sym (append-nil before) ∙ e) (goes_nowhere n (state before)))
+  each_goes one n before (x ∷ xs) e are =
+      let g = one n before x xs e are in
+      subst (λ (ls : List Line). Goes n (state before) ls (state whole)) (sym (more x xs))
+      (goes_through n (state before) (lines x) (state (before ++ x ∷ [])) (print xs) (state whole) g.0 (each_goes one (n + length (lines x)) (before ++ x ∷ []) xs (append_assoc before (x ∷ []) xs ∙ e) g.1))
+
+-- ---- what a line is read by
+
+-- a line is read by its kind, where it may stand there
+pub said : (n : ℕ) (word : List ℕ) (k : Kind) (g : Group) (values : List (List ℕ)) (d e : Draft) → kind_of word ≡ Some k → enters k d.group ≡ Some g → said_at n k (record d { group = g }) values ≡ Ok e → words_at n d (word ∷ values) ≡ Ok e
+unfolding words_at
+said n word k g values d e a b h = rw (a, b) h
