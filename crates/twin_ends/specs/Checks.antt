@@ -1,0 +1,45 @@
+-- How the check before the commit of a job at a shared destination ends, by its entries alone.
+use Rattle.std.specs.Prelude.{◌≡◌, ℕ, false, Bool, List, [], ◌∷◌, ◌++◌, ◌⊎◌, Option, Some, None}
+use Rattle.s3_types.specs.declared.request.Request.{Request}
+use Rattle.s3_types.specs.declared.request.Request.TheVariants.{ListPage}
+use Rattle.s3_types.specs.declared.reply.Reply.TheVariants.{Page}
+use Rattle.s3_types.specs.declared.reply.PageEntry.{PageEntry}
+use Rattle.s3_types.specs.declared.journal.Outcome.{Outcome}
+use Rattle.s3_types.specs.declared.journal.Outcome.TheVariants.{Answered}
+use Rattle.s3_types.specs.declared.journal.Entry.{Entry}
+use Rattle.sendings.specs.Operation.{Follows, run}
+use Rattle.sendings.specs.Retries.{Retried, wants_of, fresh, step}
+use Rattle.sendings.specs.Worn.{WornFirst}
+use Rattle.list_walk.specs.Walks.{keys_on, page_after}
+use Rattle.job_model.specs.Attempts.{Who}
+use Rattle.job_model.specs.JobScript.{Script}
+use Rattle.job_operations.specs.Setup.{dest_prefix, first_shown}
+use Rattle.job_operations.specs.TaskCommits.{partition_prefix}
+use Rattle.twin_facts.specs.Rechecks.{Check, CheckOver, CheckEnd, Clear, Conflict, CheckFault, check_start, check_asks, check_after}
+
+-- the check of the files of these attempts, as it begins
+abbrev pub checking : Script → List Who → Retried Check
+checking w reported = fresh w.retries (check_start w reported)
+
+abbrev pub next : Script → Retried Check → Outcome → Retried Check
+next w = step w.retries (check_after w)
+
+-- these entries are what it asks, and lead so far
+abbrev pub Checked : Script → List Who → List Entry → Retried Check → Type 0
+Checked w reported es t = Follows (wants_of (check_asks w)) (next w) (checking w reported) es × (run (next w) (checking w reported) es ≡ t)
+
+-- The entry's answer showed it: a page of the destination with a file at this path, the first on it, or a key below this partition.
+abbrev pub ShownBy : Script → List ℕ → Entry → Type 0
+ShownBy w p e = (page : List PageEntry) × (more : Bool) × (e.outcome ≡ Answered (Page page more))
+    × (((keys : List (List ℕ)) × (e.request ≡ page_after w.dest.bucket (dest_prefix w) keys) × (first_shown w (keys_on page) ≡ Some p))
+    ⊎ ((e.request ≡ ListPage w.dest.bucket (partition_prefix w p) false [] 1) × (x : PageEntry) × (xs : List PageEntry) × (page ≡ x ∷ xs)))
+
+-- how it ends, by the first of its requests that wore out, and by its last entry
+abbrev pub CheckIs : Script → List Entry → Option Request → CheckEnd → Type 0
+CheckIs w es (Some r) end = end ≡ CheckFault
+CheckIs w es None Clear = Unit {0}
+CheckIs w es None (Conflict p) = (before : List Entry) × (e : Entry) × (es ≡ before ++ e ∷ []) × ShownBy w p e
+CheckIs w es None _ = ⊥
+
+abbrev pub ChecksEnd : Type 0
+ChecksEnd = (w : Script) (reported : List Who) (es : List Entry) (t : Retried Check) → Checked w reported es t → (end : CheckEnd) → t.operation ≡ CheckOver end → (worn : Option Request) × WornFirst w.retries es worn × CheckIs w es worn end

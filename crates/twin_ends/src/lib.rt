@@ -1,0 +1,22 @@
+//! How the commit of one of two jobs at one destination ends, in every run of both.
+//!
+//! # What is proved
+//!
+//! The check of the mode fail ends by a request that wore out, or with the path or partition that its last answer
+//! showed, or clear (`checks`). The commit of a job at a shared destination ends with the first of these that holds: a
+//! task that none had reported, what its check ends with, and what is due of a job alone by its requests that wore out
+//! and by its picks, whatever the other job sends (`commits`).
+#![tactic(auto)]
+
+ghost use Rattle.twin_ends.specs.Checks.{ChecksEnd};
+ghost use Rattle.twin_ends.specs.Ends.{TwinCommitsEnd};
+
+/// The check before a commit, by its entries alone.
+pub fn checks()
+    ensures end { ChecksEnd }
+{}
+
+/// The commit of the first of two jobs, in every run of both.
+pub fn commits()
+    ensures end { TwinCommitsEnd }
+{}

@@ -1,0 +1,95 @@
+-- What names only one job's own is a stranger's to the other.
+use Rattle.std.proofs.Common.{◌≡◌, ℕ, inl, inr, not, Bool, true, false, List, ◌∷◌, ◌++◌, Some, refl, sym, ap, ◌∙◌, append_assoc, codes}
+use Rattle.std.proofs.lemmas.List.{append_cancel_left}
+use Rattle.s3_types.specs.Names.{is_job_id}
+use Rattle.s3_types.specs.Pages.{begins}
+use Rattle.s3_types.specs.declared.request.Request.{Request}
+use Rattle.s3_types.specs.declared.request.Request.TheVariants.{PutObject, DeleteObject, DeleteObjects, CopyObject, UploadPart, CompleteUpload, AbortUpload, ClusterPut, ClusterRename, ClusterDelete}
+use Rattle.path_keys.specs.Paths.{Path}
+use Rattle.magic_paths.specs.Layout.{magic_prefix, cluster_prefix}
+use Rattle.magic_paths.proofs.Elements.{id_others}
+use Rattle.magic_paths.proofs.Tails.{begins_back, cut_once}
+use Rattle.job_model.specs.Attempts.{Who}
+use Rattle.job_model.specs.JobScript.{Script}
+use Rattle.job_model.specs.Known.{Drawn}
+use Rattle.job_model.specs.Legal.{IsLegal}
+use Rattle.request_frame.specs.Members.{IsIn}
+use Rattle.request_frame.specs.Frame.{changed_keys, changed_upload, changed_paths}
+use Rattle.request_frame.proofs.Members.{false_true, none_some}
+use Rattle.job_facts.specs.Stores.{IsKnown}
+use Rattle.job_facts.specs.Foreign.{IsForeign}
+use Rattle.job_facts.proofs.JobCommitting.{no_magic}
+use Rattle.twin_facts.specs.Names.{named_keys, named_upload, named_paths, NamesOwn, IsStranger, Ids}
+use Rattle.twin_facts.specs.Laws.{AreTwins}
+
+-- ---- directories of two jobs
+
+-- what is below two of them is below one
+one_job : (front i o r t : List ℕ) → is_job_id i ≡ true → is_job_id o ≡ true → front ++ (i ++ 47 ∷ r) ≡ front ++ (o ++ 47 ∷ t) → i ≡ o
+one_job front i o r t a b e = (cut_once 47 i o r t (id_others i a) (id_others o b) (append_cancel_left front _ _ e)).front
+
+pub one_magic : (dest i o k : List ℕ) → is_job_id i ≡ true → is_job_id o ≡ true → begins (magic_prefix dest i) k ≡ true → begins (magic_prefix dest o) k ≡ true → i ≡ o
+one_magic dest i o k a b h g =
+    let x = begins_back (magic_prefix dest i) k h in
+    let y = begins_back (magic_prefix dest o) k g in
+    one_job (dest ++ codes "/__magic/job-") i o x.0 y.0 a b (sym (whole i x.0) ∙ sym x.1 ∙ y.1 ∙ whole o y.0)
+  where
+    whole : (i r : List ℕ) → magic_prefix dest i ++ r ≡ (dest ++ codes "/__magic/job-") ++ (i ++ 47 ∷ r)
+    whole i r =
+        append_assoc dest (codes "/__magic/job-" ++ (i ++ codes "/")) r
+        ∙ ap (λ l. dest ++ (codes "/__magic/job-" ++ l)) (append_assoc i (codes "/") r)
+        ∙ sym (append_assoc dest (codes "/__magic/job-") (i ++ 47 ∷ r))
+
+pub one_cluster : (i o p : List ℕ) → is_job_id i ≡ true → is_job_id o ≡ true → begins (cluster_prefix i) p ≡ true → begins (cluster_prefix o) p ≡ true → i ≡ o
+one_cluster i o p a b h g =
+    let x = begins_back (cluster_prefix i) p h in
+    let y = begins_back (cluster_prefix o) p g in
+    one_job (codes "jobs/") i o x.0 y.0 a b (sym (whole i x.0) ∙ sym x.1 ∙ y.1 ∙ whole o y.0)
+  where
+    whole : (i r : List ℕ) → cluster_prefix i ++ r ≡ codes "jobs/" ++ (i ++ 47 ∷ r)
+    whole i r = ap (λ l. codes "jobs/" ++ l) (append_assoc i (codes "/") r)
+
+-- ---- strangers
+
+not_both : {b : Bool} → (b ≡ true → ⊥) → b ≡ false
+not_both {b = true} h = absurd (h refl)
+not_both {b = false} h = refl
+
+pub twin_stranger : (w v : Script) → IsLegal w → IsLegal v → AreTwins w v → (drawn : Who → List Drawn) (drew : Ids) → ((id : ℕ) → IsKnown drawn id → drew id ≡ false) → (r : Request) → NamesOwn w drawn r → IsStranger v drew r
+twin_stranger w v j i twins drawn drew apart r own = record {
+  keys = λ b k x. elim (own.keys k x) [
+    | inl free ↦ no_magic v k (sym (ap (λ (d : Path). not (begins ((d.key ++ codes "/") ++ codes "__magic/") k)) twins.dest) ∙ free)
+    | inr mine ↦ not_both (λ h. twins.jobs (one_magic v.dest.key w.job v.job k j.job i.job (sym (ap (λ (d : Path). begins (magic_prefix d.key w.job) k) twins.dest) ∙ mine) h))
+  ];
+  uploads = λ b id e. apart id (own.uploads id e);
+  paths = λ p x. not_both (λ h. twins.jobs (one_cluster w.job v.job p j.job i.job (own.paths p x) h));
+}
+
+-- ---- what a request changes it names
+
+changes_named : (r : Request) (k : List ℕ) → IsIn k (changed_keys r) → IsIn k (named_keys r)
+changes_named (PutObject n q bytes header) k i = i
+changes_named (DeleteObject n q) k i = i
+changes_named (DeleteObjects n qs) k i = i
+changes_named (CompleteUpload n q id parts) k i = i
+changes_named (CopyObject n source target) k i = inr i
+changes_named _ k i = absurd i
+
+upload_named : (r : Request) (id : ℕ) → changed_upload r ≡ Some id → named_upload r ≡ Some id
+upload_named (UploadPart n q u number bytes) id e = e
+upload_named (CompleteUpload n q u parts) id e = e
+upload_named (AbortUpload n q u) id e = e
+upload_named _ id e = absurd (none_some refl e)
+
+paths_named : (r : Request) (p : List ℕ) → IsIn p (changed_paths r) → IsIn p (named_paths r)
+paths_named (ClusterPut path bytes) p i = i
+paths_named (ClusterRename source target) p i = i
+paths_named (ClusterDelete path) p i = i
+paths_named _ p i = absurd i
+
+pub stranger_foreign : (v : Script) (drawn : Who → List Drawn) (drew : Ids) → ((id : ℕ) → IsKnown drawn id → drew id ≡ true) → (r : Request) → IsStranger v drew r → IsForeign v drawn r
+stranger_foreign v drawn drew known r h = record {
+  keys = λ b k i. h.keys b k (changes_named r k i);
+  uploads = λ b id e x. false_true (h.uploads b id (upload_named r id e)) (known id x);
+  paths = λ p i. h.paths p (paths_named r p i);
+}

@@ -1,0 +1,106 @@
+-- What an attempt learns from an entry of its own: an upload that it has begun, or more parts of one that it knows.
+use Rattle.std.proofs.Common.{◌≡◌, ℕ, ◌≤◌, ◌⊎◌, inl, inr, nat_eq, Bool, true, false, cond, List, [], ◌∷◌, ◌++◌, length, Option, Some, None, refl, sym, ap, subst, ◌∙◌, arith}
+use Rattle.std.specs.FinMap as fin
+use Rattle.s3_types.specs.Store.{BucketContent, Scene}
+use Rattle.s3_types.specs.Tags.{Spelled}
+use Rattle.s3_types.specs.Answer.{answer, answer_at}
+use Rattle.s3_types.specs.Moment.{IsHonestOutcome}
+use Rattle.s3_types.specs.declared.request.Request.{Request}
+use Rattle.s3_types.specs.declared.request.Request.TheVariants.{CreateUpload, UploadPart, PutObject, ClusterPut, ClusterRename}
+use Rattle.s3_types.specs.declared.reply.Reply.TheVariants.{Upload as DrawnUpload, Part}
+use Rattle.s3_types.specs.declared.journal.Outcome.{Outcome}
+use Rattle.s3_types.specs.declared.journal.Outcome.TheVariants.{Answered}
+use Rattle.job_model.specs.Attempts.{Who}
+use Rattle.job_model.specs.JobScript.{Script}
+use Rattle.job_model.specs.Known.{Drawn}
+use Rattle.job_operations.specs.Knowledge.{learn, with_part}
+use Rattle.request_frame.specs.Members.{IsIn}
+use Rattle.request_frame.proofs.Members.{map_in, in_map}
+use Rattle.job_facts.specs.Told.{Told, known, tell_attempt}
+use Rattle.job_facts.specs.Stores.{IsKnown}
+use Rattle.job_facts.proofs.Whose.{same_or_another, who_here, who_other}
+
+-- a part leaves the upload's id and its key
+same_upload : (id : ℕ) (tag : Spelled) (size : ℕ) (e : Drawn) → ((with_part id tag size e).upload ≡ e.upload) × ((with_part id tag size e).key ≡ e.key)
+same_upload id tag size e = by (nat_eq e.upload id)
+  where
+    by : (b : Bool) → ((cond b (record { key = e.key; upload = e.upload; tags = e.tags ++ tag ∷ []; sizes = e.sizes ++ size ∷ [] }) e).upload ≡ e.upload) × ((cond b (record { key = e.key; upload = e.upload; tags = e.tags ++ tag ∷ []; sizes = e.sizes ++ size ∷ [] }) e).key ≡ e.key)
+    by true = (refl, refl)
+    by false = (refl, refl)
+
+-- these know an upload of this id and this key
+abbrev pub Knows : List Drawn → Drawn → Type 0
+Knows ds d = (e : Drawn) × IsIn e ds × (e.upload ≡ d.upload) × (e.key ≡ d.key)
+
+-- it was begun just now
+pub record IsNew (d : Drawn) (r : Request) (o : Outcome) : Type 0 where
+  pub bucket : List ℕ
+  pub request : r ≡ CreateUpload bucket d.key
+  pub outcome : o ≡ Answered (DrawnUpload d.upload)
+
+module _ (w : Script) (m : Told) (a : Who) (r : Request) (o : Outcome) (b : Who) (d : Drawn) where
+  abbrev now : Who → List Drawn
+  now = (tell_attempt w m a r o).drawn
+
+  -- what was known stays known
+  pub known_still : IsIn d (m.drawn b) → Knows (now b) d
+  known_still i = elim (same_or_another b a) [
+    | inr ne ↦ (d, subst (λ (l : List Drawn). IsIn d l) (sym (who_other m.drawn a (learn w a (known m a) r o).drawn b ne)) i, refl, refl)
+    | inl is ↦ let x = learns r o (subst (λ v. IsIn d (m.drawn v)) is i) in (x.0, subst (λ (l : List Drawn). IsIn x.0 l) (sym (who_here m.drawn a (learn w a (known m a) r o).drawn b is)) x.1, x.2, x.3)
+  ]
+    where
+      learns : (r : Request) (o : Outcome) → IsIn d (m.drawn a) → Knows (learn w a (known m a) r o).drawn d
+      learns (CreateUpload bucket key) (Answered (DrawnUpload id)) i = (d, inr i, refl, refl)
+      learns (UploadPart bucket key id number bytes) (Answered (Part tag)) i = let s = same_upload id tag (length bytes) d in (with_part id tag (length bytes) d, map_in (with_part id tag (length bytes)) d (m.drawn a) i, s.0, s.1)
+      learns (CreateUpload bucket key) (Answered _) i = (d, i, refl, refl)
+      learns (CreateUpload bucket key) _ i = (d, i, refl, refl)
+      learns (UploadPart bucket key id number bytes) (Answered _) i = (d, i, refl, refl)
+      learns (UploadPart bucket key id number bytes) _ i = (d, i, refl, refl)
+      learns (PutObject bucket key bytes header) o i = (d, i, refl, refl)
+      learns (ClusterPut path bytes) o i = (d, i, refl, refl)
+      learns (ClusterRename source target) o i = (d, i, refl, refl)
+      learns _ o i = (d, i, refl, refl)
+
+  -- and what is known was, or was begun just now
+  pub known_before : IsIn d (now b) → Knows (m.drawn b) d ⊎ IsNew d r o
+  known_before i = elim (same_or_another b a) [
+    | inr ne ↦ inl (d, subst (λ (l : List Drawn). IsIn d l) (who_other m.drawn a (learn w a (known m a) r o).drawn b ne) i, refl, refl)
+    | inl is ↦ elim (learns r o (subst (λ (l : List Drawn). IsIn d l) (who_here m.drawn a (learn w a (known m a) r o).drawn b is) i)) [
+      | inl old ↦ inl (old.0, subst (λ v. IsIn old.0 (m.drawn v)) (sym is) old.1, old.2, old.3)
+      | inr new ↦ inr new
+    ]
+  ]
+    where
+      learns : (r : Request) (o : Outcome) → IsIn d (learn w a (known m a) r o).drawn → Knows (m.drawn a) d ⊎ IsNew d r o
+      learns (CreateUpload n k) (Answered (DrawnUpload u)) (inl x) = inr (record { bucket = n; request = ap (λ (c : Drawn). CreateUpload n c.key) (sym x); outcome = ap (λ (c : Drawn). Answered (DrawnUpload c.upload)) (sym x) })
+      learns (CreateUpload n k) (Answered (DrawnUpload u)) (inr i) = inl (d, i, refl, refl)
+      learns (UploadPart n k u number bytes) (Answered (Part tag)) i =
+          let x = in_map (with_part u tag (length bytes)) d (m.drawn a) i in
+          let s = same_upload u tag (length bytes) x.0 in
+          inl (x.0, x.1, sym s.0 ∙ ap (λ (c : Drawn). c.upload) (sym x.2), sym s.1 ∙ ap (λ (c : Drawn). c.key) (sym x.2))
+      learns (CreateUpload n k) (Answered _) i = inl (d, i, refl, refl)
+      learns (CreateUpload n k) _ i = inl (d, i, refl, refl)
+      learns (UploadPart n k u number bytes) (Answered _) i = inl (d, i, refl, refl)
+      learns (UploadPart n k u number bytes) _ i = inl (d, i, refl, refl)
+      learns (PutObject n k bytes header) o i = inl (d, i, refl, refl)
+      learns (ClusterPut path bytes) o i = inl (d, i, refl, refl)
+      learns (ClusterRename source target) o i = inl (d, i, refl, refl)
+      learns _ o i = inl (d, i, refl, refl)
+
+-- an id that is drawn is the counter
+pub drawn_is_next : (s : Scene) (n k : List ℕ) (u : ℕ) → DrawnUpload u ≡ answer s (CreateUpload n k) → u ≡ s.content.next
+drawn_is_next s n k u e = by (fin.get s.content.buckets n) e
+  where
+    by : (c : Option BucketContent) → DrawnUpload u ≡ answer_at c s.content.next s.content.minimum (CreateUpload n k) → u ≡ s.content.next
+    by None e = absurd cc
+    by (Some b) e = cc
+
+-- an upload that an attempt learns of was known, or drawn just now
+pub learnt : (w : Script) (s : Scene) (m : Told) (a : Who) (r : Request) (o : Outcome) → IsHonestOutcome o (answer s r) → (id : ℕ) → IsKnown (tell_attempt w m a r o).drawn id → IsKnown m.drawn id ⊎ (s.content.next ≤ id)
+learnt w s m a r o honest id (b, d, i, e) = elim (known_before w m a r o b d i) [
+  | inl old ↦ inl (b, old.0, old.1, old.2 ∙ e)
+  | inr new ↦
+      let due : DrawnUpload d.upload ≡ answer s (CreateUpload new.bucket d.key) = subst (λ y. IsHonestOutcome y (answer s r)) new.outcome honest ∙ ap (answer s) new.request in
+      let at : s.content.next ≡ id = sym (drawn_is_next s new.bucket d.key d.upload due) ∙ e in
+      inr (subst (λ n. s.content.next ≤ n) at (omega arith))
+]

@@ -1,0 +1,310 @@
+-- How far an abort or clean at a shared destination has come with what is to go, while no attempt of its side sends.
+use Rattle.std.proofs.Common.{◌≡◌, ℕ, ◌<◌, ◌⊎◌, inl, inr, Bool, true, cond, List, [], ◌∷◌, ◌++◌, take, drop, Option, Some, None, refl, sym, ap, subst, ◌∙◌}
+use Rattle.std.specs.FinMap as fin
+use Rattle.std.specs.List.{filter}
+use Rattle.proof_base.specs.Order.{text_cmp}
+use Rattle.s3_types.specs.Store.{Scene, Upload}
+use Rattle.s3_types.specs.Pages.{begins}
+use Rattle.s3_types.specs.Answer.{answer, apply, found, read_answer}
+use Rattle.s3_types.specs.Moment.{effect, IsHonestOutcome}
+use Rattle.s3_types.specs.Requests.{only_reads}
+use Rattle.s3_types.specs.declared.request.Request.{Request}
+use Rattle.s3_types.specs.declared.request.Request.TheVariants.{GetObject, AbortUpload, DeleteObjects, ClusterList, ClusterDelete}
+use Rattle.s3_types.specs.declared.request.UploadRef.{UploadRef}
+use Rattle.s3_types.specs.declared.request.Committer.{Committer}
+use Rattle.s3_types.specs.declared.request.Committer.TheVariants.{Magic, Directory, Partitioned}
+use Rattle.s3_types.specs.declared.reply.Reply.{Reply}
+use Rattle.s3_types.specs.declared.journal.Outcome.{Outcome}
+use Rattle.s3_types.specs.declared.journal.Outcome.TheVariants.{Answered, Slow, RequestLost, ReplyLost}
+use Rattle.sendings.specs.Retries.{step}
+use Rattle.magic_paths.specs.Layout.{magic_prefix, cluster_prefix}
+use Rattle.magic_paths.specs.Places.{is_record}
+use Rattle.job_model.specs.Attempts.{Who}
+use Rattle.job_model.specs.JobScript.{Script}
+use Rattle.job_model.specs.Known.{Drawn}
+use Rattle.job_model.specs.declared.ends.CleanEnd.TheVariants as ends
+use Rattle.list_walk.specs.Walks.{Sweep, Listing, Deleting, Walked, More, Whole, walked, page_after, sweep_hears, sweep_asks, all_go}
+use Rattle.list_walk.specs.Walks as walks
+use Rattle.job_promise.specs.Seen.{is_magic, is_staging}
+use Rattle.request_frame.specs.Members.{IsIn}
+use Rattle.request_frame.specs.Held.{HasBucket}
+use Rattle.request_frame.proofs.Members.{some_is, none_some, false_true, same_or_other, text_true, text_gone, text_left, text_exact, in_front, in_back, map_in, filter_in, in_filter}
+use Rattle.request_frame.proofs.Framed.{frame}
+use Rattle.request_frame.proofs.Reading.{reads_nothing}
+use Rattle.job_facts.specs.Stores.{at_key, at_id, end_left}
+use Rattle.job_facts.specs.Driver.{AllMagic}
+use Rattle.job_facts.specs.Emptying.{OnlyThese, Empties}
+use Rattle.job_facts.specs.Clearing.{FilesIn}
+use Rattle.job_facts.specs.Filed.{HasItsKey}
+use Rattle.job_facts.proofs.Emptying.{sweep_begins, sweep_empties, sweep_still, sweep_same, Emptied}
+use Rattle.job_facts.proofs.EndedGone.{stays_gone}
+use Rattle.job_facts.proofs.Going.{step_so}
+use Rattle.job_facts.proofs.Live.{find_in}
+use Rattle.job_facts.proofs.Shapes.{answer_is, key_before, abort_turns}
+use Rattle.twin_facts.specs.Sparing.{Sparing, Walking, Naming, Reading, Aborting, Removing, SparingOver, sparing_start, record_request, sparing_asks, sparing_hears, sparing_after, names, record_names, set_names, deleting, removing, emptying, aborting, reading_on, walking, naming}
+use Rattle.twin_facts.specs.Sparing as sparing
+use Rattle.twin_facts.specs.Requests.{AllKnown, FitsSparing}
+use Rattle.twin_facts.specs.Spared.{NamedAt}
+use Rattle.twin_facts.proofs.Keyed.{Keyed}
+
+-- an upload is gone
+abbrev pub Dead : Script → Scene → ℕ → Type 0
+Dead w s id = (id < s.content.next) × (at_id w s.content id ≡ None)
+
+-- nothing of the job's own changed
+pub record Same (w : Script) (first s : Scene) : Type 0 where
+  pub keys : (k : List ℕ) → begins (magic_prefix w.dest.key w.job) k ≡ true → at_key w s.content k ≡ at_key w first.content k
+  pub files : (p : List ℕ) → begins (cluster_prefix w.job) p ≡ true → fin.get s.files p ≡ fin.get first.files p
+
+-- what stands in the job's directory stands at one of these places
+pub record Rest (w : Script) (s : Scene) (all : List (List ℕ)) : Type 0 where
+  pub keys : is_magic w.committer ≡ true → OnlyThese w s.content all
+  pub files : is_staging w.committer ≡ true → FilesIn w s all
+
+-- an upload that was named then
+abbrev pub Named : Script → Scene → List ℕ → UploadRef → Type 0
+Named w first p u = NamedAt w.committer w first p u
+
+abbrev pub AllDead : Script → Scene → Scene → Type 0
+AllDead w first s = (p : List ℕ) (u : UploadRef) → Named w first p u → Dead w s u.upload
+
+-- how far it has come since this scene
+abbrev pub Leaving : Script → Scene → Scene → Sparing → Type 0
+Leaving w first s (Walking keys) = Same w first s × Empties w s.content (Listing keys)
+Leaving w first s Naming = Same w first s
+Leaving w first s (Reading named p ps all) = Same w first s × Rest w s all × ((q : List ℕ) (u : UploadRef) → Named w first q u → IsIn q (p ∷ ps) ⊎ IsIn u named)
+Leaving w first s (Aborting v vs all) = Rest w s all × ((q : List ℕ) (u : UploadRef) → Named w first q u → IsIn u (v ∷ vs) ⊎ Dead w s u.upload)
+Leaving w first s (sparing.Deleting k ks) = OnlyThese w s.content (k ∷ ks) × AllDead w first s
+Leaving w first s (Removing p ps) = FilesIn w s (p ∷ ps) × AllDead w first s
+Leaving w first s (SparingOver end) = end ≡ ends.Done → Rest w s [] × AllDead w first s
+
+-- ---- what leaves the job's own alone leaves it so
+
+pub record LeftAlone (w : Script) (s t : Scene) : Type 0 where
+  pub keys : (k : List ℕ) → begins (magic_prefix w.dest.key w.job) k ≡ true → at_key w t.content k ≡ at_key w s.content k
+  pub files : (p : List ℕ) → begins (cluster_prefix w.job) p ≡ true → fin.get t.files p ≡ fin.get s.files p
+  pub dead : (id : ℕ) → Dead w s id → Dead w t id
+
+module _ (w : Script) (first s t : Scene) (h : LeftAlone w s t) where
+  same_so : Same w first s → Same w first t
+  same_so x = record { keys = λ k b. h.keys k b ∙ x.keys k b; files = λ p b. h.files p b ∙ x.files p b }
+
+  those_so : (keys : List (List ℕ)) → OnlyThese w s.content keys → OnlyThese w t.content keys
+  those_so keys x = λ k o b go e. x k o b go (sym (h.keys k b) ∙ e)
+
+  files_so : (ps : List (List ℕ)) → FilesIn w s ps → FilesIn w t ps
+  files_so ps x = λ p bytes e b. x p bytes (sym (h.files p b) ∙ e) b
+
+  rest_so : (all : List (List ℕ)) → Rest w s all → Rest w t all
+  rest_so all x = record { keys = λ m. those_so all (x.keys m); files = λ m. files_so all (x.files m) }
+
+  dead_so : AllDead w first s → AllDead w first t
+  dead_so x = λ p u n. h.dead u.upload (x p u n)
+
+  pub leaving_alone : (c : Sparing) → Leaving w first s c → Leaving w first t c
+  leaving_alone (Walking keys) x = (same_so x.0, sweep_same w s.content t.content (Listing keys) h.keys x.1)
+  leaving_alone Naming x = same_so x
+  leaving_alone (Reading named p ps all) x = (same_so x.0, rest_so all x.1, x.2)
+  leaving_alone (Aborting v vs all) x = (rest_so all x.0, λ q u n. elim (x.1 q u n) [ inl i ↦ inl i | inr d ↦ inr (h.dead u.upload d) ])
+  leaving_alone (sparing.Deleting k ks) x = (those_so (k ∷ ks) x.0, dead_so x.1)
+  leaving_alone (Removing p ps) x = (files_so (p ∷ ps) x.0, dead_so x.1)
+  leaving_alone (SparingOver end) x = λ e. let y = x e in (rest_so [] y.0, dead_so y.1)
+
+pub alone_by : (w : Script) (s : Scene) → HasBucket s.content w.dest.bucket → (r : Request) (o : Outcome) → ((k : List ℕ) → begins (magic_prefix w.dest.key w.job) k ≡ true → at_key w (effect s r o).content k ≡ at_key w s.content k)
+    → ((p : List ℕ) → begins (cluster_prefix w.job) p ≡ true → fin.get (effect s r o).files p ≡ fin.get s.files p) → LeftAlone w s (effect s r o)
+alone_by w s there r o keys files = record { keys = keys; files = files; dead = λ id d. stays_gone w s there id r o d }
+
+-- a request that names nothing of the job's own
+pub alone_request : (w : Script) (s : Scene) → HasBucket s.content w.dest.bucket → (r : Request) → ((k : List ℕ) → begins (magic_prefix w.dest.key w.job) k ≡ true → at_key w (apply s r).content k ≡ at_key w s.content k)
+    → ((p : List ℕ) → begins (cluster_prefix w.job) p ≡ true → fin.get (apply s r).files p ≡ fin.get s.files p) → (o : Outcome) → LeftAlone w s (effect s r o)
+alone_request w s there r keys files (Answered y) = alone_by w s there r (Answered y) keys files
+alone_request w s there r keys files Slow = alone_by w s there r Slow (λ k b. refl) (λ p b. refl)
+alone_request w s there r keys files RequestLost = alone_by w s there r RequestLost (λ k b. refl) (λ p b. refl)
+alone_request w s there r keys files ReplyLost = alone_by w s there r ReplyLost keys files
+
+-- ---- it begins
+
+pub leaving_start : (w : Script) (s : Scene) (c : Committer) → Leaving w s s (sparing_start c)
+leaving_start w s Magic = (record { keys = λ k b. refl; files = λ p b. refl }, sweep_begins w s.content)
+leaving_start w s Directory = record { keys = λ k b. refl; files = λ p b. refl }
+leaving_start w s Partitioned = record { keys = λ k b. refl; files = λ p b. refl }
+
+-- ---- it goes on
+
+module _ (w : Script) (first s : Scene) where
+  abbrev L : Sparing → Type 0
+  L c = Leaving w first s c
+
+  left_emptying : (c : Committer) → w.committer ≡ c → (all : List (List ℕ)) → Rest w s all → AllDead w first s → L (emptying c all)
+  left_emptying Magic e [] x d = λ done. (x, d)
+  left_emptying Magic e (k ∷ ks) x d = (x.keys (ap is_magic e), d)
+  left_emptying Directory e [] x d = λ done. (x, d)
+  left_emptying Directory e (k ∷ ks) x d = (x.files (ap is_staging e), d)
+  left_emptying Partitioned e [] x d = λ done. (x, d)
+  left_emptying Partitioned e (k ∷ ks) x d = (x.files (ap is_staging e), d)
+
+  left_aborting : (vs : List UploadRef) (all : List (List ℕ)) → Rest w s all → ((q : List ℕ) (u : UploadRef) → Named w first q u → IsIn u vs ⊎ Dead w s u.upload) → L (aborting w.committer vs all)
+  left_aborting [] all x cover = left_emptying w.committer refl all x (λ p u n. elim (cover p u n) [ inl none ↦ absurd none | inr d ↦ d ])
+  left_aborting (v ∷ vs) all x cover = (x, cover)
+
+  left_reading : (named : List UploadRef) (ps all : List (List ℕ)) → Same w first s → Rest w s all → ((q : List ℕ) (u : UploadRef) → Named w first q u → IsIn q ps ⊎ IsIn u named) → L (reading_on w.committer named ps all)
+  left_reading named [] all same x cover = left_aborting named all x (λ q u n. elim (cover q u n) [ inl none ↦ absurd none | inr i ↦ inl i ])
+  left_reading named (p ∷ ps) all same x cover = (same, x, cover)
+
+  -- what was named stands where the job keeps it, as long as nothing changed
+  named_key : (c : Committer) → w.committer ≡ c → (keys : List (List ℕ)) → is_magic c ≡ true → Same w first s → OnlyThese w s.content keys → (q : List ℕ) (u : UploadRef) → NamedAt c w first q u → IsIn q (filter is_record keys)
+  named_key Magic e keys m same only q u n = filter_in is_record q keys (only q n.0 n.1 refl (same.keys q n.1 ∙ n.3)) n.2
+  named_key Directory e keys m same only q u n = absurd (false_true refl m)
+  named_key Partitioned e keys m same only q u n = absurd (false_true refl m)
+
+  named_path : (c : Committer) → w.committer ≡ c → (ps : List (List ℕ)) → is_staging c ≡ true → Same w first s → FilesIn w s ps → (q : List ℕ) (u : UploadRef) → NamedAt c w first q u → IsIn q ps
+  named_path Magic e ps m same only q u n = absurd (false_true refl m)
+  named_path Directory e ps m same only q u n = only q n.0 (same.files q n.1 ∙ n.2) n.1
+  named_path Partitioned e ps m same only q u n = only q n.0 (same.files q n.1 ∙ n.2) n.1
+
+  magic_only : (c : Committer) → is_magic c ≡ true → is_staging c ≡ true → ⊥
+  magic_only Magic m z = false_true refl z
+  magic_only Directory m z = false_true refl m
+  magic_only Partitioned m z = false_true refl m
+
+  -- what was listed is all, where the last page has come
+  only_all : (l : List (List ℕ)) → Emptied w s.content (walks.deleting l) → OnlyThese w s.content l
+  only_all [] h = h
+  only_all (k ∷ ks) h = h.1
+
+  left_walked : is_magic w.committer ≡ true → Same w first s → (x : Walked (List ℕ)) → Emptied w s.content (walks.swept all_go x) → L (walking w.committer x)
+  left_walked magic same (More keys) h = (same, h.1)
+  left_walked magic same (Whole keys) h =
+      let only : OnlyThese w s.content keys = λ k o b go e. (in_filter all_go k keys (only_all (filter all_go keys) h k o b go e)).0 in
+      left_reading [] (filter is_record keys) keys same (record { keys = λ m. only; files = λ z. absurd (magic_only w.committer magic z) }) (λ q u n. inl (named_key w.committer refl keys magic same only q u n))
+
+  module _ (there : HasBucket s.content w.dest.bucket) where
+    heard_page : is_magic w.committer ≡ true → (keys : List (List ℕ)) → AllMagic w keys → L (Walking keys) → (x : Reply) → x ≡ answer s (page_after w.dest.bucket (magic_prefix w.dest.key w.job) keys) → L (walking w.committer (walked keys x))
+    heard_page magic keys own h x e =
+        let q = page_after w.dest.bucket (magic_prefix w.dest.key w.job) keys in
+        left_walked magic h.0 (walked keys x) (subst (λ (u : Scene). Emptied w u.content (walks.swept all_go (walked keys x))) (reads_nothing s q refl) (sweep_empties w s there (Listing keys) own h.1 x e))
+
+    listed_name : (p bytes : List ℕ) → fin.get s.files p ≡ Some bytes → IsIn p (fin.keys s.files)
+    listed_name p bytes e = map_in (λ (q : List ℕ × List ℕ). q.0) (p, bytes) (fin.entries s.files) (find_in text_cmp text_exact (fin.entries s.files) p bytes (sym (fin.get-entries s.files p) ∙ e))
+
+    heard_names : is_staging w.committer ≡ true → L Naming → (x : Reply) → x ≡ answer s (ClusterList (cluster_prefix w.job)) → L (naming w.committer x)
+    heard_names staging same x e =
+        let ps = filter (begins (cluster_prefix w.job)) (fin.keys s.files) in
+        let all : FilesIn w s ps = λ p bytes g b. filter_in (begins (cluster_prefix w.job)) p (fin.keys s.files) (listed_name p bytes g) b in
+        subst (λ y. L (naming w.committer y)) (sym e) (left_reading [] ps ps same (record { keys = λ m. absurd (magic_only w.committer m staging); files = λ z. all }) (λ q u n. inl (named_path w.committer refl ps staging same all q u n)))
+
+    -- a read names what stood there
+    read_names : (c : Committer) (p : List ℕ) (u : UploadRef) → Same w first s → NamedAt c w first p u → IsIn u (names (answer s (record_request c w p)))
+    read_names Magic p u same n =
+        let due : answer s (GetObject w.dest.bucket p) ≡ found (at_key w s.content p) = answer_is w s there.0 there.1 (GetObject w.dest.bucket p) refl ∙ ap found (sym (key_before w s there.0 there.1 p)) in
+        subst (λ y. IsIn u (names y)) (sym (due ∙ ap found (same.keys p n.1 ∙ n.3))) n.4
+    read_names Directory p u same n = subst (λ o. IsIn u (names (read_answer o))) (sym (same.files p n.1 ∙ n.2)) n.3
+    read_names Partitioned p u same n = subst (λ o. IsIn u (names (read_answer o))) (sym (same.files p n.1 ∙ n.2)) n.3
+
+    heard_record : (named : List UploadRef) (p : List ℕ) (ps all : List (List ℕ)) → L (Reading named p ps all) → (x : Reply) → x ≡ answer s (record_request w.committer w p) → L (reading_on w.committer (named ++ names x) ps all)
+    heard_record named p ps all h x e = left_reading (named ++ names x) ps all h.0 h.1 (λ q u n. elim (h.2 q u n) [
+      | inr i ↦ inr (in_front u named (names x) i)
+      | inl i ↦ elim i [
+        | inr more ↦ inl more
+        | inl is ↦ inr (in_back u named (names x) (subst (λ y. IsIn u (names y)) (sym e) (read_names w.committer p u h.0 (subst (λ v. Named w first v u) is n))))
+      ]
+    ])
+
+-- ---- what an abort, a batch and a removal leave
+
+module _ (w : Script) (first s : Scene) (there : HasBucket s.content w.dest.bucket) where
+  pub abort_dead : (q : UploadRef) → HasItsKey w s.content q → Dead w (apply s (AbortUpload w.dest.bucket q.key q.upload)) q.upload
+  abort_dead q h =
+      let t = abort_turns w s there.0 there.1 q.key q.upload in
+      (subst (λ n. q.upload < n) (sym t.next) h.0, t.here ∙ by (at_id w s.content q.upload) refl)
+    where
+      by : (o : Option Upload) → at_id w s.content q.upload ≡ o → end_left q.key o ≡ None
+      by None e = refl
+      by (Some u) e = ap (λ b. cond b None (Some u)) (text_true u.key q.key (h.1 u e))
+
+  abort_alone : (q : UploadRef) (o : Outcome) → LeftAlone w s (effect s (AbortUpload w.dest.bucket q.key q.upload) o)
+  abort_alone q = alone_request w s there (AbortUpload w.dest.bucket q.key q.upload) (λ k b. (frame s w.dest.bucket (AbortUpload w.dest.bucket q.key q.upload) there).keys k (λ e i. i)) (λ p b. (frame s w.dest.bucket (AbortUpload w.dest.bucket q.key q.upload) there).files p (λ i. i))
+
+  heard_abort : (v : UploadRef) (vs : List UploadRef) (all : List (List ℕ)) → HasItsKey w s.content v → Leaving w first s (Aborting v vs all) → let t = apply s (AbortUpload w.dest.bucket v.key v.upload) in Leaving w first t (aborting w.committer vs all)
+  heard_abort v vs all key h =
+      let t = apply s (AbortUpload w.dest.bucket v.key v.upload) in
+      let a = leaving_alone w first s t (abort_alone v ReplyLost) (Aborting v vs all) h in
+      left_aborting w first t vs all a.0 (λ q u n. elim (a.1 q u n) [
+        | inr d ↦ inr d
+        | inl i ↦ elim i [ inl is ↦ inr (subst (λ (y : UploadRef). Dead w t y.upload) (sym is) (abort_dead v key)) | inr more ↦ inl more ]
+      ])
+
+  batch_dead : (keys : List (List ℕ)) → AllDead w first s → AllDead w first (apply s (DeleteObjects w.dest.bucket keys))
+  batch_dead keys d p u n = stays_gone w s there u.upload (DeleteObjects w.dest.bucket keys) ReplyLost (d p u n)
+
+  swept_left : (t : Scene) → w.committer ≡ Magic → (x : Option Sweep) → (ks : List (List ℕ)) → x ≡ walks.deleting ks → Emptied w t.content x → AllDead w first t → Leaving w first t (deleting ks)
+  swept_left t magic x [] e h d = λ done. (record { keys = λ m. subst (Emptied w t.content) e h; files = λ z. absurd (false_true refl (sym (ap is_staging magic) ∙ z)) }, d)
+  swept_left t magic x (k ∷ ks) e h d = ((subst (Emptied w t.content) e h).1, d)
+
+  heard_batch : w.committer ≡ Magic → (k : List ℕ) (ks : List (List ℕ)) → AllMagic w (k ∷ ks) → Leaving w first s (sparing.Deleting k ks) → (x : Reply) → let r = DeleteObjects w.dest.bucket (take 1000 (k ∷ ks)) in x ≡ answer s r → Leaving w first (apply s r) (deleting (drop 1000 (k ∷ ks)))
+  heard_batch magic k ks own h x e = swept_left (apply s (DeleteObjects w.dest.bucket (take 1000 (k ∷ ks)))) magic _ (drop 1000 (k ∷ ks)) refl (sweep_empties w s there (Deleting k ks) own h.0 x e) (batch_dead (take 1000 (k ∷ ks)) h.1)
+
+  removed_one : (p : List ℕ) (ps : List (List ℕ)) → FilesIn w s (p ∷ ps) → FilesIn w (apply s (ClusterDelete p)) ps
+  removed_one p ps h q bytes e b = elim (same_or_other q p) [
+    | inl is ↦ absurd (none_some (text_gone s.files p q is) e)
+    | inr ne ↦ elim (h q bytes (sym (text_left s.files p q ne) ∙ e) b) [ inl is ↦ absurd (ne is) | inr i ↦ i ]
+  ]
+
+  removed_still : (p : List ℕ) (ps : List (List ℕ)) → FilesIn w s ps → FilesIn w (apply s (ClusterDelete p)) ps
+  removed_still p ps h q bytes e b = elim (same_or_other q p) [
+    | inl is ↦ absurd (none_some (text_gone s.files p q is) e)
+    | inr ne ↦ h q bytes (sym (text_left s.files p q ne) ∙ e) b
+  ]
+
+  removed_dead : (p : List ℕ) → AllDead w first s → AllDead w first (apply s (ClusterDelete p))
+  removed_dead p d q u n = stays_gone w s there u.upload (ClusterDelete p) ReplyLost (d q u n)
+
+  left_removing : (t : Scene) → is_staging w.committer ≡ true → (ps : List (List ℕ)) → FilesIn w t ps → AllDead w first t → Leaving w first t (removing ps)
+  left_removing t staging [] h d = λ done. (record { keys = λ m. absurd (magic_only w first s w.committer m staging); files = λ z. h }, d)
+  left_removing t staging (p ∷ ps) h d = (h, d)
+
+-- ---- all of it
+
+-- which committer a stage is of
+abbrev pub StageOf : Script → Sparing → Type 0
+StageOf w (sparing.Deleting k ks) = w.committer ≡ Magic
+StageOf w (Removing p ps) = is_staging w.committer ≡ true
+StageOf w _ = Unit {0}
+
+module _ (w : Script) (first s : Scene) (there : HasBucket s.content w.dest.bucket) (drawn : Who → List Drawn) (keyed : Keyed w drawn s.content) where
+  known_key : (v : UploadRef) (vs : List UploadRef) → AllKnown drawn (v ∷ vs) → HasItsKey w s.content v
+  known_key v vs known_all = let x = known_all v (inl refl) in subst (HasItsKey w s.content) (λ i. record { key = x.4 i; upload = x.3 i }) (keyed x.0 x.1 x.2)
+
+  abbrev After : Sparing → Outcome → Request → Type 0
+  After c o r = (retries spare : ℕ) (repeated : Bool) → IsHonestOutcome o (answer s r) → Leaving w first (effect s r o) (step retries (sparing_after w) (record { operation = c; spare = spare; repeated = repeated }) o).operation
+
+  goes_by : (c : Sparing) (r : Request) (o : Outcome) → ((x : Reply) → x ≡ answer s r → Leaving w first (apply s r) (sparing_hears w c x)) → Leaving w first s c → Leaving w first (apply s r) c → After c o r
+  goes_by c r (Answered x) heard before still retries spare repeated honest = heard x honest
+  goes_by c r Slow heard before still retries spare repeated honest = step_so retries (sparing_after w) (record { operation = c; spare = spare; repeated = repeated }) Slow (Leaving w first s) (λ x e. absurd cc) (λ none. before) (λ none d. absurd cc)
+  goes_by c r RequestLost heard before still retries spare repeated honest = step_so retries (sparing_after w) (record { operation = c; spare = spare; repeated = repeated }) RequestLost (Leaving w first s) (λ x e. absurd cc) (λ none. before) (λ none d. absurd cc)
+  goes_by c r ReplyLost heard before still retries spare repeated honest = step_so retries (sparing_after w) (record { operation = c; spare = spare; repeated = repeated }) ReplyLost (Leaving w first (apply s r)) (λ x e. absurd cc) (λ none. still) (λ none d. absurd cc)
+
+  reads_by : (c : Sparing) (r : Request) (o : Outcome) → only_reads r ≡ true → ((x : Reply) → x ≡ answer s r → Leaving w first s (sparing_hears w c x)) → Leaving w first s c → After c o r
+  reads_by c r o reads heard before =
+      let same = sym (reads_nothing s r reads) in
+      goes_by c r o (λ x e. subst (λ (u : Scene). Leaving w first u (sparing_hears w c x)) same (heard x e)) before (subst (λ (u : Scene). Leaving w first u c) same before)
+
+  record_only : (c : Committer) (p : List ℕ) → only_reads (record_request c w p) ≡ true
+  record_only Magic p = refl
+  record_only Directory p = refl
+  record_only Partitioned p = refl
+
+  pub leaving_goes : (c : Sparing) → FitsSparing w drawn c → StageOf w c → Leaving w first s c → (r : Request) → sparing_asks w c ≡ Some r → (o : Outcome) → After c o r
+  leaving_goes (Walking keys) f z h r e o = subst (After (Walking keys) o) (some_is e) (reads_by (Walking keys) (page_after w.dest.bucket (magic_prefix w.dest.key w.job) keys) o refl (heard_page w first s there f.0 keys f.1 h) h)
+  leaving_goes Naming f z h r e o = subst (After Naming o) (some_is e) (reads_by Naming (ClusterList (cluster_prefix w.job)) o refl (heard_names w first s there f h) h)
+  leaving_goes (Reading named p ps all) f z h r e o = subst (After (Reading named p ps all) o) (some_is e) (reads_by (Reading named p ps all) (record_request w.committer w p) o (record_only w.committer p) (heard_record w first s there named p ps all h) h)
+  leaving_goes (Aborting v vs all) f z h r e o =
+      subst (After (Aborting v vs all) o) (some_is e)
+      (goes_by (Aborting v vs all) (AbortUpload w.dest.bucket v.key v.upload) o (λ x due. heard_abort w first s there v vs all (known_key v vs f.0) h) h (leaving_alone w first s (apply s (AbortUpload w.dest.bucket v.key v.upload)) (abort_alone w first s there v ReplyLost) (Aborting v vs all) h))
+  leaving_goes (sparing.Deleting k ks) f z h r e o =
+      subst (After (sparing.Deleting k ks) o) (some_is e)
+      (goes_by (sparing.Deleting k ks) (DeleteObjects w.dest.bucket (take 1000 (k ∷ ks))) o (heard_batch w first s there z k ks f h) h (sweep_still w s there (Deleting k ks) f h.0 ReplyLost, batch_dead w first s there (take 1000 (k ∷ ks)) h.1))
+  leaving_goes (Removing p ps) f z h r e o =
+      subst (After (Removing p ps) o) (some_is e)
+      (goes_by (Removing p ps) (ClusterDelete p) o (λ x due. left_removing w first s there (apply s (ClusterDelete p)) z ps (removed_one w first s there p ps h.0) (removed_dead w first s there p h.1)) h (removed_still w first s there p (p ∷ ps) h.0, removed_dead w first s there p h.1))
+  leaving_goes (SparingOver end) f z h r e o = absurd cc

@@ -1,0 +1,365 @@
+-- How far a job's commit has come beside another job, is kept by each of its own entries, and by those of the job's attempts; a stranger's leave it as it is.
+use Rattle.std.proofs.Common.{◌≡◌, ℕ, zero, suc, ◌+◌, nat_lt, ◌<◌, ◌≤◌, ◌^◌, inl, inr, not, ◌&&◌, ◌||◌, Bool, true, false, cond, List, [], ◌∷◌, ◌++◌, length, Option, Some, None, refl, sym, ap, subst, ◌∙◌, arith, length-append}
+use Rattle.std.specs.FinMap as fin
+use Rattle.std.specs.Option.{is_some}
+use Rattle.s3_types.specs.Store.{Content}
+use Rattle.s3_types.specs.Answer.{answer}
+use Rattle.s3_types.specs.Moment.{IsHonestOutcome}
+use Rattle.s3_types.specs.declared.request.Request.{Request}
+use Rattle.s3_types.specs.declared.request.Committer.{Committer}
+use Rattle.s3_types.specs.declared.request.Committer.TheVariants.{Magic, Directory, Partitioned}
+use Rattle.s3_types.specs.declared.request.Mode.{Mode}
+use Rattle.s3_types.specs.declared.request.Mode.TheVariants.{Replace, Append, Fail}
+use Rattle.s3_types.specs.declared.reply.Reply.{Reply}
+use Rattle.s3_types.specs.declared.journal.Outcome.{Outcome}
+use Rattle.s3_types.specs.declared.journal.Outcome.TheVariants.{Answered, Slow, RequestLost, ReplyLost}
+use Rattle.job_model.specs.Legal.{IsLegal}
+use Rattle.job_model.specs.Attempts.{Who}
+use Rattle.job_model.specs.JobScript.{Script}
+use Rattle.job_model.specs.declared.ends.CommitEnd.{CommitEnd}
+use Rattle.job_model.specs.declared.ends.CommitEnd.TheVariants as ends
+use Rattle.job_model.specs.declared.ends.Stage.TheVariants as stages
+use Rattle.list_walk.specs.Walks.{Sweep, Listing, Deleting, sweep_asks, sweep_hears}
+use Rattle.job_operations.specs.Outputs.{Picks, same_path, picked_below, is_decided, is_clash}
+use Rattle.job_operations.specs.Lanes.{Turn, again, follow, dealt, revert}
+use Rattle.job_operations.specs.JobCommits.{Sets, all_commits, picks_of, Commit, Fetching, Replacing, Completing, Marking, Reverting, CommitOver, set_request, set_read, ok_set, commit_asks, commit_hears, commit_misses, commit_tells, commit_start, completing, is_no_magic, replaced, replacing, decided, fetching, fetched, swept, reverting, worn_completion}
+use Rattle.job_operations.specs.Operations.{Setting, Operation, TheCommit, asks}
+use Rattle.job_operations.specs.Records.{files_set}
+use Rattle.job_promise.specs.Seen.{Seen, see, is_begun, is_reading, is_marking, picks_by}
+use Rattle.request_frame.proofs.Members.{some_is, none_some, false_true, same_or_not}
+use Rattle.job_facts.specs.Told.{Told, known, tell_driver, tell_attempt, at_event, entry, driver_entry}
+use Rattle.job_facts.specs.Stores.{sets_at}
+use Rattle.job_facts.specs.Facts.{Hold, knowing}
+use Rattle.job_facts.specs.Fits.{Fits}
+use Rattle.job_facts.specs.Turning.{NoneEnded}
+use Rattle.job_facts.specs.Filed.{Decides}
+use Rattle.job_facts.specs.Laws.{IsSetAnswer}
+use Rattle.job_facts.proofs.Whose.{or_false}
+use Rattle.job_facts.proofs.Replies.{set_reply, bytes_read}
+use Rattle.job_facts.proofs.Reading.{reads_other}
+use Rattle.job_facts.proofs.Running.{InCommit}
+use Rattle.job_facts.proofs.Shows.{HidesAll}
+use Rattle.job_facts.proofs.Steps.{commit_next}
+use Rattle.job_facts.proofs.Keeping.{attempt_quiet, at_beside, commit_starts}
+use Rattle.twin_facts.specs.TwinLaws.{is_replace}
+
+-- ---- what holds of a commit as it goes on, whoever else sends
+
+-- how far a commit has come says nothing of the opening content: this one stands for any
+abbrev pub no_content : Content
+no_content = record { buckets = fin.empty; next = 0; minimum = 0 }
+
+-- a task of which no set was read yet has no pick
+abbrev pub Unread : Script → Picks → Commit → Type 0
+Unread w picks (Fetching sets n) = (t : ℕ) → length sets ≤ t → t < w.tasks → picks t ≡ None
+Unread w picks _ = Unit {0}
+
+-- until its stage has come the marker was not put
+abbrev pub Unmarked : Bool → Commit → Type 0
+Unmarked put (Marking sets n) = Unit {0}
+Unmarked put (CommitOver ends.Committed) = Unit {0}
+Unmarked put (CommitOver (ends.StoreFault stages.Success)) = Unit {0}
+Unmarked put _ = put ≡ false
+
+-- a mode that is not replace deletes nothing that it does not revert
+abbrev pub NeverReplaces : Script → Commit → Type 0
+NeverReplaces w (Replacing sets p ps s n) = is_replace w.mode ≡ false → ⊥
+NeverReplaces w _ = Unit {0}
+
+pub record Committing (g : Setting) (m : Told) (picks : Picks) (put : Bool) (c : Commit) : Type 0 where
+  pub alone : InCommit g no_content picks m c
+  pub unread : Unread g.script picks c
+  pub unmarked : Unmarked put c
+  pub never : NeverReplaces g.script c
+
+pub false_unmarked : (put : Bool) → put ≡ false → (c : Commit) → Unmarked put c
+false_unmarked put e (Marking sets n) = tt
+false_unmarked put e (CommitOver ends.Committed) = tt
+false_unmarked put e (CommitOver (ends.StoreFault stages.Success)) = tt
+false_unmarked put e _ = e
+
+module _ (w : Script) where
+  abbrev Rest : Picks → Commit → Type 0
+  Rest picks c = Unread w picks c × NeverReplaces w c
+
+  rest_completing : (picks : Picks) (sets : Sets) (xs : List Turn) (finished : List ℕ) → Rest picks (completing sets xs finished)
+  rest_completing picks sets [] finished = (tt, tt)
+  rest_completing picks sets (x ∷ xs) finished = (tt, tt)
+
+  rest_replacing : (picks : Picks) (sets : Sets) (ps : List (List ℕ)) → (is_replace w.mode ≡ false → ps ≡ []) → Rest picks (replacing w sets ps)
+  rest_replacing picks sets [] h = rest_completing picks sets (dealt w.lanes (length (all_commits sets))) []
+  rest_replacing picks sets (p ∷ ps) h = (tt, λ e. absurd (some_none p ps (h e)))
+    where
+      some_none : (p : List ℕ) (ps : List (List ℕ)) → p ∷ ps ≡ [] → ⊥
+      some_none p ps e = absurd cc
+
+  none_replaced : (c : Committer) (m : Mode) (picks : Picks) → is_replace m ≡ false → replaced c m w picks ≡ []
+  none_replaced c Replace picks e = absurd (false_true e refl)
+  none_replaced Magic Append picks e = refl
+  none_replaced Magic Fail picks e = refl
+  none_replaced Directory Append picks e = refl
+  none_replaced Directory Fail picks e = refl
+  none_replaced Partitioned Append picks e = refl
+  none_replaced Partitioned Fail picks e = refl
+
+  rest_decided : (picks : Picks) (sets : Sets) (o : Option CommitEnd) → Rest picks (decided w sets o)
+  rest_decided picks sets (Some end) = (tt, tt)
+  rest_decided picks sets None = rest_replacing picks sets (replaced w.committer w.mode w (picks_of sets)) (none_replaced w.committer w.mode (picks_of sets))
+
+  rest_fetching : (picks : Picks) (sets : Sets) → Unread w picks (Fetching sets 0) → Rest picks (fetching w sets)
+  rest_fetching picks sets h = by (nat_lt (length sets) w.tasks)
+    where
+      by : (b : Bool) → Rest picks (cond b (Fetching sets 0) (decided w sets (same_path w (picks_of sets))))
+      by true = (h, tt)
+      by false = rest_decided picks sets (same_path w (picks_of sets))
+
+  rest_start : (picks : Picks) → ((t : ℕ) → picks t ≡ None) → (missing : Option ℕ) → Rest picks (commit_start w missing)
+  rest_start picks h (Some t) = (tt, tt)
+  rest_start picks h None = rest_fetching picks [] (λ t l k. h t)
+
+  rest_either : (picks : Picks) (b : Bool) (c d : Commit) → Rest picks c → Rest picks d → Rest picks (cond b c d)
+  rest_either picks true c d h g = h
+  rest_either picks false c d h g = g
+
+  rest_reverting : (picks : Picks) (rs : List Request) → Rest picks (reverting rs)
+  rest_reverting picks [] = (tt, tt)
+  rest_reverting picks (r ∷ rs) = (tt, tt)
+
+  rest_swept : (picks : Picks) (sets : Sets) (p : List ℕ) (ps : List (List ℕ)) (o : Option Sweep) → (is_replace w.mode ≡ false → ⊥) → Rest picks (swept w sets p ps o)
+  rest_swept picks sets p ps (Some s) h = (tt, h)
+  rest_swept picks sets p ps None h = rest_replacing picks sets ps (λ e. absurd (h e))
+
+  -- where no answer came, the picks are as they were
+  rest_missed : (picks : Picks) (c : Commit) (lost : Bool) → Rest picks c → Rest picks (commit_misses w c lost)
+  rest_missed picks (Fetching sets n) lost h = rest_either picks (nat_lt n w.retries) (Fetching sets (n + 1)) (CommitOver (ends.StoreFault stages.Read)) h (tt, tt)
+  rest_missed picks (Replacing sets p ps s n) lost h = rest_either picks (nat_lt n w.retries) (Replacing sets p ps s (n + 1)) (CommitOver (ends.StoreFault stages.Delete)) h (tt, tt)
+  rest_missed picks (Completing sets x xs finished) lost h =
+      rest_either picks (nat_lt x.missed w.retries) (completing sets (xs ++ again x lost ∷ []) finished) (worn_completion sets x xs finished) (rest_completing picks sets (xs ++ again x lost ∷ []) finished) (rest_reverting picks (revert (all_commits sets) x.number xs finished))
+  rest_missed picks (Marking sets n) lost h = rest_either picks (nat_lt n w.retries) (Marking sets (n + 1)) (CommitOver (ends.StoreFault stages.Success)) (tt, tt) (tt, tt)
+  rest_missed picks (Reverting q qs n) lost h = rest_either picks (nat_lt n w.retries) (Reverting q qs (n + 1)) (reverting qs) (tt, tt) (rest_reverting picks qs)
+  rest_missed picks (CommitOver end) lost h = (tt, tt)
+
+  abbrev pub is_fetching : Commit → Bool
+  is_fetching (Fetching sets n) = true
+  is_fetching _ = false
+
+  abbrev pub is_mark_stage : Commit → Bool
+  is_mark_stage (Marking sets n) = true
+  is_mark_stage _ = false
+
+  rest_heard : (picks : Picks) (c : Commit) → is_fetching c ≡ false → Rest picks c → (y : Reply) → Rest picks (commit_hears w c y)
+  rest_heard picks (Fetching sets n) z h y = absurd (false_true z refl)
+  rest_heard picks (Replacing sets p ps s n) z h y = rest_swept picks sets p ps (sweep_hears (is_no_magic w) s y) h.1
+  rest_heard picks (Completing sets x xs finished) z h y = rest_completing picks sets (xs ++ follow w.lanes (length (all_commits sets)) x.number) (x.number ∷ finished)
+  rest_heard picks (Reverting q qs n) z h y = rest_reverting picks qs
+  rest_heard picks _ z h y = (tt, tt)
+
+  -- while it reads, not each task has a pick
+  pub undecided : (picks : Picks) (sets : Sets) → length sets < w.tasks → Unread w picks (Fetching sets 0) → is_decided w picks ≡ false
+  undecided picks sets low h = ap (λ b. b && notc) (unpicked w.tasks (length sets) low (h (length sets) (omega arith) low))
+    where
+      notc : Bool
+      notc = not (is_clash w picks)
+
+      and_last : (b : Bool) → (b && false) ≡ false
+      and_last true = refl
+      and_last false = refl
+
+      unpicked : (n t : ℕ) → t < n → picks t ≡ None → picked_below picks n ≡ false
+      unpicked zero t l e = absurd (omega arith)
+      unpicked (suc n) t l e = elim (same_or_not t n) [
+        | inl is ↦ ap (λ b. picked_below picks n && b) (ap (λ (u : ℕ). is_some (picks u)) (sym is) ∙ ap is_some e) ∙ and_last (picked_below picks n)
+        | inr ne ↦ ap (λ b. b && is_some (picks n)) (unpicked n t (less t n l ne) e)
+      ]
+        where
+          less : (t n : ℕ) → t < suc n → (t ≡ n → ⊥) → t < n
+          less zero zero l ne = absurd (ne refl)
+          less zero (suc n) l ne = omega arith
+          less (suc t) zero l ne = absurd (omega arith)
+          less (suc t) (suc n) l ne = let low = less t n (omega arith) (λ e. ne (ap (λ x. suc x) e)) in omega arith
+
+-- ---- an entry of the commit
+
+module _ (g : Setting) (j : IsLegal g.script) (k : Option ℕ) (s : Seen) (m : Told) (n : ℕ) (begins_it : is_begun k n ≡ true) (unclean : is_begun m.cleans_at n ≡ false) (few : s.scene.content.next ≤ 2 ^ 64) (h : Hold g.script g.minimum s m) (c : Commit) (i : Committing g m s.picks s.put_mark c) (r : Request)
+    (asked : commit_asks g.script c ≡ Some r) where
+  abbrev w : Script
+  w = g.script
+
+  abbrev begun_now : Bool
+  begun_now = s.begun || is_begun k n
+
+  abbrev u : Outcome → Seen
+  u o = see w k s (driver_entry n r o)
+
+  abbrev at : InCommit g no_content s.picks m c
+  at = i.alone
+
+  -- ---- what the request is
+
+  plain_read : (x : Committer) (t : ℕ) → is_marking w (set_request x w t) ≡ false
+  plain_read Magic t = refl
+  plain_read _ t = refl
+
+  plain_sweep : (p : List ℕ) (x : Sweep) → (is_marking w (sweep_asks w.dest.bucket p x) ≡ false) × ((t : ℕ) → is_reading w t (sweep_asks w.dest.bucket p x) ≡ false)
+  plain_sweep p (Listing keys) = (refl, (λ t. refl))
+  plain_sweep p (Deleting q qs) = (refl, (λ t. refl))
+
+  -- but in its stage it is no put of the marker, and but in the first no read of a set
+  abbrev Kind : Commit → Request → Type 0
+  Kind d y = (is_mark_stage w d ≡ false → is_marking w y ≡ false) × (is_fetching w d ≡ false → (t : ℕ) → is_reading w t y ≡ false)
+
+  kind_by : (d : Commit) → Decides w g.minimum m.publish_sent m.drawn d → commit_asks w d ≡ Some r → Kind d r
+  kind_by (Fetching sets x) d e = subst (Kind (Fetching sets x)) (some_is e) ((λ z. plain_read w.committer (length sets)), (λ z. absurd (false_true z refl)))
+  kind_by (Replacing sets p ps x y) d e = subst (Kind (Replacing sets p ps x y)) (some_is e) (let z = plain_sweep p x in ((λ v. z.0), (λ v. z.1)))
+  kind_by (Completing sets x xs finished) d e = subst (Kind (Completing sets x xs finished)) (some_is e) ((λ z. refl), (λ z t. refl))
+  kind_by (Marking sets x) d e = subst (Kind (Marking sets x)) (some_is e) ((λ z. absurd (false_true z refl)), (λ z t. refl))
+  kind_by (Reverting q qs x) d e =
+      subst (Kind (Reverting q qs x)) (some_is e) (elim (d q (inl refl)).2 [
+        | inl y ↦ subst (Kind (Reverting q qs x)) (sym y) ((λ z. refl), (λ z t. refl))
+        | inr y ↦ subst (Kind (Reverting q qs x)) (sym y) ((λ z. refl), (λ z t. refl))
+      ])
+  kind_by (CommitOver end) d e = absurd cc
+
+  pub kind : Kind c r
+  kind = kind_by c at.decides asked
+
+  -- ---- the picks
+
+  and_false : (b : Bool) → (b && false) ≡ false
+  and_false true = refl
+  and_false false = refl
+
+  pub picks_same : is_fetching w c ≡ false → (o : Outcome) → (u o).picks ≡ s.picks
+  picks_same z (Answered y) = λ p t. same t p
+    where
+      same : (t : ℕ) → picks_by w begun_now s.last s.picks r t ≡ s.picks t
+      same t = ap (λ b. cond (begun_now && b) (s.last t) (s.picks t)) (kind.1 z t) ∙ ap (λ b. cond b (s.last t) (s.picks t)) (and_false begun_now)
+  picks_same z Slow = refl
+  picks_same z _ = refl
+
+  pub mark_same : is_mark_stage w c ≡ false → (o : Outcome) → (u o).put_mark ≡ s.put_mark
+  mark_same z Slow = refl
+  mark_same z RequestLost = refl
+  mark_same z _ = ap (λ b. s.put_mark || b) (kind.0 z) ∙ or_false s.put_mark
+
+  -- ---- a read that was answered
+
+  module _ (sets : Sets) (x : ℕ) (v : Fetching sets x ≡ c) where
+    is_read : r ≡ set_request w.committer w (length sets)
+    is_read = sym (some_is (ap (commit_asks w) v ∙ asked))
+
+    low : length sets < w.tasks
+    low = subst (Decides w g.minimum m.publish_sent m.drawn) (sym v) at.decides
+
+    unread : (t : ℕ) → length sets ≤ t → t < w.tasks → s.picks t ≡ None
+    unread = subst (Unread w s.picks) (sym v) i.unread
+
+    abbrev next : Picks
+    next = picks_by w begun_now s.last s.picks (set_request w.committer w (length sets))
+
+    next_other : (t : ℕ) → t < w.tasks → (t ≡ length sets → ⊥) → next t ≡ s.picks t
+    next_other t l ne = ap (λ b. cond (begun_now && b) (s.last t) (s.picks t)) (reads_other j t (length sets) l low ne) ∙ ap (λ b. cond b (s.last t) (s.picks t)) (and_false begun_now)
+
+    -- where no set stands nobody published
+    next_none : s.last (length sets) ≡ None → (t : ℕ) → length sets ≤ t → t < w.tasks → next t ≡ None
+    next_none none t l k = elim (same_or_not t (length sets)) [
+      | inl is ↦ elim_cond (begun_now && is_reading w t (set_request w.committer w (length sets))) (ap s.last is ∙ none) (unread t l k)
+      | inr ne ↦ next_other t k ne ∙ unread t l k
+    ]
+      where
+        elim_cond : (b : Bool) → {a e : Option ℕ} → a ≡ None → e ≡ None → cond b a e ≡ None
+        elim_cond true p q = p
+        elim_cond false p q = q
+
+    last_none : sets_at w s.scene (length sets) ≡ None → s.last (length sets) ≡ None
+    last_none e = by (s.last (length sets)) refl
+      where
+        by : (o : Option ℕ) → s.last (length sets) ≡ o → o ≡ None
+        by None z = refl
+        by (Some a) z = absurd (none_some e (h.standing at.uncleaned (length sets) a low z).1)
+
+    more_unread : (t : ℕ) → length sets + 1 ≤ t → t < w.tasks → next t ≡ None
+    more_unread t l k = next_other t k (λ e. absurd (omega (arith, e))) ∙ unread t (omega arith) k
+
+    rest_read : (y : Reply) → y ≡ answer s.scene (set_request w.committer w (length sets)) → Rest w next (fetched w sets (set_read y))
+    rest_read y e = by (sets_at w s.scene (length sets)) refl
+      where
+        by : (o : Option (List ℕ)) → sets_at w s.scene (length sets) ≡ o → Rest w next (fetched w sets (set_read y))
+        by None z =
+            let a : IsSetAnswer None (answer s.scene (set_request w.committer w (length sets))) = set_reply j h w.committer (length sets) None z in
+            let stay : Rest w next (Fetching sets 0) = (next_none (last_none z), tt) in
+            elim a [ inl key ↦ subst (λ v. Rest w next (fetched w sets (set_read v))) (sym (e ∙ key)) stay | inr file ↦ subst (λ v. Rest w next (fetched w sets (set_read v))) (sym (e ∙ file)) stay ]
+        by (Some bytes) z =
+            let x = h.sets (length sets) bytes low z in
+            let a : IsSetAnswer (Some bytes) (answer s.scene (set_request w.committer w (length sets))) = set_reply j h w.committer (length sets) (Some bytes) z in
+            let more : length (sets ++ files_set w x.by x.commits (knowing (m.drawn x.by)) ∷ []) ≡ length sets + 1 = length-append sets _ in
+            subst (λ v. Rest w next (fetched w sets v)) (sym (ap set_read e ∙ a ∙ ap ok_set (bytes_read j h few (length sets) bytes low x)))
+            (rest_fetching w next (sets ++ files_set w x.by x.commits (knowing (m.drawn x.by)) ∷ []) (λ t l k. more_unread t (subst (λ n. n ≤ t) more l) k))
+
+  -- ---- what follows
+
+  rest : Rest w s.picks c
+  rest = (i.unread, i.never)
+
+  rest_answered : (d : Commit) → d ≡ c → (y : Reply) → y ≡ answer s.scene r → Rest w (picks_by w begun_now s.last s.picks r) (commit_hears w c y)
+  rest_answered (Fetching sets x) v y honest =
+      let is = is_read sets x v in
+      subst (λ d. Rest w (picks_by w begun_now s.last s.picks r) (commit_hears w d y)) v
+      (subst (λ z. Rest w (picks_by w begun_now s.last s.picks z) (fetched w sets (set_read y))) (sym is) (rest_read sets x v y (honest ∙ ap (answer s.scene) is)))
+  rest_answered _ v y honest =
+      let z = ap (is_fetching w) (sym v) in
+      subst (λ p. Rest w p (commit_hears w c y)) (sym (picks_same z (Answered y))) (rest_heard w s.picks c z rest y)
+
+  rest_next : (o : Outcome) → IsHonestOutcome o (answer s.scene r) → Rest w (u o).picks (commit_tells w c o)
+  rest_next (Answered y) honest = rest_answered c refl y honest
+  rest_next Slow honest = rest_missed w s.picks c false rest
+  rest_next RequestLost honest = rest_missed w s.picks c true rest
+  rest_next ReplyLost honest = rest_missed w s.picks c true rest
+
+  -- ---- the marker
+
+  unmarked_either : (put b : Bool) (d e : Commit) → Unmarked put d → Unmarked put e → Unmarked put (cond b d e)
+  unmarked_either put true d e y z = y
+  unmarked_either put false d e y z = z
+
+  pub put_before : (d : Commit) → is_mark_stage w d ≡ false → commit_asks w d ≡ Some r → Unmarked s.put_mark d → s.put_mark ≡ false
+  put_before (Marking sets x) z e y = absurd (false_true z refl)
+  put_before (CommitOver end) z e y = absurd cc
+  put_before _ z e y = y
+
+  marking_next : (sets : Sets) (x : ℕ) (put : Bool) (o : Outcome) → Unmarked put (commit_tells w (Marking sets x) o)
+  marking_next sets x put (Answered y) = tt
+  marking_next sets x put Slow = unmarked_either put (nat_lt x w.retries) (Marking sets (x + 1)) (CommitOver (ends.StoreFault stages.Success)) tt tt
+  marking_next sets x put _ = unmarked_either put (nat_lt x w.retries) (Marking sets (x + 1)) (CommitOver (ends.StoreFault stages.Success)) tt tt
+
+  unmarked_next : (d : Commit) → d ≡ c → (o : Outcome) → Unmarked (u o).put_mark (commit_tells w c o)
+  unmarked_next (Marking sets x) v o = subst (λ d. Unmarked (u o).put_mark (commit_tells w d o)) v (marking_next sets x (u o).put_mark o)
+  unmarked_next _ v o = let z = ap (is_mark_stage w) (sym v) in false_unmarked (u o).put_mark (mark_same z o ∙ put_before c z asked i.unmarked) (commit_tells w c o)
+
+  -- ---- all of it
+
+  pub committing_next : (o : Outcome) → IsHonestOutcome o (answer s.scene r) → Committing g (at_event n (tell_driver m r o)) (u o).picks (u o).put_mark (commit_tells w c o)
+  committing_next o honest =
+      let next = rest_next o honest in
+      record { alone = commit_next g j no_content k s m n begins_it unclean few h c at r asked o honest; unread = next.0; unmarked = unmarked_next c refl o; never = next.1 }
+
+-- ---- as it begins, and entries of the job's attempts
+
+pub committing_start : (g : Setting) → IsLegal g.script → (s : Seen) (m : Told) → NoneEnded m → m.cleaned ≡ false → ((t : ℕ) → s.picks t ≡ None) → s.put_mark ≡ false → (missing : Option ℕ) → Committing g m s.picks s.put_mark (commit_start g.script missing)
+committing_start g j s m none uncleaned unpicked unmarked missing = record {
+  alone = commit_starts g j no_content (record { scene = s.scene; begun = false; last = s.last; picks = s.picks; put_mark = s.put_mark }) m (record { none = none; uncleaned = uncleaned; unmarked = unmarked; unbegun = refl; unpicked = unpicked }) missing;
+  unread = (rest_start g.script s.picks unpicked missing).0;
+  unmarked = false_unmarked s.put_mark unmarked (commit_start g.script missing);
+  never = (rest_start g.script s.picks unpicked missing).1;
+}
+
+pub committing_beside : (g : Setting) → IsLegal g.script → (k : Option ℕ) (s : Seen) (m : Told) → Hold g.script g.minimum s m → (a : Who) (n : ℕ) (op : Operation) → Fits g.script g.minimum a m op → (r : Request) → asks g a (known m a) op ≡ Some r → HidesAll g.script r → (o : Outcome) (c : Commit)
+    → Committing g m s.picks s.put_mark c → let u = see g.script k s (entry a n r o) in Committing g (tell_attempt g.script m a r o) u.picks u.put_mark c
+committing_beside g j k s m h a n op fits r asked hides o c i =
+    let quiet = attempt_quiet g.script k s a n r h.there hides o in
+    record {
+      alone = at_beside g j no_content k s m h a n op fits r asked hides o [] (Some (TheCommit c)) i.alone;
+      unread = subst (λ p. Unread g.script p c) (sym quiet.picks) i.unread;
+      unmarked = subst (λ b. Unmarked b c) (sym quiet.mark) i.unmarked;
+      never = i.never;
+    }

@@ -1,0 +1,344 @@
+-- What one entry of a side leaves: of its picks, of what stands where files are shown, and of the marker.
+use Rattle.std.proofs.Common.{◌≡◌, ℕ, ◌≤◌, ◌^◌, ◌⊎◌, inl, inr, ◌||◌, Bool, true, false, cond, List, Option, Some, None, refl, sym, ap, subst, ◌∙◌}
+use Rattle.s3_types.specs.Store.{Content, Scene}
+use Rattle.s3_types.specs.Answer.{answer, apply}
+use Rattle.s3_types.specs.Moment.{effect, is_effective, IsHonestOutcome}
+use Rattle.s3_types.specs.declared.object.Object.{Object}
+use Rattle.s3_types.specs.declared.request.Actor.TheVariants.{Driver}
+use Rattle.s3_types.specs.declared.request.Request.{Request}
+use Rattle.s3_types.specs.declared.request.Request.TheVariants.{PutObject}
+use Rattle.s3_types.specs.declared.request.Mode.{Mode}
+use Rattle.s3_types.specs.declared.request.Mode.TheVariants.{Replace, Append, Fail}
+use Rattle.s3_types.specs.declared.request.Committer.{Committer}
+use Rattle.s3_types.specs.declared.request.Committer.TheVariants.{Magic, Directory, Partitioned}
+use Rattle.s3_types.specs.declared.journal.Outcome.{Outcome}
+use Rattle.s3_types.specs.declared.journal.Outcome.TheVariants.{Answered, Slow, RequestLost, ReplyLost}
+use Rattle.s3_types.specs.declared.journal.Entry.{Entry}
+use Rattle.path_keys.specs.Paths.{Path, below}
+use Rattle.magic_paths.specs.Layout.{success_key}
+use Rattle.sendings.specs.Retries.{Retried}
+use Rattle.job_operations.specs.Setup.{setup_asks}
+use Rattle.job_model.specs.JobScript.{Script}
+use Rattle.job_model.specs.Legal.{IsLegal}
+use Rattle.job_operations.specs.Conflicts.{keeps, partitions}
+use Rattle.job_operations.specs.Outputs.{wanted_at, wanted_paths, is_decided}
+use Rattle.job_operations.specs.Records.{mark_text}
+use Rattle.job_operations.specs.View.{is_file_path, object_at}
+use Rattle.job_operations.specs.JobCommits.{Sets, picks_of, Commit, Fetching, Replacing, Marking, commit_asks, commit_tells}
+use Rattle.job_operations.specs.Operations.{Setting, TheSetup, TheCommit, who}
+use Rattle.job_promise.specs.Ends.{is_driver}
+use Rattle.job_promise.specs.Seen.{Seen, see, is_begun, is_marking}
+use Rattle.request_frame.specs.Members.{IsIn}
+use Rattle.request_frame.specs.Frame.{changed_keys}
+use Rattle.request_frame.proofs.Members.{some_is, none_some, false_true, true_or_false, text_true}
+use Rattle.job_facts.specs.Told.{driver_entry}
+use Rattle.job_facts.specs.Stores.{at_key}
+use Rattle.job_facts.specs.Filed.{whole_of, Decides, FileStands, Wants}
+use Rattle.job_facts.specs.FiledLaws.{Commits}
+use Rattle.job_facts.specs.Runs.{nothing_learnt}
+use Rattle.job_facts.proofs.Whose.{or_true}
+use Rattle.job_facts.proofs.Owning.{operation_own}
+use Rattle.job_facts.proofs.SettingUp.{no_success}
+use Rattle.job_facts.proofs.Shapes.{puts}
+use Rattle.job_facts.proofs.Keeping.{attempt_quiet}
+use Rattle.job_facts.proofs.FilingLaws.{files_go, stranger_same}
+use Rattle.job_facts.proofs.Agreeing.{AgreeBelow, Agrees, decided_so}
+use Rattle.job_facts.proofs.Wanted.{same_mark, wanted_of}
+use Rattle.job_facts.proofs.Running.{InCommit, wants_of}
+use Rattle.twin_facts.specs.Sparing.{Sparing, Reading, SparingOver, record_request, sparing_asks}
+use Rattle.twin_facts.specs.TwinLaws.{counted, is_replace}
+use Rattle.twin_facts.specs.Requests.{FitsSparing}
+use Rattle.twin_facts.specs.SharedOperations.{SharedOperation, Alone, TheCheck, TheSparing, shared_asks}
+use Rattle.twin_facts.specs.Sides.{SideState, IsInTime, Sends, driver_sends, attempt_sends, attempt_saw, driver_saw}
+use Rattle.twin_facts.proofs.Changes.{Under, commit_shows_by, setup_shows, attempt_shows, check_shows, sparing_shows}
+use Rattle.twin_facts.proofs.Progress.{Committing, Unread, NeverReplaces, no_content, kind, is_fetching, is_mark_stage, undecided, picks_same, mark_same, put_before, committing_next}
+use Rattle.twin_facts.proofs.Standing.{At, Late, Good, Well, late, early_setup, Plain, setup_plain, check_plain, plain_picks, plain_mark}
+
+-- the object at a path of a destination
+abbrev pub obj : Path → Content → List ℕ → Option Object
+obj d c q = object_at c d.bucket (below d.key q)
+
+abbrev pub mark_at : Path → Content → Option Object
+mark_at d c = object_at c d.bucket (success_key d.key)
+
+abbrev pub count : Setting → SideState → List ℕ → Option (List ℕ)
+count g x q = counted g.script x.seen.picks q
+
+-- where a wanted file stands while the commit goes on
+abbrev pub FileAt : Setting → SideState → List ℕ → List ℕ → Option Object → Option Object → Commit → Type 0
+FileAt g x q b first now c = FileStands g.script q b first x.commit now x.told.ended c
+
+pub record Leaves (g : Setting) (x z : SideState) (e : Entry) : Type 0 where
+  -- the picks stay as they are, or were not decided
+  pub picks : (z.seen.picks ≡ x.seen.picks) ⊎ (is_decided g.script x.seen.picks ≡ false)
+  pub unbegun : z.seen.begun ≡ false → (x.seen.begun ≡ false) × (z.seen.picks ≡ x.seen.picks)
+  pub shows : (q : List ℕ) → is_file_path q ≡ true → let c = x.seen.scene in let d = effect c e.request e.outcome in
+      (obj g.script.dest d.content q ≡ obj g.script.dest c.content q) ⊎ ((b : List ℕ) × (count g x q ≡ Some b) × ((obj g.script.dest d.content q ≡ Some (whole_of b)) ⊎ (obj g.script.dest d.content q ≡ None)))
+  -- once the marker was put
+  pub put_still : x.seen.put_mark ≡ true → (z.seen.put_mark ≡ true) × ((q : List ℕ) → is_file_path q ≡ true → obj g.script.dest (effect x.seen.scene e.request e.outcome).content q ≡ obj g.script.dest x.seen.scene.content q)
+  -- where it is put only now, all wanted files stand
+  pub put_now : x.seen.put_mark ≡ false → z.seen.put_mark ≡ true → (sets : Sets) × (n : ℕ) × (x.driver ≡ Some (Alone (TheCommit (Marking sets n)))) × (z.seen.picks ≡ x.seen.picks) × (is_decided g.script x.seen.picks ≡ true)
+      × ((q : List ℕ) → is_file_path q ≡ true → obj g.script.dest (effect x.seen.scene e.request e.outcome).content q ≡ obj g.script.dest x.seen.scene.content q)
+  pub files : (c : Commit) → z.driver ≡ Some (Alone (TheCommit c)) → (q b : List ℕ) (first : Option Object) → is_file_path q ≡ true → wanted_at g.script z.seen.picks q ≡ Some b
+      → (is_decided g.script x.seen.picks ≡ false → obj g.script.dest x.seen.scene.content q ≡ first)
+      → ((u : Commit) → x.driver ≡ Some (Alone (TheCommit u)) → wanted_at g.script x.seen.picks q ≡ Some b → FileAt g x q b first (obj g.script.dest x.seen.scene.content q) u)
+      → FileAt g z q b first (obj g.script.dest (effect x.seen.scene e.request e.outcome).content q) c
+  -- a put of the marker by its driver that takes effect
+  pub marks : is_driver e.actor ≡ true → is_marking g.script e.request ≡ true → is_effective e.outcome ≡ true
+      → (z.seen.put_mark ≡ true) × ((o : Object) × (mark_at g.script.dest (effect x.seen.scene e.request e.outcome).content ≡ Some o) × (o.bytes ≡ mark_text g.script z.seen.picks))
+
+-- ---- modes that keep what was there
+
+keeps_all : (c : Committer) (m : Mode) (dirs : List (List ℕ)) (q : List ℕ) → is_replace m ≡ false → keeps c m dirs q ≡ true
+keeps_all c Replace dirs q e = absurd (false_true e refl)
+keeps_all Magic Append dirs q e = refl
+keeps_all Magic Fail dirs q e = refl
+keeps_all Directory Append dirs q e = refl
+keeps_all Directory Fail dirs q e = refl
+keeps_all Partitioned Append dirs q e = refl
+keeps_all Partitioned Fail dirs q e = refl
+
+driver_begun : (w : Script) (k : Option ℕ) (s : Seen) (n : ℕ) (r : Request) (o : Outcome) → (see w k s (driver_entry n r o)).begun ≡ (s.begun || is_begun k n)
+driver_begun w k s n r (Answered y) = refl
+driver_begun w k s n r _ = refl
+
+or_first : (a b : Bool) → (a || b) ≡ false → a ≡ false
+or_first true b e = absurd (false_true e refl)
+or_first false b e = refl
+
+module _ (g : Setting) (j : IsLegal g.script) (k : Option ℕ) (keep : is_replace g.script.mode ≡ false) where
+  abbrev w : Script
+  w = g.script
+
+  -- an entry of the driver's set-up or check
+  plain_leaves : (x z : SideState) (n : ℕ) (r : Request) (o : Outcome) → Plain w r → ((q : List ℕ) → is_file_path q ≡ true → obj w.dest (effect x.seen.scene r o).content q ≡ obj w.dest x.seen.scene.content q)
+      → ((t : ℕ) → x.seen.picks t ≡ None) → z.seen ≡ see w k x.seen (driver_entry n r o) → Leaves g x z (driver_entry n r o)
+  plain_leaves x z n r o p same unpicked is =
+      let picks = ap (λ (s : Seen). s.picks) is ∙ plain_picks w k x.seen n r p o in
+      let mark = ap (λ (s : Seen). s.put_mark) is ∙ plain_mark w k x.seen n r p o in
+      record {
+        picks = inl picks;
+        unbegun = λ e. (or_first x.seen.begun (is_begun k n) (sym (ap (λ (s : Seen). s.begun) is ∙ driver_begun w k x.seen n r o) ∙ e), picks);
+        shows = λ q path. inl (same q path);
+        put_still = λ e. (mark ∙ e, same);
+        put_now = λ e f. absurd (false_true e (sym mark ∙ f));
+        files = λ c at q b first path want. (let y = wanted_of w z.seen.picks q b want in absurd (none_some (ap (λ f. f y.from.task) picks ∙ unpicked y.from.task) y.from.picked));
+        marks = λ a b c. absurd (false_true p.marks b);
+      }
+
+  record_no_mark : (c : Committer) (p : List ℕ) → is_marking w (record_request c w p) ≡ false
+  record_no_mark Magic p = refl
+  record_no_mark _ p = refl
+
+  sparing_no_mark : (c : Sparing) (r : Request) → sparing_asks w c ≡ Some r → is_marking w r ≡ false
+  sparing_no_mark (Reading named p ps all) r e = ap (is_marking w) (sym (some_is e)) ∙ record_no_mark w.committer p
+  sparing_no_mark (SparingOver end) r e = absurd cc
+  sparing_no_mark _ r e = ap (is_marking w) (sym (some_is e))
+
+  -- ---- an entry of the commit
+
+  module _ (x : SideState) (l : Late g x) (c : Commit) (is : x.driver ≡ Some (Alone (TheCommit c))) (n : ℕ) (r : Request) (o : Outcome) (asked : commit_asks w c ≡ Some r) (begun : is_begun k n ≡ true) (unclean : is_begun x.told.cleans_at n ≡ false) (few : x.seen.scene.content.next ≤ 2 ^ 64)
+      (honest : IsHonestOutcome o (answer x.seen.scene r)) where
+    abbrev s : Seen
+    s = x.seen
+
+    i : Committing g x.told x.seen.picks x.seen.put_mark c
+    i = subst (λ q. At g q x.seen x.told) is l.driver
+
+    abbrev at : InCommit g no_content x.seen.picks x.told c
+    at = i.alone
+
+    all : Commits w g.minimum s x.told c
+    all = record { hold = l.hold; gone = l.gone at.uncleaned; fits = at.fits; tabled = at.tabled; turns = at.turns; decides = at.decides }
+
+    abbrev u : Seen
+    u = see w k s (driver_entry n r o)
+
+    abbrev next : SideState
+    next = driver_saw g k x (Alone (TheCommit c)) n r o
+
+    abbrev after : List ℕ → Option Object
+    after q = obj w.dest (effect s.scene r o).content q
+
+    abbrev before : List ℕ → Option Object
+    before q = obj w.dest s.scene.content q
+
+    -- until all sets are read nothing is decided
+    early : is_fetching w c ≡ true → is_decided w s.picks ≡ false
+    early z = by c refl z
+      where
+        by : (d : Commit) → d ≡ c → is_fetching w d ≡ true → is_decided w s.picks ≡ false
+        by (Fetching sets m) v z = undecided w s.picks sets (subst (Decides w g.minimum x.told.publish_sent x.told.drawn) (sym v) at.decides) (subst (Unread w s.picks) (sym v) i.unread)
+        by _ v z = absurd (false_true refl z)
+
+    picks_now : is_fetching w c ≡ false → u.picks ≡ s.picks
+    picks_now y = picks_same g j k s x.told n begun unclean few l.hold c i r asked y o
+
+    shows_now : (q : List ℕ) → is_file_path q ≡ true → (after q ≡ before q) ⊎ ((b : List ℕ) × (count g x q ≡ Some b) × ((after q ≡ Some (whole_of b)) ⊎ (after q ≡ None)))
+    shows_now q path = elim (commit_shows_by g j s x.told c all at.agrees q path (under c refl) r asked o) [
+      | inl same ↦ inl same
+      | inr y ↦ elim y.1 [
+        | inl z ↦ inr (z.0, ap (λ t. cond t (wanted_at w s.picks q) None) y.0 ∙ z.1, z.2)
+        | inr z ↦ absurd (false_true z.1 (keeps_all w.committer w.mode (partitions (wanted_paths w s.picks)) q keep))
+      ]
+    ]
+      where
+        under : (d : Commit) → d ≡ c → Under g j s x.told c all at.agrees q path d
+        under (Replacing sets a b y m) v = absurd (never v)
+          where
+            never : Replacing sets a b y m ≡ c → ⊥
+            never v = subst (NeverReplaces w) (sym v) i.never keep
+        under _ v = tt
+
+    -- at its marker it changes no file, and puts the marker
+    module _ (sets : Sets) (m : ℕ) (v : Marking sets m ≡ c) where
+      is_mark : r ≡ PutObject w.dest.bucket (success_key w.dest.key) (mark_text w (picks_of sets)) None
+      is_mark = sym (some_is (ap (commit_asks w) v ∙ asked))
+
+      agree : AgreeBelow w s.picks sets w.tasks
+      agree = subst (Agrees w s.picks) (sym v) at.agrees
+
+      mark_decided : is_decided w s.picks ≡ true
+      mark_decided = decided_so w s.picks sets (subst (Decides w g.minimum x.told.publish_sent x.told.drawn) (sym v) at.decides) agree
+
+      mark_picks : u.picks ≡ s.picks
+      mark_picks = picks_now (ap (is_fetching w) (sym v))
+
+      mark_leaves : (q : List ℕ) → is_file_path q ≡ true → after q ≡ before q
+      mark_leaves q path = stranger_same w s.scene l.hold.there r o (below w.dest.key q) (λ b y. elim (subst (λ z. IsIn (below w.dest.key q) (changed_keys z)) is_mark y) [ inl same ↦ no_success j q path same | inr none ↦ none ])
+
+      mark_put : is_effective o ≡ true → (u.put_mark ≡ true) × ((ob : Object) × (mark_at w.dest (effect s.scene r o).content ≡ Some ob) × (ob.bytes ≡ mark_text w u.picks))
+      mark_put took = by o took refl
+        where
+          put : is_marking w r ≡ true → (a : Bool) → (a || is_marking w r) ≡ true
+          put e a = ap (λ b. a || b) e ∙ or_true a
+
+          marking : is_marking w r ≡ true
+          marking = ap (is_marking w) is_mark ∙ both
+            where
+              both : is_marking w (PutObject w.dest.bucket (success_key w.dest.key) (mark_text w (picks_of sets)) None) ≡ true
+              both = rw (text_true w.dest.bucket w.dest.bucket refl, text_true (success_key w.dest.key) (success_key w.dest.key) refl) refl
+
+          there : mark_at w.dest (apply s.scene r).content ≡ Some (record { bytes = mark_text w (picks_of sets); header = None })
+          there = ap (λ y. at_key w (apply s.scene y).content (success_key w.dest.key)) is_mark ∙ (puts w s.scene l.hold.there.0 l.hold.there.1 (success_key w.dest.key) (mark_text w (picks_of sets)) None).here
+
+          text : mark_text w (picks_of sets) ≡ mark_text w u.picks
+          text = same_mark w s.picks (picks_of sets) (λ t a. sym (agree t a)) ∙ ap (mark_text w) (sym mark_picks)
+
+          by : (y : Outcome) → is_effective y ≡ true → y ≡ o → (u.put_mark ≡ true) × ((ob : Object) × (mark_at w.dest (effect s.scene r o).content ≡ Some ob) × (ob.bytes ≡ mark_text w u.picks))
+          by (Answered z) t f = (subst (λ y. (see w k s (driver_entry n r y)).put_mark ≡ true) f (put marking s.put_mark), (record { bytes = mark_text w (picks_of sets); header = None }, subst (λ y. mark_at w.dest (effect s.scene r y).content ≡ Some (record { bytes = mark_text w (picks_of sets); header = None })) f there, text))
+          by Slow t f = absurd (false_true refl t)
+          by RequestLost t f = absurd (false_true refl t)
+          by ReplyLost t f = (subst (λ y. (see w k s (driver_entry n r y)).put_mark ≡ true) f (put marking s.put_mark), (record { bytes = mark_text w (picks_of sets); header = None }, subst (λ y. mark_at w.dest (effect s.scene r y).content ≡ Some (record { bytes = mark_text w (picks_of sets); header = None })) f there, text))
+
+    unmarked_by : is_mark_stage w c ≡ false → u.put_mark ≡ s.put_mark
+    unmarked_by y = mark_same g j k s x.told n begun unclean few l.hold c i r asked y o
+
+    -- the stage, where the marker was put
+    stage : (d : Commit) → d ≡ c → (is_mark_stage w d ≡ false) ⊎ ((sets : Sets) × (m : ℕ) × (Marking sets m ≡ c))
+    stage (Marking sets m) v = inr (sets, m, v)
+    stage _ v = inl refl
+
+    put_early : is_mark_stage w c ≡ false → s.put_mark ≡ false
+    put_early y = put_before g j k s x.told n begun unclean few l.hold c i r asked c y asked i.unmarked
+
+    still_put : s.put_mark ≡ true → u.put_mark ≡ true
+    still_put e = by o refl
+      where
+        by : (y : Outcome) → y ≡ o → u.put_mark ≡ true
+        by (Answered z) f = subst (λ y. (see w k s (driver_entry n r y)).put_mark ≡ true) f (ap (λ b. b || is_marking w r) e)
+        by Slow f = subst (λ y. (see w k s (driver_entry n r y)).put_mark ≡ true) f e
+        by RequestLost f = subst (λ y. (see w k s (driver_entry n r y)).put_mark ≡ true) f e
+        by ReplyLost f = subst (λ y. (see w k s (driver_entry n r y)).put_mark ≡ true) f (ap (λ b. b || is_marking w r) e)
+
+    -- a wanted file goes on as the commit does
+    module _ (q b : List ℕ) (first : Option Object) (path : is_file_path q ≡ true) (wants : wanted_at w u.picks q ≡ Some b) (undone : is_decided w s.picks ≡ false → before q ≡ first)
+        (old : (v : Commit) → x.driver ≡ Some (Alone (TheCommit v)) → wanted_at w s.picks q ≡ Some b → FileAt g x q b first (before q) v) where
+      stood_later : is_fetching w c ≡ false → Wants w q b c × FileAt g x q b first (before q) c
+      stood_later y = let e : wanted_at w s.picks q ≡ Some b = ap (λ v. wanted_at w v q) (sym (picks_now y)) ∙ wants in (wants_of g s.scene.content s.picks q b e c at.agrees, old c is e)
+
+      stood : (d : Commit) → d ≡ c → Wants w q b c × FileAt g x q b first (before q) c
+      stood (Fetching sets m) v = subst (λ y. Wants w q b y × FileAt g x q b first (before q) y) v (tt, undone (early (ap (is_fetching w) (sym v))))
+      stood _ v = stood_later (ap (is_fetching w) (sym v))
+
+      file_next : FileAt g next q b first (after q) (commit_tells w c o)
+      file_next =
+          let y = stood c refl in
+          files_go g j s x.told c all few q b first x.commit y.0 y.1 r asked n o honest
+          (wants_of g s.scene.content u.picks q b wants (commit_tells w c o) (committing_next g j k s x.told n begun unclean few l.hold c i r asked o honest).alone.agrees)
+
+    commit_is : {a b : Commit} → Some (Alone (TheCommit a)) ≡ Some (Alone (TheCommit b)) → a ≡ b
+    commit_is e = cc
+
+    pub commit_leaves : Leaves g x next (driver_entry n r o)
+    commit_leaves = record {
+      picks = elim (true_or_false (is_fetching w c)) [ inl y ↦ inr (early y) | inr y ↦ inl (picks_now y) ];
+      unbegun = λ e. absurd (false_true e (driver_begun w k s n r o ∙ ap (λ b. s.begun || b) begun ∙ or_true s.begun));
+      shows = shows_now;
+      put_still = λ e. elim (stage c refl) [
+        | inl y ↦ absurd (false_true (put_early y) e)
+        | inr y ↦ (still_put e, mark_leaves y.0 y.1 y.2)
+      ];
+      put_now = λ e f. elim (stage c refl) [
+        | inl y ↦ absurd (false_true e (sym (unmarked_by y) ∙ f))
+        | inr y ↦ (y.0, y.1, is ∙ ap (λ v. Some (Alone (TheCommit v))) (sym y.2), mark_picks y.0 y.1 y.2, mark_decided y.0 y.1 y.2, mark_leaves y.0 y.1 y.2)
+      ];
+      files = λ v d q b first path wants undone old. subst (FileAt g next q b first (after q)) (commit_is d) (file_next q b first path wants undone old);
+      marks = λ a b t. elim (stage c refl) [
+        | inl y ↦ absurd (false_true ((kind g j k s x.told n begun unclean few l.hold c i r asked).0 y) b)
+        | inr y ↦ mark_put y.0 y.1 y.2 t
+      ];
+    }
+
+  -- ---- all of them
+
+  sparing_leaves : (x : SideState) → Late g x → (u : Retried Sparing) → FitsSparing w x.told.drawn u.operation → (n : ℕ) (r : Request) (o : Outcome) → sparing_asks w u.operation ≡ Some r → Leaves g x (driver_saw g k x (TheSparing u) n r o) (driver_entry n r o)
+  sparing_leaves x l u fits n r o asked =
+      let same : (q : List ℕ) → is_file_path q ≡ true → obj w.dest (effect x.seen.scene r o).content q ≡ obj w.dest x.seen.scene.content q = λ q path. sparing_shows g j x.seen x.told l.hold u.operation fits r asked o q path in
+      record {
+        picks = inl refl;
+        unbegun = λ e. (e, refl);
+        shows = λ q path. inl (same q path);
+        put_still = λ e. (e, same);
+        put_now = λ e f. absurd (false_true e f);
+        files = λ v at. absurd (no_commit at);
+        marks = λ b f t. absurd (false_true (sparing_no_mark u.operation r asked) f);
+      }
+    where
+      no_commit : {a : Retried Sparing} {b : Commit} → Some (TheSparing a) ≡ Some (Alone (TheCommit b)) → ⊥
+      no_commit e = absurd cc
+
+  driver_leaves : (x : SideState) → Late g x → (op : SharedOperation) → x.driver ≡ Some op → At g (Some op) x.seen x.told → (n : ℕ) (r : Request) (o : Outcome) → shared_asks g (who Driver) nothing_learnt op ≡ Some r → IsInTime k x.told.cleans_at n op → x.seen.scene.content.next ≤ 2 ^ 64 → IsHonestOutcome o (answer x.seen.scene r)
+      → Leaves g x (driver_saw g k x op n r o) (driver_entry n r o)
+  driver_leaves x l (Alone (TheSetup u)) d y n r o asked timely few honest = absurd (none_some (ap (setup_asks w) y.0) asked)
+  driver_leaves x l (Alone (TheCommit c)) d y n r o asked timely few honest = commit_leaves x l c d n r o asked timely.0 timely.1 few honest
+  driver_leaves x l (Alone _) d y n r o asked timely few honest = absurd y
+  driver_leaves x l (TheCheck u) d y n r o asked timely few honest =
+      plain_leaves x (driver_saw g k x (TheCheck u) n r o) n r o (check_plain w u.operation r asked) (λ q path. ap (λ (s : Scene). obj w.dest s.content q) (check_shows g j x.seen u.operation r asked o)) y.unpicked refl
+  driver_leaves x l (TheSparing u) d y n r o asked timely few honest = sparing_leaves x l u y n r o asked
+
+  pub sends_leaves : (x z : SideState) (e : Entry) → Sends g k x e z → Well g x → Leaves g x z e
+  sends_leaves x _ _ (driver_sends _ op n r o d asked timely few honest) h = by h.0
+    where
+      by : Good g x → Leaves g x (driver_saw g k x op n r o) (driver_entry n r o)
+      by (inr l) = driver_leaves x l op d (subst (λ q. At g q x.seen x.told) d l.driver) n r o asked timely few honest
+      by (inl e) =
+          let y = early_setup g j k x e op d in
+          let a : setup_asks w (y.0).operation ≡ Some r = ap (shared_asks g (who Driver) nothing_learnt) y.1 ∙ asked in
+          subst (λ q. Leaves g x (driver_saw g k x q n r o) (driver_entry n r o)) y.1
+          (plain_leaves x (driver_saw g k x (Alone (TheSetup y.0)) n r o) n r o (setup_plain w (y.0).operation r a) (λ q path. setup_shows g j x.seen r ((y.0).operation, y.2, a) o q path) e.unpicked refl)
+  sends_leaves x _ _ (attempt_sends _ a op n r o set at asked honest) h =
+      let l = late g j x h.0 set in
+      let f = l.fine a op at in
+      let own = operation_own g j x.told a f.0 op f.1 r asked in
+      let quiet = attempt_quiet w k x.seen a n r l.hold.there (λ b q i. own.keys q i) o in
+      let same : (q : List ℕ) → is_file_path q ≡ true → obj w.dest (effect x.seen.scene r o).content q ≡ obj w.dest x.seen.scene.content q = λ q path. attempt_shows g j x.seen x.told l.hold a f.0 op f.1 r asked o q path in
+      record {
+        picks = inl quiet.picks;
+        unbegun = λ e. (sym quiet.begun ∙ e, quiet.picks);
+        shows = λ q path. inl (same q path);
+        put_still = λ e. (quiet.mark ∙ e, same);
+        put_now = λ e y. absurd (false_true e (sym quiet.mark ∙ y));
+        files = λ v is q b first path wants undone old. subst (λ t. FileAt g (attempt_saw g k x a op n r o) q b first t v) (sym (same q path)) (old v is (ap (λ t. wanted_at w t q) (sym quiet.picks) ∙ wants));
+        marks = λ b y t. absurd (false_true refl b);
+      }

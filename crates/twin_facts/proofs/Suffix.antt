@@ -1,0 +1,95 @@
+-- Of the keys below a job's magic directory exactly those of records end as records do.
+use Rattle.std.proofs.Common.{◌≡◌, ℕ, ◌+◌, ◌-◌, ◌≤◌, ◌⊎◌, inl, inr, nat_eq, ◌||◌, Bool, true, false, List, [], ◌∷◌, ◌++◌, length, drop, take, refl, sym, ap, ◌∙◌, arith, append_assoc, length-append, codes}
+use Rattle.std.specs.Fmt.{decimal}
+use Rattle.std.proofs.lemmas.List.{take-append-drop}
+use Rattle.proof_base.specs.Order.{text_eq, text_equiv}
+use Rattle.path_keys.specs.Paths.{below}
+use Rattle.magic_paths.specs.Layout.{attempt_key, set_key}
+use Rattle.magic_paths.specs.Places.{is_record}
+use Rattle.magic_paths.proofs.Tails.{below_is}
+use Rattle.request_frame.proofs.Members.{text_is, false_true}
+
+abbrev ending : List ℕ
+ending = codes ".pending"
+
+-- what ends so is something before it, and it
+record_ends : (k : List ℕ) → is_record k ≡ true → (q : List ℕ) × (k ≡ q ++ ending)
+record_ends k h = let n = length k - length ending in (take n k, sym (take-append-drop n k) ∙ ap (λ l. take n k ++ l) (sym (text_is ending (drop n k) h)))
+
+drop_front : (q r : List ℕ) → drop (length (q ++ r) - length r) (q ++ r) ≡ r
+drop_front q r =
+    let long : length (q ++ r) ≡ length q + length r = length-append q r in
+    let at : length (q ++ r) - length r ≡ length q = omega arith in
+    ap (λ n. drop n (q ++ r)) at ∙ drop_all q r
+  where
+    drop_all : (q r : List ℕ) → drop (length q) (q ++ r) ≡ r
+    drop_all [] r = refl
+    drop_all (x ∷ q) r = drop_all q r
+
+ends_record : (p r : List ℕ) → p ≡ r ++ ending → is_record p ≡ true
+ends_record p r e = ap is_record e ∙ ap (text_eq ending) (drop_front r ending) ∙ text_equiv.refl ending
+
+-- ---- a slash in what two ends share
+
+tails : {x y : ℕ} {xs ys : List ℕ} → x ∷ xs ≡ y ∷ ys → xs ≡ ys
+tails e = cc
+
+split : (a b p d : List ℕ) → a ++ 47 ∷ p ≡ b ++ d → ((r : List ℕ) × (p ≡ r ++ d)) ⊎ ((r : List ℕ) × (d ≡ r ++ 47 ∷ p))
+split [] [] p d e = inr ([], sym e)
+split [] (y ∷ b) p d e = inl (b, tails e)
+split (x ∷ a) [] p d e = inr (x ∷ a, sym e)
+split (x ∷ a) (y ∷ b) p d e = split a b p d (tails e)
+
+abbrev has_slash : List ℕ → Bool
+has_slash [] = false
+has_slash (x ∷ l) = nat_eq 47 x || has_slash l
+
+slash_in : (r p : List ℕ) → has_slash (r ++ 47 ∷ p) ≡ true
+slash_in [] p = refl
+slash_in (x ∷ r) p = by (nat_eq 47 x) (slash_in r p)
+  where
+    by : (b : Bool) → has_slash (r ++ 47 ∷ p) ≡ true → (b || has_slash (r ++ 47 ∷ p)) ≡ true
+    by true old = refl
+    by false old = old
+
+no_slash : has_slash ending ≡ false
+no_slash = refl
+
+-- a path below a directory ends so only where it does itself
+pub below_record : (a p : List ℕ) → is_record p ≡ false → is_record (a ++ 47 ∷ p) ≡ true → ⊥
+below_record a p h g =
+    let x = record_ends (a ++ 47 ∷ p) g in
+    elim (split a x.0 p ending x.1) [
+      | inl o ↦ false_true h (ends_record p o.0 o.1)
+      | inr o ↦ false_true no_slash (ap has_slash o.1 ∙ slash_in o.0 p)
+    ]
+
+-- ---- the last byte
+
+abbrev last_byte : List ℕ → ℕ
+last_byte [] = 0
+last_byte (x ∷ []) = x
+last_byte (x ∷ y ∷ l) = last_byte (y ∷ l)
+
+last_behind : (a : List ℕ) (x : ℕ) (l : List ℕ) → last_byte (a ++ x ∷ l) ≡ last_byte (x ∷ l)
+last_behind [] x l = refl
+last_behind (y ∷ []) x l = refl
+last_behind (y ∷ z ∷ a) x l = last_behind (z ∷ a) x l
+
+pub set_no_record : (dest job : List ℕ) (t : ℕ) → is_record (set_key dest job t) ≡ true → ⊥
+set_no_record dest job t g =
+    let x = record_ends (set_key dest job t) g in
+    let front = dest ++ (codes "/__magic/job-" ++ (job ++ (codes "/sets/task_" ++ decimal t))) in
+    let whole : set_key dest job t ≡ front ++ codes ".pendingset" = sym (simp append_assoc) in
+    let same : ◌≡◌ {A = ℕ} 116 103 = sym (last_behind front 46 (codes "pendingset")) ∙ ap last_byte (sym whole ∙ x.1) ∙ last_behind x.0 46 (codes "pending") in
+    absurd (omega arith)
+
+pub marker_no_record : (dest job : List ℕ) (t a : ℕ) (p : List ℕ) → 1 ≤ length dest → is_record p ≡ false → is_record (below (attempt_key dest job t a) p) ≡ true → ⊥
+marker_no_record dest job t a p some h g =
+    let long : 1 ≤ length (attempt_key dest job t a) = simp length-append (omega (arith, some)) in
+    below_record (attempt_key dest job t a) p h (ap is_record (sym (below_is (attempt_key dest job t a) p long)) ∙ g)
+
+pub record_ends_so : (dest job : List ℕ) (t a : ℕ) (p : List ℕ) → 1 ≤ length dest → is_record (below (attempt_key dest job t a) (p ++ codes ".pending")) ≡ true
+record_ends_so dest job t a p some =
+    let long : 1 ≤ length (attempt_key dest job t a) = simp length-append (omega (arith, some)) in
+    ends_record (below (attempt_key dest job t a) (p ++ codes ".pending")) (attempt_key dest job t a ++ 47 ∷ p) (below_is (attempt_key dest job t a) (p ++ codes ".pending") long ∙ sym (append_assoc (attempt_key dest job t a) (47 ∷ p) (codes ".pending")))

@@ -1,0 +1,255 @@
+-- All runs of two jobs at one destination.
+use Rattle.std.proofs.Common.{◌≡◌, ℕ, zero, suc, ◌+◌, ◌<◌, ◌≤◌, ◌⊎◌, inl, inr, ◌&&◌, ◌||◌, Bool, true, false, cond, List, [], ◌∷◌, ◌++◌, map, take, length, Option, Some, refl, sym, ap, subst, ◌∙◌, arith, length-append}
+use Rattle.std.specs.List.{list_any}
+use Rattle.std.proofs.lemmas.Bool.{and_parts}
+use Rattle.std.proofs.lemmas.List.{take-append-le, take_all}
+use Rattle.proof_base.specs.Order.{text_eq}
+use Rattle.s3_types.specs.Store.{Content, Scene, Upload}
+use Rattle.s3_types.specs.Answer.{bucket_of}
+use Rattle.s3_types.specs.Moment.{effect, is_effective}
+use Rattle.s3_types.specs.declared.request.Request.{Request}
+use Rattle.s3_types.specs.declared.journal.Entry.{Entry}
+use Rattle.path_keys.specs.Paths.{Path}
+use Rattle.magic_paths.specs.Layout.{success_key}
+use Rattle.job_model.specs.Attempts.{Who}
+use Rattle.job_model.specs.JobScript.{Script}
+use Rattle.job_operations.specs.Operations.{Setting}
+use Rattle.job_promise.specs.Ends.{is_driver}
+use Rattle.job_promise.specs.Scope.{upload_at}
+use Rattle.job_promise.specs.Seen.{is_marking}
+use Rattle.request_frame.specs.Members.{IsIn}
+use Rattle.request_frame.specs.Frame.{changed_keys}
+use Rattle.request_frame.proofs.Members.{false_true, text_true}
+use Rattle.job_facts.specs.Stores.{at_id}
+use Rattle.job_facts.specs.Runs.{Beginning}
+use Rattle.job_facts.proofs.SettingUp.{empty_none}
+use Rattle.twin_facts.specs.TwinLaws.{turned_entry, is_side, touches_mark, marks_by, is_marked_by, MayBeTwins, TwinsKeep}
+use Rattle.twin_facts.specs.Sides.{SideState, first_state, MayBegin, begin, Sends, driver_sends, attempt_sends, observed, Side, First, Second, TwinEntry, TwinRun, twins_begin, first_begins, second_begins, first_sends, second_sends, IsTwinOpening}
+use Rattle.twin_facts.proofs.Standing.{Early, late}
+use Rattle.twin_facts.proofs.Pairs.{Pair, swapped, swap_twins, paired_begin, paired, strange, sends_scene}
+use Rattle.twin_facts.proofs.Steps.{sends_leaves}
+use Rattle.twin_facts.proofs.Views.{Views, views_swap, Touches, begins_views, entry_views, views_only, views_kept, views_marked}
+
+-- ---- the marker's last put or deletion
+
+snoc_marked : (w : Script) (side : Side) (b : Bool) (es : List TwinEntry) (e : TwinEntry) → is_marked_by w side b (es ++ e ∷ []) ≡ marks_by w side (is_marked_by w side b es) e
+snoc_marked w side b [] e = refl
+snoc_marked w side b (x ∷ es) e = snoc_marked w side (marks_by w side b x) es e
+
+any_in : (k : List ℕ) (l : List (List ℕ)) → IsIn k l → list_any (text_eq k) l ≡ true
+any_in k [] i = absurd i
+any_in k (x ∷ l) (inl is) = ap (λ b. b || list_any (text_eq k) l) (text_true k x is)
+any_in k (x ∷ l) (inr i) = by (text_eq k x) (any_in k l i)
+  where
+    by : (b : Bool) → list_any (text_eq k) l ≡ true → (b || list_any (text_eq k) l) ≡ true
+    by true old = refl
+    by false old = old
+
+touched : (w : Script) (r : Request) → Touches w.dest r → touches_mark w r ≡ true
+touched w r t = rw (text_true (bucket_of r) w.dest.bucket t.0, any_in (success_key w.dest.key) (changed_keys r) t.1) refl
+
+both : {a b : Bool} → a ≡ true → b ≡ true → (a && b) ≡ true
+both {a = a} {b = b} e f = rw (e, f) refl
+
+-- the side's own entry puts it, or leaves it
+own_marks : (w : Script) (side : Side) → is_side side side ≡ true → (m : Bool) (e : Entry) → marks_by w side m (record { side = side; entry = e }) ≡ true
+    → ((is_effective e.outcome ≡ true) × (is_driver e.actor ≡ true) × (is_marking w e.request ≡ true)) ⊎ ((m ≡ true) × ((is_effective e.outcome ≡ true) → Touches w.dest e.request → ⊥))
+own_marks w side same m e h = by (is_effective e.outcome && touches_mark w e.request) refl h
+  where
+    by : (t : Bool) → (is_effective e.outcome && touches_mark w e.request) ≡ t → cond t (is_side side side && (is_driver e.actor && is_marking w e.request)) m ≡ true
+        → ((is_effective e.outcome ≡ true) × (is_driver e.actor ≡ true) × (is_marking w e.request ≡ true)) ⊎ ((m ≡ true) × ((is_effective e.outcome ≡ true) → Touches w.dest e.request → ⊥))
+    by true t h =
+        let p = and_parts (is_driver e.actor) (is_marking w e.request) (and_parts (is_side side side) _ h).1 in
+        inl ((and_parts (is_effective e.outcome) (touches_mark w e.request) t).0, p.0, p.1)
+    by false t h = inr (h, λ took at. false_true t (both took (touched w e.request at)))
+
+-- the other side's entry leaves it
+other_marks : (w : Script) (side other : Side) → is_side side other ≡ false → (m : Bool) (e : Entry) → marks_by w side m (record { side = other; entry = e }) ≡ true → (m ≡ true) × ((is_effective e.outcome ≡ true) → Touches w.dest e.request → ⊥)
+other_marks w side other differ m e h = by (is_effective e.outcome && touches_mark w e.request) refl h
+  where
+    by : (t : Bool) → (is_effective e.outcome && touches_mark w e.request) ≡ t → cond t (is_side side other && (is_driver e.actor && is_marking w e.request)) m ≡ true → (m ≡ true) × ((is_effective e.outcome ≡ true) → Touches w.dest e.request → ⊥)
+    by true t h = absurd (false_true differ (and_parts (is_side side other) _ h).0)
+    by false t h = (h, λ took at. false_true t (both took (touched w e.request at)))
+
+-- ---- what holds of both
+
+pub record All (g h : Setting) (opening : Content) (es : List TwinEntry) (x y : SideState) : Type 0 where
+  pub pair : Pair g h x y
+  pub views : Views g h g.script.dest opening x.seen.scene.content x y (is_marked_by g.script First false es) (is_marked_by h.script Second false es)
+
+module _ (g h : Setting) (m : MayBeTwins g.script h.script) (k l : Option ℕ) (opening : Content) (is : IsTwinOpening g h opening) where
+  early : (f : Setting) (c : Option ℕ) → opening.minimum ≡ f.minimum → ((id : ℕ) (z : Upload) → at_id f.script opening id ≡ Some z → id < opening.next) → Early f (first_state opening c)
+  early f c least fresh = record {
+    told = refl;
+    last = λ t. refl;
+    unmarked = refl;
+    unpicked = λ t. refl;
+    fresh = fresh;
+    least = least;
+    none = λ a. refl;
+    files = empty_none f.script (first_state opening c).seen.scene refl;
+    setup = inl refl;
+  }
+
+  first_early : (c : Option ℕ) → Early g (first_state opening c)
+  first_early c = early g c is.first is.fresh
+
+  second_early : (c : Option ℕ) → Early h (first_state opening c)
+  second_early c = early h c is.second (subst (λ (d : Path). (id : ℕ) (z : Upload) → upload_at opening d.bucket id ≡ Some z → id < opening.next) m.twins.dest is.fresh)
+
+  all_begin : (c d : Option ℕ) → All g h opening [] (first_state opening c) (first_state opening d)
+  all_begin c d = record {
+    pair = record {
+      first = (inl (first_early c), λ just none. first_early c);
+      second = (inl (second_early d), λ just none. second_early d);
+      scenes = refl;
+      there = is.there;
+      low_first = λ id e. absurd (false_true refl e);
+      low_second = λ id e. absurd (false_true refl e);
+      known_first = λ id e. absurd e.2;
+      known_second = λ id e. absurd e.2;
+      apart = λ id e. refl;
+    };
+    views = record {
+      one = λ q path. inl refl;
+      mine = record { unpicked = λ b t. refl; stood = λ e. absurd (false_true refl e); files = λ p e. absurd cc; says = λ e. absurd (false_true refl e) };
+      others = record { unpicked = λ b t. refl; stood = λ e. absurd (false_true refl e); files = λ p e. absurd cc; says = λ e. absurd (false_true refl e) };
+    };
+  }
+
+  -- the same seen from the second side
+  flipped : {x y : SideState} (one two : Bool) → Pair g h x y → Views g h g.script.dest opening x.seen.scene.content x y one two → Views h g h.script.dest opening y.seen.scene.content y x two one
+  flipped {x = x} {y = y} one two p v = subst (λ (d : Path). Views h g d opening y.seen.scene.content y x two one) m.twins.dest (subst (λ (s : Scene). Views h g g.script.dest opening s.content y x two one) p.scenes (views_swap v))
+
+  back : {x y : SideState} (s : Scene) (one two : Bool) → x.seen.scene ≡ s → Views h g h.script.dest opening s.content y x two one → Views g h g.script.dest opening x.seen.scene.content x y one two
+  back {x = x} {y = y} s one two e v = subst (λ (d : Path). Views g h d opening x.seen.scene.content x y one two) (sym m.twins.dest) (subst (λ (t : Scene). Views g h h.script.dest opening t.content x y one two) (sym e) (views_swap v))
+
+  not_touched : (r : Request) → (Touches h.script.dest r → ⊥) → Touches g.script.dest r → ⊥
+  not_touched r f t = f (subst (λ (d : Path). Touches d r) m.twins.dest t)
+
+  not_touched_back : (r : Request) → (Touches g.script.dest r → ⊥) → Touches h.script.dest r → ⊥
+  not_touched_back r f t = f (subst (λ (d : Path). Touches d r) (sym m.twins.dest) t)
+
+  abbrev one : List TwinEntry → Bool
+  one es = is_marked_by g.script First false es
+
+  abbrev two : List TwinEntry → Bool
+  two es = is_marked_by h.script Second false es
+
+  abbrev by_first : Entry → TwinEntry
+  by_first e = record { side = First; entry = e }
+
+  abbrev by_second : Entry → TwinEntry
+  by_second e = record { side = Second; entry = e }
+
+  first_begin_so : (es : List TwinEntry) (x y : SideState) (reported : List Who) (b : Beginning) → All g h opening es x y → MayBegin g x b → All g h opening es (begin g x reported b) y
+  first_begin_so es x y reported b a may = record {
+    pair = paired_begin m.first reported b may a.pair;
+    views = begins_views g h m.first g.script.dest opening x.seen.scene.content x y (one es) (two es) reported b may a.pair.first a.views;
+  }
+
+  second_begin_so : (es : List TwinEntry) (x y : SideState) (reported : List Who) (b : Beginning) → All g h opening es x y → MayBegin h y b → All g h opening es x (begin h y reported b)
+  second_begin_so es x y reported b a may = record {
+    pair = swapped (swap_twins m.twins) (paired_begin m.second reported b may (swapped m.twins a.pair));
+    views = back y.seen.scene (one es) (two es) a.pair.scenes (begins_views h g m.second h.script.dest opening y.seen.scene.content y x (two es) (one es) reported b may a.pair.second (flipped (one es) (two es) a.pair a.views));
+  }
+
+  first_send_so : (es : List TwinEntry) (x y z : SideState) (e : Entry) → All g h opening es x y → Sends g k x e z → All g h opening (es ++ by_first e ∷ []) z (observed h l y e)
+  first_send_so es x y z e a sends =
+      let now = snoc_marked g.script First false es (by_first e) in
+      let then = snoc_marked h.script Second false es (by_first e) in
+      record {
+        pair = paired m k l e sends a.pair;
+        views = subst (λ (s : Scene). Views g h g.script.dest opening s.content z (observed h l y e) (one (es ++ by_first e ∷ [])) (two (es ++ by_first e ∷ []))) (sym (sends_scene g m.first k x z e sends))
+            (entry_views g h m.first opening x y z e (sends_leaves g m.first k m.keeps_first x z e sends a.pair.first) a.pair.there l (one es) (two es) (one (es ++ by_first e ∷ [])) (two (es ++ by_first e ∷ []))
+            (λ t. own_marks g.script First refl (one es) e (sym now ∙ t))
+            (λ t. let o = other_marks h.script Second First refl (two es) e (sym then ∙ t) in (o.0, λ took. not_touched e.request (o.1 took)))
+            a.views);
+      }
+
+  second_send_so : (es : List TwinEntry) (x y z : SideState) (e : Entry) → All g h opening es x y → Sends h l y e z → All g h opening (es ++ by_second e ∷ []) (observed g k x e) z
+  second_send_so es x y z e a sends =
+      let now = snoc_marked h.script Second false es (by_second e) in
+      let then = snoc_marked g.script First false es (by_second e) in
+      let turned : MayBeTwins h.script g.script = record { first = m.second; second = m.first; twins = swap_twins m.twins; keeps_first = m.keeps_second; keeps_second = m.keeps_first } in
+      let p = swapped m.twins a.pair in
+      record {
+        pair = swapped (swap_twins m.twins) (paired turned l k e sends p);
+        views = back (effect y.seen.scene e.request e.outcome) (one (es ++ by_second e ∷ [])) (two (es ++ by_second e ∷ [])) (ap (λ s. effect s e.request e.outcome) a.pair.scenes)
+            (entry_views h g m.second opening y x z e (sends_leaves h m.second l m.keeps_second y z e sends a.pair.second) p.there k (two es) (one es) (two (es ++ by_second e ∷ [])) (one (es ++ by_second e ∷ []))
+            (λ t. own_marks h.script Second refl (two es) e (sym now ∙ t))
+            (λ t. let o = other_marks g.script First Second refl (one es) e (sym then ∙ t) in (o.0, λ took. not_touched_back e.request (o.1 took)))
+            (flipped (one es) (two es) a.pair a.views));
+      }
+
+  pub all_so : (es : List TwinEntry) (x y : SideState) → TwinRun g h k l opening es x y → All g h opening es x y
+  all_so es x y (twins_begin c d) = all_begin c d
+  all_so es x y (first_begins fs u v reported b run may) = first_begin_so fs u v reported b (all_so fs u v run) may
+  all_so es x y (second_begins fs u v reported b run may) = second_begin_so fs u v reported b (all_so fs u v run) may
+  all_so es x y (first_sends fs u v z e run sends) = first_send_so fs u v z e (all_so fs u v run) sends
+  all_so es x y (second_sends fs u v z e run sends) = second_send_so fs u v z e (all_so fs u v run) sends
+
+  pub twins_keep : (es : List TwinEntry) (x y : SideState) → TwinRun g h k l opening es x y → TwinsKeep g h k l opening es x y
+  twins_keep es x y run =
+      let a = all_so es x y run in
+      let turned : MayBeTwins h.script g.script = record { first = m.second; second = m.first; twins = swap_twins m.twins; keeps_first = m.keeps_second; keeps_second = m.keeps_first } in
+      let other = flipped (one es) (two es) a.pair a.views in
+      record {
+        first = λ set. (late g m.first x a.pair.first.0 set).hold;
+        second = λ set. (late h m.second y a.pair.second.0 set).hold;
+        apart = a.pair.apart;
+        known_first = a.pair.known_first;
+        known_second = a.pair.known_second;
+        strange_first = λ e z sends. strange m k l e sends a.pair;
+        strange_second = λ e z sends. strange turned l k e sends (swapped m.twins a.pair);
+        one_scene = a.pair.scenes;
+        shows = record { only = views_only a.views; kept = views_kept a.views };
+        marked_first = λ t. let v = views_marked a.views m.first t in record { picked = v.0; apart = v.1; files = v.2; mark = v.3 };
+        marked_second = λ t. let v = views_marked other m.second t in record { picked = v.0; apart = v.1; files = v.2; mark = v.3 };
+      }
+
+-- ---- moments
+
+-- a side keeps the event of its first abort or clean
+pub sends_event : (g : Setting) (k : Option ℕ) (x z : SideState) (e : Entry) → Sends g k x e z → z.told.cleans_at ≡ x.told.cleans_at
+sends_event g k x _ _ (driver_sends _ op n r o d asked timely few honest) = refl
+sends_event g k x _ _ (attempt_sends _ a op n r o set at asked honest) = refl
+
+module _ (g h : Setting) (k l : Option ℕ) (opening : Content) where
+  -- a run comes so far, with the events of these
+  abbrev Reached : List TwinEntry → SideState → SideState → Type 0
+  Reached es x y = (u v : SideState) × TwinRun g h k l opening es u v × (u.told.cleans_at ≡ x.told.cleans_at) × (v.told.cleans_at ≡ y.told.cleans_at)
+
+  with_one : (es : List TwinEntry) (e : TwinEntry) (m : ℕ) (x y : SideState) → m ≤ length (es ++ e ∷ []) → (m ≤ length es → Reached (take m es) x y) → TwinRun g h k l opening (es ++ e ∷ []) x y → Reached (take m (es ++ e ∷ [])) x y
+  with_one es e m x y few before run = elim (at_most m (length es)) [
+    | inl low ↦ subst (λ fs. Reached fs x y) (sym (take-append-le m es (e ∷ []) low)) (before low)
+    | inr high ↦ subst (λ fs. Reached fs x y) (sym (take_all m (es ++ e ∷ []) (let n : length (es ++ e ∷ []) ≡ length es + 1 = length-append es (e ∷ []) in omega arith))) (x, y, run, refl, refl)
+  ]
+    where
+      at_most : (a b : ℕ) → (a ≤ b) ⊎ (b < a)
+      at_most zero b = inl (omega arith)
+      at_most (suc a) zero = inr (omega arith)
+      at_most (suc a) (suc b) = elim (at_most a b) [ inl x ↦ inl (omega arith) | inr x ↦ inr (omega arith) ]
+
+  pub moments : (es : List TwinEntry) (x y : SideState) → TwinRun g h k l opening es x y → (m : ℕ) → m ≤ length es → Reached (take m es) x y
+  moments es x y (twins_begin c d) m few = (x, y, subst (λ fs. TwinRun g h k l opening fs x y) (sym (take_all m [] (omega arith))) (twins_begin c d), refl, refl)
+  moments es x y (first_begins fs u v reported b run may) m few = moments fs u v run m few
+  moments es x y (second_begins fs u v reported b run may) m few = moments fs u v run m few
+  moments es x y (first_sends fs u v z e run sends) m few =
+      with_one fs (record { side = First; entry = e }) m z (observed h l v e) few (λ low. let r = moments fs u v run m low in (r.0, r.1, r.2, r.3 ∙ sym (sends_event g k u z e sends), r.4)) (first_sends fs u v z e run sends)
+  moments es x y (second_sends fs u v z e run sends) m few =
+      with_one fs (record { side = Second; entry = e }) m (observed g k u e) z few (λ low. let r = moments fs u v run m low in (r.0, r.1, r.2, r.3, r.4 ∙ sym (sends_event h l v z e sends))) (second_sends fs u v z e run sends)
+
+-- ---- which side is the first
+
+module _ (g h : Setting) (k l : Option ℕ) (opening : Content) where
+  turned_one : (es : List TwinEntry) (e : TwinEntry) → map turned_entry (es ++ e ∷ []) ≡ map turned_entry es ++ turned_entry e ∷ []
+  turned_one [] e = refl
+  turned_one (x ∷ es) e = ap (λ l. turned_entry x ∷ l) (turned_one es e)
+
+  pub turned : (es : List TwinEntry) (x y : SideState) → TwinRun g h k l opening es x y → TwinRun h g l k opening (map turned_entry es) y x
+  turned es x y (twins_begin c d) = twins_begin d c
+  turned es x y (first_begins fs u v reported b run may) = second_begins (map turned_entry fs) v u reported b (turned fs u v run) may
+  turned es x y (second_begins fs u v reported b run may) = first_begins (map turned_entry fs) v u reported b (turned fs u v run) may
+  turned es x y (first_sends fs u v z e run sends) = subst (λ q. TwinRun h g l k opening q (observed h l v e) z) (sym (turned_one fs (record { side = First; entry = e }))) (second_sends (map turned_entry fs) v u z e (turned fs u v run) sends)
+  turned es x y (second_sends fs u v z e run sends) = subst (λ q. TwinRun h g l k opening q z (observed g k u e)) (sym (turned_one fs (record { side = Second; entry = e }))) (first_sends (map turned_entry fs) v u z e (turned fs u v run) sends)

@@ -1,0 +1,281 @@
+-- What readers of a destination of two jobs are shown is kept by each step of either.
+use Rattle.std.proofs.Common.{◌≡◌, ℕ, ◌⊎◌, inl, inr, not, Bool, true, false, cond, List, Option, Some, None, refl, sym, ap, subst, ◌∙◌}
+use Rattle.std.specs.Option.{option_map}
+use Rattle.std.proofs.lemmas.Bool.{and_parts, not-true}
+use Rattle.s3_types.specs.Store.{Content, Scene}
+use Rattle.s3_types.specs.Answer.{bucket_of}
+use Rattle.s3_types.specs.Moment.{effect, is_effective}
+use Rattle.s3_types.specs.declared.object.Object.{Object}
+use Rattle.s3_types.specs.declared.request.Request.{Request}
+use Rattle.s3_types.specs.declared.journal.Outcome.{Outcome}
+use Rattle.s3_types.specs.declared.journal.Outcome.TheVariants.{Answered, Slow, RequestLost, ReplyLost}
+use Rattle.s3_types.specs.declared.journal.Entry.{Entry}
+use Rattle.path_keys.specs.Paths.{Path}
+use Rattle.magic_paths.specs.Layout.{success_key}
+use Rattle.job_model.specs.Attempts.{Who}
+use Rattle.job_model.specs.JobScript.{Script}
+use Rattle.job_model.specs.Legal.{IsLegal}
+use Rattle.job_operations.specs.Outputs.{Picks, wanted_at, is_decided, is_picked, is_clash}
+use Rattle.job_operations.specs.Records.{mark_text}
+use Rattle.job_operations.specs.View.{is_file_path, view}
+use Rattle.job_operations.specs.JobCommits.{Commit, Marking}
+use Rattle.job_operations.specs.Operations.{Setting, TheCommit}
+use Rattle.job_promise.specs.Ends.{is_driver}
+use Rattle.job_promise.specs.Seen.{is_marking}
+use Rattle.request_frame.specs.Members.{IsIn}
+use Rattle.request_frame.specs.Held.{HasBucket}
+use Rattle.request_frame.specs.Frame.{changed_keys}
+use Rattle.request_frame.proofs.Members.{some_is, none_some, none_or_some, false_true, true_or_false, same_or_other}
+use Rattle.job_facts.specs.Filed.{whole_of}
+use Rattle.job_facts.specs.Runs.{Beginning, BeginSetup, BeginCommit, BeginClean}
+use Rattle.job_facts.proofs.FilePaths.{file_path}
+use Rattle.job_facts.proofs.FilingLaws.{stranger_same}
+use Rattle.job_facts.proofs.Wanted.{wanted_of}
+use Rattle.twin_facts.specs.TwinLaws.{counted, Gives}
+use Rattle.twin_facts.specs.SharedOperations.{Alone}
+use Rattle.twin_facts.specs.Sides.{SideState, is_just_set, observed, MayBegin, begin}
+use Rattle.twin_facts.proofs.Standing.{Well, late, just_set, just_idle}
+use Rattle.twin_facts.proofs.Spares.{in_or_not}
+use Rattle.twin_facts.proofs.Steps.{obj, mark_at, count, FileAt, Leaves}
+
+-- ---- paths
+
+-- what stands at a path is what stood in the opening; or the path is wanted, and it is the whole wanted file or nothing
+abbrev pub One : Path → Content → Content → (List ℕ → Option (List ℕ)) → (List ℕ → Option (List ℕ)) → List ℕ → Type 0
+One d opening c mine others q = (obj d c q ≡ obj d opening q) ⊎ ((b : List ℕ) × ((mine q ≡ Some b) ⊎ (others q ≡ Some b)) × ((obj d c q ≡ Some (whole_of b)) ⊎ (obj d c q ≡ None)))
+
+-- while its commit goes on its wanted files that are not the other's too stand as it says
+abbrev pub FilesAt : Setting → Path → Content → Content → SideState → (List ℕ → Option (List ℕ)) → Type 0
+FilesAt g d opening c x others = (p : Commit) → x.driver ≡ Some (Alone (TheCommit p)) → (q b : List ℕ) → is_file_path q ≡ true → wanted_at g.script x.seen.picks q ≡ Some b → others q ≡ None → FileAt g x q b (obj d opening q) (obj d c q) p
+
+-- of one side, at a destination, beside what counts of the other's
+pub record SideViews (g : Setting) (d : Path) (opening c : Content) (x : SideState) (others : List ℕ → Option (List ℕ)) (marked : Bool) : Type 0 where
+  -- before its commit begins it has no picks
+  pub unpicked : x.seen.begun ≡ false → (t : ℕ) → x.seen.picks t ≡ None
+  -- once it has put the marker all its files stand that are not the other's too
+  pub stood : x.seen.put_mark ≡ true → (is_decided g.script x.seen.picks ≡ true) × ((q b : List ℕ) → is_file_path q ≡ true → count g x q ≡ Some b → others q ≡ None → obj d c q ≡ Some (whole_of b))
+  pub files : FilesAt g d opening c x others
+  -- where the marker is its own it says what was wanted
+  pub says : marked ≡ true → (x.seen.put_mark ≡ true) × ((o : Object) × (mark_at d c ≡ Some o) × (o.bytes ≡ mark_text g.script x.seen.picks))
+
+pub record Views (g h : Setting) (d : Path) (opening c : Content) (x y : SideState) (first second : Bool) : Type 0 where
+  pub one : (q : List ℕ) → is_file_path q ≡ true → One d opening c (count g x) (count h y) q
+  pub mine : SideViews g d opening c x (count h y) first
+  pub others : SideViews h d opening c y (count g x) second
+
+pub views_swap : {g h : Setting} {d : Path} {opening c : Content} {x y : SideState} {first second : Bool} → Views g h d opening c x y first second → Views h g d opening c y x second first
+views_swap v = record {
+  one = λ q path. elim (v.one q path) [ inl same ↦ inl same | inr z ↦ inr (z.0, elim z.1 [ inl a ↦ inr a | inr a ↦ inl a ], z.2) ];
+  mine = v.others;
+  others = v.mine;
+}
+
+-- ---- one entry of the first side
+
+-- the request changes what stands at the marker's key
+abbrev pub Touches : Path → Request → Type 0
+Touches d r = (bucket_of r ≡ d.bucket) × IsIn (success_key d.key) (changed_keys r)
+
+module _ (g h : Setting) (j : IsLegal g.script) (opening : Content) (x y z : SideState) (e : Entry) (l : Leaves g x z e) (there : HasBucket x.seen.scene.content g.script.dest.bucket) where
+  abbrev w : Script
+  w = g.script
+
+  abbrev d : Path
+  d = g.script.dest
+
+  abbrev s : Scene
+  s = x.seen.scene
+
+  abbrev u : Scene
+  u = effect s e.request e.outcome
+
+  -- what was decided stays so
+  still_picks : is_decided w x.seen.picks ≡ true → z.seen.picks ≡ x.seen.picks
+  still_picks dec = elim l.picks [ inl same ↦ same | inr un ↦ absurd (false_true un dec) ]
+
+  counted_some : (p : Picks) (q b : List ℕ) → counted w p q ≡ Some b → is_decided w p ≡ true
+  counted_some p q b c = by (is_decided w p) refl c
+    where
+      by : (a : Bool) → is_decided w p ≡ a → cond a (wanted_at w p q) None ≡ Some b → is_decided w p ≡ true
+      by true i c = i
+      by false i c = absurd (none_some refl c)
+
+  still_counted : (q b : List ℕ) → count g x q ≡ Some b → count g z q ≡ Some b
+  still_counted q b c = ap (λ p. counted w p q) (still_picks (counted_some x.seen.picks q b c)) ∙ c
+
+  not_counted : (q : List ℕ) → count g z q ≡ None → count g x q ≡ None
+  not_counted q n = elim (none_or_some (count g x q)) [ inl none ↦ none | inr b ↦ absurd (none_some n (still_counted q b.0 b.1)) ]
+
+  one_now : (q : List ℕ) → is_file_path q ≡ true → One d opening s.content (count g x) (count h y) q → One d opening u.content (count g z) (count h y) q
+  one_now q path old = elim (l.shows q path) [
+    | inr n ↦ inr (n.0, inl (still_counted q n.0 n.1), n.2)
+    | inl same ↦ elim old [
+      | inl was ↦ inl (same ∙ was)
+      | inr o ↦ inr (o.0, elim o.1 [ inl a ↦ inl (still_counted q o.0 a) | inr a ↦ inr a ], elim o.2 [ inl a ↦ inl (same ∙ a) | inr a ↦ inr (same ∙ a) ])
+    ]
+  ]
+
+  -- what is not wanted by the first side it leaves
+  left_alone : (q : List ℕ) → is_file_path q ≡ true → count g z q ≡ None → obj d u.content q ≡ obj d s.content q
+  left_alone q path none = elim (l.shows q path) [ inl same ↦ same | inr n ↦ absurd (none_some (not_counted q none) n.1) ]
+
+  -- ---- the marker
+
+  touched_or_not : (c : Path) (r : Request) → Touches c r ⊎ (Touches c r → ⊥)
+  touched_or_not c r = elim (same_or_other (bucket_of r) c.bucket) [
+    | inr ne ↦ inr (λ t. ne t.0)
+    | inl b ↦ elim (in_or_not (success_key c.key) (changed_keys r)) [ inl i ↦ inl (b, i) | inr out ↦ inr (λ t. out t.1) ]
+  ]
+
+  -- what does not take effect, or does not touch it, leaves it
+  mark_left : ((is_effective e.outcome ≡ true) → Touches d e.request → ⊥) → mark_at d u.content ≡ mark_at d s.content
+  mark_left free = by e.outcome refl
+    where
+      by : (o : Outcome) → o ≡ e.outcome → mark_at d u.content ≡ mark_at d s.content
+      by (Answered a) i = stranger_same w s there e.request e.outcome (success_key d.key) (λ b k. free (ap is_effective (sym i)) (b, k))
+      by ReplyLost i = stranger_same w s there e.request e.outcome (success_key d.key) (λ b k. free (ap is_effective (sym i)) (b, k))
+      by Slow i = ap (λ o. mark_at d (effect s e.request o).content) (sym i)
+      by RequestLost i = ap (λ o. mark_at d (effect s e.request o).content) (sym i)
+
+  -- ---- its own side
+
+  own_now : (marked now : Bool) → (now ≡ true → ((is_effective e.outcome ≡ true) × (is_driver e.actor ≡ true) × (is_marking w e.request ≡ true)) ⊎ ((marked ≡ true) × ((is_effective e.outcome ≡ true) → Touches d e.request → ⊥)))
+      → ((q : List ℕ) → is_file_path q ≡ true → One d opening s.content (count g x) (count h y) q) → SideViews g d opening s.content x (count h y) marked → SideViews g d opening u.content z (count h y) now
+  own_now marked now said one v = record {
+    unpicked = λ b t. let c = l.unbegun b in ap (λ p. p t) c.1 ∙ v.unpicked c.0 t;
+    stood = λ put. elim (true_or_false x.seen.put_mark) [
+      | inl before ↦
+          let old = v.stood before in
+          let same = still_picks old.0 in (
+            ap (is_decided w) same ∙ old.0,
+            λ q b path c none. (l.put_still before).1 q path ∙ old.1 q b path (ap (λ p. counted w p q) (sym same) ∙ c) none,
+          )
+      | inr not_before ↦
+          let n = l.put_now not_before put in (
+            ap (is_decided w) n.3 ∙ n.4,
+            λ q b path c none.
+                let want : wanted_at w x.seen.picks q ≡ Some b = ap (λ a. cond a (wanted_at w x.seen.picks q) None) (sym n.4) ∙ ap (λ p. counted w p q) (sym n.3) ∙ c in
+                n.5 q path ∙ v.files (Marking n.0 n.1) n.2 q b path want none,
+          )
+    ];
+    files = λ p is q b path want none. l.files p is q b (obj d opening q) path want
+        (λ un. elim (one q path) [
+          | inl same ↦ same
+          | inr o ↦ absurd (elim o.1 [ inl a ↦ false_true un (counted_some x.seen.picks q o.0 a) | inr a ↦ none_some none a ])
+        ])
+        (λ t at_it old. v.files t at_it q b path old none);
+    says = λ m. elim (said m) [
+      | inl a ↦ l.marks a.1 a.2 a.0
+      | inr a ↦
+          let old = v.says a.0 in
+          let dec = (v.stood old.0).0 in
+          ((l.put_still old.0).0, (old.1.0, mark_left a.1 ∙ old.1.1, old.1.2 ∙ ap (mark_text w) (sym (still_picks dec))))
+    ];
+  }
+
+  -- ---- and the other's, which sent nothing
+
+  other_now : (marked now : Bool) → (now ≡ true → (marked ≡ true) × ((is_effective e.outcome ≡ true) → Touches d e.request → ⊥)) → (k : Option ℕ) → SideViews h d opening s.content y (count g x) marked → SideViews h d opening u.content (observed h k y e) (count g z) now
+  other_now marked now said k v = record {
+    unpicked = v.unpicked;
+    stood = λ put. let old = v.stood put in (old.0, λ q b path c none. left_alone q path none ∙ old.1 q b path c (not_counted q none));
+    files = λ p is q b path want none. subst (λ t. FileAt h y q b (obj d opening q) t p) (sym (left_alone q path none)) (v.files p is q b path want (not_counted q none));
+    says = λ m. let a = said m in let old = v.says a.0 in (old.0, (old.1.0, mark_left a.1 ∙ old.1.1, old.1.2));
+  }
+
+-- ---- what begins
+
+pub begins_views : (g h : Setting) (j : IsLegal g.script) (d : Path) (opening c : Content) (x y : SideState) (first second : Bool) (reported : List Who) (b : Beginning) → MayBegin g x b → Well g x → Views g h d opening c x y first second → Views g h d opening c (begin g x reported b) y first second
+begins_views g h j d opening c x y first second reported b may well v = record {
+  one = v.one;
+  mine = record { unpicked = v.mine.unpicked; stood = v.mine.stood; files = files_by b may; says = v.mine.says };
+  others = v.others;
+}
+  where
+    -- a commit begins without picks
+    unpicked : is_just_set x.driver ≡ true → (t : ℕ) → x.seen.picks t ≡ None
+    unpicked just = (just_idle g j x.driver x.seen x.told (late g j x well.0 (just_set g j x.driver just)).driver just).unpicked
+
+    files_by : (b : Beginning) → MayBegin g x b → FilesAt g d opening c (begin g x reported b) (count h y)
+    files_by BeginSetup may = λ p is. absurd cc
+    files_by (BeginCommit missing) may = λ p is q b path want none. (let z = wanted_of g.script x.seen.picks q b want in absurd (none_some (unpicked may z.from.task) z.from.picked))
+    files_by BeginClean may = λ p is. absurd cc
+    files_by _ may = v.mine.files
+
+-- ---- one entry
+
+pub entry_views : (g h : Setting) → IsLegal g.script → (opening : Content) (x y z : SideState) (e : Entry) → Leaves g x z e → HasBucket x.seen.scene.content g.script.dest.bucket → (k : Option ℕ) (first second now then : Bool)
+    → (now ≡ true → ((is_effective e.outcome ≡ true) × (is_driver e.actor ≡ true) × (is_marking g.script e.request ≡ true)) ⊎ ((first ≡ true) × ((is_effective e.outcome ≡ true) → Touches g.script.dest e.request → ⊥)))
+    → (then ≡ true → (second ≡ true) × ((is_effective e.outcome ≡ true) → Touches g.script.dest e.request → ⊥))
+    → Views g h g.script.dest opening x.seen.scene.content x y first second → Views g h g.script.dest opening (effect x.seen.scene e.request e.outcome).content z (observed h k y e) now then
+entry_views g h j opening x y z e l there k first second now then said says v = record {
+  one = λ q path. one_now g h j opening x y z e l there q path (v.one q path);
+  mine = own_now g h j opening x y z e l there first now said v.one v.mine;
+  others = other_now g h j opening x y z e l there second then says k v.others;
+}
+
+-- ---- what readers are shown
+
+module _ {g h : Setting} {d : Path} {opening c : Content} {x y : SideState} {first second : Bool} (v : Views g h d opening c x y first second) where
+  shown_is : (e : Content) (q : List ℕ) → is_file_path q ≡ true → view d e q ≡ option_map (λ (b : Object). b.bytes) (obj d e q)
+  shown_is e q path = ap (λ b. cond b (option_map (λ (o : Object). o.bytes) (obj d e q)) None) path
+
+  is_shown : (e : Content) (q b : List ℕ) → view d e q ≡ Some b → is_file_path q ≡ true
+  is_shown e q b has = elim (true_or_false (is_file_path q)) [
+    | inl path ↦ path
+    | inr none ↦ absurd (none_some (ap (λ t. cond t (option_map (λ (o : Object). o.bytes) (obj d e q)) None) none) has)
+  ]
+
+  shown_by : (e : Content) (q : List ℕ) → is_file_path q ≡ true → (o : Option Object) → obj d e q ≡ o → view d e q ≡ option_map (λ (b : Object). b.bytes) o
+  shown_by e q path o is = shown_is e q path ∙ ap (λ t. option_map (λ (b : Object). b.bytes) t) is
+
+  unbegun_none : (f : Setting) (z : SideState) → (z.seen.begun ≡ false → (t : ℕ) → z.seen.picks t ≡ None) → (q b : List ℕ) → counted f.script z.seen.picks q ≡ Some b → z.seen.begun ≡ true
+  unbegun_none f z unpicked q b has = elim (true_or_false z.seen.begun) [
+    | inl begun ↦ begun
+    | inr no_so ↦ absurd (by (is_decided f.script z.seen.picks) has (unpicked no_so))
+  ]
+    where
+      by : (a : Bool) → cond a (wanted_at f.script z.seen.picks q) None ≡ Some b → ((t : ℕ) → z.seen.picks t ≡ None) → ⊥
+      by true e none = let w = wanted_of f.script z.seen.picks q b e in none_some (none w.from.task) w.from.picked
+      by false e none = none_some refl e
+
+  gives_first : (q b : List ℕ) → count g x q ≡ Some b → Gives g.script x.seen q b
+  gives_first q b has = (unbegun_none g x v.mine.unpicked q b has, has)
+
+  gives_second : (q b : List ℕ) → count h y q ≡ Some b → Gives h.script y.seen q b
+  gives_second q b has = (unbegun_none h y v.others.unpicked q b has, has)
+
+  pub views_only : (q b : List ℕ) → view d c q ≡ Some b → (view d opening q ≡ Some b) ⊎ (Gives g.script x.seen q b ⊎ Gives h.script y.seen q b)
+  views_only q b has =
+      let path = is_shown c q b has in
+      elim (v.one q path) [
+        | inl same ↦ inl (shown_is opening q path ∙ ap (λ o. option_map (λ (a : Object). a.bytes) o) (sym same) ∙ sym (shown_is c q path) ∙ has)
+        | inr o ↦ elim o.2 [
+          | inr gone ↦ absurd (none_some refl (sym (shown_by c q path None gone) ∙ has))
+          | inl whole ↦
+              let is : o.0 ≡ b = some_is (sym (shown_by c q path (Some (whole_of o.0)) whole) ∙ has) in
+              inr (elim o.1 [ inl a ↦ inl (gives_first q b (a ∙ ap (λ t. Some t) is)) | inr a ↦ inr (gives_second q b (a ∙ ap (λ t. Some t) is)) ])
+        ]
+      ]
+
+  pub views_kept : (q b : List ℕ) → view d opening q ≡ Some b → count g x q ≡ None → count h y q ≡ None → view d c q ≡ Some b
+  views_kept q b has none nor =
+      let path = is_shown opening q b has in
+      elim (v.one q path) [
+        | inl same ↦ shown_is c q path ∙ ap (λ o. option_map (λ (a : Object). a.bytes) o) same ∙ sym (shown_is opening q path) ∙ has
+        | inr o ↦ absurd (elim o.1 [ inl a ↦ none_some none a | inr a ↦ none_some nor a ])
+      ]
+
+  pub views_marked : IsLegal g.script → first ≡ true → (is_picked g.script x.seen.picks ≡ true) × (is_clash g.script x.seen.picks ≡ false) × ((q b : List ℕ) → wanted_at g.script x.seen.picks q ≡ Some b → count h y q ≡ None → view d c q ≡ Some b) × ((o : Object) × (mark_at d c ≡ Some o) × (o.bytes ≡ mark_text g.script x.seen.picks))
+  views_marked j is =
+      let a = v.mine.says is in
+      let b = v.mine.stood a.0 in
+      let parts = and_parts (is_picked g.script x.seen.picks) (not (is_clash g.script x.seen.picks)) b.0 in (
+        parts.0,
+        not-true (is_clash g.script x.seen.picks) parts.1,
+        (λ q u want none.
+            let z = wanted_of g.script x.seen.picks q u want in
+            let path : is_file_path q ≡ true = ap is_file_path z.path ∙ file_path j _ z.file z.from.mine in
+            shown_by c q path (Some (whole_of u)) (b.1 q u path (ap (λ t. cond t (wanted_at g.script x.seen.picks q) None) b.0 ∙ want) none)),
+        a.1,
+      )

@@ -1,0 +1,125 @@
+-- The driver's abort or clean of a job at a shared destination: it aborts only the uploads that the job's own records and sets name, and lists no uploads (Hadoop, S3A committer architecture: cleanup by the job's own pending files).
+use Rattle.std.specs.Prelude.{ℕ, List, [], ◌∷◌, ◌++◌, take, drop, map, Option, Some, None, Result, Ok, Err}
+use Rattle.std.specs.List.{filter}
+use Rattle.s3_types.specs.declared.request.Request.{Request}
+use Rattle.s3_types.specs.declared.request.Request.TheVariants.{GetObject, DeleteObjects, AbortUpload, ClusterGet, ClusterList, ClusterDelete}
+use Rattle.s3_types.specs.declared.request.UploadRef.{UploadRef}
+use Rattle.s3_types.specs.declared.request.Committer.{Committer}
+use Rattle.s3_types.specs.declared.request.Committer.TheVariants.{Magic, Directory, Partitioned}
+use Rattle.s3_types.specs.declared.reply.Reply.{Reply}
+use Rattle.s3_types.specs.declared.reply.Reply.TheVariants.{Object, ClusterBytes, ClusterNames}
+use Rattle.magic_paths.specs.Layout as layout
+use Rattle.magic_paths.specs.Places.{is_record}
+use Rattle.pending_json.specs.Pending.{Pending}
+use Rattle.pending_json.specs.Reading as reading
+use Rattle.pending_json.specs.declared.fault.RecordFault.{RecordFault}
+use Rattle.pending_json.specs.declared.records.PendingSet.{PendingSet}
+use Rattle.sendings.specs.Retries.{Item, Got, WornOut, OutOfMemory}
+use Rattle.job_model.specs.JobScript.{Script}
+use Rattle.job_model.specs.declared.ends.CleanEnd.{CleanEnd}
+use Rattle.job_model.specs.declared.ends.CleanEnd.TheVariants as ends
+use Rattle.list_walk.specs.Walks.{Walked, More, Whole, page_after, walked}
+
+pub data Sparing : Type 0 where
+  -- magic: lists the keys below the job's magic directory, with those so far
+  Walking : (keys : List (List ℕ)) → Sparing
+  -- staging: lists the job's files in the cluster
+  Naming : Sparing
+  -- reads the record or set at this place, then at the others; with the uploads that were named so far, and all places, which are to go in the end
+  Reading : (named : List UploadRef) (place : List ℕ) (others all : List (List ℕ)) → Sparing
+  -- aborts this one; the others follow
+  Aborting : (upload : UploadRef) (others : List UploadRef) (all : List (List ℕ)) → Sparing
+  -- magic: deletes these keys, at most 1,000 at a time
+  Deleting : (key : List ℕ) (keys : List (List ℕ)) → Sparing
+  -- staging: deletes this one; the others follow
+  Removing : (path : List ℕ) (others : List (List ℕ)) → Sparing
+  SparingOver : (end : CleanEnd) → Sparing
+
+abbrev pub sparing_start : Committer → Sparing
+sparing_start Magic = Walking []
+sparing_start Directory = Naming
+sparing_start Partitioned = Naming
+
+-- the read of a record, or of a file in the cluster
+abbrev pub record_request : Committer → Script → List ℕ → Request
+record_request Magic w place = GetObject w.dest.bucket place
+record_request Directory w place = ClusterGet place
+record_request Partitioned w place = ClusterGet place
+
+abbrev pub sparing_asks : Script → Sparing → Option Request
+sparing_asks w (Walking keys) = Some (page_after w.dest.bucket (layout.magic_prefix w.dest.key w.job) keys)
+sparing_asks w Naming = Some (ClusterList (layout.cluster_prefix w.job))
+sparing_asks w (Reading named p ps all) = Some (record_request w.committer w p)
+sparing_asks w (Aborting u us all) = Some (AbortUpload w.dest.bucket u.key u.upload)
+sparing_asks w (Deleting k ks) = Some (DeleteObjects w.dest.bucket (take 1000 (k ∷ ks)))
+sparing_asks w (Removing p ps) = Some (ClusterDelete p)
+sparing_asks w (SparingOver end) = None
+
+-- ---- what records and sets name
+
+abbrev pub ref_of : Pending → UploadRef
+ref_of p = record { key = p.destination; upload = p.upload }
+
+-- of a record its upload, of a set all of its uploads; of what is neither, none
+abbrev pub record_names : Result Pending RecordFault → List UploadRef
+record_names (Ok p) = ref_of p ∷ []
+record_names (Err f) = []
+
+abbrev pub set_names : Result PendingSet RecordFault → List UploadRef
+set_names (Ok s) = map ref_of s.commits
+set_names (Err f) = []
+
+-- of an answer; where nothing stands, none
+abbrev pub names : Reply → List UploadRef
+names (Object bytes header) = record_names (reading.pending_of bytes)
+names (ClusterBytes bytes) = set_names (reading.set_of bytes)
+names _ = []
+
+-- ---- where answers lead
+
+abbrev pub deleting : List (List ℕ) → Sparing
+deleting [] = SparingOver ends.Done
+deleting (k ∷ ks) = Deleting k ks
+
+abbrev pub removing : List (List ℕ) → Sparing
+removing [] = SparingOver ends.Done
+removing (p ∷ ps) = Removing p ps
+
+abbrev pub emptying : Committer → List (List ℕ) → Sparing
+emptying Magic all = deleting all
+emptying Directory all = removing all
+emptying Partitioned all = removing all
+
+abbrev pub aborting : Committer → List UploadRef → List (List ℕ) → Sparing
+aborting committer [] all = emptying committer all
+aborting committer (u ∷ us) all = Aborting u us all
+
+abbrev pub reading_on : Committer → List UploadRef → List (List ℕ) → List (List ℕ) → Sparing
+reading_on committer named [] all = aborting committer named all
+reading_on committer named (p ∷ ps) all = Reading named p ps all
+
+abbrev pub walking : Committer → Walked (List ℕ) → Sparing
+walking committer (More keys) = Walking keys
+walking committer (Whole keys) = reading_on committer [] (filter is_record keys) keys
+
+abbrev pub naming : Committer → Reply → Sparing
+naming committer (ClusterNames paths) = reading_on committer [] paths paths
+naming committer _ = Naming
+
+abbrev pub sparing_hears : Script → Sparing → Reply → Sparing
+sparing_hears w (Walking keys) r = walking w.committer (walked keys r)
+sparing_hears w Naming r = naming w.committer r
+sparing_hears w (Reading named p ps all) r = reading_on w.committer (named ++ names r) ps all
+sparing_hears w (Aborting u us all) r = aborting w.committer us all
+sparing_hears w (Deleting k ks) r = deleting (drop 1000 (k ∷ ks))
+sparing_hears w (Removing p ps) r = removing ps
+sparing_hears w (SparingOver end) r = SparingOver end
+
+abbrev pub sparing_over : Sparing → Option CleanEnd
+sparing_over (SparingOver end) = Some end
+sparing_over _ = None
+
+abbrev pub sparing_after : Script → Sparing → Item → Sparing
+sparing_after w c (Got r repeated) = sparing_hears w c r
+sparing_after w c WornOut = SparingOver ends.StoreFault
+sparing_after w c OutOfMemory = SparingOver ends.NoMemory

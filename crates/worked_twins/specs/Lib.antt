@@ -1,0 +1,3 @@
+pub mod Sided
+pub mod TwoMagic
+pub mod Conflict
