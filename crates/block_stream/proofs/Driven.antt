@@ -10,8 +10,8 @@ use Rattle.s3_types.specs.declared.reply.Reply.{Reply}
 use Rattle.s3_types.specs.declared.reply.Reply.TheVariants.{Stored, Upload, Part, Completed, Refused}
 use Rattle.s3_types.specs.declared.reply.Refusal.{Refusal}
 use Rattle.s3_types.specs.declared.reply.Refusal.TheVariants.{NoSuchUpload}
-use Rattle.sendings.specs.Operation.{run}
-use Rattle.sendings.specs.Retries.{Got, Retried, step}
+use Rattle.retries.specs.Operation.{run}
+use Rattle.retries.specs.Retries.{Got, Retried, step}
 use Rattle.machine.specs.Standing.{Fine}
 use Rattle.machine.proofs.Keeping.{Keeps}
 use Rattle.machine.specs.Drove.{Drove}

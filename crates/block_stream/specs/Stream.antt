@@ -8,7 +8,7 @@ use Rattle.s3_types.specs.declared.reply.Reply.{Reply}
 use Rattle.s3_types.specs.declared.reply.Reply.TheVariants.{Stored, Upload, Part, Completed, Refused}
 use Rattle.s3_types.specs.declared.reply.Refusal.{Refusal}
 use Rattle.s3_types.specs.declared.reply.Refusal.TheVariants.{NoSuchUpload}
-use Rattle.sendings.specs.Retries.{Item, Got, WornOut, OutOfMemory}
+use Rattle.retries.specs.Retries.{Item, Got, WornOut, OutOfMemory}
 use Rattle.machine.specs.Standing.{Standing, Fine, Faulted, Broken}
 use Rattle.s3_types.specs.Blocks.{named_from}
 use Rattle.block_stream.specs.declared.mode.StreamMode.{StreamMode}

@@ -3,7 +3,7 @@ ghost use Rattle.std.specs.Option.{option_copied};
 ghost use Rattle.std.specs.FinMap as fin;
 ghost use Rattle.s3_types.specs.Store.{Scene, BucketContent};
 ghost use Rattle.s3_types.specs.declared.limits.TheConstants.{MOST_PARTS};
-ghost use Rattle.sendings.specs.Retries.{OutOfMemory};
+ghost use Rattle.retries.specs.Retries.{OutOfMemory};
 ghost use Rattle.block_stream.specs.Stream.{fresh, is_direct, delayed_of, stage, wanted, moved, Fits, told, begun, parted, settled, ended, broken, wrote, close, end_of, left, standing};
 ghost use Rattle.block_stream.specs.Holds.{Holds, IsReady};
 ghost use Rattle.block_stream.specs.Kept.{next_by, front_of, last_of};

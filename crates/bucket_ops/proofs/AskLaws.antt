@@ -10,7 +10,7 @@ use Rattle.s3_types.specs.Store.{Objects, BucketContent, Buckets, Scene}
 use Rattle.s3_types.specs.Answer.{answer, apply, answer_at, apply_at, copy_answer, copied, without}
 use Rattle.s3_types.specs.declared.object.Object.{Object}
 use Rattle.s3_types.specs.declared.request.Request.{Request}
-use Rattle.request_frame.proofs.Members.{same_or_other, text_here, text_other, text_gone, text_left}
+use Rattle.proof_base.proofs.Members.{same_or_other, text_here, text_other, text_gone, text_left}
 use Rattle.bucket_ops.specs.Asks.{Ask, Head, Get, Page, Put, Drop, DropAll, Copy, request_of, reply_in, edited, reply_at, objects_of, objects_at, with_objects_if, with_objects}
 use Rattle.operations.specs.Plans.{Repeats}
 

@@ -7,9 +7,9 @@ use Rattle.s3_types.specs.Store.{Objects}
 use Rattle.s3_types.specs.Answer.{without}
 use Rattle.s3_types.specs.Pages.{begins, listed}
 use Rattle.s3_types.specs.declared.object.Object.{Object}
-use Rattle.request_frame.specs.Members.{IsIn}
-use Rattle.request_frame.proofs.Members.{same_or_other, text_gone, text_left}
-use Rattle.request_frame.proofs.Flat.{listed_all, page_begins}
+use Rattle.proof_base.specs.Members.{IsIn}
+use Rattle.proof_base.proofs.Members.{same_or_other, text_gone, text_left}
+use Rattle.store_frame.proofs.Flat.{listed_all, page_begins}
 use Rattle.list_walk.specs.Walks.{keys_on}
 use Rattle.bucket_ops.proofs.AskLaws.{gone_still}
 use Rattle.bucket_walks.specs.Walking.{keys_below}

@@ -8,7 +8,7 @@ use Rattle.s3_types.specs.Store.{Scene, BucketContent}
 use Rattle.s3_types.specs.Answer.{answer, answer_at, apply}
 use Rattle.s3_types.specs.Multipart.{listed}
 use Rattle.s3_types.specs.declared.request.UploadRef.{UploadRef}
-use Rattle.request_frame.proofs.Reading.{reads_nothing}
+use Rattle.store_frame.proofs.Reading.{reads_nothing}
 use Rattle.operations.specs.Plans.{Repeats, Goes, Falls, IsPlan}
 use Rattle.operations.specs.Courses.{MaySend, reached}
 use Rattle.operations.proofs.PlanLaws.{sends_of}

@@ -14,9 +14,9 @@ use Rattle.s3_types.specs.declared.request.Request.TheVariants.{AbortUpload, Clu
 use Rattle.s3_types.specs.declared.request.UploadRef.{UploadRef}
 use Rattle.magic_paths.specs.Layout as layout
 use Rattle.job_model.specs.Jobs.{Job}
-use Rattle.job_operations.specs.AtWork.{job_script}
+use Rattle.job_protocol.specs.AtWork.{job_script}
 use Rattle.list_walk.specs.Walks.{Walked, More, Whole, Sweep, sweep_start, sweep_asks, sweep_hears, all_go, uploads_after, walked_uploads}
-use Rattle.job_operations.specs.Cleanups.{Clean, Walking, Aborting, Sweeping, Naming, Removing, CleanOver, clean_asks, clean_hears, aborted, aborting, walking, sweeping, removing}
+use Rattle.job_protocol.specs.Cleanups.{Clean, Walking, Aborting, Sweeping, Naming, Removing, CleanOver, clean_asks, clean_hears, aborted, aborting, walking, sweeping, removing}
 use Rattle.list_walk.specs.Fitting.{FitsUploads, FitsSweep}
 use Rattle.list_walk.specs.Left.{uploads_left, left_of, adds_key, sets_upload, one_if}
 use Rattle.list_walk.specs.Laws.{LessUploads}

@@ -12,7 +12,7 @@ use Rattle.job_model.specs.JobScript.{Script}
 use Rattle.job_model.specs.declared.ends.CleanEnd.{CleanEnd}
 use Rattle.job_model.specs.declared.ends.CleanEnd.TheVariants as ends
 use Rattle.list_walk.specs.Walks.{Sweep, sweep_start}
-use Rattle.job_operations.specs.Cleanups.{Clean, clean_asks, clean_hears, clean_over, aborted, aborting, removing}
+use Rattle.job_protocol.specs.Cleanups.{Clean, clean_asks, clean_hears, clean_over, aborted, aborting, removing}
 use Rattle.cleanup.specs.Held.{clean_at, within, behind, abort_stage, stage_after, remove_stage, aborting_from, abort_asks, remove_asks}
 use Rattle.cleanup.specs.declared.held.Stage.{Stage}
 use Rattle.cleanup.specs.declared.held.Stage.TheVariants as stages

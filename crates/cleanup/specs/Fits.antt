@@ -4,8 +4,8 @@ use Rattle.s3_types.specs.declared.reply.Reply.{Reply}
 use Rattle.job_model.specs.declared.ends.CleanEnd.{CleanEnd}
 use Rattle.job_model.specs.declared.ends.CleanEnd.TheVariants.{Done, StoreFault, NoMemory}
 use Rattle.machine.specs.Standing.{Standing, Fine, Faulted, Broken}
-use Rattle.job_operations.specs.AtWork.{Driving}
-use Rattle.job_operations.specs.Cleanups.{Clean, Walking, Aborting, Sweeping, Naming, Removing, CleanOver}
+use Rattle.job_protocol.specs.AtWork.{Driving}
+use Rattle.job_protocol.specs.Cleanups.{Clean, Walking, Aborting, Sweeping, Naming, Removing, CleanOver}
 use Rattle.list_walk.specs.Fitting.{FitsUploads, FitsSweep}
 
 -- the bucket is there, and a page that is not folded has keys alone

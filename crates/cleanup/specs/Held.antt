@@ -7,7 +7,7 @@ use Rattle.s3_types.specs.declared.request.Request.TheVariants.{AbortUpload, Clu
 use Rattle.s3_types.specs.declared.request.UploadRef.{UploadRef}
 use Rattle.job_model.specs.declared.ends.CleanEnd.TheVariants as ends
 use Rattle.list_walk.specs.Walks.{Sweep}
-use Rattle.job_operations.specs.Cleanups.{Clean, Walking, Aborting, Sweeping, Naming, CleanOver, removing}
+use Rattle.job_protocol.specs.Cleanups.{Clean, Walking, Aborting, Sweeping, Naming, CleanOver, removing}
 use Rattle.cleanup.specs.declared.held.Held.{Held}
 use Rattle.cleanup.specs.declared.held.Stage.{Stage}
 use Rattle.cleanup.specs.declared.held.Stage.TheVariants as stages

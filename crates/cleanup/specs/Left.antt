@@ -5,9 +5,9 @@ use Rattle.s3_types.specs.declared.request.Committer.{Committer}
 use Rattle.s3_types.specs.declared.request.Committer.TheVariants.{Magic, Directory, Partitioned}
 use Rattle.magic_paths.specs.Layout as layout
 use Rattle.job_model.specs.Jobs.{Job}
-use Rattle.job_operations.specs.AtWork.{Driving}
+use Rattle.job_protocol.specs.AtWork.{Driving}
 use Rattle.list_walk.specs.Walks.{sweep_start}
-use Rattle.job_operations.specs.Cleanups.{Clean, Walking, Aborting, Sweeping, Naming, Removing, CleanOver}
+use Rattle.job_protocol.specs.Cleanups.{Clean, Walking, Aborting, Sweeping, Naming, Removing, CleanOver}
 use Rattle.list_walk.specs.Left.{uploads_left, sweep_left, files_left}
 
 -- once the uploads are aborted: the sweep, or the list of the files and each of them

@@ -1,12 +1,12 @@
 ghost use Rattle.std.specs.Prelude.{⊤};
-ghost use Rattle.job_operations.specs.AtWork.{clean_wants, clean_told};
-ghost use Rattle.job_operations.specs.Cleanups.{clean_start, clean_over};
+ghost use Rattle.job_protocol.specs.AtWork.{clean_wants, clean_told};
+ghost use Rattle.job_protocol.specs.Cleanups.{clean_start, clean_over};
 ghost use Rattle.cleanup.specs.Fits.{FitsDriving, standing};
 ghost use Rattle.cleanup.specs.Left.{clean_left};
 ghost use Rattle.cleanup.specs.AskingLaws.{clean_laws};
 
 use crate::held::{Held, Stage};
-use asking::{Asked, Asking, Asks};
+use machine::{Asked, Asking, Asks};
 use job_model::{CleanEnd, JobPlan};
 use s3_types::{Reply, Request, let_go};
 use std::alloc::{AllocError, Global};
@@ -23,8 +23,8 @@ pub struct Cleaning {
 
 impl Model for Cleaning {
     ghost use Rattle.std.specs.Prelude.{◌≡◌, true};
-    ghost use Rattle.job_operations.specs.AtWork.{Driving};
-    ghost use Rattle.job_operations.specs.Cleanups.{Clean};
+    ghost use Rattle.job_protocol.specs.AtWork.{Driving};
+    ghost use Rattle.job_protocol.specs.Cleanups.{Clean};
     ghost use Rattle.cleanup.specs.Held.{clean_of, within_of};
 
     ghost Value = { Driving Clean };

@@ -1,7 +1,7 @@
 ghost use Rattle.std.specs.Prelude.{◌≡◌, drop, IfOk, OnOk, true};
-ghost use Rattle.job_operations.specs.AtWork.{job_script};
+ghost use Rattle.job_protocol.specs.AtWork.{job_script};
 ghost use Rattle.list_walk.specs.Walks.{walked_uploads, sweep_hears, all_go};
-ghost use Rattle.job_operations.specs.Cleanups.{clean_start, clean_asks, clean_hears, walking, aborting, sweeping, naming, removing};
+ghost use Rattle.job_protocol.specs.Cleanups.{clean_start, clean_asks, clean_hears, walking, aborting, sweeping, naming, removing};
 ghost use Rattle.cleanup.specs.Held.{clean_of, within_of, behind, stage_after, abort_stage, remove_stage};
 ghost use Rattle.cleanup.specs.Fits.{FitsClean};
 

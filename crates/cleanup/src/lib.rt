@@ -3,7 +3,7 @@
 //!
 //! # What is proved
 //!
-//! `CleanJob`, `AbortJob`: For every committer they ask, go on and end exactly as `job_operations` has
+//! `CleanJob`, `AbortJob`: For every committer they ask, go on and end exactly as `job_protocol` has
 //! it of a clean, after every list of replies that fit. After want of memory nothing more is asked, and
 //! the end is NoMemory. What is left falls by each answer and worn request, and rises by at most 3 by a
 //! request of another actor (`cleans_end`). Left open: other replies. A clean takes every live upload

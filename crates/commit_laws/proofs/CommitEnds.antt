@@ -11,29 +11,29 @@ use Rattle.s3_types.specs.declared.journal.Outcome.TheVariants.{Answered, Slow, 
 use Rattle.s3_types.specs.declared.journal.Entry.{Entry}
 use Rattle.pending_json.specs.Pending.{Pending}
 use Rattle.pending_json.specs.declared.records.PendingSet.{PendingSet}
-use Rattle.sendings.specs.Operation.{run, Follows}
-use Rattle.sendings.specs.Worn.{WornFirst}
-use Rattle.sendings.proofs.First.{none_sent}
+use Rattle.retries.specs.Operation.{run, Follows}
+use Rattle.retries.specs.Worn.{WornFirst}
+use Rattle.retries.proofs.First.{none_sent}
 use Rattle.job_model.specs.JobScript.{Script}
 use Rattle.job_model.specs.Jobs.{Job}
 use Rattle.job_model.specs.declared.ends.CommitEnd.{CommitEnd}
 use Rattle.job_model.specs.declared.ends.CommitEnd.TheVariants as ends
 use Rattle.job_model.specs.declared.ends.Stage.TheVariants as stages
-use Rattle.job_operations.specs.Outputs.{same_path}
+use Rattle.job_protocol.specs.Outputs.{same_path}
 use Rattle.list_walk.specs.Walks.{Sweep, Listing, Deleting, sweep_asks, sweep_hears}
-use Rattle.job_operations.specs.Lanes.{Turn, again, follow, dealt, chosen, undo, in_turn, abort, deletion, revert, is_tried, is_unsent}
-use Rattle.job_operations.specs.JobCommits.{Sets, picks_of, all_commits, set_read, set_request, Commit, Fetching, Replacing, Completing, Marking, Reverting, CommitOver, completing, is_no_magic, replaced, replacing, swept, decided, fetching, fetched, reverting, worn_completion, commit_asks, commit_hears, commit_misses, commit_tells, commit_over}
-use Rattle.job_operations.specs.LaneTable.{RequestsApart, Sound, AllSound}
-use Rattle.job_operations.specs.Laws.{EndIs}
-use Rattle.job_operations.specs.AtWork.{Committing, read_script, sets_in, sets_after, with_set, with_pick, picked_after, commit_wants, commit_told}
-use Rattle.job_operations.proofs.Members.{some_is, none_some, false_true}
-use Rattle.job_operations.proofs.LaneEnds.{ends_by_worn}
+use Rattle.job_protocol.specs.Lanes.{Turn, again, follow, dealt, chosen, undo, in_turn, abort, deletion, revert, is_tried, is_unsent}
+use Rattle.job_protocol.specs.JobCommits.{Sets, picks_of, all_commits, set_read, set_request, Commit, Fetching, Replacing, Completing, Marking, Reverting, CommitOver, completing, is_no_magic, replaced, replacing, swept, decided, fetching, fetched, reverting, worn_completion, commit_asks, commit_hears, commit_misses, commit_tells, commit_over}
+use Rattle.job_protocol.specs.LaneTable.{RequestsApart, Sound, AllSound}
+use Rattle.job_protocol.specs.Laws.{EndIs}
+use Rattle.job_protocol.specs.AtWork.{Committing, read_script, sets_in, sets_after, with_set, with_pick, picked_after, commit_wants, commit_told}
+use Rattle.job_protocol.proofs.Members.{some_is, none_some, false_true}
+use Rattle.job_protocol.proofs.LaneEnds.{ends_by_worn}
 use Rattle.commit_parts.specs.Tables.{listed}
 use Rattle.commit_parts.specs.ReadSets.{IsSetOf}
 use Rattle.commit_laws.specs.Fitting.{SpellsSet, FitsCommit}
 use Rattle.commit_parts.specs.ReadSets.{AreRead}
 use Rattle.commit_laws.specs.Laws.{start, AllFit, set_heard, sets_heard, due}
-use Rattle.job_operations.proofs.Members.{get_before}
+use Rattle.job_protocol.proofs.Members.{get_before}
 use Rattle.std.proofs.lemmas.Option.{slice_get_within}
 use Rattle.commit_parts.proofs.KeysApart.{sets_apart}
 

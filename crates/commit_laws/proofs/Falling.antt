@@ -33,14 +33,14 @@ use Rattle.job_model.specs.Placed.{placed}
 use Rattle.job_model.specs.JobScript.{Script}
 use Rattle.job_model.specs.Jobs.{Job}
 use Rattle.job_model.specs.declared.ends.CommitEnd.{CommitEnd}
-use Rattle.job_operations.specs.Outputs.{Picks, files_picked, wanted_below, wanted, ordered, wanted_paths, same_path}
-use Rattle.job_operations.specs.Conflicts.{dir_of, with_dir, dirs_of, partitions}
-use Rattle.job_operations.specs.TaskCommits.{partition_prefix}
+use Rattle.job_protocol.specs.Outputs.{Picks, files_picked, wanted_below, wanted, ordered, wanted_paths, same_path}
+use Rattle.job_protocol.specs.Conflicts.{dir_of, with_dir, dirs_of, partitions}
+use Rattle.job_protocol.specs.TaskCommits.{partition_prefix}
 use Rattle.list_walk.specs.Walks.{Sweep, Listing, Deleting, sweep_start, sweep_asks, sweep_hears}
-use Rattle.job_operations.specs.Lanes.{Turn, fresh_turn, again, follow, first_turns, dealt, nth, chosen, undo, in_turn, abort, deletion, revert, is_tried, is_unsent}
-use Rattle.job_operations.specs.JobCommits.{Sets, picks_of, all_commits, set_read, set_request, Commit, Fetching, Replacing, Completing, Marking, Reverting, CommitOver, completing, is_no_magic, replaced, replacing, swept, decided, fetched, reverting, worn_completion, commit_asks, commit_hears, commit_misses}
-use Rattle.job_operations.specs.AtWork.{Committing, declared_of, read_script, sets_in, sets_after, with_set, commit_wants, commit_told}
-use Rattle.job_operations.proofs.Members.{none_some, some_is}
+use Rattle.job_protocol.specs.Lanes.{Turn, fresh_turn, again, follow, first_turns, dealt, nth, chosen, undo, in_turn, abort, deletion, revert, is_tried, is_unsent}
+use Rattle.job_protocol.specs.JobCommits.{Sets, picks_of, all_commits, set_read, set_request, Commit, Fetching, Replacing, Completing, Marking, Reverting, CommitOver, completing, is_no_magic, replaced, replacing, swept, decided, fetched, reverting, worn_completion, commit_asks, commit_hears, commit_misses}
+use Rattle.job_protocol.specs.AtWork.{Committing, declared_of, read_script, sets_in, sets_after, with_set, commit_wants, commit_told}
+use Rattle.job_protocol.proofs.Members.{none_some, some_is}
 use Rattle.list_walk.specs.Fitting.{FitsSweep}
 use Rattle.list_walk.specs.Left.{count_in, keys_left, sweep_left, thousands, left_of as sweeps_left, adds_key, one_if}
 use Rattle.list_walk.proofs.Counting.{count, count_more}

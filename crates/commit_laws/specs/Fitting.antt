@@ -9,9 +9,9 @@ use Rattle.pending_json.specs.declared.records.PendingSet.{PendingSet}
 use Rattle.job_model.specs.Jobs.{Job, has_task}
 use Rattle.job_model.specs.declared.ends.CommitEnd.TheVariants as ends
 use Rattle.commit_parts.specs.ReadSets.{IsSetOf}
-use Rattle.job_operations.specs.Outputs.{first_where}
-use Rattle.job_operations.specs.JobCommits.{set_read, Commit, Fetching, Replacing, Completing, Marking, Reverting, CommitOver, FitsCompletion}
-use Rattle.job_operations.specs.AtWork.{Committing}
+use Rattle.job_protocol.specs.Outputs.{first_where}
+use Rattle.job_protocol.specs.JobCommits.{set_read, Commit, Fetching, Replacing, Completing, Marking, Reverting, CommitOver, FitsCompletion}
+use Rattle.job_protocol.specs.AtWork.{Committing}
 use Rattle.list_walk.specs.Fitting.{FitsSweep}
 
 -- the answer spells a task's set

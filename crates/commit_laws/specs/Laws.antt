@@ -12,17 +12,17 @@ use Rattle.s3_types.specs.declared.request.Committer.TheVariants.{Magic, Directo
 use Rattle.s3_types.specs.Answer.{answer, apply}
 use Rattle.s3_types.specs.Moment.{effect}
 use Rattle.pending_json.specs.declared.records.PendingSet.{PendingSet}
-use Rattle.sendings.specs.Operation.{run, Follows}
-use Rattle.sendings.specs.Worn.{WornFirst}
+use Rattle.retries.specs.Operation.{run, Follows}
+use Rattle.retries.specs.Worn.{WornFirst}
 use Rattle.job_model.specs.Jobs.{Job}
 use Rattle.job_model.specs.declared.ends.CommitEnd.{CommitEnd}
 use Rattle.job_model.specs.declared.ends.CommitEnd.TheVariants as ends
-use Rattle.job_operations.specs.Outputs.{same_path}
-use Rattle.job_operations.specs.JobCommits.{Sets, set_read, picks_of, all_commits, Commit, Fetching, Replacing, Completing, Marking, Reverting, CommitOver, commit_start, commit_over, stage_of}
-use Rattle.job_operations.specs.Lanes.{Turn}
+use Rattle.job_protocol.specs.Outputs.{same_path}
+use Rattle.job_protocol.specs.JobCommits.{Sets, set_read, picks_of, all_commits, Commit, Fetching, Replacing, Completing, Marking, Reverting, CommitOver, commit_start, commit_over, stage_of}
+use Rattle.job_protocol.specs.Lanes.{Turn}
 use Rattle.list_walk.specs.Walks.{sweep_start}
 use Rattle.list_walk.specs.Left.{sweep_left, adds_key, one_if}
-use Rattle.job_operations.specs.AtWork.{Committing, read_script, commit_wants, commit_told}
+use Rattle.job_protocol.specs.AtWork.{Committing, read_script, commit_wants, commit_told}
 use Rattle.commit_parts.specs.Tables.{listed}
 use Rattle.commit_laws.specs.Fitting.{FitsCommit}
 

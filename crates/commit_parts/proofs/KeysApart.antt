@@ -3,14 +3,14 @@ use Rattle.std.proofs.Common.{◌≡◌, ℕ, zero, suc, ◌+◌, ◌-◌, ◌<�
 use Rattle.pending_json.specs.Pending.{Pending}
 use Rattle.pending_json.specs.declared.records.PendingSet.{PendingSet}
 use Rattle.job_model.specs.Jobs.{Job}
-use Rattle.job_operations.specs.Lanes.{nth}
-use Rattle.job_operations.specs.Outputs.{same_path}
-use Rattle.job_operations.specs.JobCommits.{Sets, picks_of, all_commits}
-use Rattle.job_operations.specs.LaneTable.{In, RequestsApart}
-use Rattle.job_operations.specs.AtWork.{read_script}
-use Rattle.job_operations.proofs.Members.{in_left, in_right, map_in}
-use Rattle.job_operations.proofs.LaneEnds.{requests_apart}
-use Rattle.job_operations.proofs.Shared.{shared_none}
+use Rattle.job_protocol.specs.Lanes.{nth}
+use Rattle.job_protocol.specs.Outputs.{same_path}
+use Rattle.job_protocol.specs.JobCommits.{Sets, picks_of, all_commits}
+use Rattle.job_protocol.specs.LaneTable.{In, RequestsApart}
+use Rattle.job_protocol.specs.AtWork.{read_script}
+use Rattle.job_protocol.proofs.Members.{in_left, in_right, map_in}
+use Rattle.job_protocol.proofs.LaneEnds.{requests_apart}
+use Rattle.job_protocol.proofs.Shared.{shared_none}
 use Rattle.commit_parts.specs.ReadSets.{AreRead}
 use Rattle.commit_parts.specs.Clashes.{Item, items_from, NoClash}
 use Rattle.commit_parts.specs.Relatives.{relative_of}

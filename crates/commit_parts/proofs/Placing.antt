@@ -3,9 +3,9 @@ use Rattle.std.proofs.Common.{◌≡◌, ℕ, zero, suc, ◌+◌, ◌-◌, ◌<�
 use Rattle.std.proofs.lemmas.Option.{slice_get_within}
 use Rattle.pending_json.specs.Pending.{Pending}
 use Rattle.pending_json.specs.declared.records.PendingSet.{PendingSet}
-use Rattle.job_operations.specs.Lanes.{nth}
-use Rattle.job_operations.specs.JobCommits.{Sets, all_commits}
-use Rattle.job_operations.proofs.Members.{get_left, some_is}
+use Rattle.job_protocol.specs.Lanes.{nth}
+use Rattle.job_protocol.specs.JobCommits.{Sets, all_commits}
+use Rattle.job_protocol.proofs.Members.{get_left, some_is}
 use Rattle.commit_parts.specs.Places.{row, places_from}
 use Rattle.commit_parts.specs.declared.places.Place.{Place}
 

@@ -18,15 +18,15 @@ use Rattle.job_model.specs.Files.{File, has_path}
 use Rattle.job_model.specs.Attempts.{Who, same_name}
 use Rattle.job_model.specs.Placed.{placed}
 use Rattle.job_model.specs.Jobs.{Job}
-use Rattle.job_operations.specs.Outputs.{files_picked, files, wanted_below, wanted, ordered, wanted_paths}
-use Rattle.job_operations.specs.JobCommits.{Sets, picks_of, all_commits, Marking, commit_asks, set_request}
-use Rattle.job_operations.specs.LaneTable.{In}
-use Rattle.job_operations.specs.Records.{mark_text}
+use Rattle.job_protocol.specs.Outputs.{files_picked, files, wanted_below, wanted, ordered, wanted_paths}
+use Rattle.job_protocol.specs.JobCommits.{Sets, picks_of, all_commits, Marking, commit_asks, set_request}
+use Rattle.job_protocol.specs.LaneTable.{In}
+use Rattle.job_protocol.specs.Records.{mark_text}
 use Rattle.serde_json.specs.Written.{compact_text}
 use Rattle.pending_json.specs.Trees.{success_tree}
 use Rattle.pending_json.specs.declared.records.SuccessMark.{SuccessMark}
-use Rattle.job_operations.specs.AtWork.{declared_of, read_script, job_script}
-use Rattle.job_operations.proofs.Members.{in_left, in_right, in_append, in_map, map_in, some_is}
+use Rattle.job_protocol.specs.AtWork.{declared_of, read_script, job_script}
+use Rattle.job_protocol.proofs.Members.{in_left, in_right, in_append, in_map, map_in, some_is}
 use Rattle.commit_parts.specs.Relatives.{relative_of, paths_below}
 use Rattle.commit_parts.specs.Places.{places_from}
 use Rattle.commit_parts.specs.declared.places.Place.{Place}
@@ -37,7 +37,7 @@ use Rattle.s3_types.specs.declared.request.Request.{Request}
 use Rattle.s3_types.specs.declared.request.Request.TheVariants.{GetObject, PutObject, ClusterGet}
 use Rattle.s3_types.specs.declared.request.Committer.{Committer}
 use Rattle.s3_types.specs.declared.request.Committer.TheVariants.{Magic, Directory, Partitioned}
-use Rattle.job_operations.specs.Lanes.{nth}
+use Rattle.job_protocol.specs.Lanes.{nth}
 use Rattle.commit_parts.specs.ReadSets.{AreRead, HasAll}
 use Rattle.commit_parts.specs.Clashes.{Item, items_from}
 

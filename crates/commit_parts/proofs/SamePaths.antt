@@ -18,13 +18,13 @@ use Rattle.job_model.specs.Files.{File, has_path}
 use Rattle.job_model.specs.Jobs.{Job}
 use Rattle.job_model.specs.declared.ends.CommitEnd.{CommitEnd}
 use Rattle.job_model.specs.declared.ends.CommitEnd.TheVariants.{SamePath}
-use Rattle.job_operations.specs.Outputs.{files_picked, writes, same_path}
-use Rattle.job_operations.specs.JobCommits.{Sets, picks_of}
-use Rattle.job_operations.specs.LaneTable.{In}
-use Rattle.job_operations.specs.Laws.{IsShared}
-use Rattle.job_operations.specs.AtWork.{read_script}
-use Rattle.job_operations.proofs.Members.{false_true}
-use Rattle.job_operations.proofs.Shared.{shared_found, shared_none}
+use Rattle.job_protocol.specs.Outputs.{files_picked, writes, same_path}
+use Rattle.job_protocol.specs.JobCommits.{Sets, picks_of}
+use Rattle.job_protocol.specs.LaneTable.{In}
+use Rattle.job_protocol.specs.Laws.{IsShared}
+use Rattle.job_protocol.specs.AtWork.{read_script}
+use Rattle.job_protocol.proofs.Members.{false_true}
+use Rattle.job_protocol.proofs.Shared.{shared_found, shared_none}
 use Rattle.commit_parts.specs.Apart.{end_of}
 use Rattle.commit_parts.specs.Relatives.{relative_of}
 use Rattle.commit_parts.specs.ReadSets.{AreRead}

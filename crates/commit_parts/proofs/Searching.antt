@@ -17,8 +17,8 @@ use Rattle.std.specs.Cmp.Lexicographic.{bytes_decides}
 use Rattle.proof_base.specs.Order.{text_cmp, text_eq, text_total}
 use Rattle.proof_base.proofs.Bools.{contrary}
 use Rattle.proof_base.proofs.Less.{irrefl, lt_trans}
-use Rattle.job_operations.specs.LaneTable.{In}
-use Rattle.job_operations.proofs.Members.{in_left, in_push, in_last, in_append, in_map, false_true}
+use Rattle.job_protocol.specs.LaneTable.{In}
+use Rattle.job_protocol.proofs.Members.{in_left, in_push, in_last, in_append, in_map, false_true}
 use Rattle.commit_parts.specs.Clashes.{Item, items_from, IsBest, IsOwner, Finds, is_better, clash_of}
 use Rattle.commit_parts.specs.declared.sharing.Clash.{Clash}
 

@@ -5,9 +5,9 @@ use Rattle.std.proofs.Math.Seq.{drop-cons}
 use Rattle.std.proofs.Math.ListN.{drop_of_length-le}
 use Rattle.s3_types.specs.declared.request.Request.{Request}
 use Rattle.pending_json.specs.Pending.{Pending}
-use Rattle.job_operations.specs.Lanes.{Turn, nth, undo, chosen, is_tried, is_in, is_unsent, in_turn, abort, deletion}
+use Rattle.job_protocol.specs.Lanes.{Turn, nth, undo, chosen, is_tried, is_in, is_unsent, in_turn, abort, deletion}
 use Rattle.commit_parts.specs.Undos.{undo_request, number_in, NumbersWithin, Adds, IsRevert, with_tried, with_unsent}
-use Rattle.job_operations.specs.LaneTable.{In}
+use Rattle.job_protocol.specs.LaneTable.{In}
 use Rattle.commit_parts.proofs.Trying.{in_at}
 use Rattle.commit_parts.specs.declared.undo.Undo.{Undo}
 use Rattle.commit_parts.specs.declared.undo.Undo.TheVariants.{Abort, Delete}

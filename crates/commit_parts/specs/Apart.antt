@@ -4,10 +4,10 @@ use Rattle.path_keys.specs.Paths.{Path}
 use Rattle.job_model.specs.Jobs.{Job}
 use Rattle.job_model.specs.declared.ends.CommitEnd.{CommitEnd}
 use Rattle.job_model.specs.declared.ends.CommitEnd.TheVariants.{SamePath}
-use Rattle.job_operations.specs.Outputs.{same_path}
-use Rattle.job_operations.specs.JobCommits.{Sets, picks_of}
-use Rattle.job_operations.specs.LaneTable.{RequestsApart}
-use Rattle.job_operations.specs.AtWork.{read_script}
+use Rattle.job_protocol.specs.Outputs.{same_path}
+use Rattle.job_protocol.specs.JobCommits.{Sets, picks_of}
+use Rattle.job_protocol.specs.LaneTable.{RequestsApart}
+use Rattle.job_protocol.specs.AtWork.{read_script}
 use Rattle.commit_parts.specs.ReadSets.{AreRead}
 use Rattle.commit_parts.specs.Clashes.{items_from, IsBest}
 use Rattle.commit_parts.specs.Relatives.{relative_of}

@@ -3,7 +3,7 @@ use Rattle.std.specs.Prelude.{◌≡◌, ℕ, ◌+◌, ◌<◌, ◌≤◌, nat_e
 use Rattle.std.specs.Ordering.{is_lt}
 use Rattle.proof_base.specs.Order.{text_cmp}
 use Rattle.pending_json.specs.declared.records.PendingSet.{PendingSet}
-use Rattle.job_operations.specs.LaneTable.{In}
+use Rattle.job_protocol.specs.LaneTable.{In}
 use Rattle.commit_parts.specs.declared.sharing.Clash.{Clash}
 
 -- a key and the task that writes it

@@ -4,7 +4,7 @@ use Rattle.path_keys.specs.Paths.{relative_in}
 use Rattle.pending_json.specs.Pending.{Pending}
 use Rattle.pending_json.specs.declared.records.PendingSet.{PendingSet}
 use Rattle.job_model.specs.Jobs.{Job}
-use Rattle.job_operations.specs.JobCommits.{Sets}
+use Rattle.job_protocol.specs.JobCommits.{Sets}
 use Rattle.commit_parts.specs.Places.{places_from}
 use Rattle.commit_parts.specs.declared.places.Place.{Place}
 

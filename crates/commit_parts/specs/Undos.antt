@@ -2,8 +2,8 @@
 use Rattle.std.specs.Prelude.{◌≡◌, ℕ, ◌<◌, Bool, true, false, List, ◌∷◌, ◌++◌, map, length}
 use Rattle.s3_types.specs.declared.request.Request.{Request}
 use Rattle.pending_json.specs.Pending.{Pending}
-use Rattle.job_operations.specs.Lanes.{Turn, nth, abort, deletion, revert}
-use Rattle.job_operations.specs.LaneTable.{In}
+use Rattle.job_protocol.specs.Lanes.{Turn, nth, abort, deletion, revert}
+use Rattle.job_protocol.specs.LaneTable.{In}
 use Rattle.commit_parts.specs.declared.undo.Undo.{Undo}
 use Rattle.commit_parts.specs.declared.undo.Undo.TheVariants as undos
 

@@ -1,6 +1,6 @@
 ghost use Rattle.std.specs.Prelude.{◌≡◌, ◌+◌, ◌<◌, ◌^◌, [], ◌∷◌, ◌++◌, drop, reverse, ◌&&◌, nat_eq, nat_lt, IfOk, OnOk};
 ghost use Rattle.std.specs.List.{list_any};
-ghost use Rattle.job_operations.specs.Lanes.{fresh_turn, again, first_turns, dealt, is_tried};
+ghost use Rattle.job_protocol.specs.Lanes.{fresh_turn, again, first_turns, dealt, is_tried};
 ghost use Rattle.commit_parts.specs.Tables.{first_of, listed, next_turn};
 
 use std::alloc::{AllocError, Global};
@@ -17,7 +17,7 @@ pub struct LaneTurn {
 }
 
 impl Model for LaneTurn {
-    ghost use Rattle.job_operations.specs.Lanes.{Turn};
+    ghost use Rattle.job_protocol.specs.Lanes.{Turn};
 
     ghost Value = { Turn };
 

@@ -1,9 +1,9 @@
 ghost use Rattle.std.specs.Prelude.{◌≡◌, ◌<◌, true, length, option_map, IfOk};
 ghost use Rattle.std.specs.Option.{unwrap_or};
 ghost use Rattle.path_keys.specs.Paths.{relative_in};
-ghost use Rattle.job_operations.specs.Outputs.{ordered, wanted_paths};
-ghost use Rattle.job_operations.specs.JobCommits.{all_commits, Marking, commit_asks, picks_of};
-ghost use Rattle.job_operations.specs.AtWork.{read_script};
+ghost use Rattle.job_protocol.specs.Outputs.{ordered, wanted_paths};
+ghost use Rattle.job_protocol.specs.JobCommits.{all_commits, Marking, commit_asks, picks_of};
+ghost use Rattle.job_protocol.specs.AtWork.{read_script};
 ghost use Rattle.commit_parts.specs.Places.{places_from};
 ghost use Rattle.commit_parts.specs.ReadSets.{HasAll};
 ghost use Rattle.commit_parts.specs.Relatives.{relative_of, paths_below};

@@ -1,6 +1,6 @@
 ghost use Rattle.std.specs.Prelude.{◌≡◌, ◌++◌, ◌<◌, length, slice_index_or, IfOk, OnOk};
-ghost use Rattle.job_operations.specs.Lanes.{nth};
-ghost use Rattle.job_operations.specs.JobCommits.{all_commits};
+ghost use Rattle.job_protocol.specs.Lanes.{nth};
+ghost use Rattle.job_protocol.specs.JobCommits.{all_commits};
 ghost use Rattle.commit_parts.specs.Places.{row, places_from};
 
 use pending_json::{PendingSet, PendingUpload};

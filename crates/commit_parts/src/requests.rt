@@ -1,9 +1,9 @@
 ghost use Rattle.std.specs.Prelude.{◌≡◌, IfOk};
 ghost use Rattle.s3_types.specs.declared.request.Request.TheVariants.{GetObject, ClusterGet};
 ghost use Rattle.magic_paths.specs.Layout as layout;
-ghost use Rattle.job_operations.specs.Lanes.{completion, abort, deletion};
-ghost use Rattle.job_operations.specs.JobCommits.{set_request};
-ghost use Rattle.job_operations.specs.AtWork.{job_script};
+ghost use Rattle.job_protocol.specs.Lanes.{completion, abort, deletion};
+ghost use Rattle.job_protocol.specs.JobCommits.{set_request};
+ghost use Rattle.job_protocol.specs.AtWork.{job_script};
 
 use job_model::JobPlan;
 use magic_paths::{set_key, staged_set_path};

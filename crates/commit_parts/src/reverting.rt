@@ -1,8 +1,8 @@
 ghost use Rattle.std.specs.Prelude.{◌≡◌, ℕ, ◌<◌, ◌||◌, nat_eq, [], map, reverse, length, slice_index_or, IfOk, OnOk};
 ghost use Rattle.std.specs.BTreeSet.{contains};
 ghost use Rattle.std.specs.Ordering.{nat_cmp};
-ghost use Rattle.job_operations.specs.Lanes.{undo, chosen, is_tried, is_in, is_unsent, in_turn, abort, deletion};
-ghost use Rattle.job_operations.specs.LaneTable.{In};
+ghost use Rattle.job_protocol.specs.Lanes.{undo, chosen, is_tried, is_in, is_unsent, in_turn, abort, deletion};
+ghost use Rattle.job_protocol.specs.LaneTable.{In};
 ghost use Rattle.commit_parts.specs.Undos.{Adds, IsRevert, NumbersWithin, with_tried, with_unsent};
 
 use crate::lanes::Lanes;

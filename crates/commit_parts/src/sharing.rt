@@ -2,7 +2,7 @@ ghost use Rattle.std.specs.Prelude.{◌≡◌, ℕ, List, ◌++◌, ◌∷◌, [
 ghost use Rattle.std.specs.BTreeMap.{get as found, Updates};
 ghost use Rattle.std.specs.Option.{unwrap_or};
 ghost use Rattle.proof_base.specs.Order.{text_cmp};
-ghost use Rattle.job_operations.specs.LaneTable.{In};
+ghost use Rattle.job_protocol.specs.LaneTable.{In};
 ghost use Rattle.commit_parts.specs.Clashes.{Item, items_from, IsBest, is_better, clash_of, Finds};
 
 use pending_json::{PendingSet, PendingUpload};

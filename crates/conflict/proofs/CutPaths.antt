@@ -5,8 +5,8 @@ use Rattle.std.proofs.lemmas.Bool.{and_parts, true≢false}
 use Rattle.std.proofs.lemmas.Bool.Decides.{Decides-eqb}
 use Rattle.words.specs.Parts.{is_other}
 use Rattle.s3_types.specs.Pages.{begins}
-use Rattle.job_operations.specs.Outputs.{ordered}
-use Rattle.job_operations.specs.Conflicts.{dir_from, dir_of, with_dir, dirs_of, partitions}
+use Rattle.job_protocol.specs.Outputs.{ordered}
+use Rattle.job_protocol.specs.Conflicts.{dir_from, dir_of, with_dir, dirs_of, partitions}
 use Rattle.conflict.specs.Partitions.{with_partition}
 
 -- ---- a path that is cut at its last slash

@@ -5,9 +5,9 @@ use Rattle.std.specs.Ordering.{ordering_reverse, match_ordering}
 use Rattle.std.specs.declared.cmp.Ordering.{Ordering}
 use Rattle.std.specs.declared.cmp.Ordering.TheVariants.{Less, Equal, Greater}
 use Rattle.proof_base.specs.Order.{text_cmp, text_total}
-use Rattle.request_frame.specs.Members.{IsIn}
-use Rattle.request_frame.proofs.Members.{text_exact}
-use Rattle.job_operations.specs.Outputs.{ordered}
+use Rattle.proof_base.specs.Members.{IsIn}
+use Rattle.proof_base.proofs.Members.{text_exact}
+use Rattle.job_protocol.specs.Outputs.{ordered}
 
 abbrev Rises : List (List ℕ) → Type 0
 Rises [] = Unit {0}

@@ -8,11 +8,11 @@ use Rattle.s3_types.specs.declared.reply.Reply.{Reply}
 use Rattle.s3_types.specs.declared.reply.Reply.TheVariants.{Page}
 use Rattle.job_model.specs.Attempts.{Who}
 use Rattle.job_model.specs.JobScript.{Script}
-use Rattle.job_operations.specs.Outputs.{Picks, wanted_paths}
-use Rattle.job_operations.specs.Conflicts.{partitions}
+use Rattle.job_protocol.specs.Outputs.{Picks, wanted_paths}
+use Rattle.job_protocol.specs.Conflicts.{partitions}
 use Rattle.list_walk.specs.Walks.{Sweep, sweep_start, sweep_hears}
-use Rattle.job_operations.specs.TaskCommits.{Checking, task_commit_hears}
-use Rattle.job_operations.specs.JobCommits.{Sets, is_no_magic, replaced, replacing, swept}
+use Rattle.job_protocol.specs.TaskCommits.{Checking, task_commit_hears}
+use Rattle.job_protocol.specs.JobCommits.{Sets, is_no_magic, replaced, replacing, swept}
 use Rattle.conflict.specs.Checks.{found_below, left_after}
 use Rattle.conflict.specs.Deletions.{deleted, swept_on}
 use Rattle.conflict.specs.Laws.{commit_after_check, ChecksTell, commit_deleting, deletion_of, DeletionsTell}

@@ -1,5 +1,5 @@
 ghost use Rattle.std.specs.Prelude.{◌≡◌, IfOk, OnOk, option_map};
-ghost use Rattle.job_operations.specs.Conflicts.{dir_of, partitions};
+ghost use Rattle.job_protocol.specs.Conflicts.{dir_of, partitions};
 ghost use Rattle.conflict.specs.Partitions.{with_partition};
 
 use s3_types::{Sequence, Text, TextList};

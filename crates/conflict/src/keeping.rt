@@ -1,6 +1,6 @@
 ghost use Rattle.std.specs.Prelude.{◌≡◌, ◌++◌, ◌∷◌, []};
 ghost use Rattle.s3_types.specs.Pages.{begins};
-ghost use Rattle.job_operations.specs.Conflicts.{is_below_any, keeps};
+ghost use Rattle.job_protocol.specs.Conflicts.{is_below_any, keeps};
 
 use s3_types::{Committer, Mode, Text};
 

@@ -7,7 +7,7 @@ use Rattle.operations.specs.declared.plan.Step.TheVariants.{End}
 use Rattle.operations.specs.Plans.{Goes, Falls}
 use Rattle.bucket_ops.specs.Asks.{reply_in, edited}
 use Rattle.bucket_ops.specs.Phases.{IsPhases, MayAsk}
-use Rattle.request_frame.proofs.Members.{none_some}
+use Rattle.proof_base.proofs.Members.{none_some}
 use Rattle.fs_tree.specs.declared.copy.CopyCount.{CopyCount}
 use Rattle.fs_tree.specs.declared.copy.CopyRefusal.TheVariants.{NoSuchBucket, Overlap, SourceIsFile, SourceMissing, TargetFile, TooLong, Differs}
 use Rattle.fs_tree.specs.Tree.{Stands}

@@ -6,7 +6,7 @@ use Rattle.machine.specs.declared.driving.DriveStop.{DriveStop}
 use Rattle.operations.specs.Performed.{Seen, Performed}
 use Rattle.bucket_ops.specs.Phases.{AlwaysIn, SendsIn}
 use Rattle.fs_tree.specs.declared.copy.CopyRefusal.TheVariants.{OtherBucket, NoSuchBucket}
-use Rattle.fs_moves.specs.Between.{Route, GivesBetween}
+use Rattle.fs_rename.specs.Between.{Route, GivesBetween}
 use Rattle.copy_tree.specs.code.Copy.{CopyPaths, Answer, first as first_stage, asks}
 use Rattle.copy_tree.specs.code.Meaning.{gives, always, sends}
 use Rattle.copy_tree.specs.Public.{CopiesIn, StandsCopied, CopySends}

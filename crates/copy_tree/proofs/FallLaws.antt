@@ -25,15 +25,15 @@ use Rattle.fs_ops.proofs.Climbing.{IsShorter, climbing_falls, climbed_falls}
 use Rattle.bucket_walks.specs.Walking.{walk_asks, walk_left, LessWalked}
 use Rattle.bucket_walks.proofs.Sweeps.{length_keys}
 use Rattle.bucket_walks.proofs.Walks.{walk_fits, walk_falls}
-use Rattle.fs_moves.specs.declared.copying.CopyStep.{CopyStep}
-use Rattle.fs_moves.specs.declared.copying.CopyStep.TheVariants.{Next as NextCopy, All}
-use Rattle.fs_moves.specs.Keys.{new_keys}
-use Rattle.fs_moves.specs.Copies.{has_more, copied_next, copies_left, LessCopies}
-use Rattle.fs_moves.proofs.CopyLaws.{copying_falls}
+use Rattle.fs_rename.specs.declared.copying.CopyStep.{CopyStep}
+use Rattle.fs_rename.specs.declared.copying.CopyStep.TheVariants.{Next as NextCopy, All}
+use Rattle.fs_rename.specs.Keys.{new_keys}
+use Rattle.fs_rename.specs.Copies.{has_more, copied_next, copies_left, LessCopies}
+use Rattle.fs_rename.proofs.CopyLaws.{copying_falls}
 use Rattle.copy_tree.specs.declared.stages.Parts.{Parts}
 use Rattle.copy_tree.specs.declared.stages.CopyStage.{CopyStage}
 use Rattle.copy_tree.specs.declared.stages.CopyStage.TheVariants.{Here, Walk, Up, WalkTarget, Source, Target, Copy}
-use Rattle.fs_moves.specs.Keys.{place_of}
+use Rattle.fs_rename.specs.Keys.{place_of}
 use Rattle.copy_tree.specs.code.Copy.{CopyPaths, asks, on, here, overlaps, on_walked, on_walk, listed, climb, on_climb, placed, with_places, on_shown, on_show, parts_of, pairs, on_read, differ, compared, on_compare, begun, copies, count_of, on_copied}
 use Rattle.copy_tree.specs.code.Meaning.{holds, left}
 use Rattle.copy_tree.proofs.PartLaws.{all_counted}

@@ -9,9 +9,9 @@ use Rattle.s3_types.specs.Store.{Objects}
 use Rattle.s3_types.specs.Pages.{begins}
 use Rattle.s3_types.specs.declared.object.Object.{Object}
 use Rattle.dir_markers.specs.Markers.{marker_of}
-use Rattle.request_frame.specs.Members.{IsIn, RisesFrom}
-use Rattle.request_frame.proofs.Members.{none_some, none_or_some}
-use Rattle.request_frame.proofs.Flat.{listed_rises}
+use Rattle.proof_base.specs.Members.{IsIn, RisesFrom}
+use Rattle.proof_base.proofs.Members.{none_some, none_or_some}
+use Rattle.store_frame.proofs.Flat.{listed_rises}
 use Rattle.fs_tree.specs.Tree.{Stands, IsDirectory}
 use Rattle.fs_tree.specs.Moves.{IsMove}
 use Rattle.fs_tree.specs.MarkerTool.{AreAll}
@@ -20,11 +20,11 @@ use Rattle.fs_tree.proofs.Moving.{rest_after}
 use Rattle.fs_ops.proofs.Showing.{cmp_behind}
 use Rattle.bucket_walks.specs.Walking.{all_below, keys_below}
 use Rattle.bucket_walks.proofs.Below.{is_in, below_stands}
-use Rattle.fs_moves.specs.Keys.{new_key}
-use Rattle.fs_moves.specs.Copies.{IsOneOf, sources, targets, copied_all, AreFree, moves_to}
-use Rattle.fs_moves.proofs.CopyLaws.{in_targets, is_target, one_in_take, copies_keep, copied_stand, all_stand}
-use Rattle.fs_moves.proofs.NewKeys.{new_is}
-use Rattle.fs_moves.proofs.Placed.{move_of, sources_to, dir_to, dir_from}
+use Rattle.fs_rename.specs.Keys.{new_key}
+use Rattle.fs_rename.specs.Copies.{IsOneOf, sources, targets, copied_all, AreFree, moves_to}
+use Rattle.fs_rename.proofs.CopyLaws.{in_targets, is_target, one_in_take, copies_keep, copied_stand, all_stand}
+use Rattle.fs_rename.proofs.NewKeys.{new_is}
+use Rattle.fs_rename.proofs.Placed.{move_of, sources_to, dir_to, dir_from}
 use Rattle.copy_tree.specs.code.Copy.{CopyPaths, count_of}
 use Rattle.copy_tree.specs.code.Meaning.{moves, standing, absent, all_parts}
 use Rattle.copy_tree.proofs.Moved.{moved_rest, move_below, one_source}

@@ -8,8 +8,8 @@ use Rattle.s3_types.specs.Store.{Objects}
 use Rattle.s3_types.specs.Pages.{begins}
 use Rattle.s3_types.specs.declared.object.Object.{Object}
 use Rattle.dir_markers.specs.Markers.{marker_of, keys_above}
-use Rattle.request_frame.specs.Members.{IsIn}
-use Rattle.request_frame.proofs.Members.{none_some, true_or_false, none_or_some, in_append}
+use Rattle.proof_base.specs.Members.{IsIn}
+use Rattle.proof_base.proofs.Members.{none_some, true_or_false, none_or_some, in_append}
 use Rattle.fs_tree.specs.Tree.{Stands, IsDirectory}
 use Rattle.fs_tree.specs.Moves.{IsMove}
 use Rattle.fs_tree.specs.Copies.{IsOverlap, to_target}

@@ -9,14 +9,14 @@ use Rattle.s3_types.specs.Store.{Objects}
 use Rattle.s3_types.specs.Pages.{begins, text_in}
 use Rattle.s3_types.specs.declared.object.Object.{Object}
 use Rattle.s3_types.specs.declared.reply.PageEntry.{PageEntry}
-use Rattle.request_frame.specs.Members.{IsIn, RisesFrom}
-use Rattle.request_frame.proofs.Members.{none_some, false_true, text_is, text_true}
-use Rattle.request_frame.proofs.Flat.{behind, listed_rises}
+use Rattle.proof_base.specs.Members.{IsIn, RisesFrom}
+use Rattle.proof_base.proofs.Members.{none_some, false_true, text_is, text_true}
+use Rattle.store_frame.proofs.Flat.{behind, listed_rises}
 use Rattle.fs_tree.specs.Tree.{Stands}
 use Rattle.bucket_walks.specs.Walking.{all_below}
 use Rattle.bucket_walks.proofs.Below.{below_stands, stands_below}
 use Rattle.bucket_walks.proofs.Rising.{lower}
-use Rattle.fs_moves.specs.Copies.{Move, IsOneOf, sources, targets}
+use Rattle.fs_rename.specs.Copies.{Move, IsOneOf, sources, targets}
 use Rattle.copy_tree.specs.Parts.{from_text, is_first, is_wanted, chosen, kept}
 
 -- ---- entries from a text

@@ -4,7 +4,7 @@ use Rattle.std.specs.FinMap as fin
 use Rattle.s3_types.specs.Store.{Objects}
 use Rattle.s3_types.specs.Pages.{begins}
 use Rattle.dir_markers.specs.Markers.{marker_of}
-use Rattle.request_frame.specs.Members.{IsIn}
+use Rattle.proof_base.specs.Members.{IsIn}
 use Rattle.fs_tree.specs.declared.copy.CopyCount.{CopyCount}
 use Rattle.fs_tree.specs.Tree.{IsDirectory, NoFiles}
 use Rattle.fs_tree.specs.Moves.{IsMove}

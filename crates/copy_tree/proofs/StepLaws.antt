@@ -12,9 +12,9 @@ use Rattle.s3_types.specs.Answer.{head, found}
 use Rattle.s3_types.specs.Pages.{begins}
 use Rattle.s3_types.specs.declared.object.Object.{Object}
 use Rattle.s3_types.specs.declared.reply.PageEntry.{PageEntry}
-use Rattle.request_frame.specs.Members.{IsIn, RisesFrom}
-use Rattle.request_frame.proofs.Members.{none_some, some_is, none_or_some, false_true, text_is, text_true, eq_nat, nat_true}
-use Rattle.request_frame.proofs.Flat.{behind, listed_rises}
+use Rattle.proof_base.specs.Members.{IsIn, RisesFrom}
+use Rattle.proof_base.proofs.Members.{none_some, some_is, none_or_some, false_true, text_is, text_true, eq_nat, nat_true}
+use Rattle.store_frame.proofs.Flat.{behind, listed_rises}
 use Rattle.operations.specs.declared.plan.Step.{Step}
 use Rattle.operations.specs.declared.plan.Step.TheVariants.{Next}
 use Rattle.operations.specs.Plans.{Goes}
@@ -36,13 +36,13 @@ use Rattle.fs_ops.specs.code.Climbs.{climbing, climbed}
 use Rattle.fs_ops.proofs.Climbing.{IsClimbed, seen_on as climb_on, all_on}
 use Rattle.bucket_walks.specs.Walking.{all_below, keys_below, walk_asks, fits, IsWalking, IsWalked}
 use Rattle.bucket_walks.proofs.Walks.{walk_fits, walk_begins, walk_goes}
-use Rattle.fs_moves.specs.declared.copying.Copying.{Copying}
-use Rattle.fs_moves.specs.declared.copying.CopyStep.{CopyStep}
-use Rattle.fs_moves.specs.declared.copying.CopyStep.TheVariants.{Next as NextCopy, All}
-use Rattle.fs_moves.specs.Keys.{new_key, new_keys}
-use Rattle.fs_moves.specs.Copies.{Move, IsOneOf, sources, targets, copied_all, copy_of, copy_asks, has_more, copied_next, IsCopying, IsCopied}
-use Rattle.fs_moves.proofs.CopyLaws.{some_left, in_sources, in_targets, copying_goes}
-use Rattle.fs_moves.proofs.Placed.{move_of, sources_to, all_found, first_long, to_dir_move}
+use Rattle.fs_rename.specs.declared.copying.Copying.{Copying}
+use Rattle.fs_rename.specs.declared.copying.CopyStep.{CopyStep}
+use Rattle.fs_rename.specs.declared.copying.CopyStep.TheVariants.{Next as NextCopy, All}
+use Rattle.fs_rename.specs.Keys.{new_key, new_keys}
+use Rattle.fs_rename.specs.Copies.{Move, IsOneOf, sources, targets, copied_all, copy_of, copy_asks, has_more, copied_next, IsCopying, IsCopied}
+use Rattle.fs_rename.proofs.CopyLaws.{some_left, in_sources, in_targets, copying_goes}
+use Rattle.fs_rename.proofs.Placed.{move_of, sources_to, all_found, first_long, to_dir_move}
 use Rattle.copy_tree.specs.declared.stages.Parts.{Parts}
 use Rattle.copy_tree.specs.declared.stages.CopyStage.{CopyStage}
 use Rattle.copy_tree.specs.declared.stages.CopyStage.TheVariants.{Here, Walk, Up, WalkTarget, Source, Target, Copy}

@@ -4,7 +4,7 @@ use Rattle.std.specs.Ordering.{is_lt}
 use Rattle.proof_base.specs.Order.{text_cmp, text_eq}
 use Rattle.s3_types.specs.Pages.{text_in}
 use Rattle.s3_types.specs.declared.reply.PageEntry.{PageEntry}
-use Rattle.fs_moves.specs.Copies.{Move}
+use Rattle.fs_rename.specs.Copies.{Move}
 
 -- the entries from the first that is not less than a text
 abbrev pub from_text : List ℕ → List PageEntry → List PageEntry

@@ -5,7 +5,7 @@ use Rattle.s3_types.specs.declared.request.Request.{Request}
 use Rattle.bucket_ops.specs.Phases.{AlwaysIn, SendsIn}
 use Rattle.fs_tree.specs.declared.copy.CopyRefusal.TheVariants.{OtherBucket, NoSuchBucket}
 use Rattle.fs_tree.specs.Copies.{Copies, MayStandCopied}
-use Rattle.fs_moves.specs.Between.{Route, GivesBetween}
+use Rattle.fs_rename.specs.Between.{Route, GivesBetween}
 use Rattle.copy_tree.specs.code.Copy.{CopyPaths, Answer, first, asks}
 use Rattle.copy_tree.specs.code.Meaning.{sends}
 

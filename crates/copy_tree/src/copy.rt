@@ -3,7 +3,7 @@ ghost use Rattle.operations.specs.Performed.{Performed, seen};
 ghost use Rattle.copy_tree.specs.Public.{CopiesIn, StandsCopied, CopySends};
 
 use crate::names::CopyNames;
-use fs_moves::perform_between;
+use fs_rename::perform_between;
 use fs_tree::{CopyCount, CopyRefusal};
 use machine::DriveStop;
 use path_keys::S3Path;
@@ -24,7 +24,7 @@ pub struct CopyTree {
 }
 
 impl Model for CopyTree {
-    ghost use Rattle.fs_moves.specs.Between.{Route};
+    ghost use Rattle.fs_rename.specs.Between.{Route};
 
     ghost Value = { Route };
 

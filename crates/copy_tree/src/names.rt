@@ -1,9 +1,9 @@
 ghost use Rattle.std.specs.Prelude.{◌≡◌, ◌++◌, IfOk, OnOk};
 ghost use Rattle.std.specs.Option.{option_copied};
-ghost use Rattle.fs_moves.specs.Keys.{place_of};
+ghost use Rattle.fs_rename.specs.Keys.{place_of};
 ghost use Rattle.copy_tree.specs.code.Copy.{one_of};
 
-use fs_moves::Base;
+use fs_rename::Base;
 use fs_ops::{Place, keys_above};
 use path_keys::S3Path;
 use s3_types::{Key, KeyList};
@@ -24,7 +24,7 @@ pub(crate) struct CopyNames {
 
 impl Model for CopyNames {
     ghost use Rattle.std.specs.Prelude.{◌≡◌};
-    ghost use Rattle.fs_moves.specs.Keys.{place_of};
+    ghost use Rattle.fs_rename.specs.Keys.{place_of};
     ghost use Rattle.copy_tree.specs.code.Copy.{CopyPaths, overlaps, climb};
 
     ghost Value = { CopyPaths };

@@ -3,7 +3,7 @@ ghost use Rattle.bucket_ops.specs.Asks.{request_of};
 ghost use Rattle.fs_tree.specs.declared.copy.CopyRefusal.TheVariants.{NoSuchBucket};
 ghost use Rattle.bucket_walks.specs.Walking.{fits};
 ghost use Rattle.copy_tree.specs.code.Copy as copy;
-ghost use Rattle.fs_moves.specs.Keys.{place_of};
+ghost use Rattle.fs_rename.specs.Keys.{place_of};
 ghost use Rattle.copy_tree.specs.code.Copy.{read_of, same_header};
 ghost use Rattle.copy_tree.specs.code.Meaning as meaning;
 
@@ -11,7 +11,7 @@ use crate::names::CopyNames;
 use crate::parts::chosen;
 use bucket_ops::{Look, Phases, seen_in};
 use bucket_walks::fits;
-use fs_moves::{CopyStep, Copying};
+use fs_rename::{CopyStep, Copying};
 use fs_ops::{Climb, Climbed};
 use fs_tree::{CopyCount, CopyRefusal};
 use list_walk::{KeyWalk, keys_behind};

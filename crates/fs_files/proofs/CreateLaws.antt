@@ -12,7 +12,7 @@ use Rattle.s3_types.specs.declared.request.Request.TheVariants.{DeleteObjects}
 use Rattle.s3_types.specs.declared.reply.Reply.{Reply}
 use Rattle.s3_types.specs.declared.reply.Reply.TheVariants.{Deleted, Refused}
 use Rattle.s3_types.specs.declared.reply.Refusal.TheVariants.{TooManyKeys}
-use Rattle.request_frame.proofs.Reading.{reads_nothing}
+use Rattle.store_frame.proofs.Reading.{reads_nothing}
 use Rattle.path_keys.specs.Paths.{is_key}
 use Rattle.operations.specs.declared.plan.Step.{Step}
 use Rattle.operations.specs.declared.plan.Step.TheVariants.{Next, End}
@@ -41,7 +41,7 @@ use Rattle.fs_ops.proofs.Climbing.{IsClimbed, seen_on, all_on, IsShorter, climbi
 use Rattle.fs_files.specs.declared.create.CreateStage.{CreateStage}
 use Rattle.fs_files.specs.declared.create.CreateStage.TheVariants.{Here, Below, Up, Write, DropMarkers}
 use Rattle.fs_files.specs.declared.create.CreateFile.{CreateFile}
-use Rattle.request_frame.specs.Held.{upload_in, upload_at}
+use Rattle.store_frame.specs.Held.{upload_in, upload_at}
 use Rattle.fs_files.specs.Placed.{placed, IsBeside, InFile, IsFileOrNot, NoneBut, NoneLeft, object_of}
 use Rattle.fs_files.specs.code.Writing as writing
 use Rattle.fs_files.specs.declared.writing.Heard.{Heard}

@@ -12,8 +12,8 @@ use Rattle.s3_types.specs.Names.{is_element}
 use Rattle.s3_types.specs.Store.{Objects}
 use Rattle.s3_types.specs.Answer.{without}
 use Rattle.s3_types.specs.Pages.{begins}
-use Rattle.request_frame.specs.Members.{IsIn}
-use Rattle.request_frame.proofs.Members.{none_some, same_or_other, text_here, text_other, in_map}
+use Rattle.proof_base.specs.Members.{IsIn}
+use Rattle.proof_base.proofs.Members.{none_some, same_or_other, text_here, text_other, in_map}
 use Rattle.path_keys.specs.Paths.{Path, is_key}
 use Rattle.path_keys.proofs.Keys.{some_key}
 use Rattle.path_keys.proofs.Last.{parts_round, front_is_key}

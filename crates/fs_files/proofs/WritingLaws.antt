@@ -19,8 +19,8 @@ use Rattle.s3_types.specs.declared.reply.Reply.{Reply}
 use Rattle.s3_types.specs.declared.reply.Reply.TheVariants.{Stored, Upload as Drawn, Part, Completed, Refused}
 use Rattle.s3_types.specs.declared.reply.Refusal.{Refusal}
 use Rattle.s3_types.specs.declared.reply.Refusal.TheVariants.{NoSuchUpload}
-use Rattle.request_frame.specs.Held.{upload_in, upload_at}
-use Rattle.request_frame.proofs.Members.{some_is, same_or_not, nat_other, nat_left, nat_gone}
+use Rattle.store_frame.specs.Held.{upload_in, upload_at}
+use Rattle.proof_base.proofs.Members.{some_is, same_or_not, nat_other, nat_left, nat_gone}
 use Rattle.bucket_ops.specs.declared.look.Look.TheVariants.{NoBucket}
 use Rattle.bucket_ops.specs.Looks.{look_of}
 use Rattle.bucket_ops.proofs.AskLaws.{get_put, put_put}

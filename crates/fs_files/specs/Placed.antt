@@ -3,7 +3,7 @@ use Rattle.std.specs.Prelude.{◌≡◌, ◌⊎◌, ℕ, ◌≤◌, ◌<◌, Lis
 use Rattle.std.specs.FinMap as fin
 use Rattle.s3_types.specs.Store.{Objects, BucketContent, Scene}
 use Rattle.s3_types.specs.declared.object.Object.{Object}
-use Rattle.request_frame.specs.Held.{upload_at}
+use Rattle.store_frame.specs.Held.{upload_at}
 
 -- z with this in a bucket, and this as the next upload's id
 abbrev pub placed : Scene → List ℕ → BucketContent → ℕ → Scene

@@ -17,11 +17,11 @@ use Rattle.s3_types.specs.Pages.{begins, before_slash, stem, entry_by, entry_of,
 use Rattle.s3_types.specs.declared.object.Object.{Object}
 use Rattle.s3_types.specs.declared.reply.PageEntry.{PageEntry}
 use Rattle.s3_types.specs.declared.reply.PageEntry.TheVariants.{Object as Single, Prefix}
-use Rattle.request_frame.specs.Members.{IsIn, RisesFrom}
-use Rattle.request_frame.proofs.Members.{some_is, none_some, nat_true, eq_nat, text_exact, in_map, map_in, in_filter, filter_in}
-use Rattle.request_frame.proofs.Flat.{found_in, found_at}
-use Rattle.request_frame.specs.Walk.{walked, text_of as walked_text}
-use Rattle.request_frame.proofs.Listed.{walked_listed}
+use Rattle.proof_base.specs.Members.{IsIn, RisesFrom}
+use Rattle.proof_base.proofs.Members.{some_is, none_some, nat_true, eq_nat, text_exact, in_map, map_in, in_filter, filter_in}
+use Rattle.store_frame.proofs.Flat.{found_in, found_at}
+use Rattle.store_frame.specs.Walk.{walked, text_of as walked_text}
+use Rattle.store_frame.proofs.Listed.{walked_listed}
 use Rattle.dir_markers.specs.declared.status.Status.{Status}
 use Rattle.dir_markers.specs.declared.status.Status.TheVariants.{Directory, File}
 use Rattle.fs_tree.proofs.Begins.{both, begins_more}
@@ -232,7 +232,7 @@ module _ (q : List ℕ) (z : Objects) where
   rises_walked last [] = tt
   rises_walked last (e ∷ es) = by (begins q e.0) (lt text_cmp last (walked_text q true e.0)) refl (rises_walked last es) (rises_walked (walked_text q true e.0) es)
     where
-      same : (s : Option (List ℕ)) (k : List ℕ) (n : ℕ) → Rattle.request_frame.specs.Walk.text_by s k ≡ text_in (entry_by s k n)
+      same : (s : Option (List ℕ)) (k : List ℕ) (n : ℕ) → Rattle.store_frame.specs.Walk.text_by s k ≡ text_in (entry_by s k n)
       same None k n = refl
       same (Some s) k n = refl
 

@@ -11,9 +11,9 @@ use Rattle.s3_types.specs.Answer.{head, without}
 use Rattle.s3_types.specs.Pages.{page, listed, begins, text_in}
 use Rattle.s3_types.specs.declared.object.Object.{Object}
 use Rattle.s3_types.specs.declared.reply.PageEntry.{PageEntry}
-use Rattle.request_frame.specs.Members.{IsIn, RisesFrom}
-use Rattle.request_frame.proofs.Members.{same_or_other, text_is, text_true, text_here, text_other, text_gone, text_left, in_front, true_or_false}
-use Rattle.request_frame.proofs.Flat.{listed_rises}
+use Rattle.proof_base.specs.Members.{IsIn, RisesFrom}
+use Rattle.proof_base.proofs.Members.{same_or_other, text_is, text_true, text_here, text_other, text_gone, text_left, in_front, true_or_false}
+use Rattle.store_frame.proofs.Flat.{listed_rises}
 use Rattle.operations.specs.declared.plan.Step.{Step}
 use Rattle.operations.specs.declared.plan.Step.TheVariants.{Next, End}
 use Rattle.operations.specs.Plans.{Goes, Falls}

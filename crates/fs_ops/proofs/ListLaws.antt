@@ -12,8 +12,8 @@ use Rattle.s3_types.specs.Answer.{head}
 use Rattle.s3_types.specs.Pages.{listed, text_in}
 use Rattle.s3_types.specs.declared.object.Object.{Object}
 use Rattle.s3_types.specs.declared.reply.PageEntry.{PageEntry}
-use Rattle.request_frame.specs.Members.{RisesFrom}
-use Rattle.request_frame.proofs.Listed.{listed_behind}
+use Rattle.proof_base.specs.Members.{RisesFrom}
+use Rattle.store_frame.proofs.Listed.{listed_behind}
 use Rattle.operations.specs.declared.plan.Step.{Step}
 use Rattle.operations.specs.Plans.{Goes, Falls}
 use Rattle.bucket_ops.specs.Asks.{reply_in, edited, is_look}

@@ -9,8 +9,8 @@ use Rattle.s3_types.specs.Pages.{begins, page, listed, text_in}
 use Rattle.s3_types.specs.Answer.{head}
 use Rattle.s3_types.specs.declared.object.Object.{Object}
 use Rattle.s3_types.specs.declared.reply.PageEntry.{PageEntry}
-use Rattle.request_frame.specs.Members.{IsIn}
-use Rattle.request_frame.proofs.Flat.{listed_all, page_begins}
+use Rattle.proof_base.specs.Members.{IsIn}
+use Rattle.store_frame.proofs.Flat.{listed_all, page_begins}
 use Rattle.bucket_ops.specs.declared.look.Look.{Look}
 use Rattle.bucket_ops.specs.declared.look.Look.TheVariants.{There, Nothing}
 use Rattle.bucket_ops.specs.Looks.{look_of}

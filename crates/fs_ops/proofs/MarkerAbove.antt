@@ -1,7 +1,7 @@
 -- The marker above a path.
 use Rattle.std.proofs.Common.{◌≡◌, Bool, true, false, ℕ, suc, List, [], ◌∷◌, ◌==◌, length, Option, Some, None, Result, IfOk, refl, sym, ap, subst, ◌∙◌, arith, if◌then◌else◌}
 use Rattle.std.proofs.lemmas.Bool.{eqb-true}
-use Rattle.request_frame.proofs.Members.{some_is}
+use Rattle.proof_base.proofs.Members.{some_is}
 use Rattle.path_keys.specs.Paths.{Path, parent_of}
 use Rattle.path_keys.proofs.Last.{before_none}
 use Rattle.dir_markers.specs.Markers.{marker_of, deleted}

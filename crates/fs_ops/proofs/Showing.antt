@@ -20,8 +20,8 @@ use Rattle.s3_types.specs.Pages.{begins, text_in, listed}
 use Rattle.s3_types.specs.declared.object.Object.{Object}
 use Rattle.s3_types.proofs.Begins.{begins_is, between}
 use Rattle.path_keys.specs.Paths.{below}
-use Rattle.request_frame.specs.Members.{IsIn, RisesFrom}
-use Rattle.request_frame.proofs.Members.{none_some, false_true, eq_nat, text_is, text_true, in_append, in_front, in_back}
+use Rattle.proof_base.specs.Members.{IsIn, RisesFrom}
+use Rattle.proof_base.proofs.Members.{none_some, false_true, eq_nat, text_is, text_true, in_append, in_front, in_back}
 use Rattle.dir_markers.specs.Markers.{marker_of}
 use Rattle.dir_markers.specs.declared.status.Status.{Status}
 use Rattle.dir_markers.specs.declared.status.Status.TheVariants.{Directory, File}

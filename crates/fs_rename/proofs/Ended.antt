@@ -8,7 +8,7 @@ use Rattle.operations.specs.Performed.{Seen, Performed}
 use Rattle.path_keys.specs.Paths.{is_key}
 use Rattle.bucket_ops.specs.Phases.{AlwaysIn, SendsIn}
 use Rattle.fs_tree.specs.declared.rename.RenameRefusal.TheVariants.{OtherBucket, NoSuchBucket}
-use Rattle.fs_moves.specs.Between.{Route, GivesBetween}
+use Rattle.fs_rename.specs.Between.{Route, GivesBetween}
 use Rattle.fs_rename.specs.code.Rename.{Renaming, Answer, first as first_stage, asks}
 use Rattle.fs_rename.specs.code.Meaning.{gives, always, sends}
 use Rattle.fs_rename.specs.Public.{RenamesIn, StandsWhole, RenameSends}

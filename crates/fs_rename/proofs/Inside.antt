@@ -10,14 +10,14 @@ use Rattle.path_keys.specs.Paths.{Path, is_key, parent_of}
 use Rattle.path_keys.proofs.Keys.{some_key}
 use Rattle.path_keys.proofs.Last.{parts_round, before_none}
 use Rattle.path_keys.proofs.Beneath.{below_elements}
-use Rattle.request_frame.proofs.Members.{none_some, some_is}
+use Rattle.proof_base.proofs.Members.{none_some, some_is}
 use Rattle.fs_tree.specs.Tree.{is_marker}
 use Rattle.fs_tree.specs.Changes.{parent, last_of, own_name}
 use Rattle.fs_tree.specs.Moves.{inside}
 use Rattle.fs_tree.proofs.Begins.{both, marker_is}
 use Rattle.fs_tree.proofs.Above.{Cut, cut, marker_ends}
 use Rattle.fs_ops.specs.Places.{key_if, prefix_of}
-use Rattle.fs_moves.proofs.Places.{not_zero, some_long}
+use Rattle.fs_rename.proofs.Places.{not_zero, some_long}
 use Rattle.fs_rename.specs.code.Rename.{inside_of, place_by}
 
 -- ---- elements

@@ -10,8 +10,8 @@ use Rattle.proof_base.proofs.Less.{irrefl}
 use Rattle.s3_types.specs.Store.{Objects}
 use Rattle.s3_types.specs.Pages.{page, listed, begins}
 use Rattle.s3_types.specs.declared.reply.PageEntry.{PageEntry}
-use Rattle.request_frame.specs.Members.{IsIn}
-use Rattle.request_frame.proofs.Flat.{listed_rises}
+use Rattle.proof_base.specs.Members.{IsIn}
+use Rattle.store_frame.proofs.Flat.{listed_rises}
 use Rattle.operations.specs.declared.plan.Step.{Step}
 use Rattle.operations.specs.declared.plan.Step.TheVariants.{End}
 use Rattle.operations.specs.Plans.{Goes, Falls}
@@ -40,13 +40,13 @@ use Rattle.bucket_walks.proofs.Batches.{batch_goes, deleting_all}
 use Rattle.bucket_walks.proofs.Below.{stands_below}
 use Rattle.fs_ops.proofs.DeleteLaws.{parent_page}
 use Rattle.fs_ops.proofs.Looks.{IsSeen}
-use Rattle.fs_moves.specs.declared.copying.Copying.{Copying}
-use Rattle.fs_moves.specs.declared.copying.CopyStep.{CopyStep}
-use Rattle.fs_moves.specs.declared.copying.CopyStep.TheVariants.{Next as NextCopy, All}
-use Rattle.fs_moves.specs.Keys.{new_key, new_keys}
-use Rattle.fs_moves.specs.Copies.{sources, copied_all, copy_asks, has_more, copied_next, IsCopied, copies_left, LessCopies, moves_of}
-use Rattle.fs_moves.proofs.CopyLaws.{copying_goes, copying_falls}
-use Rattle.fs_moves.proofs.Placed.{move_of, sources_to, all_found, first_long, only_file, dir_to, dir_from, to_dir_move}
+use Rattle.fs_rename.specs.declared.copying.Copying.{Copying}
+use Rattle.fs_rename.specs.declared.copying.CopyStep.{CopyStep}
+use Rattle.fs_rename.specs.declared.copying.CopyStep.TheVariants.{Next as NextCopy, All}
+use Rattle.fs_rename.specs.Keys.{new_key, new_keys}
+use Rattle.fs_rename.specs.Copies.{sources, copied_all, copy_asks, has_more, copied_next, IsCopied, copies_left, LessCopies, moves_of}
+use Rattle.fs_rename.proofs.CopyLaws.{copying_goes, copying_falls}
+use Rattle.fs_rename.proofs.Placed.{move_of, sources_to, all_found, first_long, only_file, dir_to, dir_from, to_dir_move}
 use Rattle.fs_rename.specs.declared.stages.Spot.{Spot}
 use Rattle.fs_rename.specs.declared.stages.Spot.TheVariants.{Source, Target, Inside, Above}
 use Rattle.fs_rename.specs.declared.stages.Kind.{Kind}

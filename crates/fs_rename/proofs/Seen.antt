@@ -10,9 +10,9 @@ use Rattle.s3_types.specs.Answer.{head}
 use Rattle.s3_types.specs.Pages.{page, listed, begins, text_in}
 use Rattle.s3_types.specs.declared.object.Object.{Object}
 use Rattle.s3_types.specs.declared.reply.PageEntry.{PageEntry}
-use Rattle.request_frame.specs.Members.{IsIn, RisesFrom}
-use Rattle.request_frame.proofs.Members.{none_or_some, text_is, text_true}
-use Rattle.request_frame.proofs.Flat.{listed_rises, behind}
+use Rattle.proof_base.specs.Members.{IsIn, RisesFrom}
+use Rattle.proof_base.proofs.Members.{none_or_some, text_is, text_true}
+use Rattle.store_frame.proofs.Flat.{listed_rises, behind}
 use Rattle.bucket_ops.specs.declared.look.Look.{Look}
 use Rattle.bucket_ops.specs.declared.look.Look.TheVariants.{There, Nothing as NothingThere, NoBucket, Other}
 use Rattle.bucket_ops.specs.Looks.{look_of}

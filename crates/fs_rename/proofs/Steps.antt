@@ -13,8 +13,8 @@ use Rattle.fs_ops.specs.Places.{prefix_of, key_if}
 use Rattle.bucket_walks.specs.Sweeping.{sweep_left, LessLeft}
 use Rattle.bucket_walks.specs.Walking.{LessWalked}
 use Rattle.bucket_walks.proofs.Sweeps.{length_keys}
-use Rattle.fs_moves.specs.declared.copying.CopyStep.TheVariants.{All}
-use Rattle.fs_moves.specs.Keys.{fitting}
+use Rattle.fs_rename.specs.declared.copying.CopyStep.TheVariants.{All}
+use Rattle.fs_rename.specs.Keys.{fitting}
 use Rattle.fs_rename.specs.declared.stages.Spot.{Spot}
 use Rattle.fs_rename.specs.declared.stages.Spot.TheVariants.{Source, Target, Inside, Above}
 use Rattle.fs_rename.specs.declared.stages.Kind.{Kind}

@@ -3,8 +3,8 @@ use Rattle.std.proofs.Common.{◌≡◌, ◌⊎◌, inl, inr, ℕ, Bool, true, f
 use Rattle.s3_types.specs.Store.{Objects, Scene}
 use Rattle.s3_types.specs.Pages.{begins}
 use Rattle.s3_types.specs.Answer.{without}
-use Rattle.request_frame.specs.Members.{IsIn}
-use Rattle.request_frame.proofs.Members.{none_some, in_front}
+use Rattle.proof_base.specs.Members.{IsIn}
+use Rattle.proof_base.proofs.Members.{none_some, in_front}
 use Rattle.path_keys.specs.Paths.{is_key}
 use Rattle.bucket_ops.specs.Asks.{objects_at}
 use Rattle.bucket_ops.specs.Phases.{GivesIn, AlwaysIn}
@@ -19,9 +19,9 @@ use Rattle.fs_tree.proofs.Above.{key_no_marker}
 use Rattle.fs_tree.proofs.Moving.{place_above, place_apart, moves_file, moves_dir}
 use Rattle.fs_ops.proofs.StepLaws.{same_scene}
 use Rattle.bucket_walks.specs.Sweeping.{IsDeleting}
-use Rattle.fs_moves.specs.Copies.{Move, sources, copied_all, AreFree, moves_of}
-use Rattle.fs_moves.proofs.Whole.{AreWhole, whole_copying, whole_emptying, whole_marked, is_whole}
-use Rattle.fs_moves.proofs.Placed.{file_free, file_to, file_from, file_apart, file_moved, dir_free, dir_to, dir_from, dir_apart, dir_moved}
+use Rattle.fs_rename.specs.Copies.{Move, sources, copied_all, AreFree, moves_of}
+use Rattle.fs_rename.proofs.Whole.{AreWhole, whole_copying, whole_emptying, whole_marked, is_whole}
+use Rattle.fs_rename.proofs.Placed.{file_free, file_to, file_from, file_apart, file_moved, dir_free, dir_to, dir_from, dir_apart, dir_moved}
 use Rattle.fs_rename.specs.code.Rename.{Renaming, Answer}
 use Rattle.fs_rename.specs.code.Meaning.{IsSource, MayGo, moved, gives, IsOnWay, always}
 use Rattle.fs_rename.proofs.Inside.{no_marker, inside_elements}

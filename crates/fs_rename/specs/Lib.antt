@@ -1,2 +1,5 @@
+pub mod Between
+pub mod Keys
+pub mod Copies
 pub mod Public
 pub mod code

@@ -6,7 +6,7 @@ use Rattle.bucket_ops.specs.Phases.{AlwaysIn, SendsIn}
 use Rattle.fs_tree.specs.declared.rename.RenameRefusal.TheVariants.{OtherBucket, NoSuchBucket}
 use Rattle.fs_tree.specs.Moves.{MayStand}
 use Rattle.fs_tree.specs.Renames.{Renames}
-use Rattle.fs_moves.specs.Between.{Route, GivesBetween}
+use Rattle.fs_rename.specs.Between.{Route, GivesBetween}
 use Rattle.fs_rename.specs.code.Rename.{Renaming, Answer, first, asks}
 use Rattle.fs_rename.specs.code.Meaning.{sends}
 

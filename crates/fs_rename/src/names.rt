@@ -5,7 +5,7 @@ ghost use Rattle.fs_tree.specs.Changes.{parent};
 ghost use Rattle.fs_rename.specs.code.Rename.{inside_of, place_at, asks_at, inside_asks, look_at_asks, is_root_at};
 
 use crate::stages::Spot;
-use fs_moves::Base;
+use crate::Base;
 use fs_ops::{Place, last_element, marker_above};
 use path_keys::S3Path;
 use s3_types::{Bucket, Key, PageLimit, Request, Text};
@@ -32,7 +32,7 @@ impl Model for RenameNames {
     ghost use Rattle.s3_types.specs.Pages.{begins};
     ghost use Rattle.fs_tree.specs.Changes.{parent, marker_if};
     ghost use Rattle.fs_ops.specs.Places.{prefix_of};
-    ghost use Rattle.fs_moves.specs.Keys.{place_of};
+    ghost use Rattle.fs_rename.specs.Keys.{place_of};
     ghost use Rattle.fs_rename.specs.code.Rename.{Renaming, inside_of};
 
     ghost Value = { Renaming };

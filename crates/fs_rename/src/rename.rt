@@ -3,7 +3,7 @@ ghost use Rattle.operations.specs.Performed.{Performed, seen};
 ghost use Rattle.fs_rename.specs.Public.{RenamesIn, StandsWhole, RenameSends};
 
 use crate::names::RenameNames;
-use fs_moves::perform_between;
+use crate::perform_between;
 use fs_tree::RenameRefusal;
 use machine::DriveStop;
 use path_keys::S3Path;
@@ -26,7 +26,7 @@ pub struct Rename {
 impl Model for Rename {
     ghost use Rattle.std.specs.Prelude.{◌≡◌, true};
     ghost use Rattle.path_keys.specs.Paths.{is_key};
-    ghost use Rattle.fs_moves.specs.Between.{Route};
+    ghost use Rattle.fs_rename.specs.Between.{Route};
 
     ghost Value = { Route };
 

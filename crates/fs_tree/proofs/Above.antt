@@ -13,8 +13,8 @@ use Rattle.path_keys.proofs.Keys.{some_key}
 use Rattle.path_keys.proofs.Last.{parts_round, before_slash, before_none}
 use Rattle.dir_markers.specs.Markers.{marker_of, fronts, keys_above}
 use Rattle.dir_markers.proofs.Above.{above_more, trimmed_marker}
-use Rattle.request_frame.specs.Members.{IsIn}
-use Rattle.request_frame.proofs.Members.{eq_nat, in_append, in_front, in_last}
+use Rattle.proof_base.specs.Members.{IsIn}
+use Rattle.proof_base.proofs.Members.{eq_nat, in_append, in_front, in_last}
 use Rattle.fs_tree.specs.Tree.{is_marker}
 use Rattle.fs_tree.specs.Changes.{parent}
 use Rattle.fs_tree.proofs.Begins.{both, begins_more, begins_all, begins_trans, begins_marker, marker_is, marker_at, no_empty}

@@ -3,7 +3,7 @@ use Rattle.std.proofs.Common.{◌≡◌, ◌⊎◌, inl, inr, ℕ, ◌&&◌, ◌
 use Rattle.std.proofs.lemmas.Bool.{false≢true}
 use Rattle.s3_types.specs.Pages.{begins}
 use Rattle.dir_markers.specs.Markers.{marker_of}
-use Rattle.request_frame.proofs.Members.{eq_nat, nat_true}
+use Rattle.proof_base.proofs.Members.{eq_nat, nat_true}
 use Rattle.fs_tree.specs.Tree.{is_marker}
 
 pub both : (a b : Bool) → (a && b) ≡ true → (a ≡ true) × (b ≡ true)

@@ -5,7 +5,7 @@ use Rattle.std.specs.FinMap as fin
 use Rattle.s3_types.specs.Store.{Objects}
 use Rattle.s3_types.specs.Pages.{begins}
 use Rattle.dir_markers.specs.Markers.{marker_of}
-use Rattle.request_frame.proofs.Members.{none_some, some_is, true_or_false, same_or_other, text_gone, text_left, text_other}
+use Rattle.proof_base.proofs.Members.{none_some, some_is, true_or_false, same_or_other, text_gone, text_left, text_other}
 use Rattle.fs_tree.specs.Tree.{Stands, SomeBelow, NoneBelow, is_marker, marker, HasDir}
 use Rattle.fs_tree.specs.Changes.{DropsFile, DropsDir, parent, marker_if, IsMarked, IsWithoutBelow}
 use Rattle.fs_tree.proofs.Begins.{begins_all, begins_trans, begins_marker, begins_length, one_begins, marker_is, marker_at}

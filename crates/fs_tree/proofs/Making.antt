@@ -6,8 +6,8 @@ use Rattle.s3_types.specs.Store.{Objects}
 use Rattle.s3_types.specs.Pages.{begins}
 use Rattle.s3_types.specs.declared.object.Object.{Object}
 use Rattle.dir_markers.specs.Markers.{marker_of, keys_above}
-use Rattle.request_frame.specs.Members.{IsIn}
-use Rattle.request_frame.proofs.Members.{same_or_other, text_here, text_other}
+use Rattle.proof_base.specs.Members.{IsIn}
+use Rattle.proof_base.proofs.Members.{same_or_other, text_here, text_other}
 use Rattle.fs_tree.specs.Tree.{Stands, SomeBelow, is_marker, marker, HasDir}
 use Rattle.fs_tree.specs.Changes.{SameFiles, MakesDirs}
 use Rattle.fs_tree.specs.Answers.{PutsDir}

@@ -11,7 +11,7 @@ use Rattle.s3_types.specs.Pages.{begins}
 use Rattle.path_keys.specs.Paths.{below}
 use Rattle.path_keys.proofs.Last.{parts_round, before_slash, before_none}
 use Rattle.dir_markers.specs.Markers.{marker_of}
-use Rattle.request_frame.proofs.Members.{eq_nat, none_some, some_is, true_or_false, same_or_other}
+use Rattle.proof_base.proofs.Members.{eq_nat, none_some, some_is, true_or_false, same_or_other}
 use Rattle.fs_tree.specs.Tree.{Stands, SomeBelow, NoneBelow, is_marker, HasDir, HasFile, IsDirectory, IsAbsent}
 use Rattle.fs_tree.specs.Changes.{parent, marker_if, IsMarked, IsMarkedAbove, last_of, own_name}
 use Rattle.fs_tree.specs.Moves.{IsAtOrBelow, MayMove, inside, IsPlace, IsFileMoved, IsDirMoved, MovesFile, MovesDir}

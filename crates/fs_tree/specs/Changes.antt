@@ -12,7 +12,7 @@ use Rattle.path_keys.specs.Paths.{without_last, below}
 use Rattle.dir_markers.specs.Markers.{marker_of, keys_above}
 use Rattle.dir_markers.specs.declared.status.Status.{Status}
 use Rattle.dir_markers.specs.declared.status.Status.TheVariants.{Directory, File}
-use Rattle.request_frame.specs.Members.{IsIn}
+use Rattle.proof_base.specs.Members.{IsIn}
 use Rattle.fs_tree.specs.declared.answers.DirEntry.{DirEntry}
 use Rattle.fs_tree.specs.Tree.{Stands, SomeBelow, NoneBelow, is_marker, marker, HasDir, IsStatus}
 

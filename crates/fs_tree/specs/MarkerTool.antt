@@ -7,7 +7,7 @@ use Rattle.s3_types.specs.Store.{Objects}
 use Rattle.s3_types.specs.Pages.{begins}
 use Rattle.s3_types.specs.declared.object.Object.{Object}
 use Rattle.path_keys.specs.Paths.{below}
-use Rattle.request_frame.specs.Members.{IsIn}
+use Rattle.proof_base.specs.Members.{IsIn}
 use Rattle.fs_tree.specs.declared.answers.FsRefusal.{FsRefusal}
 use Rattle.fs_tree.specs.declared.answers.FsRefusal.TheVariants.{NotFound, NotDirectory}
 use Rattle.fs_tree.specs.declared.markers.MarkerKind.{MarkerKind}

@@ -9,10 +9,10 @@ use Rattle.job_model.specs.declared.ends.Pick.{Pick}
 use Rattle.job_model.specs.declared.ends.CommitEnd.TheVariants as ends
 use Rattle.job_model.specs.declared.ends.Stage.TheVariants as stages
 use Rattle.conflict.specs.Deletions.{Deletion}
-use Rattle.job_operations.specs.Lanes.{Turn}
+use Rattle.job_protocol.specs.Lanes.{Turn}
 use Rattle.list_walk.specs.Walks.{Sweep}
-use Rattle.job_operations.specs.JobCommits.{Sets, all_commits, Commit, Fetching, Replacing, Marking, Reverting, CommitOver, completing, commit_misses}
-use Rattle.job_operations.specs.AtWork.{read_script, sets_in}
+use Rattle.job_protocol.specs.JobCommits.{Sets, all_commits, Commit, Fetching, Replacing, Marking, Reverting, CommitOver, completing, commit_misses}
+use Rattle.job_protocol.specs.AtWork.{read_script, sets_in}
 use Rattle.proof_base.proofs.Numbers.{below_so}
 use Rattle.commit_parts.specs.Tables.{LaneTable, first_missed}
 use Rattle.commit_parts.specs.Undos.{undo_request}

@@ -3,9 +3,9 @@ use Rattle.std.proofs.Common.{◌≡◌, ℕ, ◌<◌, refl, ap, sym, subst, ◌
 use Rattle.std.specs.Prelude.{⊤}
 use Rattle.std.proofs.lemmas.Result.{on_ok_weaker}
 use Rattle.job_model.specs.Jobs.{Job}
-use Rattle.job_operations.specs.Lanes.{Turn, again}
-use Rattle.job_operations.specs.LaneTable.{In}
-use Rattle.job_operations.specs.JobCommits.{Sets, all_commits, completing}
+use Rattle.job_protocol.specs.Lanes.{Turn, again}
+use Rattle.job_protocol.specs.LaneTable.{In}
+use Rattle.job_protocol.specs.JobCommits.{Sets, all_commits, completing}
 use Rattle.commit_parts.specs.Tables.{LaneTable, first_of, listed, next_turn}
 use Rattle.commit_parts.specs.Undos.{undo_request, IsRevert, NumbersWithin}
 use Rattle.commit_parts.specs.Places.{places_from}

@@ -3,9 +3,9 @@ use Rattle.std.proofs.Common.{◌≡◌, ℕ, refl, ap, sym, ◌∙◌, List, []
 use Rattle.job_model.specs.Jobs.{Job}
 use Rattle.job_model.specs.declared.ends.CommitEnd.{CommitEnd}
 use Rattle.job_model.specs.declared.ends.Pick.{Pick}
-use Rattle.job_operations.specs.Lanes.{Turn}
-use Rattle.job_operations.specs.JobCommits.{Sets, all_commits, Commit, completing, commit_over}
-use Rattle.job_operations.specs.AtWork.{Committing}
+use Rattle.job_protocol.specs.Lanes.{Turn}
+use Rattle.job_protocol.specs.JobCommits.{Sets, all_commits, Commit, completing, commit_over}
+use Rattle.job_protocol.specs.AtWork.{Committing}
 use Rattle.commit_parts.specs.Undos.{undo_request}
 use Rattle.commit_parts.specs.declared.places.Place.{Place}
 use Rattle.commit_parts.specs.declared.undo.Undo.{Undo}

@@ -3,9 +3,9 @@ use Rattle.std.specs.Prelude.{ℕ, ◌+◌, Bool, false, List, [], ◌∷◌, �
 use Rattle.s3_types.specs.declared.request.Request.{Request}
 use Rattle.job_model.specs.declared.ends.CommitEnd.TheVariants as ends
 use Rattle.job_model.specs.declared.ends.Stage.TheVariants as stages
-use Rattle.job_operations.specs.Lanes.{Turn, follow, again}
+use Rattle.job_protocol.specs.Lanes.{Turn, follow, again}
 use Rattle.list_walk.specs.Walks.{Sweep}
-use Rattle.job_operations.specs.JobCommits.{Sets, all_commits, Commit, Fetching, Replacing, Marking, Reverting, CommitOver, completing, worn_completion}
+use Rattle.job_protocol.specs.JobCommits.{Sets, all_commits, Commit, Fetching, Replacing, Marking, Reverting, CommitOver, completing, worn_completion}
 use Rattle.job_model.specs.Jobs.{Job}
 use Rattle.commit_parts.specs.Tables.{first_missed}
 use Rattle.commit_parts.specs.Undos.{undo_request}

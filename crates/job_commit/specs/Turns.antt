@@ -4,8 +4,8 @@ use Rattle.s3_types.specs.declared.journal.Outcome.{Outcome}
 use Rattle.s3_types.specs.declared.journal.Outcome.TheVariants.{Answered}
 use Rattle.machine.specs.declared.retrying.Turn.{Turn}
 use Rattle.machine.specs.declared.retrying.Turn.TheVariants as turns
-use Rattle.job_operations.specs.JobCommits.{Commit, Fetching, Replacing, Completing, Marking, Reverting, CommitOver}
-use Rattle.job_operations.specs.AtWork.{Committing}
+use Rattle.job_protocol.specs.JobCommits.{Commit, Fetching, Replacing, Completing, Marking, Reverting, CommitOver}
+use Rattle.job_protocol.specs.AtWork.{Committing}
 use Rattle.commit_laws.specs.Fitting.{missed_of}
 
 -- without an answer: the request is sent again, or was sent for the last time

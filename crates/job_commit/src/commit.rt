@@ -1,7 +1,7 @@
 ghost use Rattle.std.specs.Prelude.{◌≡◌, ◌<◌, ◌≤◌, [], IfOk, OnOk, OnErr, IsSome};
 ghost use Rattle.std.specs.Option.{option_copied};
-ghost use Rattle.job_operations.specs.JobCommits.{commit_start, commit_over};
-ghost use Rattle.job_operations.specs.AtWork.{read_script, commit_wants, commit_told};
+ghost use Rattle.job_protocol.specs.JobCommits.{commit_start, commit_over};
+ghost use Rattle.job_protocol.specs.AtWork.{read_script, commit_wants, commit_told};
 ghost use Rattle.commit_laws.specs.Fitting.{FitsCommit, FitsReply, missed_of, without_memory, least_missing};
 ghost use Rattle.job_commit.specs.Turns.{turn_of, turn_unanswered, lost_of};
 ghost use Rattle.job_commit.specs.Holds.{picks_from, GoesTo};
@@ -29,7 +29,7 @@ pub struct CommitJob {
 }
 
 impl Model for CommitJob {
-    ghost use Rattle.job_operations.specs.AtWork.{Committing};
+    ghost use Rattle.job_protocol.specs.AtWork.{Committing};
 
     ghost Value = { Committing };
 

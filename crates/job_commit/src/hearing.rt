@@ -1,7 +1,7 @@
 ghost use Rattle.std.specs.Prelude.{◌≡◌, ◌<◌, ◌≤◌, length, map, drop, true, Some, IfOk, OnOk, OnErr, IsSome};
 ghost use Rattle.std.specs.Option.{option_copied};
 ghost use Rattle.pending_json.specs.Fault.{wanting as is_want};
-ghost use Rattle.job_operations.specs.JobCommits.{set_read, all_commits, Fetching};
+ghost use Rattle.job_protocol.specs.JobCommits.{set_read, all_commits, Fetching};
 ghost use Rattle.commit_parts.specs.Undos.{undo_request};
 ghost use Rattle.conflict.specs.Deletions.{FitsDeletion, deletion_hears, spared};
 ghost use Rattle.conflict.specs.Laws.{commit_deleting};

@@ -6,7 +6,7 @@
 //! # What is proved
 //!
 //! `CommitJob`: The commit of a job, told the outcome of each sending, counts the sendings of its
-//! requests itself, in each lane. It asks exactly what `job_operations` has a commit ask, goes where
+//! requests itself, in each lane. It asks exactly what `job_protocol` has a commit ask, goes where
 //! that has each outcome lead, and ends so, after every list of outcomes that fit: Missing at once;
 //! else each task's set is read, once, and kept; SamePath; where the mode is replace the deletion of
 //! what does not stay; the completions in lanes; the revert in its order; the marker. `take` tells what

@@ -1,8 +1,8 @@
 ghost use Rattle.std.specs.Prelude.{◌≡◌, ◌<◌, ◌≤◌, [], length, map, Some, IfOk, OnOk, OnErr};
-ghost use Rattle.job_operations.specs.Lanes.{nth, dealt};
-ghost use Rattle.job_operations.specs.JobCommits.{all_commits, commit_asks, Marking, fetching, decided, replaced, replacing, completing, picks_of};
-ghost use Rattle.job_operations.specs.Outputs.{same_path, wanted_paths};
-ghost use Rattle.job_operations.specs.Conflicts.{partitions};
+ghost use Rattle.job_protocol.specs.Lanes.{nth, dealt};
+ghost use Rattle.job_protocol.specs.JobCommits.{all_commits, commit_asks, Marking, fetching, decided, replaced, replacing, completing, picks_of};
+ghost use Rattle.job_protocol.specs.Outputs.{same_path, wanted_paths};
+ghost use Rattle.job_protocol.specs.Conflicts.{partitions};
 ghost use Rattle.list_walk.specs.Walks.{sweep_start};
 ghost use Rattle.conflict.specs.Deletions.{deleted, deletion_asks, spared};
 ghost use Rattle.conflict.specs.Laws.{commit_deleting};

@@ -12,21 +12,21 @@ use Rattle.s3_types.specs.declared.reply.Reply.TheVariants.{Page}
 use Rattle.s3_types.specs.declared.reply.PageEntry.{PageEntry}
 use Rattle.s3_types.specs.declared.journal.Outcome.{Outcome}
 use Rattle.s3_types.specs.declared.journal.Outcome.TheVariants.{Answered}
-use Rattle.sendings.specs.Retries.{Retried, step}
+use Rattle.retries.specs.Retries.{Retried, step}
 use Rattle.job_model.specs.Attempts.{Who}
 use Rattle.job_model.specs.Legal.{IsLegal}
 use Rattle.job_model.specs.JobScript.{Script}
 use Rattle.job_model.specs.declared.ends.TaskEnd.{TaskEnd}
 use Rattle.job_model.specs.declared.ends.TaskEnd.TheVariants as tasks
 use Rattle.job_model.specs.Known.{Drawn, Known}
-use Rattle.job_operations.specs.Knowledge.{learn, as_made}
+use Rattle.job_protocol.specs.Knowledge.{learn, as_made}
 use Rattle.list_walk.specs.Walks.{Listing, Deleting, walked, walked_by, keys_on, last_of, page_after, deleting, swept, all_go}
-use Rattle.job_operations.specs.TaskCommits.{attempt_prefix}
-use Rattle.job_operations.specs.TaskAborts.{TaskAbort, Dropping, Sweeping, Removing, TaskAbortOver, task_abort_asks, task_abort_after, task_abort_hears, task_abort_start, task_abort_by, removing, dropped, dropping, sweeping}
-use Rattle.job_promise.specs.Seen.{Seen, see}
-use Rattle.request_frame.specs.Members.{IsIn}
-use Rattle.request_frame.proofs.Members.{some_is, false_true, in_append, in_filter}
-use Rattle.request_frame.proofs.Flat.{page_begins}
+use Rattle.job_protocol.specs.TaskCommits.{attempt_prefix}
+use Rattle.job_protocol.specs.TaskAborts.{TaskAbort, Dropping, Sweeping, Removing, TaskAbortOver, task_abort_asks, task_abort_after, task_abort_hears, task_abort_start, task_abort_by, removing, dropped, dropping, sweeping}
+use Rattle.job_spec.specs.Seen.{Seen, see}
+use Rattle.proof_base.specs.Members.{IsIn}
+use Rattle.proof_base.proofs.Members.{some_is, false_true, in_append, in_filter}
+use Rattle.store_frame.proofs.Flat.{page_begins}
 use Rattle.job_facts.specs.Told.{Told, known, entry, tell}
 use Rattle.job_facts.specs.Facts.{IsAttempt, Hold}
 use Rattle.job_facts.specs.Fits.{AllOwn, FitsAbort}

@@ -4,21 +4,21 @@ use Rattle.s3_types.specs.Answer.{answer}
 use Rattle.s3_types.specs.Moment.{IsHonestOutcome}
 use Rattle.s3_types.specs.declared.request.Request.{Request}
 use Rattle.s3_types.specs.declared.journal.Outcome.{Outcome}
-use Rattle.sendings.specs.Retries.{step}
-use Rattle.job_operations.specs.TaskAborts.{task_abort_after}
+use Rattle.retries.specs.Retries.{step}
+use Rattle.job_protocol.specs.TaskAborts.{task_abort_after}
 use Rattle.job_model.specs.Attempts.{Who}
 use Rattle.job_model.specs.Legal.{IsLegal}
 use Rattle.job_model.specs.JobScript.{Script}
 use Rattle.job_model.specs.Known.{Known}
-use Rattle.job_operations.specs.Uploading.{Uploading, Creating, Sending, upload_asks}
+use Rattle.job_protocol.specs.Uploading.{Uploading, Creating, Sending, upload_asks}
 use Rattle.job_model.specs.Files.{File}
-use Rattle.job_operations.specs.Writes.{Write, WriteOver, write_asks, write_after}
-use Rattle.job_operations.specs.Writes as writes
-use Rattle.job_operations.specs.TaskCommits.{TaskCommit, TaskCommitOver, task_commit_asks, task_commit_after}
-use Rattle.job_operations.specs.TaskCommits as commits
-use Rattle.job_operations.specs.Operations.{Setting, Operation, TheSetup, TheWrite, TheTaskCommit, TheTaskAbort, TheCommit, TheClean, asks, tells}
-use Rattle.job_promise.specs.Seen.{Seen}
-use Rattle.request_frame.proofs.Members.{some_is}
+use Rattle.job_protocol.specs.Writes.{Write, WriteOver, write_asks, write_after}
+use Rattle.job_protocol.specs.Writes as writes
+use Rattle.job_protocol.specs.TaskCommits.{TaskCommit, TaskCommitOver, task_commit_asks, task_commit_after}
+use Rattle.job_protocol.specs.TaskCommits as commits
+use Rattle.job_protocol.specs.Operations.{Setting, Operation, TheSetup, TheWrite, TheTaskCommit, TheTaskAbort, TheCommit, TheClean, asks, tells}
+use Rattle.job_spec.specs.Seen.{Seen}
+use Rattle.proof_base.proofs.Members.{some_is}
 use Rattle.job_facts.specs.Told.{Told, known, undoes, tell_attempt}
 use Rattle.job_facts.specs.Facts.{IsAttempt, Hold}
 use Rattle.job_facts.specs.Fits.{Fits, FitsWrite, FitsCommit, FitsAbort}

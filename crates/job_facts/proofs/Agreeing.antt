@@ -14,8 +14,8 @@ use Rattle.s3_types.specs.declared.request.Mode.TheVariants.{Replace, Append, Fa
 use Rattle.s3_types.specs.Pages.{begins}
 use Rattle.path_keys.specs.Paths.{below}
 use Rattle.magic_paths.proofs.Tails.{begins_behind, below_is as paths_below}
-use Rattle.job_operations.specs.Setup.{dest_prefix}
-use Rattle.job_operations.specs.TaskCommits.{partition_prefix}
+use Rattle.job_protocol.specs.Setup.{dest_prefix}
+use Rattle.job_protocol.specs.TaskCommits.{partition_prefix}
 use Rattle.list_walk.specs.Walks.{Sweep, sweep_hears}
 use Rattle.job_facts.proofs.Legal.{some_dest}
 use Rattle.job_facts.proofs.JobCommitting.{dest_below}
@@ -25,16 +25,16 @@ use Rattle.job_model.specs.JobScript.{Script}
 use Rattle.job_model.specs.declared.ends.CommitEnd.{CommitEnd}
 use Rattle.job_model.specs.declared.ends.CommitEnd.TheVariants as ends_of
 use Rattle.job_model.specs.declared.ends.Stage.TheVariants as stages
-use Rattle.job_operations.specs.Outputs.{Picks, files, wanted_paths, wanted_at, same_path, picked_below, is_picked, is_clash, is_decided}
-use Rattle.job_operations.specs.Conflicts.{keeps, keeps_of, is_below_any, partitions}
-use Rattle.job_operations.specs.Lanes.{Turn, again, follow, dealt, revert}
-use Rattle.job_operations.specs.JobCommits.{Sets, all_commits, picks_of, Commit, Fetching, Replacing, Completing, Marking, Reverting, CommitOver, commit_hears, commit_misses, commit_tells, commit_start, completing, is_no_magic, replaced, replacing, swept, decided, fetching, reverting, worn_completion}
-use Rattle.job_operations.specs.LaneTable.{Tabled}
-use Rattle.job_operations.proofs.Shared.{shared_found}
-use Rattle.job_promise.specs.OperationEnds.{is_untouched}
-use Rattle.request_frame.specs.Members.{IsIn}
-use Rattle.request_frame.specs.Frame.{changed_keys}
-use Rattle.request_frame.proofs.Members.{false_true, in_map, map_in}
+use Rattle.job_protocol.specs.Outputs.{Picks, files, wanted_paths, wanted_at, same_path, picked_below, is_picked, is_clash, is_decided}
+use Rattle.job_protocol.specs.Conflicts.{keeps, keeps_of, is_below_any, partitions}
+use Rattle.job_protocol.specs.Lanes.{Turn, again, follow, dealt, revert}
+use Rattle.job_protocol.specs.JobCommits.{Sets, all_commits, picks_of, Commit, Fetching, Replacing, Completing, Marking, Reverting, CommitOver, commit_hears, commit_misses, commit_tells, commit_start, completing, is_no_magic, replaced, replacing, swept, decided, fetching, reverting, worn_completion}
+use Rattle.job_protocol.specs.LaneTable.{Tabled}
+use Rattle.job_protocol.proofs.Shared.{shared_found}
+use Rattle.job_spec.specs.OperationEnds.{is_untouched}
+use Rattle.proof_base.specs.Members.{IsIn}
+use Rattle.store_frame.specs.Frame.{changed_keys}
+use Rattle.proof_base.proofs.Members.{false_true, in_map, map_in}
 use Rattle.job_facts.specs.Told.{Told}
 use Rattle.job_facts.specs.Facts.{Facts}
 use Rattle.job_facts.specs.Driver.{Reads, FitsJobCommit}

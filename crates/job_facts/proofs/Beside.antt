@@ -10,21 +10,21 @@ use Rattle.job_model.specs.Legal.{IsLegal}
 use Rattle.job_model.specs.JobScript.{Script}
 use Rattle.job_model.specs.declared.ends.TaskEnd.TheVariants as tasks
 use Rattle.pending_json.specs.declared.records.PendingSet.{PendingSet}
-use Rattle.job_operations.specs.Outputs.{files}
+use Rattle.job_protocol.specs.Outputs.{files}
 use Rattle.job_model.specs.Known.{Drawn, Known}
-use Rattle.job_operations.specs.Knowledge.{learn, is_set_key}
-use Rattle.job_operations.specs.Records.{files_set}
+use Rattle.job_protocol.specs.Knowledge.{learn, is_set_key}
+use Rattle.job_protocol.specs.Records.{files_set}
 use Rattle.list_walk.specs.Walks.{Deleting}
-use Rattle.job_operations.specs.Writes.{Write, WriteOver, write_start_by, write_start, write_asks}
-use Rattle.job_operations.specs.Writes as writes
-use Rattle.job_operations.specs.TaskCommits.{TaskCommit, TaskCommitOver, to_check, task_commit_start_by, task_commit_start, task_commit_asks}
-use Rattle.job_operations.specs.TaskCommits as commits
-use Rattle.job_operations.specs.TaskAborts.{TaskAbort, Sweeping, TaskAbortOver, task_abort_asks}
-use Rattle.job_operations.specs.JobCommits.{Sets, Commit, Fetching, Replacing, Completing, Marking as MarkingJob, Reverting, CommitOver, commit_start}
-use Rattle.job_operations.specs.Operations.{Setting, Operation, TheWrite, TheTaskCommit, TheTaskAbort, asks}
-use Rattle.job_promise.specs.Seen.{is_magic, is_staging}
-use Rattle.request_frame.specs.Members.{IsIn}
-use Rattle.request_frame.proofs.Members.{some_is, none_some, false_true}
+use Rattle.job_protocol.specs.Writes.{Write, WriteOver, write_start_by, write_start, write_asks}
+use Rattle.job_protocol.specs.Writes as writes
+use Rattle.job_protocol.specs.TaskCommits.{TaskCommit, TaskCommitOver, to_check, task_commit_start_by, task_commit_start, task_commit_asks}
+use Rattle.job_protocol.specs.TaskCommits as commits
+use Rattle.job_protocol.specs.TaskAborts.{TaskAbort, Sweeping, TaskAbortOver, task_abort_asks}
+use Rattle.job_protocol.specs.JobCommits.{Sets, Commit, Fetching, Replacing, Completing, Marking as MarkingJob, Reverting, CommitOver, commit_start}
+use Rattle.job_protocol.specs.Operations.{Setting, Operation, TheWrite, TheTaskCommit, TheTaskAbort, asks}
+use Rattle.job_spec.specs.Seen.{is_magic, is_staging}
+use Rattle.proof_base.specs.Members.{IsIn}
+use Rattle.proof_base.proofs.Members.{some_is, none_some, false_true}
 use Rattle.job_facts.specs.Told.{Told, known, tell_attempt}
 use Rattle.job_facts.specs.Facts.{AreCommits, knowing}
 use Rattle.job_facts.specs.Fits.{Todo, IsOpen, Wrote, Fits, FitsWrite, FitsCommit}

@@ -16,19 +16,19 @@ use Rattle.s3_types.specs.declared.reply.Reply.{Reply}
 use Rattle.s3_types.specs.declared.reply.Reply.TheVariants.{Page, Uploads as UploadsPage}
 use Rattle.s3_types.specs.declared.reply.PageEntry.{PageEntry}
 use Rattle.s3_types.specs.declared.journal.Outcome.{Outcome}
-use Rattle.sendings.specs.Retries.{Retried, step}
+use Rattle.retries.specs.Retries.{Retried, step}
 use Rattle.magic_paths.specs.Layout.{magic_prefix, cluster_prefix}
 use Rattle.job_model.specs.Legal.{IsLegal}
 use Rattle.job_model.specs.JobScript.{Script}
-use Rattle.job_operations.specs.Setup.{dest_prefix}
+use Rattle.job_protocol.specs.Setup.{dest_prefix}
 use Rattle.list_walk.specs.Walks.{Listing, Deleting, walked, walked_by, walked_uploads, keys_on, last_of, last_ref, page_after, uploads_after, deleting, swept, all_go}
-use Rattle.job_operations.specs.Cleanups.{Clean, Walking, Aborting, Sweeping, Naming, Removing, CleanOver, clean_asks, clean_after, clean_hears, aborted, aborting, walking, sweeping, removing, naming}
-use Rattle.job_promise.specs.Headline.{Same}
-use Rattle.job_operations.specs.View.{view}
-use Rattle.job_promise.specs.Seen.{Seen, see, is_begun}
-use Rattle.request_frame.specs.Members.{IsIn}
-use Rattle.request_frame.proofs.Members.{some_is, nat_true, in_append, in_filter}
-use Rattle.request_frame.proofs.Flat.{page_begins}
+use Rattle.job_protocol.specs.Cleanups.{Clean, Walking, Aborting, Sweeping, Naming, Removing, CleanOver, clean_asks, clean_after, clean_hears, aborted, aborting, walking, sweeping, removing, naming}
+use Rattle.job_spec.specs.Headline.{Same}
+use Rattle.job_protocol.specs.View.{view}
+use Rattle.job_spec.specs.Seen.{Seen, see, is_begun}
+use Rattle.proof_base.specs.Members.{IsIn}
+use Rattle.proof_base.proofs.Members.{some_is, nat_true, in_append, in_filter}
+use Rattle.store_frame.proofs.Flat.{page_begins}
 use Rattle.job_facts.specs.Told.{Told, tell, driver_entry}
 use Rattle.job_facts.specs.Facts.{Hold}
 use Rattle.job_facts.specs.Driver.{AllMagic, AllCluster, AllBelow, FitsClean}

@@ -18,18 +18,18 @@ use Rattle.s3_types.specs.declared.reply.Reply.{Reply}
 use Rattle.s3_types.specs.declared.reply.Reply.TheVariants.{Uploads as UploadsPage}
 use Rattle.s3_types.specs.declared.journal.Outcome.{Outcome}
 use Rattle.s3_types.specs.declared.journal.Outcome.TheVariants.{Answered, Slow, RequestLost, ReplyLost}
-use Rattle.sendings.specs.Retries.{Retried, step}
+use Rattle.retries.specs.Retries.{Retried, step}
 use Rattle.magic_paths.specs.Layout.{magic_prefix, cluster_prefix}
 use Rattle.job_model.specs.JobScript.{Script}
-use Rattle.job_operations.specs.Setup.{dest_prefix}
+use Rattle.job_protocol.specs.Setup.{dest_prefix}
 use Rattle.list_walk.specs.Walks.{Sweep, Listing, Deleting, walked_by, walked_uploads, last_ref, uploads_after, sweep_asks, sweep_hears, all_go}
-use Rattle.job_operations.specs.Cleanups.{Clean, Walking, Aborting, Sweeping, Naming, Removing, CleanOver, clean_asks, clean_after, clean_hears, aborted, aborting, walking, sweeping, removing, naming}
-use Rattle.job_promise.specs.Scope.{NoneLive, NoClusterFile, NothingLeft}
-use Rattle.job_promise.specs.Seen.{is_magic, is_staging}
-use Rattle.request_frame.specs.Members.{IsIn}
-use Rattle.request_frame.specs.Held.{HasBucket}
-use Rattle.request_frame.proofs.Members.{some_is, none_some, false_true, true_or_false, same_or_not, same_or_other, text_true, text_gone, text_left, in_front, in_back, map_in, filter_in, text_exact}
-use Rattle.request_frame.proofs.Reading.{reads_nothing}
+use Rattle.job_protocol.specs.Cleanups.{Clean, Walking, Aborting, Sweeping, Naming, Removing, CleanOver, clean_asks, clean_after, clean_hears, aborted, aborting, walking, sweeping, removing, naming}
+use Rattle.job_spec.specs.Scope.{NoneLive, NoClusterFile, NothingLeft}
+use Rattle.job_spec.specs.Seen.{is_magic, is_staging}
+use Rattle.proof_base.specs.Members.{IsIn}
+use Rattle.store_frame.specs.Held.{HasBucket}
+use Rattle.proof_base.proofs.Members.{some_is, none_some, false_true, true_or_false, same_or_not, same_or_other, text_true, text_gone, text_left, in_front, in_back, map_in, filter_in, text_exact}
+use Rattle.store_frame.proofs.Reading.{reads_nothing}
 use Rattle.job_facts.specs.Stores.{at_id, end_left}
 use Rattle.job_facts.specs.Emptying.{OnlyThese}
 use Rattle.job_facts.specs.Clearing.{ref_at, LiveIn, LiveOrBehind, FilesIn, Clears}

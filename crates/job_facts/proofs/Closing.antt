@@ -17,17 +17,17 @@ use Rattle.job_model.specs.Known.{Drawn}
 use Rattle.job_model.specs.declared.ends.CommitEnd.{CommitEnd}
 use Rattle.job_model.specs.declared.ends.CommitEnd.TheVariants as ends_of
 use Rattle.job_model.specs.declared.ends.Stage.TheVariants as stages
-use Rattle.job_operations.specs.Outputs.{same_path}
-use Rattle.job_operations.specs.Knowledge.{drawn_for, drawn_in}
-use Rattle.job_operations.specs.Records.{file_key, file_record}
+use Rattle.job_protocol.specs.Outputs.{same_path}
+use Rattle.job_protocol.specs.Knowledge.{drawn_for, drawn_in}
+use Rattle.job_protocol.specs.Records.{file_key, file_record}
 use Rattle.list_walk.specs.Walks.{Sweep, Listing, Deleting, sweep_asks, sweep_hears}
-use Rattle.job_operations.specs.Lanes.{Turn, nth, abort, deletion, again, follow, dealt, chosen, undo, in_turn, is_tried, is_unsent, revert}
-use Rattle.job_operations.specs.JobCommits.{Sets, all_commits, picks_of, Commit, Fetching, Replacing, Completing, Marking, Reverting, CommitOver, set_request, set_read, commit_asks, commit_hears, commit_misses, commit_tells, commit_start, completing, is_no_magic, replaced, replacing, decided, fetching, fetched, swept, reverting, worn_completion}
-use Rattle.job_promise.specs.Seen.{Seen, is_begun}
-use Rattle.job_operations.specs.LaneTable.{Tabled}
-use Rattle.job_operations.specs.Operations.{Setting, Operation, asks}
-use Rattle.request_frame.specs.Members.{IsIn}
-use Rattle.request_frame.proofs.Members.{some_is, false_true, eq_nat, in_map}
+use Rattle.job_protocol.specs.Lanes.{Turn, nth, abort, deletion, again, follow, dealt, chosen, undo, in_turn, is_tried, is_unsent, revert}
+use Rattle.job_protocol.specs.JobCommits.{Sets, all_commits, picks_of, Commit, Fetching, Replacing, Completing, Marking, Reverting, CommitOver, set_request, set_read, commit_asks, commit_hears, commit_misses, commit_tells, commit_start, completing, is_no_magic, replaced, replacing, decided, fetching, fetched, swept, reverting, worn_completion}
+use Rattle.job_spec.specs.Seen.{Seen, is_begun}
+use Rattle.job_protocol.specs.LaneTable.{Tabled}
+use Rattle.job_protocol.specs.Operations.{Setting, Operation, asks}
+use Rattle.proof_base.specs.Members.{IsIn}
+use Rattle.proof_base.proofs.Members.{some_is, false_true, eq_nat, in_map}
 use Rattle.s3_types.specs.Store.{Scene}
 use Rattle.job_facts.specs.Told.{Told, known, ends, tell_driver, tell_attempt, at_event}
 use Rattle.job_facts.specs.Facts.{Facts, Hold, knowing}

@@ -11,23 +11,23 @@ use Rattle.s3_types.specs.declared.reply.PageEntry.{PageEntry}
 use Rattle.s3_types.specs.declared.reply.Refusal.TheVariants.{NoSuchKey, NoSuchFile}
 use Rattle.s3_types.specs.declared.journal.Outcome.{Outcome}
 use Rattle.s3_types.specs.declared.journal.Outcome.TheVariants.{Answered}
-use Rattle.sendings.specs.Retries.{Retried, step}
+use Rattle.retries.specs.Retries.{Retried, step}
 use Rattle.magic_paths.specs.Layout as layout
 use Rattle.job_model.specs.Files.{File}
 use Rattle.job_model.specs.Attempts.{Who}
 use Rattle.job_model.specs.Legal.{IsLegal}
 use Rattle.job_model.specs.JobScript.{Script}
-use Rattle.job_operations.specs.Outputs.{files}
+use Rattle.job_protocol.specs.Outputs.{files}
 use Rattle.job_model.specs.Known.{Drawn, Known}
-use Rattle.job_operations.specs.Knowledge.{learn, is_set_key}
-use Rattle.job_operations.specs.Records.{record_key, set_text}
+use Rattle.job_protocol.specs.Knowledge.{learn, is_set_key}
+use Rattle.job_protocol.specs.Records.{record_key, set_text}
 use Rattle.list_walk.specs.Walks.{walked, walked_by, keys_on, last_of, page_after}
-use Rattle.job_operations.specs.Uploading.{Uploading, Uploaded, GoesOn, AllSent, IsGone, upload_asks, upload_hears}
-use Rattle.job_operations.specs.TaskCommits.{TaskCommit, Looking, Reading, Publishing, Checking, Uploads, Storing, Renaming, TaskCommitOver, task_commit_asks, task_commit_after, task_commit_hears, attempt_prefix, temporary_path, partition_prefix, reading, looked, looked_at, read_record, storing, checking, checked, uploaded, renamed, least_missing, in_order}
-use Rattle.job_promise.specs.Seen.{Seen, see, is_magic, is_staging}
-use Rattle.request_frame.specs.Members.{RisesFrom}
-use Rattle.request_frame.proofs.Members.{some_is, map_in}
-use Rattle.request_frame.proofs.Flat.{page_rises, joins}
+use Rattle.job_protocol.specs.Uploading.{Uploading, Uploaded, GoesOn, AllSent, IsGone, upload_asks, upload_hears}
+use Rattle.job_protocol.specs.TaskCommits.{TaskCommit, Looking, Reading, Publishing, Checking, Uploads, Storing, Renaming, TaskCommitOver, task_commit_asks, task_commit_after, task_commit_hears, attempt_prefix, temporary_path, partition_prefix, reading, looked, looked_at, read_record, storing, checking, checked, uploaded, renamed, least_missing, in_order}
+use Rattle.job_spec.specs.Seen.{Seen, see, is_magic, is_staging}
+use Rattle.proof_base.specs.Members.{RisesFrom}
+use Rattle.proof_base.proofs.Members.{some_is, map_in}
+use Rattle.store_frame.proofs.Flat.{page_rises, joins}
 use Rattle.job_facts.specs.Told.{Told, known, entry, tell}
 use Rattle.job_facts.specs.Facts.{IsAttempt, AreCommits, Hold}
 use Rattle.job_facts.specs.Fits.{Todo, AllWritten, IsOpen, FitsCommit}

@@ -5,7 +5,7 @@ use Rattle.s3_types.specs.Blocks.{block_of}
 use Rattle.s3_types.proofs.Blocks as blocks
 use Rattle.job_model.specs.Files.{File}
 use Rattle.job_model.specs.JobScript.{Script}
-use Rattle.job_operations.specs.Uploading.{file_parts}
+use Rattle.job_protocol.specs.Uploading.{file_parts}
 
 module _ (w : Script) (minimum : ℕ) (f : File) where
   abbrev size_of : ℕ

@@ -16,12 +16,12 @@ use Rattle.job_model.specs.Known.{Drawn}
 use Rattle.job_model.specs.declared.ends.CommitEnd.{CommitEnd}
 use Rattle.job_model.specs.declared.ends.CommitEnd.TheVariants as ends_of
 use Rattle.job_model.specs.declared.ends.Stage.TheVariants as stages
-use Rattle.job_operations.specs.Outputs.{same_path}
+use Rattle.job_protocol.specs.Outputs.{same_path}
 use Rattle.list_walk.specs.Walks.{Sweep, sweep_hears}
-use Rattle.job_operations.specs.Lanes.{Turn, again, follow, dealt, revert}
-use Rattle.job_operations.specs.JobCommits.{Sets, all_commits, picks_of, Commit, Fetching, Replacing, Completing, Marking, Reverting, CommitOver, set_read, commit_hears, commit_misses, commit_tells, commit_start, completing, is_no_magic, replaced, replacing, decided, fetching, fetched, swept, reverting, worn_completion}
-use Rattle.job_operations.specs.LaneTable.{Tabled}
-use Rattle.request_frame.specs.Members.{IsIn}
+use Rattle.job_protocol.specs.Lanes.{Turn, again, follow, dealt, revert}
+use Rattle.job_protocol.specs.JobCommits.{Sets, all_commits, picks_of, Commit, Fetching, Replacing, Completing, Marking, Reverting, CommitOver, set_read, commit_hears, commit_misses, commit_tells, commit_start, completing, is_no_magic, replaced, replacing, decided, fetching, fetched, swept, reverting, worn_completion}
+use Rattle.job_protocol.specs.LaneTable.{Tabled}
+use Rattle.proof_base.specs.Members.{IsIn}
 use Rattle.job_facts.specs.Told.{Told}
 use Rattle.job_facts.specs.Facts.{Facts}
 use Rattle.job_facts.specs.Driver.{Reads, FitsJobCommit}

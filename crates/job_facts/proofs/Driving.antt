@@ -11,9 +11,9 @@ use Rattle.s3_types.specs.declared.journal.Outcome.{Outcome}
 use Rattle.s3_types.specs.declared.journal.Outcome.TheVariants.{Answered, Slow, RequestLost, ReplyLost}
 use Rattle.job_model.specs.Legal.{IsLegal}
 use Rattle.job_model.specs.JobScript.{Script}
-use Rattle.job_promise.specs.Seen.{Seen, see}
-use Rattle.request_frame.proofs.Members.{none_some, false_true}
-use Rattle.request_frame.proofs.Framed.{frame}
+use Rattle.job_spec.specs.Seen.{Seen, see}
+use Rattle.proof_base.proofs.Members.{none_some, false_true}
+use Rattle.store_frame.proofs.Framed.{frame}
 use Rattle.job_facts.specs.Told.{Told, ends, tell, tell_driver, at_event, driver_entry}
 use Rattle.job_facts.specs.Stores.{Leaves}
 use Rattle.job_facts.specs.Foreign.{IsDriving}

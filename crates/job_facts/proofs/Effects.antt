@@ -8,11 +8,11 @@ use Rattle.s3_types.specs.declared.request.Request.TheVariants.{DeleteObject, De
 use Rattle.pending_json.specs.Pending.{Pending}
 use Rattle.job_model.specs.Legal.{IsLegal}
 use Rattle.job_model.specs.JobScript.{Script}
-use Rattle.job_operations.specs.Records.{file_key}
-use Rattle.job_operations.specs.Lanes.{completion, abort, deletion}
-use Rattle.request_frame.specs.Held.{HasBucket}
-use Rattle.request_frame.proofs.Members.{none_or_some, text_gone, text_true}
-use Rattle.request_frame.proofs.Framed.{with_bucket, frame}
+use Rattle.job_protocol.specs.Records.{file_key}
+use Rattle.job_protocol.specs.Lanes.{completion, abort, deletion}
+use Rattle.store_frame.specs.Held.{HasBucket}
+use Rattle.proof_base.proofs.Members.{none_or_some, text_gone, text_true}
+use Rattle.store_frame.proofs.Framed.{with_bucket, frame}
 use Rattle.job_facts.specs.Told.{Told}
 use Rattle.job_facts.specs.Stores.{at_key, at_id, end_left}
 use Rattle.job_facts.specs.Facts.{Facts}

@@ -22,12 +22,12 @@ use Rattle.s3_types.specs.Requests.{only_reads}
 use Rattle.magic_paths.specs.Layout.{magic_prefix}
 use Rattle.job_model.specs.JobScript.{Script}
 use Rattle.list_walk.specs.Walks.{Sweep, Listing, Deleting, walked, walked_by, keys_on, last_of, page_after, deleting, swept, sweep_asks, sweep_hears, all_go}
-use Rattle.request_frame.specs.Members.{IsIn, last_from}
-use Rattle.request_frame.specs.Held.{HasBucket}
-use Rattle.request_frame.proofs.Members.{none_some, text_true, in_append, in_front, in_back, in_filter, filter_in}
-use Rattle.request_frame.proofs.Framed.{with_bucket, frame}
-use Rattle.request_frame.proofs.Flat.{page_begins, page_covers, page_all, last_append}
-use Rattle.request_frame.proofs.Reading.{reads_nothing}
+use Rattle.proof_base.specs.Members.{IsIn, last_from}
+use Rattle.store_frame.specs.Held.{HasBucket}
+use Rattle.proof_base.proofs.Members.{none_some, text_true, in_append, in_front, in_back, in_filter, filter_in}
+use Rattle.store_frame.proofs.Framed.{with_bucket, frame}
+use Rattle.store_frame.proofs.Flat.{page_begins, page_covers, page_all, last_append}
+use Rattle.store_frame.proofs.Reading.{reads_nothing}
 use Rattle.job_facts.specs.Stores.{at_key}
 use Rattle.job_facts.specs.Driver.{AllUnder, SweepsUnder, FitsSweep}
 use Rattle.job_facts.specs.Emptying.{OnlyThose, ThoseOrBehind, EmptiesBy, Empties}

@@ -10,9 +10,9 @@ use Rattle.s3_types.specs.declared.request.Request.TheVariants.{UploadPart, Comp
 use Rattle.s3_types.specs.declared.request.NamedPart.{NamedPart}
 use Rattle.s3_types.specs.declared.reply.Refusal.{Refusal}
 use Rattle.job_model.specs.JobScript.{Script}
-use Rattle.request_frame.specs.Held.{HasBucket}
-use Rattle.request_frame.proofs.Members.{some_is, none_some, same_or_not, same_or_other, nat_gone, nat_left, text_here}
-use Rattle.request_frame.proofs.Framed.{with_bucket, frame}
+use Rattle.store_frame.specs.Held.{HasBucket}
+use Rattle.proof_base.proofs.Members.{some_is, none_some, same_or_not, same_or_other, nat_gone, nat_left, text_here}
+use Rattle.store_frame.proofs.Framed.{with_bucket, frame}
 use Rattle.job_facts.specs.Stores.{at_key, at_id, part_left, end_left}
 use Rattle.job_facts.proofs.Shapes.{key_before, key_after, id_before, id_after, part_turns, abort_turns}
 

@@ -13,12 +13,12 @@ use Rattle.pending_json.specs.Pending.{Pending}
 use Rattle.job_model.specs.Legal.{IsLegal}
 use Rattle.job_model.specs.JobScript.{Script}
 use Rattle.list_walk.specs.Walks.{Sweep, Listing, Deleting, sweep_asks}
-use Rattle.job_operations.specs.Lanes.{nth, completion, abort, deletion}
-use Rattle.job_operations.specs.JobCommits.{all_commits, Commit, Fetching, Replacing, Completing, Marking, Reverting, CommitOver, set_request, commit_asks}
-use Rattle.job_operations.specs.LaneTable.{Tabled}
-use Rattle.request_frame.specs.Held.{HasBucket}
-use Rattle.request_frame.proofs.Members.{some_is, false_true, eq_nat}
-use Rattle.request_frame.proofs.Framed.{frame}
+use Rattle.job_protocol.specs.Lanes.{nth, completion, abort, deletion}
+use Rattle.job_protocol.specs.JobCommits.{all_commits, Commit, Fetching, Replacing, Completing, Marking, Reverting, CommitOver, set_request, commit_asks}
+use Rattle.job_protocol.specs.LaneTable.{Tabled}
+use Rattle.store_frame.specs.Held.{HasBucket}
+use Rattle.proof_base.proofs.Members.{some_is, false_true, eq_nat}
+use Rattle.store_frame.proofs.Framed.{frame}
 use Rattle.job_facts.specs.Told.{Told, ends, nothing_told, tell_driver}
 use Rattle.job_facts.specs.Stores.{at_id}
 use Rattle.job_facts.specs.Facts.{Facts}

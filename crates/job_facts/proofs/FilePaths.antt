@@ -11,10 +11,10 @@ use Rattle.job_model.specs.Legal.{IsLegal, IsGiven}
 use Rattle.job_model.specs.Paths.{is_full}
 use Rattle.job_model.specs.Placed.{with_id, with_id_last, path_of}
 use Rattle.job_model.specs.JobScript.{Script}
-use Rattle.job_operations.specs.Outputs.{files}
-use Rattle.job_operations.specs.View.{is_folder, is_file_path}
-use Rattle.request_frame.specs.Members.{IsIn}
-use Rattle.request_frame.proofs.Members.{true_or_false, false_true}
+use Rattle.job_protocol.specs.Outputs.{files}
+use Rattle.job_protocol.specs.View.{is_folder, is_file_path}
+use Rattle.proof_base.specs.Members.{IsIn}
+use Rattle.proof_base.proofs.Members.{true_or_false, false_true}
 use Rattle.job_facts.proofs.Legal.{from_script, given_of}
 use Rattle.job_model.proofs.Unique.{id_bytes, unique_parts}
 use Rattle.job_facts.proofs.JobCommitting.{file_open}

@@ -16,24 +16,24 @@ use Rattle.s3_types.specs.declared.journal.Entry.{Entry}
 use Rattle.path_keys.specs.Paths.{below}
 use Rattle.pending_json.specs.Pending.{Pending}
 use Rattle.pending_json.specs.declared.records.PendingSet.{PendingSet}
-use Rattle.sendings.specs.Worn.{was_answered, streak, IsWorn}
-use Rattle.sendings.proofs.Misses.{streak_same, worn_now, worn_more}
-use Rattle.sendings.proofs.SameRequest.{same_self}
+use Rattle.retries.specs.Worn.{was_answered, streak, IsWorn}
+use Rattle.retries.proofs.Misses.{streak_same, worn_now, worn_more}
+use Rattle.retries.proofs.SameRequest.{same_self}
 use Rattle.job_model.specs.Legal.{IsLegal}
 use Rattle.job_model.specs.JobScript.{Script}
 use Rattle.job_model.specs.declared.ends.CommitEnd.{CommitEnd}
 use Rattle.job_model.specs.declared.ends.CommitEnd.TheVariants as ends_of
 use Rattle.job_model.specs.declared.ends.Stage.TheVariants as stages
-use Rattle.job_operations.specs.Outputs.{wanted_at, same_path, files}
+use Rattle.job_protocol.specs.Outputs.{wanted_at, same_path, files}
 use Rattle.list_walk.specs.Walks.{Sweep, sweep_hears}
-use Rattle.job_operations.specs.Lanes.{Turn, nth, completion, abort, deletion, again, follow, dealt, revert}
-use Rattle.job_operations.specs.JobCommits.{Sets, all_commits, picks_of, Commit, Fetching, Replacing, Completing, Marking, Reverting, CommitOver, set_read, commit_misses, commit_tells, completing, is_no_magic, replaced, replacing, decided, fetching, fetched, swept, reverting, worn_completion}
-use Rattle.job_operations.specs.LaneTable.{In, Table, Tabled}
-use Rattle.job_operations.proofs.Tables.{table_dealt, table_answered, table_again, all_done}
-use Rattle.job_operations.proofs.Shared.{shared_found}
-use Rattle.request_frame.specs.Members.{IsIn}
-use Rattle.request_frame.specs.Frame.{changed_upload}
-use Rattle.request_frame.proofs.Members.{some_is, none_some, false_true, true_or_false, same_or_not, same_or_other, nat_false, nat_true, in_append}
+use Rattle.job_protocol.specs.Lanes.{Turn, nth, completion, abort, deletion, again, follow, dealt, revert}
+use Rattle.job_protocol.specs.JobCommits.{Sets, all_commits, picks_of, Commit, Fetching, Replacing, Completing, Marking, Reverting, CommitOver, set_read, commit_misses, commit_tells, completing, is_no_magic, replaced, replacing, decided, fetching, fetched, swept, reverting, worn_completion}
+use Rattle.job_protocol.specs.LaneTable.{In, Table, Tabled}
+use Rattle.job_protocol.proofs.Tables.{table_dealt, table_answered, table_again, all_done}
+use Rattle.job_protocol.proofs.Shared.{shared_found}
+use Rattle.proof_base.specs.Members.{IsIn}
+use Rattle.store_frame.specs.Frame.{changed_upload}
+use Rattle.proof_base.proofs.Members.{some_is, none_some, false_true, true_or_false, same_or_not, same_or_other, nat_false, nat_true, in_append}
 use Rattle.job_facts.specs.Told.{Told, driver_entry, tell_driver}
 use Rattle.job_facts.specs.Stores.{at_key}
 use Rattle.job_facts.specs.Facts.{Facts}

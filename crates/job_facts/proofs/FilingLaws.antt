@@ -13,7 +13,7 @@ use Rattle.s3_types.specs.declared.journal.Outcome.{Outcome}
 use Rattle.s3_types.specs.declared.journal.Outcome.TheVariants.{Answered, Slow, RequestLost, ReplyLost}
 use Rattle.s3_types.specs.declared.journal.Entry.{Entry}
 use Rattle.path_keys.specs.Paths.{below}
-use Rattle.sendings.specs.Worn.{IsWorn}
+use Rattle.retries.specs.Worn.{IsWorn}
 use Rattle.magic_paths.specs.Layout.{success_key}
 use Rattle.magic_paths.specs.Places.{FilePlace, is_open}
 use Rattle.magic_paths.proofs.Tails.{key_magic}
@@ -21,18 +21,18 @@ use Rattle.pending_json.specs.Pending.{Pending}
 use Rattle.job_model.specs.Attempts.{Who}
 use Rattle.job_model.specs.Legal.{IsLegal}
 use Rattle.job_model.specs.JobScript.{Script}
-use Rattle.job_operations.specs.View.{is_file_path}
-use Rattle.job_operations.specs.Records.{mark_text}
+use Rattle.job_protocol.specs.View.{is_file_path}
+use Rattle.job_protocol.specs.Records.{mark_text}
 use Rattle.list_walk.specs.Walks.{Sweep, Listing, Deleting, sweep_asks, page_after}
-use Rattle.job_operations.specs.JobCommits.{picks_of, Commit, Fetching, Replacing, Completing, Marking, Reverting, CommitOver, set_request, commit_start, commit_asks, commit_tells}
-use Rattle.job_operations.specs.Operations.{Setting, Operation, asks}
-use Rattle.job_promise.specs.Seen.{Seen}
-use Rattle.request_frame.specs.Members.{IsIn}
-use Rattle.request_frame.specs.Held.{HasBucket}
-use Rattle.request_frame.specs.Frame.{changed_keys}
-use Rattle.request_frame.proofs.Members.{some_is, false_true}
-use Rattle.request_frame.proofs.Framed.{frame}
-use Rattle.request_frame.proofs.Reading.{reads_nothing}
+use Rattle.job_protocol.specs.JobCommits.{picks_of, Commit, Fetching, Replacing, Completing, Marking, Reverting, CommitOver, set_request, commit_start, commit_asks, commit_tells}
+use Rattle.job_protocol.specs.Operations.{Setting, Operation, asks}
+use Rattle.job_spec.specs.Seen.{Seen}
+use Rattle.proof_base.specs.Members.{IsIn}
+use Rattle.store_frame.specs.Held.{HasBucket}
+use Rattle.store_frame.specs.Frame.{changed_keys}
+use Rattle.proof_base.proofs.Members.{some_is, false_true}
+use Rattle.store_frame.proofs.Framed.{frame}
+use Rattle.store_frame.proofs.Reading.{reads_nothing}
 use Rattle.job_facts.specs.Told.{Told, known, ends, tell_driver, tell_attempt, driver_entry}
 use Rattle.job_facts.specs.Stores.{at_key}
 use Rattle.job_facts.specs.Facts.{IsAttempt, Hold}

@@ -10,11 +10,11 @@ use Rattle.job_model.specs.Attempts.{Who}
 use Rattle.job_model.specs.Legal.{IsLegal}
 use Rattle.job_model.specs.JobScript.{Script}
 use Rattle.job_model.specs.Known.{Drawn}
-use Rattle.job_promise.specs.Seen.{Seen, see}
-use Rattle.request_frame.proofs.Members.{false_true}
-use Rattle.request_frame.proofs.Framed.{frame}
-use Rattle.request_frame.proofs.Reading.{reads_nothing}
-use Rattle.request_frame.specs.Held.{HasBucket}
+use Rattle.job_spec.specs.Seen.{Seen, see}
+use Rattle.proof_base.proofs.Members.{false_true}
+use Rattle.store_frame.proofs.Framed.{frame}
+use Rattle.store_frame.proofs.Reading.{reads_nothing}
+use Rattle.store_frame.specs.Held.{HasBucket}
 use Rattle.std.proofs.Common.{true, Some, Option}
 use Rattle.job_facts.specs.Told.{Told, tell, strange_entry}
 use Rattle.job_facts.specs.Stores.{at_id, IsKnown, Leaves}

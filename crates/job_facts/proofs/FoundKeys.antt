@@ -17,14 +17,14 @@ use Rattle.s3_types.specs.declared.reply.Reply.{Reply}
 use Rattle.s3_types.specs.declared.reply.Reply.TheVariants.{Uploads as UploadsPage}
 use Rattle.s3_types.specs.declared.journal.Outcome.{Outcome}
 use Rattle.s3_types.specs.declared.journal.Outcome.TheVariants.{Answered, Slow, RequestLost}
-use Rattle.sendings.specs.Retries.{Retried, step}
+use Rattle.retries.specs.Retries.{Retried, step}
 use Rattle.job_model.specs.JobScript.{Script}
-use Rattle.job_operations.specs.Setup.{dest_prefix}
+use Rattle.job_protocol.specs.Setup.{dest_prefix}
 use Rattle.list_walk.specs.Walks.{Sweep, Listing, walked_by, walked_uploads, last_ref, uploads_after, sweep_hears, all_go}
-use Rattle.job_operations.specs.Cleanups.{Clean, Walking, Aborting, Sweeping, Naming, Removing, CleanOver, clean_asks, clean_after, clean_hears, aborted, aborting, walking, sweeping, removing, naming}
-use Rattle.request_frame.specs.Held.{HasBucket}
-use Rattle.request_frame.proofs.Members.{some_is, false_true, eq_nat, text_true, in_append}
-use Rattle.request_frame.proofs.Framed.{frame}
+use Rattle.job_protocol.specs.Cleanups.{Clean, Walking, Aborting, Sweeping, Naming, Removing, CleanOver, clean_asks, clean_after, clean_hears, aborted, aborting, walking, sweeping, removing, naming}
+use Rattle.store_frame.specs.Held.{HasBucket}
+use Rattle.proof_base.proofs.Members.{some_is, false_true, eq_nat, text_true, in_append}
+use Rattle.store_frame.proofs.Framed.{frame}
 use Rattle.job_facts.specs.Told.{Told, ends, tell_driver}
 use Rattle.job_facts.specs.Stores.{at_id, end_left}
 use Rattle.job_facts.specs.Filed.{Gone, HasItsKey, AllHaveKeys, FoundWithKeys}

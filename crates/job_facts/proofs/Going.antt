@@ -5,11 +5,11 @@ use Rattle.s3_types.specs.declared.request.Request.TheVariants.{PutObject, Creat
 use Rattle.s3_types.specs.declared.reply.Reply.{Reply}
 use Rattle.s3_types.specs.declared.journal.Outcome.{Outcome}
 use Rattle.s3_types.specs.declared.journal.Outcome.TheVariants.{Answered, Slow, RequestLost, ReplyLost}
-use Rattle.sendings.specs.Retries.{Retried, Item, Got, WornOut, step, unanswered_by}
+use Rattle.retries.specs.Retries.{Retried, Item, Got, WornOut, step, unanswered_by}
 use Rattle.job_model.specs.Attempts.{Who}
 use Rattle.job_model.specs.JobScript.{Script}
 use Rattle.job_model.specs.Known.{Known}
-use Rattle.job_operations.specs.Knowledge.{learn}
+use Rattle.job_protocol.specs.Knowledge.{learn}
 use Rattle.job_facts.specs.Told.{Told, known, undoes, tell_attempt}
 use Rattle.job_facts.proofs.Whose.{who_here}
 

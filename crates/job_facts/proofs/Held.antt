@@ -11,14 +11,14 @@ use Rattle.job_model.specs.Attempts.{Who}
 use Rattle.job_model.specs.Legal.{IsLegal}
 use Rattle.job_model.specs.JobScript.{Script}
 use Rattle.job_model.specs.Known.{Drawn}
-use Rattle.job_operations.specs.Outputs.{Picks, files, files_picked, writes, same_path}
-use Rattle.job_operations.specs.Knowledge.{drawn_for, drawn_in}
-use Rattle.job_operations.specs.Records.{file_key, file_record}
-use Rattle.job_operations.specs.Lanes.{nth}
-use Rattle.job_operations.specs.JobCommits.{Sets, all_commits, picks_of}
-use Rattle.job_operations.proofs.Shared.{shared_none}
-use Rattle.request_frame.specs.Members.{IsIn}
-use Rattle.request_frame.proofs.Members.{some_is, none_some, text_true, in_map, map_in, in_append, in_front, in_back}
+use Rattle.job_protocol.specs.Outputs.{Picks, files, files_picked, writes, same_path}
+use Rattle.job_protocol.specs.Knowledge.{drawn_for, drawn_in}
+use Rattle.job_protocol.specs.Records.{file_key, file_record}
+use Rattle.job_protocol.specs.Lanes.{nth}
+use Rattle.job_protocol.specs.JobCommits.{Sets, all_commits, picks_of}
+use Rattle.job_protocol.proofs.Shared.{shared_none}
+use Rattle.proof_base.specs.Members.{IsIn}
+use Rattle.proof_base.proofs.Members.{some_is, none_some, text_true, in_map, map_in, in_append, in_front, in_back}
 use Rattle.job_facts.specs.Told.{Told}
 use Rattle.job_facts.specs.Facts.{ApartFiles, Facts, knowing}
 use Rattle.job_facts.specs.Driver.{IsHeldSet, Reads}

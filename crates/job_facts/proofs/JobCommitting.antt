@@ -17,10 +17,10 @@ use Rattle.s3_types.specs.declared.request.Mode.{Mode}
 use Rattle.s3_types.specs.declared.request.Mode.TheVariants.{Replace, Append, Fail}
 use Rattle.path_keys.specs.Paths.{below}
 use Rattle.magic_paths.proofs.Tails.{begins_behind, below_is as paths_below}
-use Rattle.request_frame.specs.Held.{HasBucket}
-use Rattle.request_frame.proofs.Flat.{page_begins}
-use Rattle.job_operations.specs.Conflicts.{partitions}
-use Rattle.job_operations.specs.TaskCommits.{partition_prefix}
+use Rattle.store_frame.specs.Held.{HasBucket}
+use Rattle.store_frame.proofs.Flat.{page_begins}
+use Rattle.job_protocol.specs.Conflicts.{partitions}
+use Rattle.job_protocol.specs.TaskCommits.{partition_prefix}
 use Rattle.s3_types.specs.declared.journal.Outcome.{Outcome}
 use Rattle.s3_types.specs.declared.journal.Outcome.TheVariants.{Answered, Slow}
 use Rattle.magic_paths.specs.Layout.{magic_prefix}
@@ -38,19 +38,19 @@ use Rattle.job_model.specs.declared.ends.CommitEnd.{CommitEnd}
 use Rattle.job_model.specs.declared.ends.CommitEnd.TheVariants as ends
 use Rattle.job_model.specs.declared.ends.Stage.TheVariants as stages
 use Rattle.job_model.proofs.PathBounds.{placed_open}
-use Rattle.job_operations.specs.Outputs.{Picks, files, wanted_paths, same_path}
+use Rattle.job_protocol.specs.Outputs.{Picks, files, wanted_paths, same_path}
 use Rattle.job_model.specs.Known.{Drawn}
-use Rattle.job_operations.specs.Knowledge.{drawn_for}
-use Rattle.job_operations.specs.Records.{file_key, file_record, files_set}
-use Rattle.job_operations.specs.Setup.{dest_prefix}
+use Rattle.job_protocol.specs.Knowledge.{drawn_for}
+use Rattle.job_protocol.specs.Records.{file_key, file_record, files_set}
+use Rattle.job_protocol.specs.Setup.{dest_prefix}
 use Rattle.list_walk.specs.Walks.{Sweep, Listing, Deleting, walked, walked_by, last_of, keys_on, sweep_asks, sweep_hears, deleting, page_after}
 use Rattle.list_walk.specs.Walks as walks
-use Rattle.job_operations.specs.Lanes.{Turn, nth, nothing_pending, completion, abort, deletion, again, follow, dealt, chosen, undo, in_turn, is_tried, is_unsent, revert}
-use Rattle.job_operations.specs.JobCommits.{Sets, all_commits, picks_of, Commit, Fetching, Replacing, Completing, Marking, Reverting, CommitOver, set_request, set_read, commit_asks, commit_hears, commit_misses, commit_tells, completing, is_no_magic, replaced, replacing, decided, fetching, fetched, swept, reverting, worn_completion}
-use Rattle.job_promise.specs.Seen.{Seen}
+use Rattle.job_protocol.specs.Lanes.{Turn, nth, nothing_pending, completion, abort, deletion, again, follow, dealt, chosen, undo, in_turn, is_tried, is_unsent, revert}
+use Rattle.job_protocol.specs.JobCommits.{Sets, all_commits, picks_of, Commit, Fetching, Replacing, Completing, Marking, Reverting, CommitOver, set_request, set_read, commit_asks, commit_hears, commit_misses, commit_tells, completing, is_no_magic, replaced, replacing, decided, fetching, fetched, swept, reverting, worn_completion}
+use Rattle.job_spec.specs.Seen.{Seen}
 use Rattle.proof_base.proofs.Numbers.{below_is}
-use Rattle.request_frame.specs.Members.{IsIn}
-use Rattle.request_frame.proofs.Members.{some_is, none_some, false_true, true_or_false, eq_nat, nat_true, in_map, in_append, in_filter}
+use Rattle.proof_base.specs.Members.{IsIn}
+use Rattle.proof_base.proofs.Members.{some_is, none_some, false_true, true_or_false, eq_nat, nat_true, in_map, in_append, in_filter}
 use Rattle.job_facts.specs.Told.{Told}
 use Rattle.job_facts.specs.Foreign.{IsDriving}
 use Rattle.job_facts.specs.Facts.{Hold, knowing}

@@ -12,8 +12,8 @@ use Rattle.s3_types.specs.declared.request.NamedPart.{NamedPart}
 use Rattle.job_model.specs.Files.{File}
 use Rattle.job_model.specs.JobScript.{Script}
 use Rattle.job_model.specs.Known.{Drawn}
-use Rattle.job_operations.specs.Uploading.{file_parts}
-use Rattle.request_frame.proofs.Members.{some_is, nat_true, text_true}
+use Rattle.job_protocol.specs.Uploading.{file_parts}
+use Rattle.proof_base.proofs.Members.{some_is, nat_true, text_true}
 use Rattle.job_facts.specs.Facts.{IsHeld}
 use Rattle.job_facts.proofs.Cut.{parts_some, parts_large, parts_joined}
 

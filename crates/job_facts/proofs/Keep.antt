@@ -10,14 +10,14 @@ use Rattle.job_model.specs.Files.{File}
 use Rattle.job_model.specs.Attempts.{Who}
 use Rattle.job_model.specs.Legal.{IsLegal}
 use Rattle.job_model.specs.JobScript.{Script}
-use Rattle.job_operations.specs.Outputs.{files}
+use Rattle.job_protocol.specs.Outputs.{files}
 use Rattle.job_model.specs.Known.{Drawn}
-use Rattle.job_operations.specs.Records.{file_key}
-use Rattle.job_operations.specs.Uploading.{file_parts}
-use Rattle.job_promise.specs.Seen.{is_magic}
-use Rattle.request_frame.specs.Members.{IsIn}
-use Rattle.request_frame.specs.Held.{HasBucket}
-use Rattle.request_frame.proofs.Members.{some_is, none_some, false_true, same_or_not, same_or_other, text_true, nat_here, nat_other}
+use Rattle.job_protocol.specs.Records.{file_key}
+use Rattle.job_protocol.specs.Uploading.{file_parts}
+use Rattle.job_spec.specs.Seen.{is_magic}
+use Rattle.proof_base.specs.Members.{IsIn}
+use Rattle.store_frame.specs.Held.{HasBucket}
+use Rattle.proof_base.proofs.Members.{some_is, none_some, false_true, same_or_not, same_or_other, text_true, nat_here, nat_other}
 use Rattle.job_facts.specs.Told.{Told}
 use Rattle.job_facts.specs.Stores.{at_key, at_place, at_id, sets_at, Leaves, Puts, Turns, part_left, end_left}
 use Rattle.job_facts.specs.Facts.{IsHeld, IsOwned, Owned, IsRecord, IsOwnPlace, IsSet, Facts}

@@ -21,9 +21,9 @@ use Rattle.job_model.specs.Paths.{begins_hidden, is_full}
 use Rattle.job_model.specs.Placed.{with_id, with_id_last, unique_name, path_of}
 use Rattle.job_model.specs.Legal.{IsLegal, IsGiven}
 use Rattle.job_model.specs.JobScript.{Script}
-use Rattle.job_operations.specs.Outputs.{files}
-use Rattle.job_operations.specs.Records.{file_key}
-use Rattle.request_frame.specs.Members.{IsIn}
+use Rattle.job_protocol.specs.Outputs.{files}
+use Rattle.job_protocol.specs.Records.{file_key}
+use Rattle.proof_base.specs.Members.{IsIn}
 use Rattle.words.proofs.Counts.{some_part}
 use Rattle.job_model.proofs.Unique.{Cut, cut_id, unique_parts, id_bytes}
 use Rattle.job_facts.proofs.Legal.{some_dest, from_script, given_of}

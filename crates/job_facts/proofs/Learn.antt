@@ -8,13 +8,13 @@ use Rattle.job_model.specs.Files.{File}
 use Rattle.job_model.specs.Attempts.{Who}
 use Rattle.job_model.specs.Legal.{IsLegal}
 use Rattle.job_model.specs.JobScript.{Script}
-use Rattle.job_operations.specs.Outputs.{files}
+use Rattle.job_protocol.specs.Outputs.{files}
 use Rattle.job_model.specs.Known.{Drawn}
-use Rattle.job_operations.specs.Knowledge.{with_part}
-use Rattle.job_operations.specs.Records.{file_key, set_text}
-use Rattle.job_operations.specs.Uploading.{file_parts}
-use Rattle.request_frame.specs.Members.{IsIn}
-use Rattle.request_frame.proofs.Members.{some_is, none_some, false_true, same_or_not, nat_true, nat_false, in_map, map_in}
+use Rattle.job_protocol.specs.Knowledge.{with_part}
+use Rattle.job_protocol.specs.Records.{file_key, set_text}
+use Rattle.job_protocol.specs.Uploading.{file_parts}
+use Rattle.proof_base.specs.Members.{IsIn}
+use Rattle.proof_base.proofs.Members.{some_is, none_some, false_true, same_or_not, nat_true, nat_false, in_map, map_in}
 use Rattle.job_facts.specs.Told.{Told, put_who}
 use Rattle.job_facts.specs.Stores.{at_id, IsKnown}
 use Rattle.job_facts.specs.Facts.{IsHeld, IsOwned, IsWritten, AreCommits, IsSet, IsTemporary, Facts, knowing}

@@ -8,13 +8,13 @@ use Rattle.s3_types.specs.declared.journal.Outcome.{Outcome}
 use Rattle.s3_types.specs.declared.journal.Entry.{Entry}
 use Rattle.job_model.specs.Attempts.{Who, actor_of}
 use Rattle.job_model.specs.JobScript.{Script}
-use Rattle.job_operations.specs.Knowledge.{learn, knows_from}
-use Rattle.job_promise.specs.States.{same_actor}
-use Rattle.job_promise.specs.Turns.{by_actor}
-use Rattle.job_promise.specs.Ends.{has_cleaned}
-use Rattle.job_promise.specs.Seen.{is_begun}
-use Rattle.job_promise.specs.Ends.{is_driver}
-use Rattle.request_frame.proofs.Members.{nat_true, eq_nat, true_or_false}
+use Rattle.job_protocol.specs.Knowledge.{learn, knows_from}
+use Rattle.job_spec.specs.States.{same_actor}
+use Rattle.job_spec.specs.Turns.{by_actor}
+use Rattle.job_spec.specs.Ends.{has_cleaned}
+use Rattle.job_spec.specs.Seen.{is_begun}
+use Rattle.job_spec.specs.Ends.{is_driver}
+use Rattle.proof_base.proofs.Members.{nat_true, eq_nat, true_or_false}
 use Rattle.job_facts.specs.Told.{Told, known, tell, tell_by, tell_driver, tell_attempt, at_event, tell_all}
 use Rattle.job_facts.proofs.Whose.{attempt, same_or_another, who_here, who_other}
 

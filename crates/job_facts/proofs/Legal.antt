@@ -15,10 +15,10 @@ use Rattle.job_model.specs.Placed.{path_of, placed}
 use Rattle.job_model.specs.Legal.{IsLegal, IsGiven, FitsMagic, AreFiles, AreAttempts}
 use Rattle.job_model.specs.JobScript.{Script}
 use Rattle.job_model.proofs.PathBounds.{given_place}
-use Rattle.job_operations.specs.Outputs.{files}
-use Rattle.job_promise.specs.Seen.{is_magic}
-use Rattle.request_frame.specs.Members.{IsIn}
-use Rattle.request_frame.proofs.Members.{eq_nat, false_true, text_true, in_front, in_last, in_map}
+use Rattle.job_protocol.specs.Outputs.{files}
+use Rattle.job_spec.specs.Seen.{is_magic}
+use Rattle.proof_base.specs.Members.{IsIn}
+use Rattle.proof_base.proofs.Members.{eq_nat, false_true, text_true, in_front, in_last, in_map}
 use Rattle.job_facts.specs.Facts.{IsAttempt, ApartFiles}
 use Rattle.job_model.proofs.Unique.{path_same}
 

@@ -23,15 +23,15 @@ use Rattle.job_model.specs.Attempts.{Who, Declared, same_name}
 use Rattle.job_model.specs.Placed.{placed}
 use Rattle.job_model.specs.Legal.{IsLegal, bytes_of, bytes_in}
 use Rattle.job_model.specs.JobScript.{Script}
-use Rattle.job_operations.specs.Outputs.{files}
+use Rattle.job_protocol.specs.Outputs.{files}
 use Rattle.job_model.specs.Known.{Drawn}
-use Rattle.job_operations.specs.Knowledge.{drawn_in}
-use Rattle.job_operations.specs.Records.{file_key, file_record, files_set}
-use Rattle.job_operations.specs.Uploading.{file_parts}
-use Rattle.job_operations.proofs.Sizes.{sizes_told}
+use Rattle.job_protocol.specs.Knowledge.{drawn_in}
+use Rattle.job_protocol.specs.Records.{file_key, file_record, files_set}
+use Rattle.job_protocol.specs.Uploading.{file_parts}
+use Rattle.job_protocol.proofs.Sizes.{sizes_told}
 use Rattle.s3_types.specs.Store.{Scene}
-use Rattle.request_frame.specs.Members.{IsIn}
-use Rattle.request_frame.proofs.Members.{nat_true, text_true, text_false, same_or_other}
+use Rattle.proof_base.specs.Members.{IsIn}
+use Rattle.proof_base.proofs.Members.{nat_true, text_true, text_false, same_or_other}
 use Rattle.job_facts.specs.Told.{Told}
 use Rattle.job_facts.specs.Facts.{IsAttempt, IsWritten, AreCommits, Facts, knowing}
 use Rattle.job_facts.proofs.Cut.{parts_some, parts_few, parts_joined}

@@ -50,14 +50,6 @@ pub mod FilingLaws
 pub mod FilePaths
 pub mod FinalPaths
 pub mod Agreeing
-pub mod Running
-pub mod Replacing
 pub mod Reading
-pub mod Steps
-pub mod Keeping
 pub mod Outside
 pub mod OwnRequests
-pub mod EveryRun
-pub mod Entries
-pub mod Changes
-pub mod Published

@@ -21,8 +21,8 @@ use Rattle.s3_types.specs.Pages.{begins}
 use Rattle.s3_types.specs.Multipart.{ref_cmp, ref_of, refs, is_behind, listed}
 use Rattle.s3_types.specs.declared.request.UploadRef.{UploadRef}
 use Rattle.list_walk.specs.Walks.{last_ref}
-use Rattle.request_frame.specs.Members.{IsIn}
-use Rattle.request_frame.proofs.Members.{some_is, none_some, nat_true, ties, text_true, map_in, filter_in, in_map, in_filter}
+use Rattle.proof_base.specs.Members.{IsIn}
+use Rattle.proof_base.proofs.Members.{some_is, none_some, nat_true, ties, text_true, map_in, filter_in, in_map, in_filter}
 use Rattle.job_facts.specs.Clearing.{ref_at}
 use Rattle.std.specs.Map.{keys_of}
 use Rattle.proof_base.proofs.EntriesFrom.{find_head, find_other}

@@ -6,12 +6,12 @@ use Rattle.proof_base.specs.Order.{text_eq}
 use Rattle.job_model.specs.Files.{File}
 use Rattle.job_model.specs.Attempts.{Who}
 use Rattle.job_model.specs.JobScript.{Script}
-use Rattle.job_operations.specs.Outputs.{files}
-use Rattle.job_operations.specs.Records.{record_key}
-use Rattle.job_operations.specs.TaskCommits.{least_of, least_missing, in_order}
-use Rattle.request_frame.specs.Members.{IsIn, RisesFrom}
-use Rattle.request_frame.proofs.Members.{text_true, text_is, in_front, in_back, in_append, in_filter, filter_in}
-use Rattle.request_frame.proofs.Flat.{not_again}
+use Rattle.job_protocol.specs.Outputs.{files}
+use Rattle.job_protocol.specs.Records.{record_key}
+use Rattle.job_protocol.specs.TaskCommits.{least_of, least_missing, in_order}
+use Rattle.proof_base.specs.Members.{IsIn, RisesFrom}
+use Rattle.proof_base.proofs.Members.{text_true, text_is, in_front, in_back, in_append, in_filter, filter_in}
+use Rattle.store_frame.proofs.Flat.{not_again}
 use Rattle.job_facts.specs.Facts.{ApartFiles}
 
 apart_filter : (f : File → Bool) (fs : List File) → ApartFiles fs → ApartFiles (filter f fs)

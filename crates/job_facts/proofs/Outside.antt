@@ -13,15 +13,15 @@ use Rattle.s3_types.specs.declared.request.Request.TheVariants.{MakeBucket, PutO
 use Rattle.s3_types.specs.declared.journal.Outcome.{Outcome}
 use Rattle.s3_types.specs.declared.journal.Outcome.TheVariants.{Slow, RequestLost}
 use Rattle.job_model.specs.JobScript.{Script}
-use Rattle.job_operations.specs.Setup.{dest_prefix}
-use Rattle.job_promise.specs.Scope.{SameOutsideUpload, SameOutside}
-use Rattle.job_promise.specs.Entries.{is_copy}
-use Rattle.request_frame.specs.Members.{IsIn}
-use Rattle.request_frame.specs.Held.{HasBucket}
-use Rattle.request_frame.specs.Frame.{changed_keys}
-use Rattle.request_frame.proofs.Members.{false_true, same_or_not, text_is, text_true, text_other}
-use Rattle.request_frame.proofs.Framed.{frame}
-use Rattle.request_frame.proofs.Reading.{reads_nothing}
+use Rattle.job_protocol.specs.Setup.{dest_prefix}
+use Rattle.job_spec.specs.Scope.{SameOutsideUpload, SameOutside}
+use Rattle.job_spec.specs.Entries.{is_copy}
+use Rattle.proof_base.specs.Members.{IsIn}
+use Rattle.store_frame.specs.Held.{HasBucket}
+use Rattle.store_frame.specs.Frame.{changed_keys}
+use Rattle.proof_base.proofs.Members.{false_true, same_or_not, text_is, text_true, text_other}
+use Rattle.store_frame.proofs.Framed.{frame}
+use Rattle.store_frame.proofs.Reading.{reads_nothing}
 use Rattle.job_facts.specs.Stores.{at_key, at_id, part_left, end_left}
 use Rattle.job_facts.specs.Within.{IsWithin}
 use Rattle.job_facts.proofs.Shapes.{puts, draws, part_turns, abort_turns}

@@ -20,29 +20,29 @@ use Rattle.job_model.specs.Files.{File}
 use Rattle.job_model.specs.Legal.{IsLegal}
 use Rattle.job_model.specs.JobScript.{Script}
 use Rattle.job_model.specs.Known.{Known}
-use Rattle.job_operations.specs.Setup.{dest_prefix, Setup, Clearing, Sweeping, SetupOver, setup_asks}
-use Rattle.job_operations.specs.Uploading.{Uploading, Creating, Sending, upload_asks}
+use Rattle.job_protocol.specs.Setup.{dest_prefix, Setup, Clearing, Sweeping, SetupOver, setup_asks}
+use Rattle.job_protocol.specs.Uploading.{Uploading, Creating, Sending, upload_asks}
 use Rattle.list_walk.specs.Walks.{Listing, Deleting, page_after}
-use Rattle.job_operations.specs.Writes.{Write, WriteOver, write_asks}
-use Rattle.job_operations.specs.Writes as writes
-use Rattle.job_operations.specs.TaskCommits.{TaskCommit, Publishing, TaskCommitOver, task_commit_asks}
-use Rattle.job_operations.specs.TaskCommits as tasks
-use Rattle.job_operations.specs.TaskAborts.{TaskAbort, Dropping, TaskAbortOver, task_abort_asks}
-use Rattle.job_operations.specs.TaskAborts as aborts
-use Rattle.job_operations.specs.Lanes.{nth, abort}
-use Rattle.job_operations.specs.JobCommits.{all_commits, Commit, Fetching, Replacing, Completing, Reverting, CommitOver, set_request, commit_asks}
-use Rattle.job_operations.specs.JobCommits as commits
-use Rattle.job_operations.specs.Cleanups.{Clean, Aborting, CleanOver, clean_asks}
-use Rattle.job_operations.specs.Cleanups as cleanups
-use Rattle.job_operations.specs.Operations.{Setting, Operation, TheWrite, TheTaskCommit, TheTaskAbort, asks}
-use Rattle.job_operations.specs.View.{view}
-use Rattle.job_promise.specs.Entries.{IsZeroRename, is_copy, sends_data, may_show}
-use Rattle.job_promise.specs.Scope.{SameOutside}
-use Rattle.job_promise.specs.Headline.{Same}
-use Rattle.job_promise.specs.Seen.{Seen}
-use Rattle.request_frame.proofs.Members.{some_is}
-use Rattle.request_frame.proofs.Framed.{frame}
-use Rattle.request_frame.proofs.Reading.{reads_nothing}
+use Rattle.job_protocol.specs.Writes.{Write, WriteOver, write_asks}
+use Rattle.job_protocol.specs.Writes as writes
+use Rattle.job_protocol.specs.TaskCommits.{TaskCommit, Publishing, TaskCommitOver, task_commit_asks}
+use Rattle.job_protocol.specs.TaskCommits as tasks
+use Rattle.job_protocol.specs.TaskAborts.{TaskAbort, Dropping, TaskAbortOver, task_abort_asks}
+use Rattle.job_protocol.specs.TaskAborts as aborts
+use Rattle.job_protocol.specs.Lanes.{nth, abort}
+use Rattle.job_protocol.specs.JobCommits.{all_commits, Commit, Fetching, Replacing, Completing, Reverting, CommitOver, set_request, commit_asks}
+use Rattle.job_protocol.specs.JobCommits as commits
+use Rattle.job_protocol.specs.Cleanups.{Clean, Aborting, CleanOver, clean_asks}
+use Rattle.job_protocol.specs.Cleanups as cleanups
+use Rattle.job_protocol.specs.Operations.{Setting, Operation, TheWrite, TheTaskCommit, TheTaskAbort, asks}
+use Rattle.job_protocol.specs.View.{view}
+use Rattle.job_spec.specs.Entries.{IsZeroRename, is_copy, sends_data, may_show}
+use Rattle.job_spec.specs.Scope.{SameOutside}
+use Rattle.job_spec.specs.Headline.{Same}
+use Rattle.job_spec.specs.Seen.{Seen}
+use Rattle.proof_base.proofs.Members.{some_is}
+use Rattle.store_frame.proofs.Framed.{frame}
+use Rattle.store_frame.proofs.Reading.{reads_nothing}
 use Rattle.job_facts.specs.Told.{Told, known, entry, driver_entry}
 use Rattle.job_facts.specs.Facts.{IsAttempt, Facts, Hold}
 use Rattle.job_facts.specs.Fits.{Fits, FitsAbort}
@@ -50,7 +50,7 @@ use Rattle.job_facts.specs.Foreign.{IsOwn}
 use Rattle.job_facts.specs.Emptying.{SetsUp}
 use Rattle.job_facts.specs.Driver.{FitsClean, FitsJobCommit}
 use Rattle.job_facts.specs.Filed.{IsCommit, Decides}
-use Rattle.job_operations.specs.LaneTable.{Tabled}
+use Rattle.job_protocol.specs.LaneTable.{Tabled}
 use Rattle.job_facts.specs.FiledLaws.{Commits}
 use Rattle.job_facts.specs.Within.{IsWithin}
 use Rattle.job_facts.proofs.Shows.{hidden_shows}

@@ -16,10 +16,10 @@ use Rattle.job_model.specs.Files.{File}
 use Rattle.job_model.specs.Attempts.{Who}
 use Rattle.job_model.specs.Legal.{IsLegal}
 use Rattle.job_model.specs.JobScript.{Script}
-use Rattle.job_operations.specs.Outputs.{files}
-use Rattle.job_operations.specs.Records.{file_key}
-use Rattle.job_promise.specs.Seen.{is_magic, is_staging}
-use Rattle.request_frame.specs.Members.{IsIn}
+use Rattle.job_protocol.specs.Outputs.{files}
+use Rattle.job_protocol.specs.Records.{file_key}
+use Rattle.job_spec.specs.Seen.{is_magic, is_staging}
+use Rattle.proof_base.specs.Members.{IsIn}
 use Rattle.job_facts.specs.Facts.{IsAttempt, IsOwnPlace}
 use Rattle.job_facts.specs.Stores.{at_place, at_path, set_at}
 use Rattle.job_facts.proofs.Whose.{attempt}

@@ -14,12 +14,12 @@ use Rattle.job_model.specs.Files.{File}
 use Rattle.job_model.specs.Attempts.{Who}
 use Rattle.job_model.specs.Legal.{IsLegal}
 use Rattle.job_model.specs.JobScript.{Script}
-use Rattle.job_operations.specs.Outputs.{files}
-use Rattle.job_operations.specs.Knowledge.{is_set_key, is_set_path}
-use Rattle.job_operations.specs.Records.{set_text}
-use Rattle.job_operations.specs.TaskCommits.{temporary_path}
-use Rattle.job_promise.specs.Seen.{Seen, see, is_magic, is_staging, last_by}
-use Rattle.request_frame.proofs.Members.{text_true, nat_true, nat_false}
+use Rattle.job_protocol.specs.Outputs.{files}
+use Rattle.job_protocol.specs.Knowledge.{is_set_key, is_set_path}
+use Rattle.job_protocol.specs.Records.{set_text}
+use Rattle.job_protocol.specs.TaskCommits.{temporary_path}
+use Rattle.job_spec.specs.Seen.{Seen, see, is_magic, is_staging, last_by}
+use Rattle.proof_base.proofs.Members.{text_true, nat_true, nat_false}
 use Rattle.job_facts.specs.Told.{Told, known, put_who, entry, tell, tell_attempt}
 use Rattle.job_facts.specs.Facts.{IsAttempt, AreCommits, IsSet, Facts, Hold}
 use Rattle.job_facts.proofs.Whose.{who_here, who_same, or_false, or_true}

@@ -11,11 +11,11 @@ use Rattle.magic_paths.specs.Places.{SetPlace, StagedSetPlace}
 use Rattle.pending_json.specs.declared.records.PendingSet.{PendingSet}
 use Rattle.job_model.specs.Legal.{IsLegal}
 use Rattle.job_model.specs.JobScript.{Script}
-use Rattle.job_operations.specs.Outputs.{Picks}
-use Rattle.job_operations.specs.Records.{files_set}
-use Rattle.job_operations.specs.JobCommits.{Sets, set_request, set_read, fetched}
-use Rattle.job_promise.specs.Seen.{is_magic, is_staging, is_reading, picks_by}
-use Rattle.request_frame.proofs.Members.{text_true, text_false, same_or_not}
+use Rattle.job_protocol.specs.Outputs.{Picks}
+use Rattle.job_protocol.specs.Records.{files_set}
+use Rattle.job_protocol.specs.JobCommits.{Sets, set_request, set_read, fetched}
+use Rattle.job_spec.specs.Seen.{is_magic, is_staging, is_reading, picks_by}
+use Rattle.proof_base.proofs.Members.{text_true, text_false, same_or_not}
 use Rattle.job_facts.specs.Told.{Told}
 use Rattle.job_facts.specs.Facts.{Facts, knowing}
 use Rattle.job_facts.proofs.Legal.{small_task}

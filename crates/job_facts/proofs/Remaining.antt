@@ -20,7 +20,7 @@ use Rattle.s3_types.specs.declared.reply.Refusal.TheVariants.{NoSuchFile}
 use Rattle.s3_types.specs.declared.reply.PageEntry.{PageEntry}
 use Rattle.s3_types.specs.declared.journal.Outcome.{Outcome}
 use Rattle.s3_types.specs.declared.journal.Outcome.TheVariants.{Answered, Slow, RequestLost, ReplyLost}
-use Rattle.sendings.specs.Retries.{Retried, Item, Got, WornOut, step, unanswered_by}
+use Rattle.retries.specs.Retries.{Retried, Item, Got, WornOut, step, unanswered_by}
 use Rattle.magic_paths.specs.Layout.{set_key, staged_set_path}
 use Rattle.magic_paths.specs.Places.{TemporaryPlace}
 use Rattle.job_model.specs.Files.{File}
@@ -29,21 +29,21 @@ use Rattle.job_model.specs.Legal.{IsLegal}
 use Rattle.job_model.specs.JobScript.{Script}
 use Rattle.job_model.specs.Known.{Drawn}
 use Rattle.job_model.specs.declared.ends.TaskEnd.TheVariants as tasks
-use Rattle.job_operations.specs.Outputs.{files}
-use Rattle.job_operations.specs.Knowledge.{is_set_key, is_set_path}
-use Rattle.job_operations.specs.Records.{record_key}
-use Rattle.job_operations.specs.Uploading.{Uploading, Creating, Sending, Uploaded, GoesOn, AllSent, IsGone, sending, created, sent_part, upload_asks, upload_hears, file_parts}
+use Rattle.job_protocol.specs.Outputs.{files}
+use Rattle.job_protocol.specs.Knowledge.{is_set_key, is_set_path}
+use Rattle.job_protocol.specs.Records.{record_key}
+use Rattle.job_protocol.specs.Uploading.{Uploading, Creating, Sending, Uploaded, GoesOn, AllSent, IsGone, sending, created, sent_part, upload_asks, upload_hears, file_parts}
 use Rattle.list_walk.specs.Walks.{walked, walked_by, keys_on, last_of, page_after}
-use Rattle.job_operations.specs.Writes.{Write, Marking, Recording, WriteOver, writing, write_start_by, write_start, write_asks, write_over, write_hears, write_after}
-use Rattle.job_operations.specs.Writes as writes
-use Rattle.job_operations.specs.TaskCommits.{TaskCommit, Looking, Reading, Publishing, Checking, Storing, Renaming, TaskCommitOver, reading, looked, looked_at, least_missing, least_of, in_order, read_record, storing, checking, checked, renamed, to_check, task_commit_start_by, task_commit_start, task_commit_asks, task_commit_over, task_commit_hears, task_commit_after, attempt_prefix, temporary_path}
-use Rattle.job_operations.specs.TaskCommits as commits
-use Rattle.job_operations.specs.Operations.{Setting, Operation, TheSetup, TheWrite, TheTaskCommit, TheTaskAbort, TheCommit, TheClean, asks, tells}
-use Rattle.job_promise.specs.Seen.{Seen, see, is_magic, is_staging, is_publishing, last_by}
-use Rattle.request_frame.specs.Members.{IsIn, last_from}
-use Rattle.request_frame.specs.Held.{HasBucket}
-use Rattle.request_frame.proofs.Members.{some_is, false_true, true_or_false, text_true, text_here, nat_true, in_map, in_front, in_back}
-use Rattle.request_frame.proofs.Flat.{page_covers, page_all, last_append}
+use Rattle.job_protocol.specs.Writes.{Write, Marking, Recording, WriteOver, writing, write_start_by, write_start, write_asks, write_over, write_hears, write_after}
+use Rattle.job_protocol.specs.Writes as writes
+use Rattle.job_protocol.specs.TaskCommits.{TaskCommit, Looking, Reading, Publishing, Checking, Storing, Renaming, TaskCommitOver, reading, looked, looked_at, least_missing, least_of, in_order, read_record, storing, checking, checked, renamed, to_check, task_commit_start_by, task_commit_start, task_commit_asks, task_commit_over, task_commit_hears, task_commit_after, attempt_prefix, temporary_path}
+use Rattle.job_protocol.specs.TaskCommits as commits
+use Rattle.job_protocol.specs.Operations.{Setting, Operation, TheSetup, TheWrite, TheTaskCommit, TheTaskAbort, TheCommit, TheClean, asks, tells}
+use Rattle.job_spec.specs.Seen.{Seen, see, is_magic, is_staging, is_publishing, last_by}
+use Rattle.proof_base.specs.Members.{IsIn, last_from}
+use Rattle.store_frame.specs.Held.{HasBucket}
+use Rattle.proof_base.proofs.Members.{some_is, false_true, true_or_false, text_true, text_here, nat_true, in_map, in_front, in_back}
+use Rattle.store_frame.proofs.Flat.{page_covers, page_all, last_append}
 use Rattle.job_facts.specs.Told.{Told, known, entry, driver_entry, strange_entry}
 use Rattle.job_facts.specs.Stores.{sets_at}
 use Rattle.job_facts.specs.Foreign.{IsForeign, IsDriving}

@@ -19,15 +19,15 @@ use Rattle.job_model.specs.Files.{File}
 use Rattle.job_model.specs.Attempts.{Who}
 use Rattle.job_model.specs.Legal.{IsLegal}
 use Rattle.job_model.specs.JobScript.{Script}
-use Rattle.job_operations.specs.Outputs.{files}
+use Rattle.job_protocol.specs.Outputs.{files}
 use Rattle.job_model.specs.Known.{Drawn}
-use Rattle.job_operations.specs.Knowledge.{drawn_in}
-use Rattle.job_operations.specs.Records.{file_key, record_key, record_text, files_set}
-use Rattle.job_operations.specs.Uploading.{file_parts}
-use Rattle.job_operations.specs.JobCommits.{set_request, set_read, ok_set}
-use Rattle.job_promise.specs.Seen.{is_magic}
-use Rattle.request_frame.specs.Members.{IsIn}
-use Rattle.request_frame.proofs.Members.{none_or_some, text_true}
+use Rattle.job_protocol.specs.Knowledge.{drawn_in}
+use Rattle.job_protocol.specs.Records.{file_key, record_key, record_text, files_set}
+use Rattle.job_protocol.specs.Uploading.{file_parts}
+use Rattle.job_protocol.specs.JobCommits.{set_request, set_read, ok_set}
+use Rattle.job_spec.specs.Seen.{is_magic}
+use Rattle.proof_base.specs.Members.{IsIn}
+use Rattle.proof_base.proofs.Members.{none_or_some, text_true}
 use Rattle.job_facts.specs.Told.{Told}
 use Rattle.job_facts.specs.Stores.{at_key, at_id, at_path, at_place, sets_at, set_at}
 use Rattle.job_facts.specs.Facts.{IsAttempt, IsHeld, IsWritten, IsSet, Facts, knowing}

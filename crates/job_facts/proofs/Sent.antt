@@ -21,14 +21,14 @@ use Rattle.job_model.specs.Files.{File}
 use Rattle.job_model.specs.Attempts.{Who}
 use Rattle.job_model.specs.Legal.{IsLegal}
 use Rattle.job_model.specs.JobScript.{Script}
-use Rattle.job_operations.specs.Outputs.{files}
+use Rattle.job_protocol.specs.Outputs.{files}
 use Rattle.job_model.specs.Known.{Drawn, Known}
-use Rattle.job_operations.specs.Knowledge.{learn, learn_part, is_set_key}
-use Rattle.job_operations.specs.Records.{file_key, marker_key, record_key, record_text}
-use Rattle.job_operations.specs.Uploading.{file_parts}
-use Rattle.job_promise.specs.Seen.{Seen, see, is_magic, is_publishing, last_by}
-use Rattle.request_frame.specs.Members.{IsIn}
-use Rattle.request_frame.proofs.Members.{some_is, none_some, false_true, text_false, nat_here}
+use Rattle.job_protocol.specs.Knowledge.{learn, learn_part, is_set_key}
+use Rattle.job_protocol.specs.Records.{file_key, marker_key, record_key, record_text}
+use Rattle.job_protocol.specs.Uploading.{file_parts}
+use Rattle.job_spec.specs.Seen.{Seen, see, is_magic, is_publishing, last_by}
+use Rattle.proof_base.specs.Members.{IsIn}
+use Rattle.proof_base.proofs.Members.{some_is, none_some, false_true, text_false, nat_here}
 use Rattle.job_facts.specs.Told.{Told, known, put_who, undoes, entry, tell, tell_attempt}
 use Rattle.job_facts.specs.Stores.{at_id, IsKnown, Turns, part_left}
 use Rattle.job_facts.specs.Facts.{IsWritten, IsRecord, IsOwnPlace, Facts, Hold}

@@ -21,7 +21,7 @@ use Rattle.s3_types.specs.declared.reply.Reply.{Reply}
 use Rattle.s3_types.specs.declared.reply.Reply.TheVariants.{Page}
 use Rattle.s3_types.specs.declared.journal.Outcome.{Outcome}
 use Rattle.s3_types.specs.declared.journal.Outcome.TheVariants.{Answered, Slow, RequestLost, ReplyLost}
-use Rattle.sendings.specs.Retries.{Retried, step}
+use Rattle.retries.specs.Retries.{Retried, step}
 use Rattle.magic_paths.specs.Layout.{magic_prefix, success_key, cluster_prefix}
 use Rattle.proof_base.specs.Order.{text_cmp}
 use Rattle.job_model.specs.Attempts.{Who}
@@ -29,20 +29,20 @@ use Rattle.job_model.specs.Legal.{IsLegal}
 use Rattle.job_model.specs.JobScript.{Script}
 use Rattle.job_model.specs.Known.{Drawn}
 use Rattle.job_model.specs.declared.ends.SetupEnd.TheVariants as ends
-use Rattle.job_operations.specs.Conflicts.{checks_all}
-use Rattle.job_operations.specs.View.{view, is_folder, is_file_path}
-use Rattle.job_operations.specs.Setup.{Setup, Heading, Checking, Clearing, Sweeping, SetupOver, dest_prefix, if_bucket, headed, checked, checked_on, checked_by, first_shown, cleared, sweeping, setup_asks, setup_hears, setup_after}
+use Rattle.job_protocol.specs.Conflicts.{checks_all}
+use Rattle.job_protocol.specs.View.{view, is_folder, is_file_path}
+use Rattle.job_protocol.specs.Setup.{Setup, Heading, Checking, Clearing, Sweeping, SetupOver, dest_prefix, if_bucket, headed, checked, checked_on, checked_by, first_shown, cleared, sweeping, setup_asks, setup_hears, setup_after}
 use Rattle.list_walk.specs.Walks.{Sweep, Listing, Deleting, Walked, More, Whole, walked, keys_on, page_after, sweep_asks, sweep_hears, all_go}
-use Rattle.job_operations.proofs.Faults.{if_bucket_so}
-use Rattle.job_promise.specs.Headline.{Same}
-use Rattle.job_promise.specs.Scope.{NoClusterFile}
-use Rattle.job_promise.specs.Seen.{is_magic, is_staging}
-use Rattle.request_frame.specs.Members.{IsIn}
-use Rattle.request_frame.specs.Frame.{changed_paths}
-use Rattle.request_frame.specs.Held.{HasBucket}
-use Rattle.request_frame.proofs.Members.{some_is, false_true, none_or_some, none_some, true_or_false, text_other, text_left}
-use Rattle.request_frame.proofs.Framed.{with_bucket, frame}
-use Rattle.request_frame.proofs.Reading.{reads_nothing}
+use Rattle.job_protocol.proofs.Faults.{if_bucket_so}
+use Rattle.job_spec.specs.Headline.{Same}
+use Rattle.job_spec.specs.Scope.{NoClusterFile}
+use Rattle.job_spec.specs.Seen.{is_magic, is_staging}
+use Rattle.proof_base.specs.Members.{IsIn}
+use Rattle.store_frame.specs.Frame.{changed_paths}
+use Rattle.store_frame.specs.Held.{HasBucket}
+use Rattle.proof_base.proofs.Members.{some_is, false_true, none_or_some, none_some, true_or_false, text_other, text_left}
+use Rattle.store_frame.proofs.Framed.{with_bucket, frame}
+use Rattle.store_frame.proofs.Reading.{reads_nothing}
 use Rattle.job_facts.specs.Stores.{at_key, at_id}
 use Rattle.job_facts.specs.Foreign.{IsForeign}
 use Rattle.job_facts.specs.Emptying.{SetsUp}

@@ -8,11 +8,11 @@ use Rattle.s3_types.specs.Answer.{apply, apply_store, apply_at, bucket_of, answe
 use Rattle.s3_types.specs.declared.object.Object.{Object}
 use Rattle.s3_types.specs.declared.request.Request.{Request}
 use Rattle.s3_types.specs.declared.request.Request.TheVariants.{PutObject, CreateUpload, UploadPart, AbortUpload}
-use Rattle.request_frame.proofs.Members.{nat_here, nat_other, nat_gone, nat_left, text_here, text_other}
-use Rattle.request_frame.proofs.Framed.{with_bucket, part_others}
+use Rattle.proof_base.proofs.Members.{nat_here, nat_other, nat_gone, nat_left, text_here, text_other}
+use Rattle.store_frame.proofs.Framed.{with_bucket, part_others}
 use Rattle.job_model.specs.JobScript.{Script}
-use Rattle.job_operations.specs.View.{object_in}
-use Rattle.job_promise.specs.Scope.{upload_in}
+use Rattle.job_protocol.specs.View.{object_in}
+use Rattle.job_spec.specs.Scope.{upload_in}
 use Rattle.job_facts.specs.Stores.{at_key, at_id, Puts, Turns, Draws, part_left, end_left}
 
 -- ---- a part, and an end, at its id and at others

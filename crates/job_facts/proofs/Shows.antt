@@ -16,13 +16,13 @@ use Rattle.magic_paths.specs.Layout.{magic_prefix}
 use Rattle.magic_paths.proofs.Tails.{begins_behind, below_is}
 use Rattle.job_model.specs.Legal.{IsLegal}
 use Rattle.job_model.specs.JobScript.{Script}
-use Rattle.job_operations.specs.View.{view, is_folder, is_file_path}
-use Rattle.job_promise.specs.Headline.{Same}
-use Rattle.request_frame.specs.Members.{IsIn}
-use Rattle.request_frame.specs.Held.{HasBucket}
-use Rattle.request_frame.specs.Frame.{changed_keys}
-use Rattle.request_frame.proofs.Members.{false_true, true_or_false}
-use Rattle.request_frame.proofs.Framed.{frame}
+use Rattle.job_protocol.specs.View.{view, is_folder, is_file_path}
+use Rattle.job_spec.specs.Headline.{Same}
+use Rattle.proof_base.specs.Members.{IsIn}
+use Rattle.store_frame.specs.Held.{HasBucket}
+use Rattle.store_frame.specs.Frame.{changed_keys}
+use Rattle.proof_base.proofs.Members.{false_true, true_or_false}
+use Rattle.store_frame.proofs.Framed.{frame}
 use Rattle.job_facts.specs.Stores.{at_key}
 use Rattle.job_facts.proofs.Legal.{some_dest}
 

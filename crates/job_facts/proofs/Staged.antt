@@ -7,10 +7,10 @@ use Rattle.magic_paths.specs.Places.{TemporaryPlace, StagedSetPlace, path_at}
 use Rattle.job_model.specs.Attempts.{Who}
 use Rattle.job_model.specs.Legal.{IsLegal}
 use Rattle.job_model.specs.JobScript.{Script}
-use Rattle.job_operations.specs.Outputs.{files}
-use Rattle.job_promise.specs.Seen.{is_staging}
-use Rattle.request_frame.specs.Held.{HasBucket}
-use Rattle.request_frame.proofs.Members.{some_is, none_some, same_or_not, same_or_other, text_here, text_other, text_left, text_gone}
+use Rattle.job_protocol.specs.Outputs.{files}
+use Rattle.job_spec.specs.Seen.{is_staging}
+use Rattle.store_frame.specs.Held.{HasBucket}
+use Rattle.proof_base.proofs.Members.{some_is, none_some, same_or_not, same_or_other, text_here, text_other, text_left, text_gone}
 use Rattle.job_facts.specs.Told.{Told}
 use Rattle.job_facts.specs.Stores.{at_path, sets_at}
 use Rattle.job_facts.specs.Facts.{IsAttempt, IsTemporary, Facts}

@@ -16,9 +16,9 @@ use Rattle.s3_types.specs.declared.object.Object.{Object}
 use Rattle.magic_paths.specs.Places.{SetPlace, TemporaryPlace, StagedSetPlace}
 use Rattle.job_model.specs.Legal.{IsLegal}
 use Rattle.job_model.specs.JobScript.{Script}
-use Rattle.job_promise.specs.Seen.{Seen, see, is_magic, is_staging}
-use Rattle.request_frame.specs.Held.{HasBucket}
-use Rattle.request_frame.proofs.Members.{none_some}
+use Rattle.job_spec.specs.Seen.{Seen, see, is_magic, is_staging}
+use Rattle.store_frame.specs.Held.{HasBucket}
+use Rattle.proof_base.proofs.Members.{none_some}
 use Rattle.job_facts.specs.Told.{Told, tell, nothing_told}
 use Rattle.job_facts.specs.Stores.{at_id, at_path, at_place, set_at}
 use Rattle.job_facts.specs.Facts.{Facts, Hold}

@@ -16,17 +16,17 @@ use Rattle.pending_json.specs.Pending.{Pending}
 use Rattle.pending_json.specs.declared.records.PendingSet.{PendingSet}
 use Rattle.job_model.specs.Legal.{IsLegal}
 use Rattle.job_model.specs.JobScript.{Script}
-use Rattle.job_operations.specs.Outputs.{same_path}
+use Rattle.job_protocol.specs.Outputs.{same_path}
 use Rattle.list_walk.specs.Walks.{Sweep, Listing, Deleting, sweep_asks, sweep_hears}
-use Rattle.job_operations.specs.Lanes.{Turn, nth, completion, again, follow, dealt, revert}
-use Rattle.job_operations.specs.Operations.{Setting}
+use Rattle.job_protocol.specs.Lanes.{Turn, nth, completion, again, follow, dealt, revert}
+use Rattle.job_protocol.specs.Operations.{Setting}
 use Rattle.job_model.specs.declared.ends.CommitEnd.{CommitEnd}
 use Rattle.job_model.specs.declared.ends.CommitEnd.TheVariants as ends_of
 use Rattle.job_model.specs.declared.ends.Stage.TheVariants as stages
-use Rattle.job_operations.specs.JobCommits.{Sets, all_commits, picks_of, Commit, Fetching, Replacing, Completing, Marking, Reverting, CommitOver, set_request, set_read, commit_asks, commit_misses, commit_tells, commit_start, completing, is_no_magic, replaced, replacing, decided, fetching, fetched, swept, reverting, worn_completion}
-use Rattle.job_operations.specs.LaneTable.{Tabled}
-use Rattle.job_promise.specs.Seen.{Seen}
-use Rattle.request_frame.proofs.Members.{some_is, false_true, true_or_false, eq_nat, nat_true, in_front, in_last}
+use Rattle.job_protocol.specs.JobCommits.{Sets, all_commits, picks_of, Commit, Fetching, Replacing, Completing, Marking, Reverting, CommitOver, set_request, set_read, commit_asks, commit_misses, commit_tells, commit_start, completing, is_no_magic, replaced, replacing, decided, fetching, fetched, swept, reverting, worn_completion}
+use Rattle.job_protocol.specs.LaneTable.{Tabled}
+use Rattle.job_spec.specs.Seen.{Seen}
+use Rattle.proof_base.proofs.Members.{some_is, false_true, true_or_false, eq_nat, nat_true, in_front, in_last}
 use Rattle.job_facts.specs.Told.{Told, ends, tell_driver}
 use Rattle.job_facts.specs.Facts.{Hold}
 use Rattle.job_facts.specs.Driver.{Reads, FitsJobCommit}

@@ -19,13 +19,13 @@ use Rattle.job_model.specs.Attempts.{Who}
 use Rattle.job_model.specs.Legal.{IsLegal}
 use Rattle.job_model.specs.JobScript.{Script}
 use Rattle.job_model.specs.Known.{Drawn}
-use Rattle.job_operations.specs.Knowledge.{learn}
-use Rattle.job_operations.specs.TaskCommits.{attempt_prefix, temporary_path}
-use Rattle.job_promise.specs.Seen.{Seen, see, is_publishing, last_by}
-use Rattle.request_frame.specs.Members.{IsIn}
-use Rattle.request_frame.specs.Held.{HasBucket}
-use Rattle.request_frame.proofs.Members.{none_some, false_true, text_left}
-use Rattle.request_frame.proofs.Framed.{with_bucket, frame}
+use Rattle.job_protocol.specs.Knowledge.{learn}
+use Rattle.job_protocol.specs.TaskCommits.{attempt_prefix, temporary_path}
+use Rattle.job_spec.specs.Seen.{Seen, see, is_publishing, last_by}
+use Rattle.proof_base.specs.Members.{IsIn}
+use Rattle.store_frame.specs.Held.{HasBucket}
+use Rattle.proof_base.proofs.Members.{none_some, false_true, text_left}
+use Rattle.store_frame.proofs.Framed.{with_bucket, frame}
 use Rattle.job_facts.specs.Told.{Told, known, put_who, undoes, entry, tell, tell_attempt}
 use Rattle.job_facts.specs.Facts.{IsAttempt, Facts, Hold}
 use Rattle.job_facts.proofs.Whose.{who_here, who_same, or_true}

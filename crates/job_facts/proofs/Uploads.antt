@@ -17,14 +17,14 @@ use Rattle.job_model.specs.Files.{File}
 use Rattle.job_model.specs.Attempts.{Who}
 use Rattle.job_model.specs.Legal.{IsLegal}
 use Rattle.job_model.specs.JobScript.{Script}
-use Rattle.job_operations.specs.Outputs.{files}
+use Rattle.job_protocol.specs.Outputs.{files}
 use Rattle.job_model.specs.Known.{Drawn, Known}
-use Rattle.job_operations.specs.Knowledge.{learn, with_part, first_drawn}
-use Rattle.job_operations.specs.Records.{file_key}
-use Rattle.job_operations.specs.Uploading.{Uploading, Creating, Sending, Uploaded, GoesOn, AllSent, IsGone, upload_asks, upload_hears, file_parts, sending, created, sent_part}
-use Rattle.job_promise.specs.Seen.{Seen, see}
-use Rattle.request_frame.specs.Members.{IsIn}
-use Rattle.request_frame.proofs.Members.{in_map, map_in}
+use Rattle.job_protocol.specs.Knowledge.{learn, with_part, first_drawn}
+use Rattle.job_protocol.specs.Records.{file_key}
+use Rattle.job_protocol.specs.Uploading.{Uploading, Creating, Sending, Uploaded, GoesOn, AllSent, IsGone, upload_asks, upload_hears, file_parts, sending, created, sent_part}
+use Rattle.job_spec.specs.Seen.{Seen, see}
+use Rattle.proof_base.specs.Members.{IsIn}
+use Rattle.proof_base.proofs.Members.{in_map, map_in}
 use Rattle.job_facts.specs.Told.{Told, known, entry, tell}
 use Rattle.job_facts.specs.Facts.{IsWritten, AreCommits, Hold}
 use Rattle.job_facts.specs.Fits.{Todo, Begun, AllWritten, IsOpen, FitsUpload}

@@ -9,11 +9,11 @@ use Rattle.job_model.specs.Files.{File}
 use Rattle.job_model.specs.Legal.{IsLegal}
 use Rattle.job_model.specs.JobScript.{Script}
 use Rattle.job_model.specs.declared.ends.CommitEnd.{CommitEnd}
-use Rattle.job_operations.specs.Outputs.{Picks, files, files_picked, wanted, wanted_below, wanted_at, paths_of, writes, same_path, picked_below, is_picked}
-use Rattle.job_operations.specs.Records.{mark_text}
-use Rattle.job_operations.proofs.Shared.{shared_found, shared_none}
-use Rattle.request_frame.specs.Members.{IsIn}
-use Rattle.request_frame.proofs.Members.{some_is, none_some, same_or_not, text_is, text_true, in_append, in_front, in_back}
+use Rattle.job_protocol.specs.Outputs.{Picks, files, files_picked, wanted, wanted_below, wanted_at, paths_of, writes, same_path, picked_below, is_picked}
+use Rattle.job_protocol.specs.Records.{mark_text}
+use Rattle.job_protocol.proofs.Shared.{shared_found, shared_none}
+use Rattle.proof_base.specs.Members.{IsIn}
+use Rattle.proof_base.proofs.Members.{some_is, none_some, same_or_not, text_is, text_true, in_append, in_front, in_back}
 use Rattle.job_facts.proofs.Whose.{attempt}
 use Rattle.job_facts.proofs.Legal.{same_file}
 use Rattle.job_facts.proofs.Held.{has_in, one_writer}

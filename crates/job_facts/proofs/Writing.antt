@@ -8,19 +8,19 @@ use Rattle.s3_types.specs.declared.request.Request.TheVariants.{PutObject}
 use Rattle.s3_types.specs.declared.request.Committer.{Committer}
 use Rattle.s3_types.specs.declared.request.Committer.TheVariants.{Magic}
 use Rattle.s3_types.specs.declared.journal.Outcome.{Outcome}
-use Rattle.sendings.specs.Retries.{Retried, step}
+use Rattle.retries.specs.Retries.{Retried, step}
 use Rattle.magic_paths.specs.Places.{Place, MarkerPlace, RecordPlace, SetPlace, key_at}
 use Rattle.job_model.specs.Files.{File}
 use Rattle.job_model.specs.Attempts.{Who}
 use Rattle.job_model.specs.Legal.{IsLegal}
 use Rattle.job_model.specs.JobScript.{Script}
 use Rattle.job_model.specs.Known.{Drawn, Known}
-use Rattle.job_operations.specs.Knowledge.{learn, first_drawn}
-use Rattle.job_operations.specs.Records.{marker_key, record_key, record_text}
-use Rattle.job_operations.specs.Uploading.{Uploading, Creating, Sending, Uploaded, IsGone, upload_asks, upload_hears}
-use Rattle.job_operations.specs.Writes.{Write, Uploads, Marking, Recording, WriteOver, writing, write_asks, write_after, uploaded}
-use Rattle.job_promise.specs.Seen.{Seen, see, is_magic}
-use Rattle.request_frame.proofs.Members.{some_is}
+use Rattle.job_protocol.specs.Knowledge.{learn, first_drawn}
+use Rattle.job_protocol.specs.Records.{marker_key, record_key, record_text}
+use Rattle.job_protocol.specs.Uploading.{Uploading, Creating, Sending, Uploaded, IsGone, upload_asks, upload_hears}
+use Rattle.job_protocol.specs.Writes.{Write, Uploads, Marking, Recording, WriteOver, writing, write_asks, write_after, uploaded}
+use Rattle.job_spec.specs.Seen.{Seen, see, is_magic}
+use Rattle.proof_base.proofs.Members.{some_is}
 use Rattle.job_facts.specs.Told.{Told, known, entry, tell}
 use Rattle.job_facts.specs.Facts.{IsAttempt, IsOwnPlace, Hold}
 use Rattle.job_facts.specs.Fits.{Todo, Begun, AllWritten, IsOpen, FitsUpload, Wrote, FitsWrite}

@@ -9,17 +9,17 @@ use Rattle.s3_types.specs.Moment.{effect, IsHonestOutcome}
 use Rattle.s3_types.specs.declared.request.Request.{Request}
 use Rattle.s3_types.specs.declared.request.UploadRef.{UploadRef}
 use Rattle.s3_types.specs.declared.journal.Outcome.{Outcome}
-use Rattle.sendings.specs.Retries.{Retried, step}
+use Rattle.retries.specs.Retries.{Retried, step}
 use Rattle.magic_paths.specs.Layout.{cluster_prefix}
 use Rattle.job_model.specs.JobScript.{Script}
 use Rattle.job_model.specs.declared.ends.CleanEnd.TheVariants as ends
-use Rattle.job_operations.specs.Setup.{dest_prefix}
+use Rattle.job_protocol.specs.Setup.{dest_prefix}
 use Rattle.list_walk.specs.Walks.{last_ref}
-use Rattle.job_operations.specs.Cleanups.{Clean, Walking, Aborting, Sweeping, Naming, Removing, CleanOver, clean_start, clean_asks, clean_after}
-use Rattle.job_promise.specs.Scope.{NoneLive, NothingLeft}
-use Rattle.job_promise.specs.Seen.{is_magic, is_staging}
-use Rattle.request_frame.specs.Members.{IsIn}
-use Rattle.request_frame.specs.Held.{HasBucket}
+use Rattle.job_protocol.specs.Cleanups.{Clean, Walking, Aborting, Sweeping, Naming, Removing, CleanOver, clean_start, clean_asks, clean_after}
+use Rattle.job_spec.specs.Scope.{NoneLive, NothingLeft}
+use Rattle.job_spec.specs.Seen.{is_magic, is_staging}
+use Rattle.proof_base.specs.Members.{IsIn}
+use Rattle.store_frame.specs.Held.{HasBucket}
 use Rattle.job_facts.specs.Stores.{at_id}
 use Rattle.job_facts.specs.Driver.{FitsSweep}
 use Rattle.job_facts.specs.Emptying.{Empties}

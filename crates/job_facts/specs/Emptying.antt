@@ -8,11 +8,11 @@ use Rattle.s3_types.specs.declared.object.Object.{Object}
 use Rattle.magic_paths.specs.Layout.{magic_prefix}
 use Rattle.job_model.specs.JobScript.{Script}
 use Rattle.job_model.specs.declared.ends.SetupEnd.TheVariants as ends
-use Rattle.job_operations.specs.Setup.{Setup, Heading, Checking, Clearing, Sweeping, SetupOver}
+use Rattle.job_protocol.specs.Setup.{Setup, Heading, Checking, Clearing, Sweeping, SetupOver}
 use Rattle.list_walk.specs.Walks.{Sweep, Listing, Deleting, last_of, all_go}
-use Rattle.job_promise.specs.Seen.{is_magic}
-use Rattle.request_frame.specs.Members.{IsIn}
-use Rattle.request_frame.specs.Held.{HasBucket}
+use Rattle.job_spec.specs.Seen.{is_magic}
+use Rattle.proof_base.specs.Members.{IsIn}
+use Rattle.store_frame.specs.Held.{HasBucket}
 use Rattle.job_facts.specs.Stores.{at_key}
 use Rattle.job_facts.specs.Driver.{FitsSweep}
 

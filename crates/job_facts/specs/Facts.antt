@@ -5,18 +5,18 @@ use Rattle.s3_types.specs.Store.{Scene, Upload, Parts}
 use Rattle.s3_types.specs.Tags.{plain_tag}
 use Rattle.s3_types.specs.Pages.{begins}
 use Rattle.s3_types.specs.declared.object.Object.{Object}
-use Rattle.request_frame.specs.Members.{IsIn}
-use Rattle.request_frame.specs.Held.{HasBucket}
+use Rattle.proof_base.specs.Members.{IsIn}
+use Rattle.store_frame.specs.Held.{HasBucket}
 use Rattle.magic_paths.specs.Layout.{magic_prefix}
 use Rattle.magic_paths.specs.Places.{Place, MarkerPlace, RecordPlace, SetPlace, FilePlace, SuccessPlace, ClusterPlace, TemporaryPlace, key_at}
 use Rattle.job_model.specs.Files.{File}
 use Rattle.job_model.specs.Attempts.{Who}
 use Rattle.job_model.specs.JobScript.{Script}
-use Rattle.job_operations.specs.Outputs.{files}
+use Rattle.job_protocol.specs.Outputs.{files}
 use Rattle.job_model.specs.Known.{Drawn, Known}
-use Rattle.job_operations.specs.Records.{file_key, record_text, set_text}
-use Rattle.job_operations.specs.Uploading.{file_parts}
-use Rattle.job_promise.specs.Seen.{Seen, is_magic, is_staging}
+use Rattle.job_protocol.specs.Records.{file_key, record_text, set_text}
+use Rattle.job_protocol.specs.Uploading.{file_parts}
+use Rattle.job_spec.specs.Seen.{Seen, is_magic, is_staging}
 use Rattle.job_facts.specs.Told.{Told}
 use Rattle.job_facts.specs.Stores.{at_key, at_place, at_id, at_path, sets_at}
 

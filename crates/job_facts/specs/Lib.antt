@@ -13,6 +13,4 @@ pub mod Turning
 pub mod Filed
 pub mod FiledLaws
 pub mod Within
-pub mod Runs
-pub mod RunLaws
 pub mod StandingLaws

@@ -11,17 +11,17 @@ use Rattle.job_model.specs.JobScript.{Script}
 use Rattle.job_model.specs.Known.{Drawn}
 use Rattle.job_model.specs.declared.ends.TaskEnd.{TaskEnd}
 use Rattle.job_model.specs.declared.ends.TaskEnd.TheVariants as tasks
-use Rattle.job_operations.specs.Outputs.{files}
-use Rattle.job_operations.specs.Records.{record_key}
+use Rattle.job_protocol.specs.Outputs.{files}
+use Rattle.job_protocol.specs.Records.{record_key}
 use Rattle.list_walk.specs.Walks.{last_of}
-use Rattle.job_operations.specs.Writes.{Write, Marking, Recording, WriteOver}
-use Rattle.job_operations.specs.Writes as writes
-use Rattle.job_operations.specs.TaskCommits.{TaskCommit, Looking, Reading, Publishing, Checking, Storing, Renaming, TaskCommitOver}
-use Rattle.job_operations.specs.TaskCommits as commits
-use Rattle.job_operations.specs.JobCommits.{Commit, Fetching, Replacing, Completing, Marking as MarkingJob, Reverting, CommitOver}
-use Rattle.job_operations.specs.Operations.{Operation, TheSetup, TheWrite, TheTaskCommit, TheTaskAbort, TheCommit, TheClean}
-use Rattle.job_promise.specs.Seen.{Seen, is_magic}
-use Rattle.request_frame.specs.Members.{IsIn}
+use Rattle.job_protocol.specs.Writes.{Write, Marking, Recording, WriteOver}
+use Rattle.job_protocol.specs.Writes as writes
+use Rattle.job_protocol.specs.TaskCommits.{TaskCommit, Looking, Reading, Publishing, Checking, Storing, Renaming, TaskCommitOver}
+use Rattle.job_protocol.specs.TaskCommits as commits
+use Rattle.job_protocol.specs.JobCommits.{Commit, Fetching, Replacing, Completing, Marking as MarkingJob, Reverting, CommitOver}
+use Rattle.job_protocol.specs.Operations.{Operation, TheSetup, TheWrite, TheTaskCommit, TheTaskAbort, TheCommit, TheClean}
+use Rattle.job_spec.specs.Seen.{Seen, is_magic}
+use Rattle.proof_base.specs.Members.{IsIn}
 use Rattle.job_facts.specs.Told.{Told, ends}
 use Rattle.job_facts.specs.Stores.{at_key, at_path}
 

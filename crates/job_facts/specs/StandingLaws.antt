@@ -8,13 +8,13 @@ use Rattle.job_model.specs.Attempts.{Who}
 use Rattle.job_model.specs.Legal.{IsLegal}
 use Rattle.job_model.specs.JobScript.{Script}
 use Rattle.job_model.specs.declared.ends.TaskEnd.TheVariants as tasks
-use Rattle.job_operations.specs.Writes.{Write, WriteOver, write_start, write_over}
-use Rattle.job_operations.specs.TaskCommits.{TaskCommit, TaskCommitOver, task_commit_start, task_commit_over}
-use Rattle.job_operations.specs.JobCommits.{Commit, commit_start, commit_asks, commit_tells}
-use Rattle.job_operations.specs.Cleanups.{Clean, clean_asks}
-use Rattle.job_operations.specs.LaneTable.{Tabled}
-use Rattle.job_operations.specs.Operations.{Setting, Operation, asks, tells}
-use Rattle.job_promise.specs.Seen.{Seen, see, is_begun}
+use Rattle.job_protocol.specs.Writes.{Write, WriteOver, write_start, write_over}
+use Rattle.job_protocol.specs.TaskCommits.{TaskCommit, TaskCommitOver, task_commit_start, task_commit_over}
+use Rattle.job_protocol.specs.JobCommits.{Commit, commit_start, commit_asks, commit_tells}
+use Rattle.job_protocol.specs.Cleanups.{Clean, clean_asks}
+use Rattle.job_protocol.specs.LaneTable.{Tabled}
+use Rattle.job_protocol.specs.Operations.{Setting, Operation, asks, tells}
+use Rattle.job_spec.specs.Seen.{Seen, see, is_begun}
 use Rattle.job_facts.specs.Told.{Told, known, nothing_told, tell, entry, driver_entry, strange_entry}
 use Rattle.job_facts.specs.Stores.{sets_at}
 use Rattle.job_facts.specs.Foreign.{IsForeign}
@@ -23,7 +23,7 @@ use Rattle.job_facts.specs.Fits.{Fits}
 use Rattle.job_facts.specs.Driver.{FitsClean, FitsJobCommit}
 use Rattle.job_facts.specs.Standing.{Closed, Reverts, WriteStands, CommitStands, Stands}
 
--- Until it cleans up, the driver ends only uploads of attempts that have sent their publishing requests. Of a commit's lanes it takes that their numbers are those of uploads (`Tabled`, which `job_operations` keeps); of a stranger's entry nothing is told.
+-- Until it cleans up, the driver ends only uploads of attempts that have sent their publishing requests. Of a commit's lanes it takes that their numbers are those of uploads (`Tabled`, which `job_protocol` keeps); of a stranger's entry nothing is told.
 pub record DriverCloses : Type 0 where
   pub begins : (c : Option ℕ) → Closed (nothing_told c)
   pub starts : (w : Script) (m : Told) (missing : Option ℕ) → Reverts m.publish_sent m.drawn (commit_start w missing)

@@ -9,15 +9,15 @@ use Rattle.s3_types.specs.Multipart.{is_part_number, with_part}
 use Rattle.s3_types.specs.declared.object.Object.{Object}
 use Rattle.s3_types.specs.declared.request.Committer.{Committer}
 use Rattle.s3_types.specs.declared.request.Committer.TheVariants.{Magic, Directory, Partitioned}
-use Rattle.request_frame.specs.Members.{IsIn}
-use Rattle.request_frame.specs.Held.{HasBucket}
+use Rattle.proof_base.specs.Members.{IsIn}
+use Rattle.store_frame.specs.Held.{HasBucket}
 use Rattle.magic_paths.specs.Layout.{magic_prefix, cluster_prefix}
 use Rattle.magic_paths.specs.Places.{Place, SetPlace, ClusterPlace, StagedSetPlace, key_at, path_at}
 use Rattle.job_model.specs.Attempts.{Who}
 use Rattle.job_model.specs.JobScript.{Script}
-use Rattle.job_operations.specs.View.{object_at}
+use Rattle.job_protocol.specs.View.{object_at}
 use Rattle.job_model.specs.Known.{Drawn}
-use Rattle.job_promise.specs.Scope.{upload_at}
+use Rattle.job_spec.specs.Scope.{upload_at}
 
 -- what stands at a key of the job's bucket, and at a place
 abbrev pub at_key : Script → Content → List ℕ → Option Object

@@ -10,8 +10,8 @@ use Rattle.s3_types.specs.declared.journal.Entry.{Entry}
 use Rattle.job_model.specs.Attempts.{Who, same_name, actor_of}
 use Rattle.job_model.specs.JobScript.{Script}
 use Rattle.job_model.specs.Known.{Drawn, Known}
-use Rattle.job_operations.specs.Knowledge.{learn}
-use Rattle.job_promise.specs.Seen.{is_begun}
+use Rattle.job_protocol.specs.Knowledge.{learn}
+use Rattle.job_spec.specs.Seen.{is_begun}
 
 -- what a journal tells of a job's attempts and of what its driver ended
 pub record Told : Type 0 where

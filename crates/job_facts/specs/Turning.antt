@@ -9,12 +9,12 @@ use Rattle.s3_types.specs.declared.journal.Outcome.{Outcome}
 use Rattle.job_model.specs.Attempts.{Who}
 use Rattle.job_model.specs.Legal.{IsLegal}
 use Rattle.job_model.specs.JobScript.{Script}
-use Rattle.job_operations.specs.Lanes.{Turn, nth, completion}
-use Rattle.job_operations.specs.JobCommits.{Sets, all_commits, Commit, Fetching, Replacing, Completing, Marking, Reverting, CommitOver, commit_start, commit_asks, commit_tells}
-use Rattle.job_operations.specs.LaneTable.{Tabled}
-use Rattle.job_operations.specs.Operations.{Setting}
-use Rattle.job_promise.specs.Seen.{Seen}
-use Rattle.request_frame.specs.Members.{IsIn}
+use Rattle.job_protocol.specs.Lanes.{Turn, nth, completion}
+use Rattle.job_protocol.specs.JobCommits.{Sets, all_commits, Commit, Fetching, Replacing, Completing, Marking, Reverting, CommitOver, commit_start, commit_asks, commit_tells}
+use Rattle.job_protocol.specs.LaneTable.{Tabled}
+use Rattle.job_protocol.specs.Operations.{Setting}
+use Rattle.job_spec.specs.Seen.{Seen}
+use Rattle.proof_base.specs.Members.{IsIn}
 use Rattle.job_facts.specs.Told.{Told, nothing_told, tell, entry, driver_entry, strange_entry}
 use Rattle.job_facts.specs.Facts.{Hold}
 use Rattle.job_facts.specs.Driver.{Reads, FitsJobCommit}
@@ -37,7 +37,7 @@ Turns m (Marking sets n) = Unit {0}
 Turns m (Reverting r rs n) = Unit {0}
 Turns m (CommitOver end) = Unit {0}
 
--- with every number of lanes (`Tabled`, which `job_operations` keeps)
+-- with every number of lanes (`Tabled`, which `job_protocol` keeps)
 pub record CommitTurns : Type 0 where
   -- the uploads of the sets that it holds are apart
   pub apart : (w : Script) (minimum : ℕ) (s : Seen) (m : Told) → IsLegal w → Hold w minimum s m → (sets : Sets) → Reads w minimum m.publish_sent m.drawn sets

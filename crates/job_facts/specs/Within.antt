@@ -9,13 +9,13 @@ use Rattle.s3_types.specs.declared.request.Request.TheVariants.{MakeBucket, PutO
 use Rattle.job_model.specs.Attempts.{Who}
 use Rattle.job_model.specs.Legal.{IsLegal}
 use Rattle.job_model.specs.JobScript.{Script}
-use Rattle.job_operations.specs.Setup.{dest_prefix, Setup, setup_asks}
-use Rattle.job_operations.specs.JobCommits.{Commit, commit_asks}
-use Rattle.job_operations.specs.Cleanups.{Clean, clean_asks}
-use Rattle.job_operations.specs.Operations.{Setting, Operation, asks}
-use Rattle.job_promise.specs.Entries.{IsZeroRename}
-use Rattle.job_promise.specs.Seen.{Seen}
-use Rattle.request_frame.specs.Members.{IsIn}
+use Rattle.job_protocol.specs.Setup.{dest_prefix, Setup, setup_asks}
+use Rattle.job_protocol.specs.JobCommits.{Commit, commit_asks}
+use Rattle.job_protocol.specs.Cleanups.{Clean, clean_asks}
+use Rattle.job_protocol.specs.Operations.{Setting, Operation, asks}
+use Rattle.job_spec.specs.Entries.{IsZeroRename}
+use Rattle.job_spec.specs.Seen.{Seen}
+use Rattle.proof_base.specs.Members.{IsIn}
 use Rattle.job_facts.specs.Told.{Told, known, entry, driver_entry}
 use Rattle.job_facts.specs.Facts.{IsAttempt, Hold}
 use Rattle.job_facts.specs.Fits.{Fits}

@@ -18,9 +18,7 @@
 //! has ended never comes back; what stands at a wanted path is what was there, nothing, or the whole
 //! file, by how far the commit has come, and after a revert the file only where its deletion wore out
 //! (`wanted_files`). An abort or clean that is done, while nobody else sends, leaves nothing. Each
-//! request of the job's actors leaves all that is outside the destination. Every run, with its requests
-//! in any order, keeps the facts among strangers, and the headline at each of its moments where none of
-//! them sends (`whole_runs`).
+//! request of the job's actors leaves all that is outside the destination.
 #![tactic(auto)]
 
 ghost use Rattle.job_facts.specs.Laws.{AnswersFit, AttemptBegins, AttemptGoes, AttemptNames, CleanGoes, CommitGoes, DrivingKeeps, FactsBegin, ForeignKeeps, MarkersLead, ReadsKeep, ToldIsSaid};
@@ -28,7 +26,6 @@ ghost use Rattle.job_facts.specs.SetupLaws.{SetupGoes};
 ghost use Rattle.job_facts.specs.Clearing.{CleanClears};
 ghost use Rattle.job_facts.specs.Turning.{CommitTurns};
 ghost use Rattle.job_facts.specs.FiledLaws.{EndedAreGone, FindsKeys, NeverBack, SetsDecide, WantedFiles};
-ghost use Rattle.job_facts.specs.RunLaws.{AllRunsKeep};
 ghost use Rattle.job_facts.specs.Within.{OwnChange};
 ghost use Rattle.job_facts.specs.StandingLaws.{DriverCloses, NothingGone};
 
@@ -94,12 +91,6 @@ pub fn wanted_files()
 /// What the driver's abort or clean of the job leaves where nobody else sends.
 pub fn cleans()
     ensures clears { CleanClears }
-{}
-
-/// A whole run, in any order of its actors, among strangers that leave its own alone: what it does, and what a reader
-/// of the destination is shown where none of them sends.
-pub fn whole_runs()
-    ensures keep { AllRunsKeep }
 {}
 
 /// The answers that are due.

@@ -4,7 +4,7 @@ use Rattle.std.specs.Map.{lookup}
 use Rattle.std.proofs.lemmas.List.{append-nil, map-append, length-map}
 use Rattle.proof_base.specs.Order.{text_eq}
 use Rattle.s3_types.specs.Names.{is_job_id}
-use Rattle.request_frame.proofs.Members.{text_is, text_true, false_true}
+use Rattle.proof_base.proofs.Members.{text_is, text_true, false_true}
 use Rattle.job_model.specs.Files.{File, has_path}
 use Rattle.job_model.specs.Legal.{IsGiven, AreFiles, bytes_of}
 use Rattle.job_model.specs.Placed.{path_of, placed}

@@ -11,8 +11,8 @@ use Rattle.job_model.specs.JobScript.{Script}
 use Rattle.job_model.specs.Legal.{IsLegal, AreFiles, AreAttempts, files_in, bytes_of, bytes_in}
 use Rattle.job_model.specs.Placed.{placed}
 use Rattle.job_model.specs.Plans.{IsTask}
-use Rattle.job_operations.specs.AtWork.{job_of, task_of}
-use Rattle.job_operations.specs.Outputs.{files}
+use Rattle.job_protocol.specs.AtWork.{job_of, task_of}
+use Rattle.job_protocol.specs.Outputs.{files}
 use Rattle.job_plans.specs.AtPlace.{task_at}
 use Rattle.job_plans.proofs.FilePlans.{are_placed, as_many, as_long}
 

@@ -2,7 +2,7 @@ ghost use Rattle.std.specs.Prelude.{◌≡◌, ◌<◌, ◌≤◌, length, slice
 ghost use Rattle.std.specs.Map.{lookup};
 ghost use Rattle.s3_types.specs.declared.limits.TheConstants.{MOST_MINIMUM};
 ghost use Rattle.job_model.specs.Attempts.{same_name};
-ghost use Rattle.job_operations.specs.AtWork.{job_of};
+ghost use Rattle.job_protocol.specs.AtWork.{job_of};
 ghost use Rattle.job_plans.specs.AtPlace.{task_at};
 
 use crate::files::placed;

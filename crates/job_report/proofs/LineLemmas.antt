@@ -10,8 +10,8 @@ use Rattle.job_model.specs.JobScript.{Script}
 use Rattle.job_model.specs.declared.events.Event.{Event}
 use Rattle.job_model.specs.declared.ends.EventEnd.{EventEnd}
 use Rattle.job_model.specs.declared.ends.Pick.{Pick}
-use Rattle.job_promise.specs.States.{past}
-use Rattle.job_promise.specs.ReportText.{event_lines, pick_line, driver_line, attempt_line, closing, report_text}
+use Rattle.job_spec.specs.States.{past}
+use Rattle.job_spec.specs.ReportText.{event_lines, pick_line, driver_line, attempt_line, closing, report_text}
 
 -- nothing is left to write
 pub all_written : {X : Type 0} (f : X → List ℕ) (left : List X) (text all : List ℕ) → text ++ flat_map f left ≡ all → left ≡ [] → text ≡ all

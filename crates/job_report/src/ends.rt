@@ -1,6 +1,6 @@
 ghost use Rattle.std.specs.Prelude.{◌≡◌, ◌++◌, ◌∷◌, string_bytes, codes, OnOk};
 ghost use Rattle.std.specs.List.{join_by};
-ghost use Rattle.job_promise.specs.ReportText.{actor_end_text, end_text};
+ghost use Rattle.job_spec.specs.ReportText.{actor_end_text, end_text};
 
 use job_model::{ActorEnd, EventEnd};
 use std::alloc::AllocError;

@@ -2,7 +2,7 @@
 //!
 //! # What is proved
 //!
-//! `report_text`: Exactly the text that `job_promise` defines of the status that was due, the number of
+//! `report_text`: Exactly the text that `job_spec` defines of the status that was due, the number of
 //! sendings, the picks, the ends and the script, for any ends.
 #![tactic(auto)]
 

@@ -1,8 +1,8 @@
 ghost use Rattle.std.specs.Prelude.{◌≡◌, ◌++◌, string_bytes, true, OnOk};
 ghost use Rattle.std.specs.List.{flat_map};
 ghost use Rattle.job_model.specs.Attempts.{declares};
-ghost use Rattle.job_promise.specs.States.{Past};
-ghost use Rattle.job_promise.specs.ReportText.{event_line, event_lines, pick_line, driver_line, attempt_line, closing};
+ghost use Rattle.job_spec.specs.States.{Past};
+ghost use Rattle.job_spec.specs.ReportText.{event_line, event_lines, pick_line, driver_line, attempt_line, closing};
 ghost use Rattle.job_states.specs.Stands.{Stands};
 
 use crate::ends::write_end;

@@ -1,5 +1,5 @@
 ghost use Rattle.std.specs.Prelude.{◌≡◌, length, IfOk};
-ghost use Rattle.job_promise.specs.ReportText.{report_text};
+ghost use Rattle.job_spec.specs.ReportText.{report_text};
 
 use crate::lines::{write_attempts, write_closing, write_driver, write_events, write_picks};
 use job_model::{EndList, PickList, Script};

@@ -13,11 +13,11 @@ use Rattle.s3_types.specs.declared.reply.Reply.TheVariants.{Head, Page}
 use Rattle.magic_paths.specs.Layout as layout
 use Rattle.job_model.specs.Jobs.{Job}
 use Rattle.job_model.specs.declared.ends.SetupEnd.TheVariants as ends
-use Rattle.job_operations.specs.AtWork.{job_script}
-use Rattle.job_operations.specs.Conflicts.{checks_all}
+use Rattle.job_protocol.specs.AtWork.{job_script}
+use Rattle.job_protocol.specs.Conflicts.{checks_all}
 use Rattle.list_walk.specs.Walks.{Walked, More, Whole, keys_on, walked, page_after, Sweep, sweep_start, sweep_asks, sweep_hears, all_go}
-use Rattle.job_operations.specs.Setup.{Setup, Heading, Checking, Clearing, Sweeping, SetupOver, setup_asks, setup_hears, lacks_bucket, if_bucket, headed, first_shown, checked_on, checked_by, checked, cleared, sweeping}
-use Rattle.job_operations.proofs.Faults.{if_bucket_so}
+use Rattle.job_protocol.specs.Setup.{Setup, Heading, Checking, Clearing, Sweeping, SetupOver, setup_asks, setup_hears, lacks_bucket, if_bucket, headed, first_shown, checked_on, checked_by, checked, cleared, sweeping}
+use Rattle.job_protocol.proofs.Faults.{if_bucket_so}
 use Rattle.list_walk.specs.Fitting.{FitsPage, FitsSweep}
 use Rattle.list_walk.specs.Left.{walk_left, left_of, adds_key, one_if}
 use Rattle.list_walk.specs.Laws.{LessWalk}

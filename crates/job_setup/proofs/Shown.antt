@@ -17,11 +17,11 @@ use Rattle.job_model.specs.Jobs.{Job}
 use Rattle.job_model.specs.JobScript.{Script}
 use Rattle.job_model.specs.Paths.{is_reserved}
 use Rattle.job_model.specs.Plans.{IsJob}
-use Rattle.job_operations.specs.View.{is_folder}
+use Rattle.job_protocol.specs.View.{is_folder}
 use Rattle.job_model.specs.declared.ends.SetupEnd.{SetupEnd}
 use Rattle.job_model.specs.declared.ends.SetupEnd.TheVariants.{Conflict}
 use Rattle.list_walk.specs.Walks.{walked, walked_by, keys_on, Sweep}
-use Rattle.job_operations.specs.Setup.{Clearing, SetupOver, first_shown, shown_path, or_next, checked, checked_by, checked_on}
+use Rattle.job_protocol.specs.Setup.{Clearing, SetupOver, first_shown, shown_path, or_next, checked, checked_by, checked_on}
 use Rattle.job_setup.specs.Files.{path_behind, first_of}
 use Rattle.job_setup.specs.Held.{setup_at}
 use Rattle.job_setup.specs.declared.held.Stage.{Stage}

@@ -4,8 +4,8 @@ use Rattle.s3_types.specs.declared.reply.Reply.{Reply}
 use Rattle.job_model.specs.declared.ends.SetupEnd.{SetupEnd}
 use Rattle.job_model.specs.declared.ends.SetupEnd.TheVariants.{StoreFault, NoMemory}
 use Rattle.machine.specs.Standing.{Standing, Fine, Faulted, Broken}
-use Rattle.job_operations.specs.AtWork.{Driving}
-use Rattle.job_operations.specs.Setup.{Setup, Heading, Checking, Clearing, Sweeping, SetupOver, lacks_bucket}
+use Rattle.job_protocol.specs.AtWork.{Driving}
+use Rattle.job_protocol.specs.Setup.{Setup, Heading, Checking, Clearing, Sweeping, SetupOver, lacks_bucket}
 use Rattle.list_walk.specs.Fitting.{FitsPage, FitsSweep}
 
 -- a page that is not folded has keys alone; that the bucket is not there fits at each request

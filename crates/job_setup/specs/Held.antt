@@ -2,9 +2,9 @@
 use Rattle.std.specs.Prelude.{ℕ, cond, List, []}
 use Rattle.job_model.specs.JobScript.{Script}
 use Rattle.job_model.specs.declared.ends.SetupEnd.{SetupEnd}
-use Rattle.job_operations.specs.Conflicts.{checks_all}
+use Rattle.job_protocol.specs.Conflicts.{checks_all}
 use Rattle.list_walk.specs.Walks.{keys_on, Sweep}
-use Rattle.job_operations.specs.Setup.{Setup, Heading, Checking, Clearing, Sweeping, SetupOver}
+use Rattle.job_protocol.specs.Setup.{Setup, Heading, Checking, Clearing, Sweeping, SetupOver}
 use Rattle.job_setup.specs.declared.held.Held.{Held}
 use Rattle.job_setup.specs.declared.held.Stage.{Stage}
 use Rattle.job_setup.specs.declared.held.Stage.TheVariants as stages

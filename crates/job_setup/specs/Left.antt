@@ -5,9 +5,9 @@ use Rattle.s3_types.specs.declared.request.Committer.{Committer}
 use Rattle.s3_types.specs.declared.request.Committer.TheVariants.{Magic, Directory, Partitioned}
 use Rattle.magic_paths.specs.Layout as layout
 use Rattle.job_model.specs.Jobs.{Job}
-use Rattle.job_operations.specs.AtWork.{Driving}
+use Rattle.job_protocol.specs.AtWork.{Driving}
 use Rattle.list_walk.specs.Walks.{sweep_start}
-use Rattle.job_operations.specs.Setup.{Setup, Heading, Checking, Clearing, Sweeping, SetupOver}
+use Rattle.job_protocol.specs.Setup.{Setup, Heading, Checking, Clearing, Sweeping, SetupOver}
 use Rattle.list_walk.specs.Left.{walk_left, sweep_left}
 
 -- once the marker is deleted

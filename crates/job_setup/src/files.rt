@@ -1,7 +1,7 @@
 ghost use Rattle.std.specs.Prelude.{◌≡◌, nat_eq, codes, drop, length, option_map, Some, None, IfOk, if◌then◌else◌};
 ghost use Rattle.std.specs.List.{starts_with};
 ghost use Rattle.s3_types.specs.Pages.{begins, text_in};
-ghost use Rattle.job_operations.specs.View.{is_folder, is_file_path};
+ghost use Rattle.job_protocol.specs.View.{is_folder, is_file_path};
 ghost use Rattle.list_walk.specs.Walks.{keys_on};
 ghost use Rattle.job_setup.specs.Files.{first_of, seen_at};
 

@@ -3,7 +3,7 @@
 //!
 //! # What is proved
 //!
-//! `SetupJob`: For every committer it asks, goes on and ends exactly as `job_operations` has it of a
+//! `SetupJob`: For every committer it asks, goes on and ends exactly as `job_protocol` has it of a
 //! set-up, after every list of replies that fit. After want of memory nothing more is asked, and the
 //! end is NoMemory. What is left falls by each answer and worn request, and rises by at most 2 by a
 //! request of another actor (`set_ups_end`). Left open: other replies.

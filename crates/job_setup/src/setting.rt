@@ -1,12 +1,12 @@
 ghost use Rattle.std.specs.Prelude.{⊤};
-ghost use Rattle.job_operations.specs.AtWork.{setup_wants, setup_told};
-ghost use Rattle.job_operations.specs.Setup.{setup_start, setup_over};
+ghost use Rattle.job_protocol.specs.AtWork.{setup_wants, setup_told};
+ghost use Rattle.job_protocol.specs.Setup.{setup_start, setup_over};
 ghost use Rattle.job_setup.specs.Fits.{FitsDriving, standing};
 ghost use Rattle.job_setup.specs.Left.{setup_left};
 ghost use Rattle.job_setup.specs.AskingLaws.{setup_laws};
 
 use crate::held::{Held, Stage};
-use asking::{Asked, Asking, Asks};
+use machine::{Asked, Asking, Asks};
 use job_model::{JobPlan, SetupEnd};
 use s3_types::{Reply, Request, let_go};
 use std::alloc::{AllocError, Global};
@@ -22,8 +22,8 @@ pub struct SettingUp {
 }
 
 impl Model for SettingUp {
-    ghost use Rattle.job_operations.specs.AtWork.{Driving};
-    ghost use Rattle.job_operations.specs.Setup.{Setup};
+    ghost use Rattle.job_protocol.specs.AtWork.{Driving};
+    ghost use Rattle.job_protocol.specs.Setup.{Setup};
     ghost use Rattle.job_setup.specs.Held.{setup_of};
 
     ghost Value = { Driving Setup };

@@ -8,7 +8,7 @@ use Rattle.job_model.specs.declared.events.Event.{Event}
 use Rattle.job_model.specs.declared.ends.EventFault.{EventFault}
 use Rattle.job_model.specs.declared.ends.EventEnd.{EventEnd}
 use Rattle.job_model.specs.declared.ends.EventEnd.TheVariants.{Refused}
-use Rattle.job_promise.specs.States.{Past, open_event, told, end_ops, count, after_event}
+use Rattle.job_spec.specs.States.{Past, open_event, told, end_ops, count, after_event}
 
 -- an event that is not refused is opened, and then its ends come
 pub after_played : (w : Script) (p : Past) (ev : Event) (end : EventEnd) → ((f : EventFault) → end ≡ Refused f → ⊥) → after_event w p ev end ≡ count (end_ops (open_event w p ev) (told ev end))

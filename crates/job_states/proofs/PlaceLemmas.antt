@@ -13,7 +13,7 @@ use Rattle.s3_types.specs.declared.request.Actor.{Actor}
 use Rattle.s3_types.specs.declared.request.Actor.TheVariants.{Driver, Attempt, Shell}
 use Rattle.job_model.specs.Attempts.{Who, Declared, same_name, actor_of, is_known}
 use Rattle.job_model.specs.JobScript.{Script}
-use Rattle.job_promise.specs.States.{same_actor, actors}
+use Rattle.job_spec.specs.States.{same_actor, actors}
 use Rattle.job_states.specs.declared.standing.Standing.{Standing}
 use Rattle.job_states.specs.Stands.{is_at, IsPlace, ChangesAt}
 

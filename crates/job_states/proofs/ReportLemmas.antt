@@ -10,10 +10,10 @@ use Rattle.std.proofs.lemmas.Bool.{eqb-true}
 use Rattle.std.proofs.lemmas.Bool.Decides.{nat_tests}
 use Rattle.std.proofs.lemmas.Option.{slice_get_past}
 use Rattle.std.proofs.Math.Bool.{or-false}
-use Rattle.job_operations.specs.Outputs.{first_where}
+use Rattle.job_protocol.specs.Outputs.{first_where}
 use Rattle.job_model.specs.Jobs.{has_task}
-use Rattle.job_promise.specs.States.{first_not}
-use Rattle.job_promise.specs.Turns.{is_busy}
+use Rattle.job_spec.specs.States.{first_not}
+use Rattle.job_spec.specs.Turns.{is_busy}
 use Rattle.job_states.specs.declared.standing.Standing.{Standing}
 use Rattle.job_states.specs.Stands.{tested, first_false, busy_from}
 

@@ -18,7 +18,7 @@ use Rattle.job_model.specs.declared.states.Life.TheVariants.{Busy}
 use Rattle.job_model.specs.declared.states.ActorStage.{ActorStage}
 use Rattle.job_model.specs.declared.states.ActorStage.TheVariants as stage
 use Rattle.job_model.specs.declared.states.ActorState.{ActorState}
-use Rattle.job_promise.specs.States.{Past, Doing, Decided, same_actor, put, idle, dead, ended, restarted, begin, kill, restart, end_op, report, is_committing, is_done, is_setup, is_commit, decide, stage_begun, stage_done, missing}
+use Rattle.job_spec.specs.States.{Past, Doing, Decided, same_actor, put, idle, dead, ended, restarted, begin, kill, restart, end_op, report, is_committing, is_done, is_setup, is_commit, decide, stage_begun, stage_done, missing}
 use Rattle.job_states.specs.declared.standing.Standing.{Standing}
 use Rattle.job_states.specs.Standing.{standing, fresh, begun_in, ended_in, killed_in, renewed_in, began, same_op, decision}
 use Rattle.job_states.specs.Stands.{tested, ChangesAt}

@@ -6,7 +6,7 @@ use Rattle.job_model.specs.declared.events.Op.TheVariants as ops
 use Rattle.job_model.specs.declared.ends.OpEnd.{OpEnd}
 use Rattle.job_model.specs.declared.states.Life.TheVariants as lives
 use Rattle.job_model.specs.declared.states.ActorStage.TheVariants as stages
-use Rattle.job_promise.specs.States.{Past, Decided, NotBegun, Unended, EndedSo, idle, dead, stage_begun, ended, restarted, end_verdict}
+use Rattle.job_spec.specs.States.{Past, Decided, NotBegun, Unended, EndedSo, idle, dead, stage_begun, ended, restarted, end_verdict}
 use Rattle.job_states.specs.declared.standing.Standing.{Standing}
 use Rattle.job_states.specs.declared.standing.Decision.{Decision}
 use Rattle.job_states.specs.declared.standing.Decision.TheVariants as kept

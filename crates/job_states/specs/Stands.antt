@@ -4,8 +4,8 @@ use Rattle.std.specs.List.{range_with_len}
 use Rattle.s3_types.specs.declared.request.Actor.{Actor}
 use Rattle.job_model.specs.Attempts.{is_known}
 use Rattle.job_model.specs.JobScript.{Script}
-use Rattle.job_promise.specs.States.{Past, same_actor, actors, is_committing}
-use Rattle.job_promise.specs.Turns.{is_busy}
+use Rattle.job_spec.specs.States.{Past, same_actor, actors, is_committing}
+use Rattle.job_spec.specs.Turns.{is_busy}
 use Rattle.job_states.specs.declared.standing.Standing.{Standing}
 use Rattle.job_states.specs.declared.standing.Decision.{Decision}
 use Rattle.job_states.specs.Standing.{standing, decision}

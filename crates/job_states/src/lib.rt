@@ -3,7 +3,7 @@
 //!
 //! # What is proved
 //!
-//! `States`: What is past of a run by `job_promise` (`Stands`): lives and stages, what each began last,
+//! `States`: What is past of a run by `job_spec` (`Stands`): lives and stages, what each began last,
 //! what is reported, and what decides the status. `open`, `end`, `count`, `pass` and `after` go on as
 //! that fold does; `state`, `is_busy`, `begun_last`, `missing`, `attempt`, `events` and `verdict`
 //! answer what it has, `refusal` by the table, `busy` the busy actors in their order, `reported` the

@@ -1,7 +1,7 @@
 ghost use Rattle.std.specs.Prelude.{◌≡◌, map, slice_get, true, false};
 ghost use Rattle.s3_types.specs.declared.request.Actor.{Actor};
 ghost use Rattle.job_model.specs.Attempts.{is_known};
-ghost use Rattle.job_promise.specs.States.{actors};
+ghost use Rattle.job_spec.specs.States.{actors};
 ghost use Rattle.job_states.specs.declared.standing.Standing.{Standing};
 ghost use Rattle.job_states.specs.Standing.{fresh};
 ghost use Rattle.job_states.specs.Stands.{IsPlace, ChangesAt};

@@ -1,5 +1,5 @@
 ghost use Rattle.std.specs.Prelude.{◌≡◌, ◌&&◌};
-ghost use Rattle.job_promise.specs.States.{is_new, driver_may, attempt_may, may, needs_set, refuse_op, refuse_begin, refuse_move, refuse_kill, refuse_restart};
+ghost use Rattle.job_spec.specs.States.{is_new, driver_may, attempt_may, may, needs_set, refuse_op, refuse_begin, refuse_move, refuse_kill, refuse_restart};
 
 use job_model::{ActorStage, EventFault, Life, Op};
 use s3_types::Actor;

@@ -1,5 +1,5 @@
 ghost use Rattle.std.specs.Prelude.{◌≡◌, ◌&&◌};
-ghost use Rattle.job_promise.specs.States.{Decided, stage_begun, stage_done, restarted, task_ended, ended, is_committing, is_done, setup_begun, commit_begun, decide, end_verdict, verdict_or};
+ghost use Rattle.job_spec.specs.States.{Decided, stage_begun, stage_done, restarted, task_ended, ended, is_committing, is_done, setup_begun, commit_begun, decide, end_verdict, verdict_or};
 ghost use Rattle.job_states.specs.Standing.{decision, begun_in, ended_in, killed_in, renewed_in, began};
 
 use job_model::{ActorStage, ActorState, CleanEnd, CommitEnd, Life, Op, OpEnd, SetupEnd, TaskEnd};

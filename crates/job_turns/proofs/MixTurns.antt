@@ -3,11 +3,11 @@ use Rattle.std.proofs.Common.{◌≡◌, ℕ, ◌+◌, ◌*◌, ◌/◌, ◌%◌
 use Rattle.std.specs.List.{remove}
 use Rattle.std.proofs.lemmas.Option.{slice_get_within}
 use Rattle.std.proofs.lemmas.List.Edits.{length-remove}
-use Rattle.request_frame.proofs.Members.{none_some}
+use Rattle.proof_base.proofs.Members.{none_some}
 use Rattle.s3_types.specs.declared.request.Actor.{Actor}
 use Rattle.s3_types.specs.declared.journal.Entry.{Entry}
 use Rattle.job_model.specs.declared.ends.ActorEnd.{ActorEnd}
-use Rattle.job_promise.specs.Turns.{Mixing, mix_begins, mix_sends, mix_ends, mix_dies, draw, place}
+use Rattle.job_spec.specs.Turns.{Mixing, mix_begins, mix_sends, mix_ends, mix_dies, draw, place}
 use Rattle.job_turns.specs.Turning.{Table, Turned}
 use Rattle.job_turns.specs.Mixes.{AreApart, AreGoing, Mixed, Mixes}
 use Rattle.job_turns.specs.declared.actors.Turn.TheVariants.{GoesOn, Ended, Died}

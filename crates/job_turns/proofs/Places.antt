@@ -2,7 +2,7 @@
 use Rattle.std.proofs.Common.{◌≡◌, ℕ, zero, suc, ◌==◌, ◌⊎◌, inl, inr, Bool, true, false, arith, List, [], ◌∷◌, map, length, slice_get, Some, refl, sym, ap, ◌∙◌}
 use Rattle.std.specs.List.{remove}
 use Rattle.std.proofs.lemmas.Bool.Decides.{nat_tests}
-use Rattle.request_frame.proofs.Members.{some_is, none_some}
+use Rattle.proof_base.proofs.Members.{some_is, none_some}
 use Rattle.job_turns.specs.Mixes.{IsNotIn, AreApart}
 
 eq_or : (a b : ℕ) (t : Bool) → (a == b) ≡ t → (a ≡ b) ⊎ (a ≡ b → ⊥)

@@ -4,7 +4,7 @@ use Rattle.s3_types.specs.declared.request.Actor.{Actor}
 use Rattle.s3_types.specs.declared.journal.Entry.{Entry}
 use Rattle.job_model.specs.declared.ends.ActorEnd.{ActorEnd}
 use Rattle.job_model.specs.declared.ends.OpEnd.{OpEnd}
-use Rattle.job_promise.specs.Turns.{AllBy, StepEnds, is_memory}
+use Rattle.job_spec.specs.Turns.{AllBy, StepEnds, is_memory}
 use Rattle.job_turns.specs.declared.actors.Turn.{Turn}
 use Rattle.job_turns.specs.declared.actors.Turn.TheVariants.{GoesOn, Ended, Died}
 

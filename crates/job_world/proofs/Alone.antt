@@ -5,8 +5,8 @@ use Rattle.s3_types.specs.Foretold.{IsForetold, AreForetold}
 use Rattle.s3_types.specs.declared.fates.Fate.{Fate}
 use Rattle.s3_types.specs.declared.journal.Entry.{Entry}
 use Rattle.job_model.specs.JobScript.{Script}
-use Rattle.job_promise.specs.Entries.{AreOwn}
-use Rattle.job_promise.specs.Turns.{is_own}
+use Rattle.job_spec.specs.Entries.{AreOwn}
+use Rattle.job_spec.specs.Turns.{is_own}
 use Rattle.job_world.specs.Holds.{IsAlone}
 
 own_last : (es : List Entry) (e : Entry) → AreOwn es → is_own e.actor ≡ true → AreOwn (es ++ e ∷ [])

@@ -1,6 +1,6 @@
 -- What is carried along a run of a job: what each actor knew as it last sent, who commits the job, and how many events there were.
 use Rattle.std.proofs.Common.{◌≡◌, ℕ, ◌<◌, inl, inr, false, List, [], ◌∷◌, ◌++◌, length, Option, Some, None, refl, sym, ap, ◌∙◌}
-use Rattle.request_frame.proofs.Members.{some_is, none_some}
+use Rattle.proof_base.proofs.Members.{some_is, none_some}
 use Rattle.s3_types.specs.Store.{Content}
 use Rattle.s3_types.specs.declared.request.Actor.{Actor}
 use Rattle.s3_types.specs.declared.request.Actor.TheVariants.{Driver, Attempt, Shell}
@@ -15,14 +15,14 @@ use Rattle.job_model.specs.declared.events.Op.{Op}
 use Rattle.job_model.specs.declared.events.Op.TheVariants as ops
 use Rattle.job_model.specs.declared.events.Event.{Event}
 use Rattle.job_model.specs.declared.events.Event.TheVariants.{Do, Start}
-use Rattle.job_operations.specs.Knowledge.{learn, knows, knows_from}
-use Rattle.job_operations.specs.Operations.{Setting, Operation, Running, TheSetup, who, tells, learn_of, advance, start_of}
-use Rattle.job_promise.specs.States.{put, missing}
-use Rattle.job_promise.specs.Turns.{by_actor}
-use Rattle.job_happenings.specs.Happenings.{Play, Refuses, Opens, Sends, Finishes, Closes, Strays, begun, open_running, hear, happen, MayOpen, MaySend, Happened, nothing_happened, happens, nothing_played, knows_now}
-use Rattle.job_happenings.proofs.Actors.{same_true, same_or_not, put_here, put_other, same_false}
-use Rattle.job_happenings.proofs.Parts.{by_itself, by_another, by_own}
-use Rattle.job_works.specs.Picks.{is_job_commit, is_committing}
+use Rattle.job_protocol.specs.Knowledge.{learn, knows, knows_from}
+use Rattle.job_protocol.specs.Operations.{Setting, Operation, Running, TheSetup, who, tells, learn_of, advance, start_of}
+use Rattle.job_spec.specs.States.{put, missing}
+use Rattle.job_spec.specs.Turns.{by_actor}
+use Rattle.job_steps.specs.Transitions.{Play, Refuses, Opens, Sends, Finishes, Closes, Strays, begun, open_running, hear, happen, MayOpen, MaySend, Reachable, nothing_happened, happens, nothing_played, knows_now}
+use Rattle.job_steps.proofs.Actors.{same_true, same_or_not, put_here, put_other, same_false}
+use Rattle.job_steps.proofs.Parts.{by_itself, by_another, by_own}
+use Rattle.job_actor.specs.Picks.{is_job_commit, is_committing}
 use Rattle.job_world.proofs.Places.{within}
 
 -- what is carried
@@ -159,7 +159,7 @@ module _ (g : Setting) (opening : Content) where
 
   -- ---- all of it
 
-  pub carried : (x : Play) → Happened g opening x → Carried g x
+  pub carried : (x : Play) → Reachable g opening x → Carried g x
   carried x (nothing_happened) = first
   carried x (happens y (Refuses f) past may) = let c = carried y past in record { known = c.known; nobody = c.nobody; whose = c.whose; few = λ ev e. absurd (none_some refl e) }
   carried x (happens y (Opens ev) past may) = opens y ev may (carried y past)

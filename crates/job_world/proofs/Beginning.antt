@@ -2,7 +2,7 @@
 use Rattle.std.proofs.Common.{◌≡◌, ℕ, ◌-◌, ◌^◌, ◌<◌, ◌⊎◌, inl, inr, not, true, false, List, [], length, slice_get, Option, Some, None, vec_len, vec_capacity, refl, sym, ap, subst, ◌∙◌, append-nil, arith}
 use Rattle.std.specs.Prelude.{IsSome, is_some, IfOk, Result, Ok, Err}
 use Rattle.std.proofs.lemmas.Option.{slice_get_within}
-use Rattle.request_frame.proofs.Members.{none_some, false_true}
+use Rattle.proof_base.proofs.Members.{none_some, false_true}
 use Rattle.s3_types.specs.declared.request.Request.{Request}
 use Rattle.s3_types.specs.declared.request.Actor.{Actor}
 use Rattle.s3_types.specs.declared.request.Actor.TheVariants.{Driver, Attempt, Shell}
@@ -19,18 +19,18 @@ use Rattle.job_model.specs.declared.ends.OpEnd.{OpEnd}
 use Rattle.job_model.specs.declared.ends.Pick.{Pick}
 use Rattle.job_model.specs.declared.states.Life.{Life}
 use Rattle.job_model.specs.declared.states.Life.TheVariants.{Idle, Dead}
-use Rattle.job_operations.specs.Knowledge.{knows}
-use Rattle.job_operations.specs.Operations.{Setting, Running, who, start_of, over}
-use Rattle.job_promise.specs.States.{Past, actors, missing, refusal, refuse_begin, open_event}
-use Rattle.job_promise.specs.Turns.{by_actor}
-use Rattle.acting.specs.Plans.{IsPlanOf}
-use Rattle.acting.specs.declared.plan.Plan as acting
-use Rattle.job_happenings.specs.Happenings.{Play, Opens, MayOpen, begun, happen, knows_now}
-use Rattle.job_happenings.specs.Running.{Ahead}
-use Rattle.job_happenings.proofs.Running.{is_run}
+use Rattle.job_protocol.specs.Knowledge.{knows}
+use Rattle.job_protocol.specs.Operations.{Setting, Running, who, start_of, over}
+use Rattle.job_spec.specs.States.{Past, actors, missing, refusal, refuse_begin, open_event}
+use Rattle.job_spec.specs.Turns.{by_actor}
+use Rattle.job_actor.specs.Plans.{IsPlanOf}
+use Rattle.job_actor.specs.declared.plan.Plan as acting
+use Rattle.job_steps.specs.Transitions.{Play, Opens, MayOpen, begun, happen, knows_now}
+use Rattle.job_steps.specs.Running.{Ahead}
+use Rattle.job_steps.proofs.Running.{is_run}
 use Rattle.job_states.specs.Stands.{Stands, IsPlace}
-use Rattle.job_works.specs.Works.{Starts}
-use Rattle.job_works.specs.Picks.{PicksGo, is_job_commit}
+use Rattle.job_actor.specs.Works.{Starts}
+use Rattle.job_actor.specs.Picks.{PicksGo, is_job_commit}
 use Rattle.job_world.specs.Holds.{Holds, HandIs, PutBy, Quiet, all_sound, all_but, setting_of}
 use Rattle.job_world.specs.Events.{Next, IsFine, HasRoom, IsOpened, Emptied, put_away, knows_of, GivesPlan, IsWork, Begun, BeginsBy}
 use Rattle.job_world.specs.declared.hands.Hand.{Hand}

@@ -1,7 +1,7 @@
 -- An event of a world has its end: all holds between events again.
 use Rattle.std.proofs.Common.{◌≡◌, ◌+◌, not, true, List, [], ◌∷◌, ◌++◌, length, Option, Some, None, refl, sym, ap, subst, ◌∙◌}
 use Rattle.std.specs.Prelude.{IsSome, is_some}
-use Rattle.request_frame.proofs.Members.{some_is, false_true}
+use Rattle.proof_base.proofs.Members.{some_is, false_true}
 use Rattle.s3_types.specs.declared.request.Request.{Request}
 use Rattle.s3_types.specs.declared.request.Actor.{Actor}
 use Rattle.s3_types.specs.declared.request.Actor.TheVariants.{Driver}
@@ -13,11 +13,11 @@ use Rattle.job_model.specs.declared.ends.EventFault.{EventFault}
 use Rattle.job_model.specs.declared.ends.OpEnd.{OpEnd}
 use Rattle.job_model.specs.declared.ends.Pick.{Pick}
 use Rattle.job_model.specs.declared.states.Life.TheVariants.{Busy}
-use Rattle.job_operations.specs.Operations.{Setting, Running, over}
-use Rattle.job_promise.specs.States.{Past, count}
-use Rattle.job_promise.specs.Turns.{is_busy, of_event, Turns}
-use Rattle.job_happenings.specs.Happenings.{Play, Refuses, Closes, happen, happens, MayClose}
-use Rattle.job_happenings.proofs.PastMore.{busy_so}
+use Rattle.job_protocol.specs.Operations.{Setting, Running, over}
+use Rattle.job_spec.specs.States.{Past, count}
+use Rattle.job_spec.specs.Turns.{is_busy, of_event, Turns}
+use Rattle.job_steps.specs.Transitions.{Play, Refuses, Closes, happen, happens, MayClose}
+use Rattle.job_steps.proofs.PastMore.{busy_so}
 use Rattle.job_states.specs.Stands.{Stands}
 use Rattle.job_world.specs.Sending.{Asks}
 use Rattle.job_world.specs.Holds.{Holds, HandIs, Going, Quiet, all_sound, setting_of, is_busy_at}

@@ -1,6 +1,6 @@
 -- The entries that an event of a world has are by turns.
 use Rattle.std.proofs.Common.{◌≡◌, ℕ, Bool, true, false, List, [], ◌∷◌, ◌++◌, map, length, slice_get, Option, Some, refl, sym, ap, subst, ◌∙◌}
-use Rattle.request_frame.proofs.Members.{none_some}
+use Rattle.proof_base.proofs.Members.{none_some}
 use Rattle.s3_types.specs.Store.{Scene}
 use Rattle.s3_types.specs.declared.request.Actor.{Actor}
 use Rattle.s3_types.specs.declared.journal.Entry.{Entry}
@@ -10,8 +10,8 @@ use Rattle.job_model.specs.declared.events.Event.{Event}
 use Rattle.job_model.specs.declared.events.Event.TheVariants.{Do, Start, Step, Run, Kill, Mix, Restart, Recover}
 use Rattle.job_model.specs.declared.ends.EventEnd.{EventEnd}
 use Rattle.job_model.specs.declared.ends.EventEnd.TheVariants.{Done, Ended}
-use Rattle.job_promise.specs.States.{actors, past, told}
-use Rattle.job_promise.specs.Turns.{Turns, AllBy, StepEnds, Mixing, is_memory, busy_actors}
+use Rattle.job_spec.specs.States.{actors, past, told}
+use Rattle.job_spec.specs.Turns.{Turns, AllBy, StepEnds, Mixing, is_memory, busy_actors}
 use Rattle.job_turns.specs.Turning.{Ran, Stepped}
 use Rattle.job_turns.specs.Mixes as mixes
 use Rattle.job_world.specs.Holds.{Same, table_of, actor_or}

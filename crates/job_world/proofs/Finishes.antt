@@ -1,7 +1,7 @@
 -- What holds of a world where an operation of one of its actors ends.
 use Rattle.std.proofs.Common.{◌≡◌, ℕ, ◌<◌, ◌≤◌, ◌⊎◌, inl, inr, not, Bool, true, false, List, [], ◌∷◌, ◌++◌, length, slice_get, Option, Some, None, IsSome, Vec, Global, vec_capacity, refl, sym, ap, subst, ◌∙◌, append-nil, arith}
 use Rattle.std.specs.Prelude.{is_some}
-use Rattle.request_frame.proofs.Members.{some_is, none_some, false_true, none_or_some, nat_false, same_or_not as same_number}
+use Rattle.proof_base.proofs.Members.{some_is, none_some, false_true, none_or_some, nat_false, same_or_not as same_number}
 use Rattle.s3_types.specs.Store.{Content}
 use Rattle.s3_types.specs.declared.request.Actor.{Actor}
 use Rattle.s3_types.specs.declared.request.Actor.TheVariants.{Driver}
@@ -21,16 +21,16 @@ use Rattle.job_model.specs.declared.states.Life.{Life}
 use Rattle.job_model.specs.declared.states.Life.TheVariants.{Busy}
 use Rattle.job_model.specs.declared.states.ActorStage.{ActorStage}
 use Rattle.job_model.specs.declared.states.ActorState.{ActorState}
-use Rattle.job_operations.specs.Operations.{Setting, Running, over}
-use Rattle.job_promise.specs.States.{Past, actors, ended, is_commit, decide, end_op}
-use Rattle.job_promise.specs.Turns.{is_busy, is_memory, is_wanting}
-use Rattle.job_promise.specs.Promise.{lacked_memory}
+use Rattle.job_protocol.specs.Operations.{Setting, Running, over}
+use Rattle.job_spec.specs.States.{Past, actors, ended, is_commit, decide, end_op}
+use Rattle.job_spec.specs.Turns.{is_busy, is_memory, is_wanting}
+use Rattle.job_spec.specs.Promise.{lacked_memory}
 use Rattle.job_states.specs.Standing.{standing}
 use Rattle.job_states.specs.Stands.{Kept, Stands}
-use Rattle.job_happenings.specs.Happenings.{Play, Finishes, happen, MayFinish, Happened, happens, knows_now}
-use Rattle.job_happenings.proofs.Actors.{put_here, put_other}
-use Rattle.job_happenings.proofs.Told.{told_all}
-use Rattle.job_works.specs.Picks.{is_committing}
+use Rattle.job_steps.specs.Transitions.{Play, Finishes, happen, MayFinish, Reachable, happens, knows_now}
+use Rattle.job_steps.proofs.Actors.{put_here, put_other}
+use Rattle.job_steps.proofs.Told.{told_all}
+use Rattle.job_actor.specs.Picks.{is_committing}
 use Rattle.job_world.specs.Sending.{hand_end}
 use Rattle.job_world.specs.Holds.{Holds, HandIs, HandsAre, IsLost, IsOver, all_sound, all_but, busy_in, is_busy_at, setting_of}
 use Rattle.job_world.specs.declared.hands.Hand.{Hand}
@@ -112,7 +112,7 @@ has_hand is_of running picks_of sound b place a h here =
 
 -- how picks go with what the driver does
 abbrev pub Doing : Type 0
-Doing = (g : Setting) (opening : Content) (x : Play) → IsLegal g.script → Happened g opening x → is_committing (x.running Driver) ≡ is_commit (x.live.doing Driver)
+Doing = (g : Setting) (opening : Content) (x : Play) → IsLegal g.script → Reachable g opening x → is_committing (x.running Driver) ≡ is_commit (x.live.doing Driver)
 
 module _ {W : Type 0} (is_of : Setting → Actor → W → Type 0) (running : Known → W → Running) (picks_of : W → Option (List Pick)) where
   -- ---- hands

@@ -1,6 +1,6 @@
 -- What a hand and the picks that were put by keep from one moment of a run to a later one that leaves their actor.
 use Rattle.std.proofs.Common.{◌≡◌, inl, inr, Bool, true, false, List, [], ◌∷◌, append_assoc, Option, Some, None, refl, sym, ap, subst, ◌∙◌}
-use Rattle.request_frame.proofs.Members.{none_some}
+use Rattle.proof_base.proofs.Members.{none_some}
 use Rattle.s3_types.specs.Store.{Content}
 use Rattle.s3_types.specs.declared.request.Actor.{Actor}
 use Rattle.s3_types.specs.declared.request.Actor.TheVariants.{Driver}
@@ -14,17 +14,17 @@ use Rattle.job_model.specs.declared.ends.EventFault.{EventFault}
 use Rattle.job_model.specs.declared.ends.Pick.{Pick}
 use Rattle.job_model.specs.declared.states.Life.TheVariants.{Dead}
 use Rattle.job_model.specs.declared.states.ActorState.{ActorState}
-use Rattle.job_operations.specs.Knowledge.{knows}
-use Rattle.job_operations.specs.Operations.{Setting, Running, who}
-use Rattle.job_promise.specs.States.{Past, Decided, put, open_event, commit_begun, dead, idle, restarted, is_refused}
-use Rattle.job_promise.specs.Turns.{is_busy, by_actor}
-use Rattle.job_promise.specs.Promise.{ArePicked, all_picks, lacked_memory}
-use Rattle.acting.specs.Plans.{IsPlanOf}
-use Rattle.job_happenings.specs.Happenings.{Play, Refuses, Opens, Closes, open_running, happen, MayClose}
-use Rattle.job_happenings.specs.Running.{Ahead}
-use Rattle.job_happenings.proofs.Actors.{same_or_not, put_here, put_other}
-use Rattle.job_happenings.proofs.PastMore.{turns_refused}
-use Rattle.job_works.specs.Picks.{ArePicksOf, HasPicked, is_committing}
+use Rattle.job_protocol.specs.Knowledge.{knows}
+use Rattle.job_protocol.specs.Operations.{Setting, Running, who}
+use Rattle.job_spec.specs.States.{Past, Decided, put, open_event, commit_begun, dead, idle, restarted, is_refused}
+use Rattle.job_spec.specs.Turns.{is_busy, by_actor}
+use Rattle.job_spec.specs.Promise.{ArePicked, all_picks, lacked_memory}
+use Rattle.job_actor.specs.Plans.{IsPlanOf}
+use Rattle.job_steps.specs.Transitions.{Play, Refuses, Opens, Closes, open_running, happen, MayClose}
+use Rattle.job_steps.specs.Running.{Ahead}
+use Rattle.job_steps.proofs.Actors.{same_or_not, put_here, put_other}
+use Rattle.job_steps.proofs.PastMore.{turns_refused}
+use Rattle.job_actor.specs.Picks.{ArePicksOf, HasPicked, is_committing}
 use Rattle.job_world.specs.Holds.{HandIs, PutBy}
 use Rattle.job_world.specs.declared.hands.Hand.{Hand}
 use Rattle.job_world.specs.declared.hands.Hand.TheVariants.{Plan, At, Empty}

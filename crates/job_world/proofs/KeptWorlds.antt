@@ -1,27 +1,27 @@
 -- That a world keeps what is promised of its job, between its events.
 use Rattle.std.proofs.Common.{◌≡◌, ◌<◌, inl, inr, Bool, true, false, List, [], ◌∷◌, ◌++◌, append-nil, length, slice_get, Option, Some, None, refl, sym, ap, subst, ◌∙◌, arith}
 use Rattle.std.specs.Prelude.{is_some, unwrap_or}
-use Rattle.request_frame.proofs.Members.{false_true}
+use Rattle.proof_base.proofs.Members.{false_true}
 use Rattle.s3_types.specs.Store.{Content}
 use Rattle.s3_types.specs.declared.request.Request.{Request}
 use Rattle.s3_types.specs.declared.request.Actor.{Actor}
 use Rattle.s3_types.specs.declared.request.Actor.TheVariants.{Driver}
 use Rattle.job_model.specs.Known.{Known}
 use Rattle.job_model.specs.declared.ends.Pick.{Pick}
-use Rattle.job_operations.specs.Operations.{Setting, Running}
-use Rattle.job_promise.specs.States.{Past, actors, past}
-use Rattle.job_promise.specs.Entries.{AreOwn}
-use Rattle.job_promise.specs.Promise.{Promised, Sent, Finished, ArePicked, all_picks, lacked_memory}
+use Rattle.job_protocol.specs.Operations.{Setting, Running}
+use Rattle.job_spec.specs.States.{Past, actors, past}
+use Rattle.job_spec.specs.Entries.{AreOwn}
+use Rattle.job_spec.specs.Promise.{Promised, Sent, Finished, ArePicked, all_picks, lacked_memory}
 use Rattle.job_states.specs.Stands.{Stands}
-use Rattle.job_happenings.specs.Happenings.{Play, knows_now}
-use Rattle.job_happenings.specs.Laws.{IsPlayed}
-use Rattle.job_happenings.specs.Running.{Ahead}
-use Rattle.job_happenings.proofs.Played.{happenings_play}
-use Rattle.job_kept.specs.Laws.{FactsHold}
-use Rattle.job_kept.proofs.Ending.{ahead_none}
-use Rattle.job_kept.proofs.Facts.{runs_hold_facts}
-use Rattle.job_kept.proofs.Kept.{runs_are_kept}
-use Rattle.job_works.specs.Picks.{HasPicked, is_committing, is_job_commit}
+use Rattle.job_steps.specs.Transitions.{Play, knows_now}
+use Rattle.job_steps.specs.Laws.{IsPlayed}
+use Rattle.job_steps.specs.Running.{Ahead}
+use Rattle.job_steps.proofs.Played.{happenings_play}
+use Rattle.job_safety.specs.Laws.{FactsHold}
+use Rattle.job_safety.proofs.Ending.{ahead_none}
+use Rattle.job_safety.proofs.Facts.{runs_hold_facts}
+use Rattle.job_safety.proofs.Kept.{runs_are_kept}
+use Rattle.job_actor.specs.Picks.{HasPicked, is_committing, is_job_commit}
 use Rattle.job_world.specs.Holds.{HandIs, PutBy, Quiet, setting_of}
 use Rattle.job_world.specs.Events.{Grown, IsAsBefore}
 use Rattle.job_world.specs.Worlds.{run_of, picks_in, Keeps, WentOn, FoundNone}

@@ -1,7 +1,7 @@
 -- Of a legal script's run: who is busy is of the job, an attempt that is idle has ended its operation, and restarts are few.
 use Rattle.std.proofs.Common.{◌≡◌, ◌+◌, ◌≤◌, inl, inr, true, false, List, [], ◌∷◌, ◌++◌, length, length-append, Option, Some, None, refl, sym, ap, subst, ◌∙◌, arith}
 use Rattle.std.specs.Prelude.{IsSome}
-use Rattle.request_frame.proofs.Members.{some_is, none_some, false_true}
+use Rattle.proof_base.proofs.Members.{some_is, none_some, false_true}
 use Rattle.s3_types.specs.Store.{Content}
 use Rattle.s3_types.specs.declared.request.Actor.{Actor}
 use Rattle.s3_types.specs.declared.request.Actor.TheVariants.{Driver}
@@ -27,14 +27,14 @@ use Rattle.job_model.specs.declared.states.Life.{Life}
 use Rattle.job_model.specs.declared.states.Life.TheVariants.{Idle, Busy, Dead}
 use Rattle.job_model.specs.declared.states.ActorStage.{ActorStage}
 use Rattle.job_model.specs.declared.states.ActorState.{ActorState}
-use Rattle.job_operations.specs.Operations.{Setting, Running, over}
-use Rattle.job_promise.specs.States.{Past, put, dead, idle, restarted, end_op, open_event, ended}
-use Rattle.job_promise.specs.Turns.{is_busy, is_memory}
-use Rattle.job_happenings.specs.Happenings.{Play, Happening, Refuses, Opens, Sends, Finishes, Closes, Strays, open_running, hear, happen, Allowed, Happened, nothing_happened, happens}
-use Rattle.job_happenings.proofs.Actors.{same_or_not, put_here, put_other}
-use Rattle.job_happenings.proofs.PastMore.{event_at, ended_idle}
-use Rattle.job_happenings.proofs.RunningStages.{may_end}
-use Rattle.job_happenings.proofs.Told.{told_all}
+use Rattle.job_protocol.specs.Operations.{Setting, Running, over}
+use Rattle.job_spec.specs.States.{Past, put, dead, idle, restarted, end_op, open_event, ended}
+use Rattle.job_spec.specs.Turns.{is_busy, is_memory}
+use Rattle.job_steps.specs.Transitions.{Play, Transition, Refuses, Opens, Sends, Finishes, Closes, Strays, open_running, hear, happen, Enabled, Reachable, nothing_happened, happens}
+use Rattle.job_steps.proofs.Actors.{same_or_not, put_here, put_other}
+use Rattle.job_steps.proofs.PastMore.{event_at, ended_idle}
+use Rattle.job_steps.proofs.RunningStages.{may_end}
+use Rattle.job_steps.proofs.Told.{told_all}
 
 -- ---- who is busy is of the job
 
@@ -140,14 +140,14 @@ pub record Lives (g : Setting) (x : Play) : Type 0 where
   pub past_few : x.past.attempt ≤ length x.ends + 1
   pub live_few : x.live.attempt ≤ length x.ends + 2
 
-module _ (g : Setting) (opening : Content) (legal : IsLegal g.script) (x : Play) (run : Happened g opening x) (old : Lives g x) where
+module _ (g : Setting) (opening : Content) (legal : IsLegal g.script) (x : Play) (run : Reachable g opening x) (old : Lives g x) where
   live_is : x.now ≡ None → x.live ≡ x.past
   live_is idle = ((told_all g opening x run).closed idle).0
 
   longer : (end : EventEnd) → length (x.ends ++ end ∷ []) ≡ length x.ends + 1
   longer end = length-append x.ends (end ∷ [])
 
-  lives_more : (h : Happening) → Allowed g opening x h → Lives g (happen g x h)
+  lives_more : (h : Transition) → Enabled g opening x h → Lives g (happen g x h)
   lives_more (Refuses f) ok =
       let same = live_is ok.1.idle in
       let few = old.past_few in
@@ -197,7 +197,7 @@ module _ (g : Setting) (opening : Content) (legal : IsLegal g.script) (x : Play)
       }
   lives_more (Strays r o) ok = record { known = old.known; over = old.over; past_few = old.past_few; live_few = old.live_few }
 
-pub lives : (g : Setting) (opening : Content) (x : Play) → IsLegal g.script → Happened g opening x → Lives g x
+pub lives : (g : Setting) (opening : Content) (x : Play) → IsLegal g.script → Reachable g opening x → Lives g x
 lives g opening x legal nothing_happened = record {
   known = λ a busy. absurd (false_true refl busy);
   over = λ a nd idle m at. absurd (none_some refl at);

@@ -7,13 +7,13 @@ use Rattle.job_model.specs.Legal.{IsEvent}
 use Rattle.job_model.specs.declared.events.Event.{Event}
 use Rattle.job_model.specs.declared.ends.EventFault.{EventFault}
 use Rattle.job_model.specs.declared.ends.Pick.{Pick}
-use Rattle.job_operations.specs.Operations.{Setting, Running}
-use Rattle.job_promise.specs.States.{Past, actors, refusal, past}
-use Rattle.job_promise.specs.Turns.{is_busy, of_event}
-use Rattle.job_happenings.specs.Happenings.{Play, MayOpen}
-use Rattle.job_happenings.proofs.Parts.{event_none}
-use Rattle.job_happenings.proofs.PastMore.{event_at}
-use Rattle.job_happenings.proofs.Told.{Told, told_all}
+use Rattle.job_protocol.specs.Operations.{Setting, Running}
+use Rattle.job_spec.specs.States.{Past, actors, refusal, past}
+use Rattle.job_spec.specs.Turns.{is_busy, of_event}
+use Rattle.job_steps.specs.Transitions.{Play, MayOpen}
+use Rattle.job_steps.proofs.Parts.{event_none}
+use Rattle.job_steps.proofs.PastMore.{event_at}
+use Rattle.job_steps.proofs.Told.{Told, told_all}
 use Rattle.job_world.specs.Holds.{Holds, setting_of, is_busy_at}
 use Rattle.job_world.specs.Events.{Next, event_entries}
 use Rattle.job_world.specs.declared.hands.Hand.{Hand}

@@ -1,6 +1,6 @@
 -- Events of a world that move busy actors, or nobody: what is asked of turns and of the event's end.
 use Rattle.std.proofs.Common.{◌≡◌, ℕ, ◌-◌, ◌<◌, ◌≤◌, true, List, [], map, length, slice_get, Option, Some, None, vec_len, vec_capacity, refl, sym, ap, subst, ◌∙◌, arith}
-use Rattle.request_frame.proofs.Members.{none_some}
+use Rattle.proof_base.proofs.Members.{none_some}
 use Rattle.s3_types.specs.declared.request.Request.{Request}
 use Rattle.s3_types.specs.declared.request.Actor.{Actor}
 use Rattle.job_model.specs.Attempts.{is_known}
@@ -13,9 +13,9 @@ use Rattle.job_model.specs.declared.ends.Pick.{Pick}
 use Rattle.job_model.specs.declared.states.Life.{Life}
 use Rattle.job_model.specs.declared.states.Life.TheVariants.{Busy}
 use Rattle.job_model.specs.declared.states.ActorState.{ActorState}
-use Rattle.job_operations.specs.Operations.{Setting, Running}
-use Rattle.job_promise.specs.States.{Past, actors, past, refusal, refuse_move, open_event}
-use Rattle.job_promise.specs.Turns.{is_busy, busy_actors}
+use Rattle.job_protocol.specs.Operations.{Setting, Running}
+use Rattle.job_spec.specs.States.{Past, actors, past, refusal, refuse_move, open_event}
+use Rattle.job_spec.specs.Turns.{is_busy, busy_actors}
 use Rattle.job_states.specs.Stands.{Stands, IsPlace}
 use Rattle.job_turns.specs.Mixes.{AreApart}
 use Rattle.job_world.specs.Holds.{Quiet, all_sound, is_busy_at}

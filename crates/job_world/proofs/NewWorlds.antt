@@ -4,8 +4,8 @@ use Rattle.std.specs.Prelude.{option_map}
 use Rattle.std.specs.FinMap as fin
 use Rattle.std.proofs.lemmas.Bool.{cases_lt}
 use Rattle.std.proofs.lemmas.List.{map-append, take_all}
-use Rattle.job_works.proofs.Picking.{none_below}
-use Rattle.request_frame.proofs.Members.{some_is, none_some, false_true}
+use Rattle.job_actor.proofs.Picking.{none_below}
+use Rattle.proof_base.proofs.Members.{some_is, none_some, false_true}
 use Rattle.s3_types.specs.Store.{Content, BucketContent, Upload, opening}
 use Rattle.s3_types.specs.Fates.{fate_at}
 use Rattle.s3_types.specs.declared.request.Request.{Request}
@@ -19,20 +19,20 @@ use Rattle.job_model.specs.JobScript.{Script}
 use Rattle.job_model.specs.Legal.{IsLegal}
 use Rattle.job_model.specs.declared.ends.Pick.{Pick}
 use Rattle.job_model.specs.declared.ends.EventEnd.{EventEnd}
-use Rattle.job_operations.specs.Operations.{Setting, Running}
-use Rattle.job_operations.specs.AtWork.{task_of}
-use Rattle.job_operations.specs.Outputs.{Picks}
-use Rattle.job_promise.specs.Scope.{upload_in}
-use Rattle.job_promise.specs.Promise.{picked, picks_below, all_picks}
-use Rattle.job_promise.specs.States.{actors, nothing_past}
-use Rattle.job_facts.specs.Runs.{IsOpening}
+use Rattle.job_protocol.specs.Operations.{Setting, Running}
+use Rattle.job_protocol.specs.AtWork.{task_of}
+use Rattle.job_protocol.specs.Outputs.{Picks}
+use Rattle.job_spec.specs.Scope.{upload_in}
+use Rattle.job_spec.specs.Promise.{picked, picks_below, all_picks}
+use Rattle.job_spec.specs.States.{actors, nothing_past}
+use Rattle.job_traces.specs.Runs.{IsOpening}
 use Rattle.job_facts.specs.Stores.{at_id}
-use Rattle.job_happenings.specs.Happenings.{nothing_played, nothing_happened}
+use Rattle.job_steps.specs.Transitions.{nothing_played, nothing_happened}
 use Rattle.job_plans.specs.AtPlace.{task_at}
 use Rattle.job_states.specs.Standing.{standing}
 use Rattle.job_states.specs.Stands.{Stands}
-use Rattle.job_works.specs.Picks.{ArePicksOf}
-use Rattle.acting.specs.declared.plan.Plan.TheVariants as plans
+use Rattle.job_actor.specs.Picks.{ArePicksOf}
+use Rattle.job_actor.specs.declared.plan.Plan.TheVariants as plans
 use Rattle.s3_service.specs.Ids.{AreBelow}
 use Rattle.job_world.specs.Holds.{Holds, HandIs, HandsAre, PutBy, NoneOver, all_sound, setting_of, is_busy_at}
 use Rattle.job_world.specs.Worlds.{MayBegin, IsBegun, Run, run_of, picks_in, begun, planned}

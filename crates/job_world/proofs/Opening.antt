@@ -1,6 +1,6 @@
 -- An event of a world begins: all holds then, but for the hand of one that begins an operation.
 use Rattle.std.proofs.Common.{◌≡◌, ℕ, inl, inr, not, Bool, true, List, length, slice_get, Option, Some, None, refl, sym, ap, subst, ◌∙◌}
-use Rattle.request_frame.proofs.Members.{false_true, true_or_false, nat_true}
+use Rattle.proof_base.proofs.Members.{false_true, true_or_false, nat_true}
 use Rattle.s3_types.specs.declared.request.Request.{Request}
 use Rattle.s3_types.specs.declared.request.Actor.{Actor}
 use Rattle.s3_types.specs.declared.request.Actor.TheVariants.{Driver}
@@ -10,11 +10,11 @@ use Rattle.job_model.specs.declared.events.Event.{Event}
 use Rattle.job_model.specs.declared.events.Event.TheVariants.{Do, Start}
 use Rattle.job_model.specs.declared.ends.Pick.{Pick}
 use Rattle.job_model.specs.declared.states.ActorState.{ActorState}
-use Rattle.job_operations.specs.Operations.{Setting, Running}
-use Rattle.job_promise.specs.States.{Past, actors, open_event}
-use Rattle.job_promise.specs.Turns.{is_busy}
-use Rattle.job_happenings.specs.Happenings.{Play, Opens, happen, happens}
-use Rattle.job_happenings.proofs.Actors.{put_here}
+use Rattle.job_protocol.specs.Operations.{Setting, Running}
+use Rattle.job_spec.specs.States.{Past, actors, open_event}
+use Rattle.job_spec.specs.Turns.{is_busy}
+use Rattle.job_steps.specs.Transitions.{Play, Opens, happen, happens}
+use Rattle.job_steps.proofs.Actors.{put_here}
 use Rattle.job_states.specs.Stands.{Stands}
 use Rattle.job_world.specs.Holds.{Holds, HandsAre, PutBy, Quiet, Going, all_sound, all_but, setting_of, is_busy_at}
 use Rattle.job_world.specs.Events.{Next, IsFine, IsOpened, BeginsBy, BeginsNone}

@@ -1,7 +1,7 @@
 -- What the driver has picked, as it begins another operation.
 use Rattle.std.proofs.Common.{◌≡◌, ℕ, inl, inr, true, false, List, [], ◌∷◌, ◌++◌, append-nil, Option, Some, None, refl, sym, ap, subst, ◌∙◌}
 use Rattle.std.specs.Prelude.{is_some, unwrap_or}
-use Rattle.request_frame.proofs.Members.{none_some, false_true, true_or_false}
+use Rattle.proof_base.proofs.Members.{none_some, false_true, true_or_false}
 use Rattle.s3_types.specs.Store.{Content}
 use Rattle.s3_types.specs.declared.request.Actor.{Actor}
 use Rattle.s3_types.specs.declared.request.Actor.TheVariants.{Driver, Attempt, Shell}
@@ -13,14 +13,14 @@ use Rattle.job_model.specs.declared.events.Event.{Event}
 use Rattle.job_model.specs.declared.events.Event.TheVariants.{Do, Start, Step}
 use Rattle.job_model.specs.declared.ends.EventEnd.{EventEnd}
 use Rattle.job_model.specs.declared.ends.Pick.{Pick}
-use Rattle.job_operations.specs.Operations.{Setting, Running, start_of}
-use Rattle.job_promise.specs.States.{Past, Decided, open_event, commit_begun, begins_commit, missing}
-use Rattle.job_promise.specs.Promise.{ArePicked, all_picks, lacked_memory}
-use Rattle.job_facts.specs.Runs.{IsOpening}
-use Rattle.job_happenings.specs.Happenings.{Play, Happened, Opens, MayOpen, begun, open_running, happen, knows_now}
-use Rattle.job_happenings.specs.Running.{Ahead}
-use Rattle.job_happenings.proofs.Actors.{put_here}
-use Rattle.job_works.specs.Picks.{ArePicksOf, HasPicked, PicksGo, is_committing, is_job_commit}
+use Rattle.job_protocol.specs.Operations.{Setting, Running, start_of}
+use Rattle.job_spec.specs.States.{Past, Decided, open_event, commit_begun, begins_commit, missing}
+use Rattle.job_spec.specs.Promise.{ArePicked, all_picks, lacked_memory}
+use Rattle.job_traces.specs.Runs.{IsOpening}
+use Rattle.job_steps.specs.Transitions.{Play, Reachable, Opens, MayOpen, begun, open_running, happen, knows_now}
+use Rattle.job_steps.specs.Running.{Ahead}
+use Rattle.job_steps.proofs.Actors.{put_here}
+use Rattle.job_actor.specs.Picks.{ArePicksOf, HasPicked, PicksGo, is_committing, is_job_commit}
 use Rattle.job_world.specs.Holds.{HandIs, IsLost, PutBy}
 use Rattle.job_world.specs.Events.{BeginsBy, put_away}
 use Rattle.job_world.specs.declared.hands.Hand.{Hand}
@@ -101,7 +101,7 @@ module _ (g : Setting) (opening : Content) (x : Play) (ev : Event) (idle : x.now
   all_first ps h xs a = ([], append-nil ps ∙ h xs a)
 
 module _ {W : Type 0} (is_of : Setting → Actor → W → Type 0) (running : Known → W → Running) (picks_of : W → Option (List Pick)) (has_picks : (k : Known) (work : W) → is_some (picks_of work) ≡ is_job_commit (running k work).operation)
-    (go : PicksGo) (g : Setting) (opening : Content) (x : Play) (legal : IsLegal g.script) (opens : IsOpening g opening) (run : Happened g opening x) (ev : Event) (may : MayOpen g x ev None) (live : x.live ≡ x.past) where
+    (go : PicksGo) (g : Setting) (opening : Content) (x : Play) (legal : IsLegal g.script) (opens : IsOpening g opening) (run : Reachable g opening x) (ev : Event) (may : MayOpen g x ev None) (live : x.live ≡ x.past) where
   idle : x.now ≡ None
   idle = may.idle
 

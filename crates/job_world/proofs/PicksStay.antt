@@ -9,16 +9,16 @@ use Rattle.job_model.specs.declared.ends.ActorEnd.{ActorEnd}
 use Rattle.job_model.specs.declared.ends.EventEnd.{EventEnd}
 use Rattle.job_model.specs.declared.ends.OpEnd.{OpEnd}
 use Rattle.job_model.specs.declared.ends.Pick.{Pick}
-use Rattle.job_operations.specs.Operations.{Setting, who}
-use Rattle.job_promise.specs.Seen.{Seen, see, see_all, seen, nothing_seen}
-use Rattle.job_promise.specs.States.{Decided, is_commit, decide, commit_event}
-use Rattle.job_promise.specs.Promise.{ArePicked, all_picks, picks_below, lacked_memory}
-use Rattle.job_facts.proofs.Entries.{see_more}
-use Rattle.job_happenings.specs.Happenings.{Play, Sends, Finishes, hear, happen, MaySend}
-use Rattle.job_happenings.proofs.Actors.{same_or_not, put_here, put_other}
-use Rattle.job_happenings.proofs.Parts.{take_whole}
-use Rattle.job_happenings.proofs.Running.{sent_ahead, finished_ahead}
-use Rattle.job_works.specs.Picks.{ArePicksOf, HasPicked, is_committing}
+use Rattle.job_protocol.specs.Operations.{Setting, who}
+use Rattle.job_spec.specs.Seen.{Seen, see, see_all, seen, nothing_seen}
+use Rattle.job_spec.specs.States.{Decided, is_commit, decide, commit_event}
+use Rattle.job_spec.specs.Promise.{ArePicked, all_picks, picks_below, lacked_memory}
+use Rattle.job_traces.proofs.Entries.{see_more}
+use Rattle.job_steps.specs.Transitions.{Play, Sends, Finishes, hear, happen, MaySend}
+use Rattle.job_steps.proofs.Actors.{same_or_not, put_here, put_other}
+use Rattle.job_steps.proofs.Parts.{take_whole}
+use Rattle.job_steps.proofs.Running.{sent_ahead, finished_ahead}
+use Rattle.job_actor.specs.Picks.{ArePicksOf, HasPicked, is_committing}
 use Rattle.job_world.specs.Holds.{PutBy}
 use Rattle.job_world.proofs.Along.{commit_stays}
 

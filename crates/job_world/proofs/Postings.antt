@@ -1,6 +1,6 @@
 -- What a sending of a busy actor leaves of a world, whatever became of it.
 use Rattle.std.proofs.Common.{◌≡◌, ℕ, ◌+◌, ◌<◌, ◌≤◌, ◌^◌, not, Bool, true, List, length, slice_get, Option, Some, IsSome, Vec, Global, refl, sym, ap, subst, ◌∙◌, arith}
-use Rattle.request_frame.proofs.Members.{some_is, false_true, nat_true}
+use Rattle.proof_base.proofs.Members.{some_is, false_true, nat_true}
 use Rattle.s3_types.specs.Store.{Scene}
 use Rattle.s3_types.specs.Moment.{effect}
 use Rattle.s3_types.specs.Fates.{fate_at}
@@ -13,13 +13,13 @@ use Rattle.job_model.specs.Known.{Known}
 use Rattle.job_model.specs.JobScript.{Script}
 use Rattle.job_model.specs.declared.ends.OpEnd.{OpEnd}
 use Rattle.job_model.specs.declared.ends.Pick.{Pick}
-use Rattle.job_operations.specs.Operations.{Setting, Running}
-use Rattle.job_promise.specs.States.{actors}
-use Rattle.acting.specs.Acts.{ActLaws}
-use Rattle.acting.specs.Posting.{Sight, sight, Grew, DueFits}
-use Rattle.acting.specs.declared.posting.Posted.{Posted}
-use Rattle.acting.specs.declared.posting.Posted.TheVariants.{Unsent, Broken, Heard}
-use Rattle.job_works.specs.Works.{WorkLaws}
+use Rattle.job_protocol.specs.Operations.{Setting, Running}
+use Rattle.job_spec.specs.States.{actors}
+use Rattle.job_actor.specs.Acts.{ActLaws}
+use Rattle.job_actor.specs.Posting.{Sight, sight, Grew, DueFits}
+use Rattle.job_actor.specs.declared.posting.Posted.{Posted}
+use Rattle.job_actor.specs.declared.posting.Posted.TheVariants.{Unsent, Broken, Heard}
+use Rattle.job_actor.specs.Works.{WorkLaws}
 use Rattle.job_world.specs.Sending.{Asks, HandDue, HandPosted}
 use Rattle.job_world.specs.Holds.{Holds, all_sound, all_but, is_busy_at, setting_of, hand_left}
 use Rattle.job_world.specs.Posts.{Around, Wrote, FellAt, PostedAt, raised}

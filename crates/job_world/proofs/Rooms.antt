@@ -7,8 +7,8 @@ use Rattle.job_model.specs.declared.events.Event.{Event}
 use Rattle.job_model.specs.declared.ends.EventEnd.{EventEnd}
 use Rattle.job_model.specs.declared.ends.EventFault.{EventFault}
 use Rattle.job_model.specs.declared.ends.Pick.{Pick}
-use Rattle.job_operations.specs.Operations.{Setting, Running}
-use Rattle.job_promise.specs.States.{Past, past, refusal}
+use Rattle.job_protocol.specs.Operations.{Setting, Running}
+use Rattle.job_spec.specs.States.{Past, past, refusal}
 use Rattle.job_states.specs.Stands.{Stands}
 use Rattle.job_world.specs.Holds.{Quiet, AreOf, all_sound}
 use Rattle.job_world.specs.Events.{Next, Grown, IsAsBefore}

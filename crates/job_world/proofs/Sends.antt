@@ -1,7 +1,7 @@
 -- What holds of a world where one of its busy actors has sent a request.
 use Rattle.std.proofs.Common.{◌≡◌, ℕ, zero, suc, ◌+◌, ◌<◌, ◌≤◌, ◌^◌, inl, inr, Bool, true, false, List, [], ◌∷◌, ◌++◌, length, slice_get, Option, Some, None, IsSome, Vec, Global, refl, sym, ap, subst, ◌∙◌, arith, length-append}
 use Rattle.proof_base.proofs.Options.{none_is}
-use Rattle.request_frame.proofs.Members.{some_is, false_true, true_or_false, same_or_not as same_number}
+use Rattle.proof_base.proofs.Members.{some_is, false_true, true_or_false, same_or_not as same_number}
 use Rattle.s3_types.specs.Store.{Content, Scene, opening as scene_at_first}
 use Rattle.s3_types.specs.Answer.{answer, apply}
 use Rattle.s3_types.specs.Moment.{effect, after_all, IsHonestOutcome}
@@ -21,14 +21,14 @@ use Rattle.job_model.specs.Known.{Known}
 use Rattle.job_model.specs.JobScript.{Script}
 use Rattle.job_model.specs.declared.ends.OpEnd.{OpEnd}
 use Rattle.job_model.specs.declared.ends.Pick.{Pick}
-use Rattle.job_operations.specs.Operations.{Setting, Running, advance}
-use Rattle.job_promise.specs.States.{actors}
-use Rattle.acting.specs.Plans.{IsPlanOf}
-use Rattle.job_happenings.specs.Happenings.{Play, Sends, hear, happen, scene_of, knows_now, MaySend, happens}
-use Rattle.job_happenings.proofs.Actors.{same_or_not, put_here, put_other}
-use Rattle.job_happenings.proofs.Parts.{take_whole}
-use Rattle.job_works.specs.Picks.{HasPicked, is_job_commit, is_committing}
-use Rattle.job_works.specs.Works.{WorkLaws, IsAt, rise_for}
+use Rattle.job_protocol.specs.Operations.{Setting, Running, advance}
+use Rattle.job_spec.specs.States.{actors}
+use Rattle.job_actor.specs.Plans.{IsPlanOf}
+use Rattle.job_steps.specs.Transitions.{Play, Sends, hear, happen, scene_of, knows_now, MaySend, happens}
+use Rattle.job_steps.proofs.Actors.{same_or_not, put_here, put_other}
+use Rattle.job_steps.proofs.Parts.{take_whole}
+use Rattle.job_actor.specs.Picks.{HasPicked, is_job_commit, is_committing}
+use Rattle.job_actor.specs.Works.{WorkLaws, IsAt, rise_for}
 use Rattle.job_world.specs.Holds.{Holds, HandIs, HandsAre, IsAlone, all_sound, is_busy_at, setting_of, hand_left}
 use Rattle.job_world.specs.Posts.{RaisedBy, raised}
 use Rattle.job_world.specs.declared.hands.Hand.{Hand}

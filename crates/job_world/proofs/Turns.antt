@@ -4,7 +4,7 @@ use Rattle.std.specs.Prelude.{is_some}
 use Rattle.std.specs.List.{filter}
 use Rattle.std.proofs.lemmas.List.{length-map}
 use Rattle.std.proofs.lemmas.List.Elements.{filter-append}
-use Rattle.request_frame.proofs.Members.{some_is, false_true, nat_true, same_or_not as same_number}
+use Rattle.proof_base.proofs.Members.{some_is, false_true, nat_true, same_or_not as same_number}
 use Rattle.s3_types.specs.Store.{Scene}
 use Rattle.s3_types.specs.declared.request.Actor.{Actor}
 use Rattle.s3_types.specs.declared.request.Request.{Request}
@@ -16,10 +16,10 @@ use Rattle.job_model.specs.declared.ends.ActorEnd.{ActorEnd}
 use Rattle.job_model.specs.declared.ends.OpEnd.{OpEnd}
 use Rattle.job_model.specs.declared.ends.OpEnd.TheVariants.{NoMemory}
 use Rattle.job_model.specs.declared.ends.Pick.{Pick}
-use Rattle.job_operations.specs.Operations.{Setting, Running}
-use Rattle.job_promise.specs.States.{actors}
-use Rattle.job_promise.specs.Turns.{is_own, of_event, is_memory}
-use Rattle.acting.specs.Acts.{ActLaws}
+use Rattle.job_protocol.specs.Operations.{Setting, Running}
+use Rattle.job_spec.specs.States.{actors}
+use Rattle.job_spec.specs.Turns.{is_own, of_event, is_memory}
+use Rattle.job_actor.specs.Acts.{ActLaws}
 use Rattle.job_states.specs.Standing.{standing}
 use Rattle.job_states.specs.Stands.{Kept}
 use Rattle.job_states.specs.declared.standing.Standing.{Standing}

@@ -1,7 +1,7 @@
 -- What the busy actors of a world weigh falls with each turn.
 use Rattle.std.proofs.Common.{◌≡◌, ℕ, zero, suc, ◌+◌, ◌<◌, ◌≤◌, ◌⊎◌, inl, inr, Bool, true, false, cond, List, [], ◌∷◌, length, slice_get, Some, refl, sym, subst, ◌∙◌, arith}
 use Rattle.std.proofs.Math.Nat.{mul-le-mul_left}
-use Rattle.request_frame.proofs.Members.{some_is}
+use Rattle.proof_base.proofs.Members.{some_is}
 use Rattle.s3_types.specs.Store.{Scene}
 use Rattle.job_states.specs.declared.standing.Standing.{Standing}
 use Rattle.job_world.specs.Holds.{is_busy_at, hand_left, weight, weights}

@@ -13,13 +13,13 @@ use Rattle.job_model.specs.declared.ends.EventEnd.TheVariants.{Done, Ended, Mixe
 use Rattle.job_model.specs.declared.ends.EventFault.{EventFault}
 use Rattle.job_model.specs.declared.ends.OpEnd.{OpEnd}
 use Rattle.job_model.specs.declared.ends.Pick.{Pick}
-use Rattle.job_operations.specs.Knowledge.{knows}
-use Rattle.job_operations.specs.Operations.{Setting, Running, who, start_of}
-use Rattle.job_promise.specs.States.{Past, refusal, past, missing, told, open_event}
-use Rattle.job_promise.specs.Turns.{Turns, AllBy, of_event, by_actor}
-use Rattle.job_happenings.specs.Happenings.{begun}
+use Rattle.job_protocol.specs.Knowledge.{knows}
+use Rattle.job_protocol.specs.Operations.{Setting, Running, who, start_of}
+use Rattle.job_spec.specs.States.{Past, refusal, past, missing, told, open_event}
+use Rattle.job_spec.specs.Turns.{Turns, AllBy, of_event, by_actor}
+use Rattle.job_steps.specs.Transitions.{begun}
 use Rattle.job_states.specs.Stands.{Stands, IsPlace}
-use Rattle.acting.specs.Plans.{IsPlanOf}
+use Rattle.job_actor.specs.Plans.{IsPlanOf}
 use Rattle.job_world.specs.Sending.{Asks}
 use Rattle.job_world.specs.Holds.{Holds, Going, Quiet, HandIs, AreOf, all_sound, all_but, setting_of, is_busy_at}
 use Rattle.job_world.specs.declared.hands.Hand.{Hand}

@@ -16,19 +16,19 @@ use Rattle.job_model.specs.declared.ends.OpEnd.{OpEnd}
 use Rattle.job_model.specs.declared.ends.EventEnd.{EventEnd}
 use Rattle.job_model.specs.declared.ends.Pick.{Pick}
 use Rattle.job_model.specs.declared.states.Life.TheVariants.{Dead}
-use Rattle.job_operations.specs.Operations.{Setting, Running}
-use Rattle.job_promise.specs.States.{actors}
-use Rattle.job_promise.specs.Entries.{AreOwn}
-use Rattle.job_promise.specs.Turns.{is_busy, of_event}
-use Rattle.job_promise.specs.Promise.{ArePicked, all_picks, lacked_memory}
-use Rattle.job_facts.specs.Runs.{IsOpening}
+use Rattle.job_protocol.specs.Operations.{Setting, Running}
+use Rattle.job_spec.specs.States.{actors}
+use Rattle.job_spec.specs.Entries.{AreOwn}
+use Rattle.job_spec.specs.Turns.{is_busy, of_event}
+use Rattle.job_spec.specs.Promise.{ArePicked, all_picks, lacked_memory}
+use Rattle.job_traces.specs.Runs.{IsOpening}
 use Rattle.job_states.specs.Stands.{Stands}
 use Rattle.job_states.specs.declared.standing.Standing.{Standing}
 use Rattle.job_turns.specs.Turning.{Table, KeepsLaws}
-use Rattle.job_happenings.specs.Happenings.{Play, Happened, scene_of, knows_now}
-use Rattle.acting.specs.Plans.{IsPlanOf}
-use Rattle.job_happenings.specs.Running.{Ahead}
-use Rattle.job_works.specs.Picks.{ArePicksOf, HasPicked, is_committing}
+use Rattle.job_steps.specs.Transitions.{Play, Reachable, scene_of, knows_now}
+use Rattle.job_actor.specs.Plans.{IsPlanOf}
+use Rattle.job_steps.specs.Running.{Ahead}
+use Rattle.job_actor.specs.Picks.{ArePicksOf, HasPicked, is_committing}
 use Rattle.job_world.specs.Sending.{Asks}
 use Rattle.job_world.specs.declared.hands.Hand.{Hand}
 use Rattle.job_world.specs.declared.hands.Hand.TheVariants.{Plan, At, Empty}
@@ -80,7 +80,7 @@ pub record Holds {W : Type 0} (is_of : Setting → Actor → W → Type 0) (runn
   pub legal : IsLegal b.script
   pub opens : IsOpening (setting_of b) b.opening
   pub play : Play
-  pub happened : Happened (setting_of b) b.opening play
+  pub happened : Reachable (setting_of b) b.opening play
   pub alone : IsAlone b.script play.journal
   pub journal : b.journal.entries ≡ play.journal
   pub ends : b.ends.items ≡ play.ends

@@ -6,9 +6,9 @@ use Rattle.s3_types.specs.declared.journal.Entry.{Entry}
 use Rattle.job_model.specs.Known.{Known}
 use Rattle.job_model.specs.JobScript.{Script}
 use Rattle.job_model.specs.declared.ends.Pick.{Pick}
-use Rattle.job_operations.specs.Operations.{Setting, Running}
-use Rattle.acting.specs.declared.posting.Posted.{Posted}
-use Rattle.acting.specs.declared.posting.Posted.TheVariants.{Unsent, Broken, Heard}
+use Rattle.job_protocol.specs.Operations.{Setting, Running}
+use Rattle.job_actor.specs.declared.posting.Posted.{Posted}
+use Rattle.job_actor.specs.declared.posting.Posted.TheVariants.{Unsent, Broken, Heard}
 use Rattle.job_world.specs.Holds.{Holds, all_sound, all_but, is_busy_at, hand_left}
 use Rattle.job_world.specs.declared.hands.Hand.{Hand}
 use Rattle.job_world.specs.declared.hands.Hand.TheVariants.{At}

@@ -5,8 +5,8 @@ use Rattle.s3_types.specs.declared.request.Request.{Request}
 use Rattle.s3_types.specs.declared.request.Actor.{Actor}
 use Rattle.s3_types.specs.declared.journal.Outcome.{Outcome}
 use Rattle.job_model.specs.declared.ends.OpEnd.{OpEnd}
-use Rattle.acting.specs.Posting.{Sight, PostedBy, DueFits}
-use Rattle.acting.specs.declared.posting.Posted.{Posted}
+use Rattle.job_actor.specs.Posting.{Sight, PostedBy, DueFits}
+use Rattle.job_actor.specs.declared.posting.Posted.{Posted}
 use Rattle.job_world.specs.declared.hands.Hand.{Hand}
 use Rattle.job_world.specs.declared.hands.Hand.TheVariants.{Plan, At, Empty}
 

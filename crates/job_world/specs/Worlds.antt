@@ -10,12 +10,12 @@ use Rattle.job_model.specs.Known.{Known, nothing_known}
 use Rattle.job_model.specs.JobScript.{Script}
 use Rattle.job_model.specs.declared.ends.EventEnd.{EventEnd}
 use Rattle.job_model.specs.declared.ends.Pick.{Pick}
-use Rattle.job_operations.specs.Operations.{Setting, Running}
-use Rattle.job_operations.specs.AtWork.{task_of}
-use Rattle.job_promise.specs.Entries.{AreOwn}
-use Rattle.job_promise.specs.Promise.{Promised, Sent}
-use Rattle.job_kept.specs.Laws.{FactsHold}
-use Rattle.acting.specs.declared.plan.Plan.TheVariants.{Task}
+use Rattle.job_protocol.specs.Operations.{Setting, Running}
+use Rattle.job_protocol.specs.AtWork.{task_of}
+use Rattle.job_spec.specs.Entries.{AreOwn}
+use Rattle.job_spec.specs.Promise.{Promised, Sent}
+use Rattle.job_safety.specs.Laws.{FactsHold}
+use Rattle.job_actor.specs.declared.plan.Plan.TheVariants.{Task}
 use Rattle.job_world.specs.Holds.{Quiet}
 use Rattle.job_world.specs.declared.hands.Hand.{Hand}
 use Rattle.job_world.specs.declared.hands.Hand.TheVariants.{Plan, At, Empty}

@@ -1,4 +1,4 @@
-use acting::Plan;
+use job_actor::Plan;
 
 /// What an actor of a world has in hand.
 #[derive(Drop)]

@@ -4,7 +4,7 @@ ghost use Rattle.job_world.specs.Worlds.{picks_in};
 use crate::body::Body;
 use crate::hands::Hand;
 use job_model::{EndList, PickList, Script};
-use job_works::Works;
+use job_actor::Works;
 use s3_service::Service;
 use s3_types::{Journal, Sequence};
 use std::mem;

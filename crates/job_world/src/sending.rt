@@ -1,10 +1,10 @@
 ghost use Rattle.std.specs.Prelude.{◌≡◌, ℕ, ◌<◌, ◌≤◌, length, slice_get, Some};
-ghost use Rattle.job_promise.specs.States.{actors};
-ghost use Rattle.acting.specs.Posting.{sight};
+ghost use Rattle.job_spec.specs.States.{actors};
+ghost use Rattle.job_actor.specs.Posting.{sight};
 ghost use Rattle.job_world.specs.Sending.{Asks, HandDue, HandPosted};
 
 use crate::hands::Hand;
-use acting::{Acts, Posted, post};
+use job_actor::{Acts, Posted, post};
 use job_model::Script;
 use s3_types::{Actor, Journal, ObjectStore};
 use std::alloc::Global;

@@ -1,5 +1,5 @@
 ghost use Rattle.std.specs.Prelude.{◌≡◌, ◌<◌, ◌≤◌, [], ◌∷◌, ◌++◌, slice_get, Some, IfOk, IsSome, true, vec_len, vec_capacity};
-ghost use Rattle.job_promise.specs.States.{actors};
+ghost use Rattle.job_spec.specs.States.{actors};
 ghost use Rattle.job_model.specs.declared.ends.OpEnd.TheVariants.{NoMemory};
 ghost use Rattle.job_world.specs.Sending.{hand_end};
 ghost use Rattle.job_world.specs.Holds.{Holds, all_sound, all_but, Going, Same, IsOver, is_busy_at, table_of, same_laws};
@@ -8,10 +8,10 @@ ghost use Rattle.job_world.specs.Posts.{Around, PostedAt};
 use crate::body::Body;
 use crate::hands::Hand;
 use crate::sending::{actor_at, post_hand};
-use acting::Posted;
+use job_actor::Posted;
 use job_model::{ActorEnd, OpEnd};
 use job_turns::{Actors, Turn};
-use job_works::{Works, picks_go};
+use job_actor::{Works, picks_go};
 use s3_types::{Actor, put};
 use std::alloc::AllocError;
 

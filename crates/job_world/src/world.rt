@@ -1,14 +1,14 @@
 ghost use Rattle.std.specs.Prelude.{◌≡◌, length, slice_get, Some, IfOk, OnOk, OnErr, IsErr, true};
 ghost use Rattle.s3_types.specs.Moment.{moment};
 ghost use Rattle.job_model.specs.Attempts.{is_known};
-ghost use Rattle.job_promise.specs.States.{past, verdict};
-ghost use Rattle.job_promise.specs.Promise.{Finished};
+ghost use Rattle.job_spec.specs.States.{past, verdict};
+ghost use Rattle.job_spec.specs.Promise.{Finished};
 ghost use Rattle.job_world.specs.Worlds.{MayBegin, begun, Keeps, WentOn, FoundNone};
 
 use crate::body::Body;
 use crate::played::{Played, picks_in};
 use job_model::{ActorState, Event, EventEnd, PickList, Script};
-use job_works::Works;
+use job_actor::Works;
 use s3_service::Service;
 use s3_types::{Actor, Journal};
 use std::alloc::{AllocError, Global};

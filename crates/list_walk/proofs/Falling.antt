@@ -12,7 +12,7 @@ use Rattle.s3_types.specs.Multipart as uploads
 use Rattle.s3_types.specs.declared.request.Request.{Request}
 use Rattle.s3_types.specs.declared.request.UploadRef.{UploadRef}
 use Rattle.s3_types.specs.declared.reply.PageEntry.{PageEntry}
-use Rattle.request_frame.proofs.Reading.{reads_nothing}
+use Rattle.store_frame.proofs.Reading.{reads_nothing}
 use Rattle.list_walk.specs.Walks.{walked_by, keys_on, last_of, last_ref, page_after, walked, uploads_after, walked_uploads, Sweep, Listing, Deleting, sweep_asks, sweep_hears, swept, deleting}
 use Rattle.list_walk.specs.Fitting.{FitsPage, FitsSweep, FitsUploads}
 use Rattle.list_walk.specs.Left.{count_in, keys_left, refs_left, thousands, walk_left, sweep_left, left_of, uploads_left, adds_key, sets_upload, one_if}

@@ -21,8 +21,8 @@ use Rattle.s3_types.specs.Multipart.{ref_cmp, ref_of, refs, is_behind}
 use Rattle.s3_types.specs.declared.object.Object.{Object}
 use Rattle.s3_types.specs.declared.request.UploadRef.{UploadRef}
 use Rattle.s3_types.specs.declared.reply.PageEntry.{PageEntry}
-use Rattle.request_frame.specs.Walk.{walked}
-use Rattle.request_frame.proofs.Listed.{walked_listed, listed_behind}
+use Rattle.store_frame.specs.Walk.{walked}
+use Rattle.store_frame.proofs.Listed.{walked_listed, listed_behind}
 use Rattle.list_walk.specs.Walks.{keys_on, last_of}
 use Rattle.list_walk.specs.Left.{one_if as one}
 use Rattle.list_walk.proofs.Counting.{count, count_more, AreNew, count_made}

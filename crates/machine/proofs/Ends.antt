@@ -5,7 +5,7 @@ use Rattle.s3_types.specs.declared.fates.Fate.{Fate}
 use Rattle.s3_types.specs.declared.request.Request.{Request}
 use Rattle.s3_types.specs.declared.request.Actor.{Actor}
 use Rattle.s3_types.specs.declared.journal.Entry.{Entry}
-use Rattle.sendings.specs.Retries.{Item}
+use Rattle.retries.specs.Retries.{Item}
 use Rattle.machine.specs.Standing.{Standing}
 use Rattle.machine.specs.Turns.{retried}
 use Rattle.machine.specs.Drove.{Drove, Driving, IsOver, IsRun, standing_after}

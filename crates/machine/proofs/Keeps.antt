@@ -7,8 +7,8 @@ use Rattle.s3_types.specs.declared.request.Request.{Request}
 use Rattle.s3_types.specs.declared.journal.Outcome.{Outcome}
 use Rattle.s3_types.specs.declared.journal.Outcome.TheVariants.{Answered, Slow, RequestLost, ReplyLost}
 use Rattle.s3_types.specs.declared.journal.Entry.{Entry}
-use Rattle.sendings.specs.Operation.{Follows, run}
-use Rattle.sendings.specs.Retries.{Item, Retried, wants_of, step, unanswered_by}
+use Rattle.retries.specs.Operation.{Follows, run}
+use Rattle.retries.specs.Retries.{Item, Retried, wants_of, step, unanswered_by}
 use Rattle.machine.proofs.Keeping.{Keeps}
 use Rattle.machine.proofs.Runs.{run_keeps}
 

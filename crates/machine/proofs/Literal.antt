@@ -3,10 +3,10 @@ use Rattle.std.proofs.Common.{◌≡◌, ℕ, Bool, true, false, List, Option, S
 use Rattle.std.proofs.lemmas.Bool.{false≢true}
 use Rattle.s3_types.specs.declared.request.Request.{Request}
 use Rattle.s3_types.specs.declared.journal.Entry.{Entry}
-use Rattle.sendings.specs.Operation.{Follows}
-use Rattle.sendings.specs.Retries.{Item, Retried, wants_of, fresh, step, has_worn, worn_in}
-use Rattle.sendings.specs.Worn.{WornFirst}
-use Rattle.sendings.proofs.First.{counted_first, some_worn}
+use Rattle.retries.specs.Operation.{Follows}
+use Rattle.retries.specs.Retries.{Item, Retried, wants_of, fresh, step, has_worn, worn_in}
+use Rattle.retries.specs.Worn.{WornFirst}
+use Rattle.retries.proofs.First.{counted_first, some_worn}
 
 first_worn : (retries : ℕ) (part : List Entry) (o : Option Request) (b : Bool) → WornFirst retries part o → b ≡ is_some o → b ≡ true → (r : Request) × WornFirst retries part (Some r)
 first_worn retries part (Some r) b f e h = (r, f)

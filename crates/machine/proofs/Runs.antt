@@ -12,9 +12,9 @@ use Rattle.s3_types.specs.declared.reply.Reply.{Reply}
 use Rattle.s3_types.specs.declared.journal.Outcome.{Outcome}
 use Rattle.s3_types.specs.declared.journal.Outcome.TheVariants.{Answered, Slow, RequestLost, ReplyLost}
 use Rattle.s3_types.specs.declared.journal.Entry.{Entry}
-use Rattle.sendings.specs.Operation.{Follows, run}
-use Rattle.sendings.specs.Retries.{Item, Got, WornOut, Retried, wants_of, step, wears, is_zero, has_worn, unanswered_by}
-use Rattle.sendings.proofs.Runs.{run_more, follows_more, has_worn_more}
+use Rattle.retries.specs.Operation.{Follows, run}
+use Rattle.retries.specs.Retries.{Item, Got, WornOut, Retried, wants_of, step, wears, is_zero, has_worn, unanswered_by}
+use Rattle.retries.proofs.Runs.{run_more, follows_more, has_worn_more}
 use Rattle.machine.specs.Standing.{Standing}
 use Rattle.machine.specs.Laws.{Laws}
 use Rattle.machine.specs.Turns.{retried, AreBy, turn_if, turn_of, tells_worn}

@@ -9,8 +9,8 @@ use Rattle.s3_types.specs.declared.request.Request.{Request}
 use Rattle.s3_types.specs.declared.request.Actor.{Actor}
 use Rattle.s3_types.specs.declared.reply.Reply.{Reply}
 use Rattle.s3_types.specs.declared.journal.Entry.{Entry}
-use Rattle.sendings.specs.Operation.{Follows, run}
-use Rattle.sendings.specs.Retries.{Item, wants_of, fresh, step, has_worn}
+use Rattle.retries.specs.Operation.{Follows, run}
+use Rattle.retries.specs.Retries.{Item, wants_of, fresh, step, has_worn}
 use Rattle.machine.specs.Standing.{Standing, Faulted}
 use Rattle.machine.specs.Turns.{retried, broken, turn_of, AreBy}
 use Rattle.machine.specs.Counted.{Counted}

@@ -4,7 +4,7 @@ use Rattle.s3_types.specs.Store.{Scene}
 use Rattle.s3_types.specs.Answer.{answer, apply}
 use Rattle.s3_types.specs.declared.request.Request.{Request}
 use Rattle.s3_types.specs.declared.reply.Reply.{Reply}
-use Rattle.sendings.specs.Retries.{Item, Got, WornOut, OutOfMemory}
+use Rattle.retries.specs.Retries.{Item, Got, WornOut, OutOfMemory}
 use Rattle.machine.specs.Standing.{Standing, Faulted, Broken}
 
 pub record Laws {M : Type 0} (wants : M → Option Request) (after : M → Item → M) (fits : M → Reply → Bool → Type 0) (ready : M → Scene → Bool → Type 0) (left : M → Scene → ℕ) (standing : M → Standing) : Type 0 where

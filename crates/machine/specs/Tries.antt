@@ -3,7 +3,7 @@ use Rattle.std.specs.Prelude.{◌≡◌, ℕ, ◌+◌, ◌≤◌, Bool, true, fa
 use Rattle.s3_types.specs.Moment.{is_unanswered}
 use Rattle.s3_types.specs.declared.request.Request.{Request}
 use Rattle.s3_types.specs.declared.journal.Entry.{Entry}
-use Rattle.sendings.specs.Worn.{WornFirst}
+use Rattle.retries.specs.Worn.{WornFirst}
 use Rattle.machine.specs.declared.driving.DriveStop.{DriveStop}
 use Rattle.machine.specs.declared.driving.DriveStop.TheVariants.{StoreFault, NoMemory}
 

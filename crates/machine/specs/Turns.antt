@@ -5,8 +5,8 @@ use Rattle.s3_types.specs.declared.reply.Reply.{Reply}
 use Rattle.s3_types.specs.declared.journal.Outcome.{Outcome}
 use Rattle.s3_types.specs.declared.journal.Outcome.TheVariants.{Answered, Slow, RequestLost, ReplyLost}
 use Rattle.s3_types.specs.declared.journal.Entry.{Entry}
-use Rattle.sendings.specs.Worn.{was_answered}
-use Rattle.sendings.specs.Retries.{Item, OutOfMemory, Retried, wears}
+use Rattle.retries.specs.Worn.{was_answered}
+use Rattle.retries.specs.Retries.{Item, OutOfMemory, Retried, wears}
 use Rattle.machine.specs.declared.retrying.Retrying.{Retrying}
 use Rattle.machine.specs.declared.retrying.Turn.{Turn}
 use Rattle.machine.specs.declared.retrying.Turn.TheVariants.{Again, Moved, WornOut as Worn}

@@ -1,6 +1,6 @@
 ghost use Rattle.std.specs.Prelude.{◌≡◌, ◌≤◌, false, Option, IfOk, OnOk, OnErr, IsSome};
 ghost use Rattle.std.specs.Option.{option_copied};
-ghost use Rattle.sendings.specs.Retries.{fresh, step, unanswered, is_zero};
+ghost use Rattle.retries.specs.Retries.{fresh, step, unanswered, is_zero};
 ghost use Rattle.machine.specs.Turns.{retried, broken, turn_of, turn_if, tells_worn, FitsOutcome};
 
 use crate::operation::Machine;

@@ -15,10 +15,10 @@ use Rattle.s3_types.specs.declared.object.Object.{Object}
 use Rattle.s3_types.specs.declared.reply.PageEntry.{PageEntry}
 use Rattle.s3_types.specs.declared.reply.PageEntry.TheVariants.{Object as Single}
 use Rattle.s3_types.proofs.Begins.{from_prefix}
-use Rattle.request_frame.specs.Members.{IsIn, RisesFrom, last_from}
-use Rattle.request_frame.proofs.Members.{some_is, false_true, text_exact, in_map, in_filter}
+use Rattle.proof_base.specs.Members.{IsIn, RisesFrom, last_from}
+use Rattle.proof_base.proofs.Members.{some_is, false_true, text_exact, in_map, in_filter}
 use Rattle.bucket_walks.proofs.Rising.{lower}
-use Rattle.request_frame.proofs.Flat.{listed_rises, listed_all, found_at}
+use Rattle.store_frame.proofs.Flat.{listed_rises, listed_all, found_at}
 
 -- each object that stands below a prefix behind a text, once, in order, with the length of its bytes
 pub record IsListing (q l : List ℕ) (z : Objects) (es : List PageEntry) : Type 0 where

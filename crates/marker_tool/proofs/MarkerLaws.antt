@@ -13,9 +13,9 @@ use Rattle.s3_types.specs.declared.reply.PageEntry.{PageEntry}
 use Rattle.s3_types.specs.declared.reply.PageEntry.TheVariants.{Object as Single, Prefix}
 use Rattle.s3_types.proofs.Begins.{between}
 use Rattle.path_keys.specs.Paths.{below}
-use Rattle.request_frame.specs.Members.{IsIn, RisesFrom}
-use Rattle.request_frame.proofs.Members.{false_true, some_is, in_front, in_back, in_map, map_in, in_filter, filter_in}
-use Rattle.request_frame.proofs.Flat.{behind}
+use Rattle.proof_base.specs.Members.{IsIn, RisesFrom}
+use Rattle.proof_base.proofs.Members.{false_true, some_is, in_front, in_back, in_map, map_in, in_filter, filter_in}
+use Rattle.store_frame.proofs.Flat.{behind}
 use Rattle.fs_tree.specs.Tree.{is_marker, Stands}
 use Rattle.fs_tree.specs.MarkerTool.{IsBare, HasBytes, HasMore, IsKind, IsSurplus, AreAll, HasMarkers}
 use Rattle.fs_tree.specs.declared.markers.MarkerKind.{MarkerKind}

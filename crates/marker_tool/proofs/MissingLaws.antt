@@ -18,9 +18,9 @@ use Rattle.s3_types.proofs.Begins.{between}
 use Rattle.path_keys.specs.Paths.{below}
 use Rattle.dir_markers.specs.Markers.{marker_of, keys_above}
 use Rattle.dir_markers.proofs.Above.{trimmed_marker}
-use Rattle.request_frame.specs.Members.{IsIn, RisesFrom, last_from}
-use Rattle.request_frame.proofs.Members.{false_true, true_or_false, none_some, in_append, in_front, in_back, in_map, map_in, in_filter, filter_in}
-use Rattle.request_frame.proofs.Flat.{behind, joins}
+use Rattle.proof_base.specs.Members.{IsIn, RisesFrom, last_from}
+use Rattle.proof_base.proofs.Members.{false_true, true_or_false, none_some, in_append, in_front, in_back, in_map, map_in, in_filter, filter_in}
+use Rattle.store_frame.proofs.Flat.{behind, joins}
 use Rattle.fs_tree.specs.Tree.{is_marker}
 use Rattle.fs_tree.specs.MarkerTool.{IsMissing, AreAll}
 use Rattle.fs_tree.proofs.Begins.{both, begins_trans, begins_length, begins_all, begins_marker, marker_is, marker_at}

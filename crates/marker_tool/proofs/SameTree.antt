@@ -7,8 +7,8 @@ use Rattle.s3_types.specs.Answer.{without}
 use Rattle.s3_types.specs.Pages.{begins}
 use Rattle.s3_types.proofs.Begins.{from_prefix}
 use Rattle.dir_markers.specs.Markers.{marker_of}
-use Rattle.request_frame.specs.Members.{IsIn}
-use Rattle.request_frame.proofs.Members.{none_some, same_or_other, false_true, text_left, text_here, text_other}
+use Rattle.proof_base.specs.Members.{IsIn}
+use Rattle.proof_base.proofs.Members.{none_some, same_or_other, false_true, text_left, text_here, text_other}
 use Rattle.bucket_walks.proofs.Below.{is_in, gone_in, kept_out}
 use Rattle.fs_tree.specs.Tree.{Stands, SomeBelow, marker, HasDir, IsDirectory}
 use Rattle.fs_tree.specs.MarkerTool.{SameTree, HasMore, IsSurplus, IsMissing, AreAll, CleansMarkers, FillsMarkers, IsCleaning, IsFilling}

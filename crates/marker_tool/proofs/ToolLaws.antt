@@ -8,8 +8,8 @@ use Rattle.std.specs.FinMap as fin
 use Rattle.s3_types.specs.Store.{Objects}
 use Rattle.s3_types.specs.Answer.{head}
 use Rattle.s3_types.specs.declared.reply.PageEntry.{PageEntry}
-use Rattle.request_frame.specs.Members.{IsIn}
-use Rattle.request_frame.proofs.Members.{in_front, in_back}
+use Rattle.proof_base.specs.Members.{IsIn}
+use Rattle.proof_base.proofs.Members.{in_front, in_back}
 use Rattle.operations.specs.declared.plan.Step.{Step}
 use Rattle.operations.specs.declared.plan.Step.TheVariants.{Next, End}
 use Rattle.operations.specs.Plans.{Goes, Falls}

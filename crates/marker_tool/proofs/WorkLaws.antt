@@ -3,8 +3,8 @@ use Rattle.std.specs.Prelude.{◌≡◌, ℕ, List, [], ◌∷◌, length, take,
 use Rattle.std.proofs.Common.{refl, sym, subst, inl, inr, arith}
 use Rattle.s3_types.specs.Store.{Objects}
 use Rattle.s3_types.specs.Answer.{without}
-use Rattle.request_frame.specs.Members.{IsIn}
-use Rattle.request_frame.proofs.Members.{in_front}
+use Rattle.proof_base.specs.Members.{IsIn}
+use Rattle.proof_base.proofs.Members.{in_front}
 use Rattle.std.proofs.lemmas.List.{take-append-drop}
 use Rattle.bucket_walks.specs.Walking.{all_below}
 use Rattle.bucket_walks.proofs.Batches.{batch_deletes}

@@ -2,7 +2,7 @@
 use Rattle.std.specs.Prelude.{◌≡◌, ◌⊎◌, ℕ, true, false, List, [], ◌∷◌, take}
 use Rattle.std.specs.FinMap as fin
 use Rattle.s3_types.specs.Store.{Objects}
-use Rattle.request_frame.specs.Members.{IsIn}
+use Rattle.proof_base.specs.Members.{IsIn}
 use Rattle.bucket_ops.specs.Asks.{Ask, Page, Put, DropAll, is_look}
 use Rattle.fs_tree.specs.Tree.{marker, IsDirectory}
 use Rattle.fs_tree.specs.MarkerTool.{IsSurplus, IsMissing}

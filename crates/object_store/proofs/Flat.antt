@@ -25,10 +25,10 @@ use Rattle.s3_types.specs.declared.reply.PageEntry.{PageEntry}
 use Rattle.object_store.specs.declared.objects.Held.{Held}
 use Rattle.object_store.specs.Flat.{single, below, Follows}
 use Rattle.object_store.specs.Held.{contents, AreOwn}
-use Rattle.request_frame.specs.Walk.{start, walked}
+use Rattle.store_frame.specs.Walk.{start, walked}
 use Rattle.object_store.proofs.Own.{own_filter}
-use Rattle.request_frame.proofs.Prefix.{lt, le_le, lt_not}
-use Rattle.request_frame.proofs.Walked.{stems, from_start, start_ge, kept_between}
+use Rattle.store_frame.proofs.Prefix.{lt, le_le, lt_not}
+use Rattle.store_frame.proofs.Walked.{stems, from_start, start_ge, kept_between}
 
 -- ---- the end of a page
 

@@ -9,9 +9,9 @@ use Rattle.s3_types.specs.declared.request.Request.{Request}
 use Rattle.s3_types.specs.declared.reply.Reply.{Reply}
 use Rattle.s3_types.specs.declared.request.Actor.{Actor}
 use Rattle.s3_types.specs.declared.journal.Entry.{Entry}
-use Rattle.sendings.specs.Operation.{Follows, run}
-use Rattle.sendings.specs.Retries.{Retried, wants_of, step}
-use Rattle.sendings.proofs.Runs.{follows_take}
+use Rattle.retries.specs.Operation.{Follows, run}
+use Rattle.retries.specs.Retries.{Retried, wants_of, step}
+use Rattle.retries.proofs.Runs.{follows_take}
 use Rattle.machine.specs.Drove.{IsRun}
 use Rattle.machine.specs.Counted.{AreAnswered, Counted}
 use Rattle.s3_types.specs.Foretold.{AreForetold}

@@ -3,7 +3,7 @@ use Rattle.std.specs.Prelude.{ℕ, ◌+◌, Bool, Option, Some, None}
 use Rattle.s3_types.specs.Store.{Scene}
 use Rattle.s3_types.specs.declared.request.Request.{Request}
 use Rattle.s3_types.specs.declared.reply.Reply.{Reply}
-use Rattle.sendings.specs.Retries.{Item, Got, WornOut, OutOfMemory}
+use Rattle.retries.specs.Retries.{Item, Got, WornOut, OutOfMemory}
 use Rattle.machine.specs.Standing.{Standing, Fine, Faulted, Broken}
 use Rattle.operations.specs.declared.plan.Step.{Step}
 use Rattle.operations.specs.declared.plan.Step.TheVariants.{Next, End}

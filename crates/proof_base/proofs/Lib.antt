@@ -9,3 +9,4 @@ pub mod Rest
 pub mod Tree
 pub mod Viewed
 pub mod Bytes
+pub mod Members

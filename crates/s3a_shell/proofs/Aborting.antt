@@ -7,13 +7,13 @@ use Rattle.s3_types.specs.Answer.{apply, aborted, with_uploads}
 use Rattle.s3_types.specs.Multipart.{live, listed, with_key}
 use Rattle.s3_types.specs.declared.request.Request.TheVariants.{AbortUpload}
 use Rattle.s3_types.specs.declared.request.UploadRef.{UploadRef}
-use Rattle.request_frame.specs.Members.{IsIn}
-use Rattle.request_frame.proofs.Members.{same_or_not, nat_gone, nat_left}
+use Rattle.proof_base.specs.Members.{IsIn}
+use Rattle.proof_base.proofs.Members.{same_or_not, nat_gone, nat_left}
 use Rattle.fs_files.specs.Placed.{placed}
 use Rattle.fs_files.proofs.WritingLaws.{placed_same, placed_by}
 use Rattle.path_keys.specs.Paths.{Path, below}
 use Rattle.bucket_walks.specs.Uploads.{uploads_from, IsStill}
-use Rattle.request_frame.proofs.Members.{some_is}
+use Rattle.proof_base.proofs.Members.{some_is}
 use Rattle.s3a_shell.specs.declared.said.Said.{Said}
 use Rattle.s3a_shell.specs.Texts.{fine}
 use Rattle.s3a_shell.specs.declared.session.Session.{Session}

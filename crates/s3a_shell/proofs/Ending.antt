@@ -17,7 +17,7 @@ use Rattle.s3a_shell.proofs.Staying.{does_only}
 use Rattle.s3a_shell.proofs.Unchanged.{no_change}
 use Rattle.s3a_shell.proofs.Undone.{does_keeps}
 use Rattle.s3_service.specs.Ids.{AreBelow}
-use Rattle.request_frame.specs.Held.{upload_at}
+use Rattle.store_frame.specs.Held.{upload_at}
 use Rattle.s3a_shell.proofs.Finished.{below_none, does_ended}
 
 module _ (always : Scene → Type 0) (c : Content) (old es : List Entry) (z s : Scene) (first : old ≡ []) (begun : z ≡ opening c) (h : Sends always old z es s) where

@@ -6,7 +6,7 @@ use Rattle.s3_types.specs.Names.{is_bucket}
 use Rattle.s3_types.specs.Store.{Objects, BucketContent, Content, Scene, new_bucket}
 use Rattle.s3_types.specs.Answer.{made}
 use Rattle.s3_service.specs.Ids.{AreBelow}
-use Rattle.request_frame.specs.Held.{upload_in, upload_at}
+use Rattle.store_frame.specs.Held.{upload_in, upload_at}
 use Rattle.bucket_ops.specs.Asks.{with_objects_if, objects_at}
 use Rattle.bucket_ops.specs.Phases.{InScene, GivesIn}
 use Rattle.dir_markers.specs.declared.marker.MarkerPolicy.{MarkerPolicy}

@@ -12,7 +12,7 @@ use Rattle.machine.specs.Counted.{AreAnswered}
 use Rattle.machine.specs.Turns.{AreBy}
 use Rattle.s3a_shell.specs.declared.session.Session.{Session}
 use Rattle.s3_types.specs.Requests.{only_reads}
-use Rattle.request_frame.proofs.Reading.{reads_nothing}
+use Rattle.store_frame.proofs.Reading.{reads_nothing}
 use Rattle.bucket_walks.specs.Uploads.{IsStill}
 use Rattle.s3a_shell.specs.Sendings.{Sends, Sent, IsCounted, AppliedOrNot, answered_by}
 

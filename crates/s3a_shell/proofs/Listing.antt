@@ -11,7 +11,7 @@ use Rattle.path_keys.specs.Paths.{Path, below}
 use Rattle.s3a_shell.specs.declared.said.Said.{Said}
 use Rattle.s3a_shell.specs.Texts.{fine}
 use Rattle.bucket_walks.specs.Uploads.{uploads_from}
-use Rattle.request_frame.proofs.Members.{some_is}
+use Rattle.proof_base.proofs.Members.{some_is}
 use Rattle.s3a_shell.specs.Uploading.{sizes_of, sizes_in, upload_line, upload_lines, asked_line, asked_lines, ListedIn, DidList}
 
 -- the parts that are told are those of the upload that is live

@@ -2,7 +2,7 @@
 use Rattle.std.specs.Prelude.{◌≡◌, Result, Ok, Err, IfOk}
 use Rattle.s3_types.specs.Store.{Objects, Scene}
 use Rattle.path_keys.specs.Paths.{Path}
-use Rattle.fs_moves.specs.Between.{GivesBetween}
+use Rattle.fs_rename.specs.Between.{GivesBetween}
 use Rattle.s3a_shell.specs.declared.said.Said.{Said}
 use Rattle.s3a_shell.specs.Moving.{DidBetween}
 

@@ -3,8 +3,8 @@ use Rattle.std.specs.Prelude.{◌≡◌, ℕ, ◌<◌, ◌≤◌, nat_lt, Bool, 
 use Rattle.std.proofs.Common.{refl, sym, ap, subst, ◌∙◌, ◌⊎◌, inl, inr, arith}
 use Rattle.std.specs.FinMap as fin
 use Rattle.std.specs.Ordering.{nat_cmp}
-use Rattle.request_frame.proofs.Members.{text_here, text_other}
-use Rattle.request_frame.specs.Held.{upload_in, upload_at}
+use Rattle.proof_base.proofs.Members.{text_here, text_other}
+use Rattle.store_frame.specs.Held.{upload_in, upload_at}
 use Rattle.s3_types.specs.Names.{is_bucket}
 use Rattle.s3_types.specs.Store.{Objects, BucketContent, Content, Scene, new_bucket}
 use Rattle.s3_types.specs.Answer.{made}

@@ -24,7 +24,7 @@ use Rattle.s3_types.specs.declared.journal.Outcome.{Outcome}
 use Rattle.s3_types.specs.declared.journal.Outcome.TheVariants.{Answered}
 use Rattle.s3_types.specs.declared.journal.Entry.{Entry}
 use Rattle.log_format.specs.Change.{is_changing}
-use Rattle.kept_runs.proofs.Journals.{others_leave}
+use Rattle.journal_log.proofs.Journals.{others_leave}
 use Rattle.machine.specs.Counted.{AreAnswered}
 use Rattle.s3a_shell.specs.Sendings.{is_refusal, is_taken, is_change, has_changed}
 

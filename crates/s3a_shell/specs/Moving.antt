@@ -10,7 +10,7 @@ use Rattle.fs_tree.specs.declared.copy.CopyRefusal.{CopyRefusal}
 use Rattle.fs_tree.specs.declared.copy.CopyRefusal.TheVariants as copy
 use Rattle.fs_tree.specs.declared.copy.CopyCount.{CopyCount}
 use Rattle.fs_tree.specs.Copies.{Copies}
-use Rattle.fs_moves.specs.Between.{Route, GivesBetween}
+use Rattle.fs_rename.specs.Between.{Route, GivesBetween}
 use Rattle.s3a_shell.specs.declared.said.Said.{Said}
 use Rattle.s3a_shell.specs.Texts.{fine, refusing}
 

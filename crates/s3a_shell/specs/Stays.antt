@@ -4,8 +4,8 @@ use Rattle.std.specs.FinMap as fin
 use Rattle.s3_types.specs.Store.{BucketContent, Content}
 use Rattle.s3_types.specs.declared.request.UploadRef.{UploadRef}
 use Rattle.path_keys.specs.Paths.{Path}
-use Rattle.request_frame.specs.Held.{upload_at}
-use Rattle.request_frame.specs.Members.{IsIn}
+use Rattle.store_frame.specs.Held.{upload_at}
+use Rattle.proof_base.specs.Members.{IsIn}
 use Rattle.s3a_words.specs.declared.command.Command.{Command}
 use Rattle.s3a_words.specs.declared.kind.CommandKind.{CommandKind}
 use Rattle.s3a_words.specs.declared.kind.CommandKind.TheVariants.{Aborts}

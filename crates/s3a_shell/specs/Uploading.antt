@@ -13,7 +13,7 @@ use Rattle.s3_types.specs.declared.reply.Reply.{Reply}
 use Rattle.s3_types.specs.declared.reply.Reply.TheVariants.{Parts}
 use Rattle.s3_types.specs.declared.reply.PartSize.{PartSize}
 use Rattle.path_keys.specs.Paths.{Path, below}
-use Rattle.request_frame.specs.Members.{IsIn}
+use Rattle.proof_base.specs.Members.{IsIn}
 use Rattle.fs_files.specs.Placed.{placed}
 use Rattle.s3a_shell.specs.declared.said.Said.{Said}
 use Rattle.s3a_shell.specs.Texts.{fine, refusing}

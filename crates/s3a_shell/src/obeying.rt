@@ -7,7 +7,7 @@ ghost use Rattle.machine.specs.Turns.{AreBy};
 ghost use Rattle.s3a_shell.specs.Sendings.{IsCounted, Sent, is_refusal, is_taken, is_change, has_changed};
 ghost use Rattle.s3a_shell.specs.Doings.{is_of_shell, only_looks, Does, MayStandAt};
 ghost use Rattle.s3_service.specs.Ids.{AreBelow};
-ghost use Rattle.request_frame.specs.Held.{upload_at};
+ghost use Rattle.store_frame.specs.Held.{upload_at};
 ghost use Rattle.s3a_shell.specs.Stays.{OnlyIn, bucket_in, ended_by};
 
 use crate::said::Said;

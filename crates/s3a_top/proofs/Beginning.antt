@@ -8,8 +8,8 @@ use Rattle.s3_types.specs.Names.{is_bucket}
 use Rattle.s3_types.specs.declared.limits.TheConstants.{MOST_MINIMUM}
 use Rattle.s3_types.specs.declared.request.Request.TheVariants.{MakeBucket}
 use Rattle.store_image.specs.Content.{IsContent}
-use Rattle.kept_runs.proofs.Imaged.{new, one}
-use Rattle.kept_stores.proofs.Found.{few_ids}
+use Rattle.journal_log.proofs.Imaged.{new, one}
+use Rattle.durable_store.proofs.Found.{few_ids}
 use Rattle.job_world.specs.Worlds.{MayBegin}
 
 -- one that can have an image

@@ -4,12 +4,12 @@ use Rattle.s3_types.specs.Store.{Content}
 use Rattle.job_model.specs.JobScript.{Script}
 use Rattle.shelf.specs.Logged.{Holding, Stored, fresh, LeavesOnly}
 use Rattle.store_image.specs.Image.{image}
-use Rattle.kept_stores.specs.Stores.{found}
-use Rattle.kept_stores.specs.Works.{Work, Says, Saves}
-use Rattle.kept_stores.specs.Outcomes.{MightLeave}
-use Rattle.kept_stores.specs.declared.held.Held.{Held}
-use Rattle.kept_runs.specs.Kept.{IsMoment}
-use Rattle.kept_runs.proofs.Leaving.{told_all, told_more, started, then_on, widened}
+use Rattle.durable_store.specs.Stores.{found}
+use Rattle.durable_store.specs.Works.{Work, Says, Saves}
+use Rattle.durable_store.specs.Outcomes.{MightLeave}
+use Rattle.durable_store.specs.declared.held.Held.{Held}
+use Rattle.journal_log.specs.Kept.{IsMoment}
+use Rattle.journal_log.proofs.Leaving.{told_all, told_more, started, then_on, widened}
 use Rattle.s3a_words.specs.declared.command.Command.{Command}
 use Rattle.s3a_top.specs.Openings.{IsScriptOf, Opens, opening_in}
 use Rattle.s3a_top.specs.Jobs.{MayHaveLeft}

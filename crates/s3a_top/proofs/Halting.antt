@@ -4,11 +4,11 @@ use Rattle.s3_types.specs.declared.journal.Entry.{Entry}
 use Rattle.job_model.specs.declared.ends.Pick.{Pick}
 use Rattle.job_model.specs.declared.ends.EventEnd.{EventEnd}
 use Rattle.shelf.specs.Logged.{Holding, Stored, LeavesOnly}
-use Rattle.kept_stores.specs.Outcomes.{Tells}
-use Rattle.kept_stores.specs.declared.held.Held.{Held}
-use Rattle.kept_stores.specs.declared.held.Held.TheVariants.{Faulty}
-use Rattle.kept_stores.specs.declared.held.ShelfStop.{ShelfStop}
-use Rattle.kept_stores.specs.declared.held.ShelfStop.TheVariants as shelves
+use Rattle.durable_store.specs.Outcomes.{Tells}
+use Rattle.durable_store.specs.declared.held.Held.{Held}
+use Rattle.durable_store.specs.declared.held.Held.TheVariants.{Faulty}
+use Rattle.durable_store.specs.declared.held.ShelfStop.{ShelfStop}
+use Rattle.durable_store.specs.declared.held.ShelfStop.TheVariants as shelves
 use Rattle.s3a_top.specs.Openings.{is_sound, IsSoundly, IsFound}
 use Rattle.s3a_top.specs.Statuses.{code, IsDue, IsIdle, memory_text, usage_text}
 use Rattle.s3a_top.specs.Stops.{status_of, of_shelf, stop_text}

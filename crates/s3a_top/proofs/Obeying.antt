@@ -2,15 +2,15 @@
 use Rattle.std.proofs.Common.{◌≡◌, inl, inr, ℕ, ◌≤◌, Bool, true, false, List, Option, Result, Ok, Err, IfOk, IfErr, OnErr, refl, sym, subst}
 use Rattle.s3_types.specs.declared.journal.Entry.{Entry}
 use Rattle.shelf.specs.Logged.{Holding, Stored, IsDurable, LeavesOnly}
-use Rattle.kept_stores.specs.Works.{Work as Doing, IsPlain}
-use Rattle.kept_stores.specs.Outcomes.{IsAnswer, IsHeld, WhereSound, MightLeave, IsDurableNow, CallsBy, Tells, IsSound, HasImages}
-use Rattle.kept_stores.specs.Outcomes.IsAnswer.{said, saved, failed, wanting}
-use Rattle.kept_stores.specs.declared.held.Held.{Held}
-use Rattle.kept_stores.specs.declared.held.Held.TheVariants.{Nothing, Store, Faulty}
-use Rattle.kept_stores.specs.declared.held.ShelfStop.{ShelfStop}
-use Rattle.kept_stores.specs.declared.held.ShelfStop.TheVariants as shelves
+use Rattle.durable_store.specs.Works.{Work as Doing, IsPlain}
+use Rattle.durable_store.specs.Outcomes.{IsAnswer, IsHeld, WhereSound, MightLeave, IsDurableNow, CallsBy, Tells, IsSound, HasImages}
+use Rattle.durable_store.specs.Outcomes.IsAnswer.{said, saved, failed, wanting}
+use Rattle.durable_store.specs.declared.held.Held.{Held}
+use Rattle.durable_store.specs.declared.held.Held.TheVariants.{Nothing, Store, Faulty}
+use Rattle.durable_store.specs.declared.held.ShelfStop.{ShelfStop}
+use Rattle.durable_store.specs.declared.held.ShelfStop.TheVariants as shelves
 use Rattle.s3a_words.specs.declared.command.Command.{Command}
-use Rattle.shell_works.specs.Commanded.{takes_input}
+use Rattle.durable_shell.specs.Commanded.{takes_input}
 use Rattle.s3a_top.specs.Openings.{is_sound, IsFound}
 use Rattle.s3a_top.specs.Statuses.{code}
 use Rattle.s3a_top.specs.Stops.{status_of, of_shelf}

@@ -6,7 +6,7 @@ use Rattle.job_model.specs.JobScript.{Script}
 use Rattle.job_model.specs.declared.ends.Pick.{Pick}
 use Rattle.job_model.specs.declared.ends.EventEnd.{EventEnd}
 use Rattle.shelf.specs.Logged.{Holding, Stored}
-use Rattle.kept_stores.specs.Works.{Work as Doing}
+use Rattle.durable_store.specs.Works.{Work as Doing}
 use Rattle.s3a_words.specs.declared.command.Command.{Command}
 use Rattle.s3a_top.specs.Statuses.{Writes}
 use Rattle.s3a_top.specs.Jobs.{JobEnded, JobCut, JobRan, JobPlayed, JobStopped}

@@ -5,21 +5,21 @@ use Rattle.s3_types.specs.declared.journal.Entry.{Entry}
 use Rattle.job_model.specs.JobScript.{Script}
 use Rattle.job_model.specs.declared.ends.Pick.{Pick}
 use Rattle.job_model.specs.declared.ends.EventEnd.{EventEnd}
-use Rattle.job_promise.specs.States.{verdict}
+use Rattle.job_spec.specs.States.{verdict}
 use Rattle.job_world.specs.declared.played.Played.{Played}
 use Rattle.shelf.specs.Logged.{Holding, Stored, LeavesOnly}
 use Rattle.shelf.specs.declared.kept.AppendFault.{AppendFault}
 use Rattle.shelf.specs.declared.kept.AppendFault.TheVariants.{Failed, NoMemory}
-use Rattle.kept_stores.specs.declared.held.Held.{Held}
+use Rattle.durable_store.specs.declared.held.Held.{Held}
 use Rattle.store_image.specs.Content.{IsContent}
-use Rattle.kept_runs.specs.Changes.{changes}
-use Rattle.kept_runs.specs.Made.{KeepsImages}
-use Rattle.kept_runs.specs.Kept.{Holds, HasEarlier, HoldsPart, IsToEnd, IsKept}
-use Rattle.kept_runs.specs.Crashes.{IsLast}
-use Rattle.kept_runs.proofs.Journals.{changes_append}
-use Rattle.kept_runs.proofs.Standing.{begins_all, last}
-use Rattle.kept_runs.proofs.Leaving.{survives}
-use Rattle.kept_jobs.specs.Played.{IsPlayed, IsHeld, Survives}
+use Rattle.journal_log.specs.Changes.{changes}
+use Rattle.journal_log.specs.Made.{KeepsImages}
+use Rattle.journal_log.specs.Kept.{Holds, HasEarlier, HoldsPart, IsToEnd, IsKept}
+use Rattle.journal_log.specs.Crashes.{IsLast}
+use Rattle.journal_log.proofs.Journals.{changes_append}
+use Rattle.journal_log.proofs.Standing.{begins_all, last}
+use Rattle.journal_log.proofs.Leaving.{survives}
+use Rattle.durable_job.specs.Played.{IsPlayed, IsHeld, Survives}
 use Rattle.s3a_top.specs.Statuses.{memory_text}
 use Rattle.s3a_words.specs.declared.command.Command.{Command}
 use Rattle.s3a_top.specs.Jobs.{job_text, JobEnded, JobCut, JobRan, JobPlayed}

@@ -5,7 +5,7 @@ use Rattle.job_model.specs.JobScript.{Script}
 use Rattle.job_script.specs.Script.{script_of}
 use Rattle.shelf.specs.Logged.{Holding, Stored, fresh, LeavesOnly}
 use Rattle.store_image.specs.Image.{image}
-use Rattle.kept_stores.specs.declared.held.Held.{Held}
+use Rattle.durable_store.specs.declared.held.Held.{Held}
 use Rattle.s3a_top.specs.Bytes.{IsRead}
 use Rattle.s3a_words.specs.declared.command.Command.{Command}
 use Rattle.s3a_words.specs.declared.command.Command.TheVariants.{Job}

@@ -8,7 +8,7 @@ use Rattle.job_model.specs.declared.ends.CommitEnd.TheVariants as commits
 use Rattle.job_model.specs.declared.ends.OpEnd.{OpEnd}
 use Rattle.job_model.specs.declared.ends.OpEnd.TheVariants as ends
 use Rattle.job_model.specs.declared.ends.EventEnd.{EventEnd}
-use Rattle.job_promise.specs.States.{Decided, NotBegun, Unended, EndedSo, past, end_verdict, verdict_or, verdict}
+use Rattle.job_spec.specs.States.{Decided, NotBegun, Unended, EndedSo, past, end_verdict, verdict_or, verdict}
 use Rattle.s3a_top.specs.Plays.{IsFinal}
 
 -- ---- verdicts

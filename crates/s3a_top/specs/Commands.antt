@@ -4,13 +4,13 @@ use Rattle.s3_types.specs.declared.journal.Entry.{Entry}
 use Rattle.job_model.specs.declared.ends.Pick.{Pick}
 use Rattle.job_model.specs.declared.ends.EventEnd.{EventEnd}
 use Rattle.shelf.specs.Logged.{Holding, Stored, IsDurable, LeavesOnly}
-use Rattle.kept_stores.specs.Works.{Work}
-use Rattle.kept_stores.specs.Outcomes.{IsSound, IsAnswer, IsHeld, HasImages, WhereSound, MightLeave, IsDurableNow, CallsBy}
-use Rattle.kept_stores.specs.declared.held.Held.{Held}
-use Rattle.kept_stores.specs.declared.held.Held.TheVariants.{Faulty}
+use Rattle.durable_store.specs.Works.{Work}
+use Rattle.durable_store.specs.Outcomes.{IsSound, IsAnswer, IsHeld, HasImages, WhereSound, MightLeave, IsDurableNow, CallsBy}
+use Rattle.durable_store.specs.declared.held.Held.{Held}
+use Rattle.durable_store.specs.declared.held.Held.TheVariants.{Faulty}
 use Rattle.s3a_words.specs.declared.command.Command.{Command}
 use Rattle.s3a_words.specs.declared.command.Command.TheVariants.{Job}
-use Rattle.shell_works.specs.Commanded.{takes_input, IsWork}
+use Rattle.durable_shell.specs.Commanded.{takes_input, IsWork}
 use Rattle.s3a_top.specs.Bytes.{IsRead, TakesPart}
 use Rattle.s3a_top.specs.Openings.{IsFound, IsSoundly}
 use Rattle.s3a_top.specs.Statuses.{IsIdle, code, usage_text, shelf_text, memory_text}

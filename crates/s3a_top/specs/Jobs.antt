@@ -5,25 +5,25 @@ use Rattle.s3_types.specs.declared.journal.Entry.{Entry}
 use Rattle.job_model.specs.JobScript.{Script}
 use Rattle.job_model.specs.declared.ends.Pick.{Pick}
 use Rattle.job_model.specs.declared.ends.EventEnd.{EventEnd}
-use Rattle.job_promise.specs.Entries.{AreOwn}
-use Rattle.job_promise.specs.Promise.{Promised, Sent, Finished}
-use Rattle.job_promise.specs.States.{verdict}
-use Rattle.job_promise.specs.ReportText.{report_text}
+use Rattle.job_spec.specs.Entries.{AreOwn}
+use Rattle.job_spec.specs.Promise.{Promised, Sent, Finished}
+use Rattle.job_spec.specs.States.{verdict}
+use Rattle.job_spec.specs.ReportText.{report_text}
 use Rattle.job_script.specs.Script.{script_of}
 use Rattle.job_script.specs.declared.fault.ScriptFault.{ScriptFault}
 use Rattle.job_script.specs.declared.fault.ScriptFault.TheVariants as faults
-use Rattle.job_summary.specs.Summary.{summary}
+use Rattle.job_gen.specs.Summary.{summary}
 use Rattle.shelf.specs.Logged.{Holding, Stored, fresh, IsDurable, LeavesOnly}
 use Rattle.store_image.specs.Image.{image}
-use Rattle.kept_stores.specs.Stores.{found}
-use Rattle.kept_stores.specs.declared.held.Held.TheVariants.{Faulty}
-use Rattle.kept_runs.specs.Changes.{changes}
+use Rattle.durable_store.specs.Stores.{found}
+use Rattle.durable_store.specs.declared.held.Held.TheVariants.{Faulty}
+use Rattle.journal_log.specs.Changes.{changes}
 use Rattle.store_image.specs.Content.{IsContent}
-use Rattle.kept_runs.specs.Made.{KeepsImages}
-use Rattle.kept_runs.specs.Kept.{Holds, HoldsPart, IsKept}
-use Rattle.kept_runs.specs.Crashes.{SurvivesCrashes}
-use Rattle.kept_appends.specs.Appends.{AreCalled}
-use Rattle.kept_jobs.specs.Pace.{Stops}
+use Rattle.journal_log.specs.Made.{KeepsImages}
+use Rattle.journal_log.specs.Kept.{Holds, HoldsPart, IsKept}
+use Rattle.journal_log.specs.Crashes.{SurvivesCrashes}
+use Rattle.journal_log.specs.Appends.{AreCalled}
+use Rattle.durable_job.specs.Pace.{Stops}
 use Rattle.s3a_words.specs.declared.command.Command.{Command}
 use Rattle.s3a_words.specs.declared.command.Command.TheVariants.{Job, Gen}
 use Rattle.s3a_top.specs.Bytes.{IsTaken, TakesPart}

@@ -6,11 +6,11 @@ use Rattle.s3_types.specs.declared.limits.TheConstants.{MOST_MINIMUM}
 use Rattle.s3_types.specs.declared.request.Request.TheVariants.{MakeBucket}
 use Rattle.job_model.specs.JobScript.{Script}
 use Rattle.job_script.specs.Script.{script_of}
-use Rattle.made_jobs.specs.Made.{made_script}
+use Rattle.job_gen.specs.Made.{made_script}
 use Rattle.shelf.specs.Logged.{Stored}
-use Rattle.kept_stores.specs.Stores.{found}
-use Rattle.kept_stores.specs.declared.held.Held.{Held}
-use Rattle.kept_stores.specs.declared.held.Held.TheVariants.{Nothing, Store, Faulty}
+use Rattle.durable_store.specs.Stores.{found}
+use Rattle.durable_store.specs.declared.held.Held.{Held}
+use Rattle.durable_store.specs.declared.held.Held.TheVariants.{Nothing, Store, Faulty}
 use Rattle.s3a_words.specs.declared.command.Command.{Command}
 use Rattle.s3a_words.specs.declared.command.Command.TheVariants.{Job, Gen}
 use Rattle.s3a_top.specs.Bytes.{TakesPart}

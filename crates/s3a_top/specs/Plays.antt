@@ -5,17 +5,17 @@ use Rattle.s3_types.specs.declared.journal.Entry.{Entry}
 use Rattle.job_model.specs.JobScript.{Script}
 use Rattle.job_model.specs.declared.ends.Pick.{Pick}
 use Rattle.job_model.specs.declared.ends.EventEnd.{EventEnd}
-use Rattle.job_promise.specs.States.{verdict}
+use Rattle.job_spec.specs.States.{verdict}
 use Rattle.job_script.specs.declared.fault.ScriptFault.TheVariants as faults
 use Rattle.job_world.specs.declared.played.Played.{Played}
 use Rattle.shelf.specs.Logged.{Holding, Stored, fresh, LeavesOnly}
 use Rattle.shelf.specs.declared.kept.AppendFault.{AppendFault}
 use Rattle.shelf.specs.declared.kept.AppendFault.TheVariants as appends
 use Rattle.store_image.specs.Image.{image}
-use Rattle.kept_stores.specs.declared.held.Held.{Held}
-use Rattle.kept_stores.specs.declared.held.Held.TheVariants.{Faulty}
-use Rattle.kept_runs.specs.Kept.{IsMoment}
-use Rattle.kept_runs.specs.Crashes.{WhereTold}
+use Rattle.durable_store.specs.declared.held.Held.{Held}
+use Rattle.durable_store.specs.declared.held.Held.TheVariants.{Faulty}
+use Rattle.journal_log.specs.Kept.{IsMoment}
+use Rattle.journal_log.specs.Crashes.{WhereTold}
 use Rattle.s3a_words.specs.declared.command.Command.{Command}
 use Rattle.s3a_words.specs.declared.command.Command.TheVariants.{Job}
 use Rattle.s3a_top.specs.Bytes.{IsTaken, TakesPart}

@@ -1,8 +1,8 @@
 -- The status and the text of each stop.
 use Rattle.std.specs.Prelude.{ℕ, List}
-use Rattle.kept_stores.specs.Stores.{fault_text}
-use Rattle.kept_stores.specs.declared.held.ShelfStop.{ShelfStop}
-use Rattle.kept_stores.specs.declared.held.ShelfStop.TheVariants as shelves
+use Rattle.durable_store.specs.Stores.{fault_text}
+use Rattle.durable_store.specs.declared.held.ShelfStop.{ShelfStop}
+use Rattle.durable_store.specs.declared.held.ShelfStop.TheVariants as shelves
 use Rattle.s3a_top.specs.Statuses.{usage_text, read_text, shelf_text, memory_text, script_fault_text}
 use Rattle.s3a_top.specs.declared.statuses.Status.{Status}
 use Rattle.s3a_top.specs.declared.statuses.Status.TheVariants as statuses

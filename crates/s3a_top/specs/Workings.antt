@@ -2,12 +2,12 @@
 use Rattle.std.specs.Prelude.{◌≡◌, ◌⊎◌, ◌<◌, ◌^◌, ◌-◌, ℕ, true, false, List, [], Option, Result, Ok, Err}
 use Rattle.s3_types.specs.declared.journal.Entry.{Entry}
 use Rattle.shelf.specs.Logged.{Holding, Stored, LeavesOnly}
-use Rattle.kept_stores.specs.Works.{Work as Doing}
-use Rattle.kept_stores.specs.Outcomes.{CallsBy, Tells}
-use Rattle.kept_stores.specs.declared.held.Held.{Held}
+use Rattle.durable_store.specs.Works.{Work as Doing}
+use Rattle.durable_store.specs.Outcomes.{CallsBy, Tells}
+use Rattle.durable_store.specs.declared.held.Held.{Held}
 use Rattle.s3a_words.specs.Words.{IsBounded}
 use Rattle.s3a_words.specs.declared.command.Command.{Command}
-use Rattle.shell_works.specs.Commanded.{takes_input, plays, IsWork}
+use Rattle.durable_shell.specs.Commanded.{takes_input, plays, IsWork}
 use Rattle.s3a_top.specs.Bytes.{TakesPart}
 use Rattle.s3a_top.specs.Openings.{is_sound}
 use Rattle.s3a_top.specs.Statuses.{code, written_text, memory_text}

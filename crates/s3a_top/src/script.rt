@@ -2,7 +2,7 @@ ghost use Rattle.std.specs.Prelude.{◌≡◌, ◌<◌, ◌^◌, ◌-◌, true, 
 ghost use Rattle.job_script.specs.Script.{script_of};
 ghost use Rattle.s3a_words.specs.Words.{IsBounded};
 ghost use Rattle.s3a_words.specs.declared.command.Command.TheVariants as commands;
-ghost use Rattle.shell_works.specs.Commanded.{plays};
+ghost use Rattle.durable_shell.specs.Commanded.{plays};
 ghost use Rattle.s3a_top.specs.Openings.{IsScript, IsScriptOf};
 ghost use Rattle.s3a_top.specs.Commands.{may_read};
 ghost use Rattle.s3a_top.specs.Reads.{IsReadStop, IsNone, CountsReads};
@@ -11,7 +11,7 @@ use crate::input::{InputFault, read_input};
 use crate::stop::Stop;
 use job_model::Script;
 use job_script::{ScriptFault, read_script};
-use made_jobs::make_script;
+use job_gen::make_script;
 use s3a_words::Command;
 use shelf::Source;
 use std::alloc::Global;

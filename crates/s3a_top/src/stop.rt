@@ -7,7 +7,7 @@ ghost use Rattle.s3a_top.specs.Workings.{IsMade, IsToldOf};
 use crate::statuses::Status;
 use crate::work::{Work, said};
 use job_script::ScriptFault;
-use kept_stores::{ShelfStop, fault_text};
+use durable_store::{ShelfStop, fault_text};
 use s3_types::Bytes;
 use std::alloc::{AllocError, Global};
 

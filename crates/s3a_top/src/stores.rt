@@ -1,8 +1,8 @@
 ghost use Rattle.std.specs.Prelude.{◌≡◌, ◌<◌, ◌^◌, ◌-◌, true, false, [], IfOk, IfErr, OnErr};
-ghost use Rattle.kept_stores.specs.Works.{IsPlain};
-ghost use Rattle.kept_stores.specs.Doing.{work_in};
-ghost use Rattle.kept_stores.specs.Outcomes.{IsSound, CallsBy, Tells};
-ghost use Rattle.shell_works.specs.Commanded.{takes_input};
+ghost use Rattle.durable_store.specs.Works.{IsPlain};
+ghost use Rattle.durable_store.specs.Doing.{work_in};
+ghost use Rattle.durable_store.specs.Outcomes.{IsSound, CallsBy, Tells};
+ghost use Rattle.durable_shell.specs.Commanded.{takes_input};
 ghost use Rattle.s3a_top.specs.Openings.{is_sound};
 ghost use Rattle.s3a_top.specs.Reads.{CountsReads};
 ghost use Rattle.s3a_top.specs.Statuses.{code, written_text, IsWorked};
@@ -15,12 +15,12 @@ use crate::statuses::Status;
 use crate::stop::Stop;
 use crate::work::Work;
 use job_model::{EndList, PickList};
-use kept_stores::{Answer, Held, Work as Doing, obey};
+use durable_store::{Answer, Held, Work as Doing, obey};
 use s3_types::{Bytes, let_go};
 use s3a_words::Command;
 use shelf::Source;
 use shelf::kept::Shelf;
-use shell_works::{takes_input, work_of};
+use durable_shell::{takes_input, work_of};
 use std::alloc::Global;
 
 /// The status that an answer's is: 0, 1, 5, 7 or 9.

@@ -1,8 +1,8 @@
 ghost use Rattle.std.specs.Prelude.{◌≡◌, ◌≢◌, ◌⊎◌, ◌<◌, ◌^◌, ◌-◌, true, false, [], Some, None, IfOk, IsErrOf};
-ghost use Rattle.kept_stores.specs.Outcomes.{Tells};
+ghost use Rattle.durable_store.specs.Outcomes.{Tells};
 ghost use Rattle.s3a_words.specs.Words.{command_of};
 ghost use Rattle.s3a_words.specs.declared.command.Command as words_said;
-ghost use Rattle.shell_works.specs.Commanded.{takes_input, plays};
+ghost use Rattle.durable_shell.specs.Commanded.{takes_input, plays};
 ghost use Rattle.s3a_top.specs.Statuses.{code, written_text, IsDue, IsWorked, Writes};
 ghost use Rattle.s3a_top.specs.Jobs.{JobPlayed, JobStopped};
 ghost use Rattle.s3a_top.specs.Commands.{may_read, NoCommand, StoreStopped, StoreDone};
@@ -16,12 +16,12 @@ use crate::stop::{Stop, stopped};
 use crate::stores::commanded;
 use crate::work::Work;
 use job_report::Report;
-use kept_stores::load;
+use durable_store::load;
 use s3_types::{Text, let_go};
 use s3a_words::{Command, WordFault, read_words};
 use shelf::kept::Shelf;
 use shelf::{Sink, Source};
-use shell_works::plays;
+use durable_shell::plays;
 use std::alloc::Global;
 
 /// Plays the job of a command, `job` or `gen`, over what the shelf holds.

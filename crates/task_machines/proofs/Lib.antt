@@ -1,0 +1,3 @@
+pub mod WriteFalls
+pub mod AbortFalls
+pub mod CommitFalls

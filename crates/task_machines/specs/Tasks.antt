@@ -3,7 +3,7 @@ use Rattle.std.specs.Prelude.{◌≡◌, Bool, Option, Some, None}
 use Rattle.std.proofs.Common.{refl, ap}
 use Rattle.s3_types.specs.declared.request.Request.{Request}
 use Rattle.s3_types.specs.declared.reply.Reply.{Reply}
-use Rattle.sendings.specs.Retries.{Item, WornOut, OutOfMemory}
+use Rattle.retries.specs.Retries.{Item, WornOut, OutOfMemory}
 use Rattle.machine.specs.Standing.{Standing}
 use Rattle.job_model.specs.Attempts.{Who}
 use Rattle.job_model.specs.Known.{Known}
@@ -11,17 +11,17 @@ use Rattle.job_model.specs.Jobs.{Task}
 use Rattle.job_model.specs.JobScript.{Script}
 use Rattle.job_model.specs.declared.ends.TaskEnd.{TaskEnd}
 use Rattle.job_model.specs.declared.ends.TaskEnd.TheVariants as ends
-use Rattle.job_operations.specs.AtWork.{Attempting, task_script, who_of, with_known, learned, told, write_wants, write_told, task_commit_wants, task_commit_told, task_abort_wants, task_abort_told}
-use Rattle.job_operations.specs.Writes.{WriteOver}
-use Rattle.job_operations.specs.TaskCommits.{TaskCommitOver}
-use Rattle.job_operations.specs.TaskAborts.{TaskAbortOver}
-use Rattle.asking.specs.Asks.{AskLaws}
+use Rattle.job_protocol.specs.AtWork.{Attempting, task_script, who_of, with_known, learned, told, write_wants, write_told, task_commit_wants, task_commit_told, task_abort_wants, task_abort_told}
+use Rattle.job_protocol.specs.Writes.{WriteOver}
+use Rattle.job_protocol.specs.TaskCommits.{TaskCommitOver}
+use Rattle.job_protocol.specs.TaskAborts.{TaskAbortOver}
+use Rattle.machine.specs.Asks.{AskLaws}
 use Rattle.task_requests.specs.Writing.{write_fits}
-use Rattle.task_laws.specs.Writes.{write_standing, write_asks}
-use Rattle.task_laws.specs.Commits.{commit_fits}
-use Rattle.task_laws.specs.CommitStands.{commit_standing, commit_laws}
-use Rattle.task_laws.specs.Aborts.{abort_fits}
-use Rattle.task_laws.specs.AbortStands.{abort_standing, abort_laws}
+use Rattle.task_machines.specs.Writes.{write_standing, write_asks}
+use Rattle.task_machines.specs.Commits.{commit_fits}
+use Rattle.task_machines.specs.CommitStands.{commit_standing, commit_laws}
+use Rattle.task_machines.specs.Aborts.{abort_fits}
+use Rattle.task_machines.specs.AbortStands.{abort_standing, abort_laws}
 
 -- an operation beside the plan
 abbrev pub at : {O : Type 0} → Task → O → Attempting O

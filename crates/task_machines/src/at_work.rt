@@ -2,7 +2,7 @@ ghost use Rattle.task_machines.specs.Tasks.{at};
 
 use crate::holds::Holds;
 use crate::operation::TaskOperation;
-use asking::{Asked, Asking, Asks};
+use machine::{Asked, Asking, Asks};
 use job_model::{TaskEnd, TaskPlan};
 use s3_types::{Reply, let_go};
 use std::alloc::{AllocError, Global};
@@ -17,7 +17,7 @@ pub struct AtWork<O: TaskOperation, H: Holds<O>> {
 }
 
 impl<O: TaskOperation, H: Holds<O>> Model for AtWork<O, H> {
-    ghost use Rattle.job_operations.specs.AtWork.{Attempting};
+    ghost use Rattle.job_protocol.specs.AtWork.{Attempting};
     ghost use Rattle.task_machines.specs.Tasks.{at};
 
     ghost Value = { Attempting O };

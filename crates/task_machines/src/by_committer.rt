@@ -2,7 +2,7 @@ ghost use Rattle.task_machines.specs.ByCommitter.{GoesBy, KeepsBy, operation_by}
 
 use crate::holds::Holds;
 use crate::operation::TaskOperation;
-use asking::Asked;
+use machine::Asked;
 use job_model::{TaskEnd, TaskPlan};
 use s3_types::{Committer, Reply};
 use std::alloc::{AllocError, Global};

@@ -1,11 +1,11 @@
 ghost use Rattle.std.specs.Prelude.{◌≡◌, IfOk, OnOk, OnErr, IsSome};
 ghost use Rattle.std.specs.Option.{option_copied};
-ghost use Rattle.sendings.specs.Retries.{Got, WornOut};
+ghost use Rattle.retries.specs.Retries.{Got, WornOut};
 ghost use Rattle.job_model.specs.Jobs.{Task};
 ghost use Rattle.task_machines.specs.Tasks.{at};
 
 use crate::operation::TaskOperation;
-use asking::Asked;
+use machine::Asked;
 use job_model::{TaskEnd, TaskPlan};
 use s3_types::Reply;
 use std::alloc::{AllocError, Global};

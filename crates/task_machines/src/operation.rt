@@ -2,20 +2,20 @@ ghost use Rattle.std.specs.Prelude.{ℕ, Bool, Option};
 ghost use Rattle.s3_types.specs.Store.{Scene};
 ghost use Rattle.s3_types.specs.declared.request.Request.{Request};
 ghost use Rattle.s3_types.specs.declared.reply.Reply.{Reply};
-ghost use Rattle.sendings.specs.Retries.{Item};
+ghost use Rattle.retries.specs.Retries.{Item};
 ghost use Rattle.machine.specs.Standing.{Standing};
 ghost use Rattle.job_model.specs.Jobs.{Task};
 ghost use Rattle.job_model.specs.declared.ends.TaskEnd.{TaskEnd};
-ghost use Rattle.job_operations.specs.AtWork.{Attempting, task_script, who_of, write_wants, write_told, task_commit_wants, task_commit_told, task_abort_wants, task_abort_told};
-ghost use Rattle.job_operations.specs.Writes.{WriteOver, write_start, write_over};
-ghost use Rattle.job_operations.specs.TaskCommits.{TaskCommitOver, task_commit_start, task_commit_over};
-ghost use Rattle.job_operations.specs.TaskAborts.{TaskAbortOver, task_abort_start, task_abort_over};
+ghost use Rattle.job_protocol.specs.AtWork.{Attempting, task_script, who_of, write_wants, write_told, task_commit_wants, task_commit_told, task_abort_wants, task_abort_told};
+ghost use Rattle.job_protocol.specs.Writes.{WriteOver, write_start, write_over};
+ghost use Rattle.job_protocol.specs.TaskCommits.{TaskCommitOver, task_commit_start, task_commit_over};
+ghost use Rattle.job_protocol.specs.TaskAborts.{TaskAbortOver, task_abort_start, task_abort_over};
 ghost use Rattle.task_requests.specs.Writing.{write_fits, write_left};
-ghost use Rattle.task_laws.specs.Writes.{write_standing};
-ghost use Rattle.task_laws.specs.Commits.{commit_fits, commit_left};
-ghost use Rattle.task_laws.specs.CommitStands.{commit_standing};
-ghost use Rattle.task_laws.specs.Aborts.{abort_fits, abort_left};
-ghost use Rattle.task_laws.specs.AbortStands.{abort_standing};
+ghost use Rattle.task_machines.specs.Writes.{write_standing};
+ghost use Rattle.task_machines.specs.Commits.{commit_fits, commit_left};
+ghost use Rattle.task_machines.specs.CommitStands.{commit_standing};
+ghost use Rattle.task_machines.specs.Aborts.{abort_fits, abort_left};
+ghost use Rattle.task_machines.specs.AbortStands.{abort_standing};
 ghost use Rattle.task_machines.specs.Tasks.{TaskLaws, write_is, commit_is, abort_is};
 
 use std::marker::Model;
@@ -56,7 +56,7 @@ pub struct TheWrite {}
 
 impl Model for TheWrite {
     ghost use Rattle.job_model.specs.declared.ends.TaskEnd.TheVariants.{Done};
-    ghost use Rattle.job_operations.specs.Writes.{Write, WriteOver};
+    ghost use Rattle.job_protocol.specs.Writes.{Write, WriteOver};
 
     ghost Value = { Write };
 
@@ -89,7 +89,7 @@ pub struct TheCommit {}
 
 impl Model for TheCommit {
     ghost use Rattle.job_model.specs.declared.ends.TaskEnd.TheVariants.{Done};
-    ghost use Rattle.job_operations.specs.TaskCommits.{TaskCommit, TaskCommitOver};
+    ghost use Rattle.job_protocol.specs.TaskCommits.{TaskCommit, TaskCommitOver};
 
     ghost Value = { TaskCommit };
 
@@ -122,7 +122,7 @@ pub struct TheAbort {}
 
 impl Model for TheAbort {
     ghost use Rattle.job_model.specs.declared.ends.TaskEnd.TheVariants.{Done};
-    ghost use Rattle.job_operations.specs.TaskAborts.{TaskAbort, TaskAbortOver};
+    ghost use Rattle.job_protocol.specs.TaskAborts.{TaskAbort, TaskAbortOver};
 
     ghost Value = { TaskAbort };
 

@@ -10,7 +10,7 @@ use Rattle.s3_types.specs.declared.reply.Reply.{Reply}
 use Rattle.s3_types.specs.declared.reply.Reply.TheVariants.{Object, Refused}
 use Rattle.s3_types.specs.declared.reply.Refusal.TheVariants.{NoSuchKey}
 use Rattle.magic_paths.specs.Layout as layout
-use Rattle.sendings.specs.Retries.{Got}
+use Rattle.retries.specs.Retries.{Got}
 use Rattle.job_model.specs.Files.{File}
 use Rattle.job_model.specs.Attempts.{Who}
 use Rattle.job_model.specs.Known.{Known}
@@ -18,18 +18,18 @@ use Rattle.job_model.specs.Jobs.{Task}
 use Rattle.job_model.specs.JobScript.{Script}
 use Rattle.job_model.specs.declared.ends.TaskEnd.{TaskEnd}
 use Rattle.job_model.specs.declared.ends.TaskEnd.TheVariants as ends
-use Rattle.job_operations.specs.AtWork.{Attempting, task_script, who_of, with_known, task_commit_told}
-use Rattle.job_operations.specs.Knowledge.{is_set_key}
-use Rattle.job_operations.specs.Outputs.{files}
-use Rattle.job_operations.specs.Records.{record_key}
+use Rattle.job_protocol.specs.AtWork.{Attempting, task_script, who_of, with_known, task_commit_told}
+use Rattle.job_protocol.specs.Knowledge.{is_set_key}
+use Rattle.job_protocol.specs.Outputs.{files}
+use Rattle.job_protocol.specs.Records.{record_key}
 use Rattle.list_walk.specs.Walks.{keys_on, walked, walked_by}
-use Rattle.job_operations.specs.TaskCommits as commits
-use Rattle.job_operations.specs.Uploading.{Creating, Sending}
-use Rattle.job_operations.specs.TaskCommits.{TaskCommit, Looking, Reading, Publishing, Checking, Storing, Renaming, TaskCommitOver, task_commit_start_by, task_commit_asks, task_commit_hears, in_order, reading, looked, looked_at, least_missing, read_record}
+use Rattle.job_protocol.specs.TaskCommits as commits
+use Rattle.job_protocol.specs.Uploading.{Creating, Sending}
+use Rattle.job_protocol.specs.TaskCommits.{TaskCommit, Looking, Reading, Publishing, Checking, Storing, Renaming, TaskCommitOver, task_commit_start_by, task_commit_asks, task_commit_hears, in_order, reading, looked, looked_at, least_missing, read_record}
 use Rattle.task_magic.specs.declared.committing.Committing.{Committing}
 use Rattle.task_requests.specs.Publishing.{picked, IsPending, AreReady, are_places, drawn_of, FitsRecord}
 use Rattle.task_magic.specs.Committing.{commit_by, commit_of, HoldsCommit, AreRecords, record_of, is_no_key, publishes, known_if, with_sent, seen_in, least_unseen}
-use Rattle.task_laws.specs.Commits.{FitsCommit}
+use Rattle.task_machines.specs.Commits.{FitsCommit}
 use Rattle.task_magic.proofs.Listed.{missing_is}
 
 -- ---- the file at a place

@@ -20,10 +20,10 @@ use Rattle.path_keys.specs.Paths.{below}
 use Rattle.magic_paths.proofs.Tails.{below_is}
 use Rattle.job_model.specs.Files.{File}
 use Rattle.job_model.specs.Jobs.{Task}
-use Rattle.job_operations.specs.AtWork.{task_script, who_of}
-use Rattle.job_operations.specs.Outputs.{files}
-use Rattle.job_operations.specs.Records.{attempt_dir}
-use Rattle.job_operations.specs.TaskCommits.{attempt_prefix, in_order, least_missing, least_of}
+use Rattle.job_protocol.specs.AtWork.{task_script, who_of}
+use Rattle.job_protocol.specs.Outputs.{files}
+use Rattle.job_protocol.specs.Records.{attempt_dir}
+use Rattle.job_protocol.specs.TaskCommits.{attempt_prefix, in_order, least_missing, least_of}
 use Rattle.task_requests.specs.Publishing.{picked, are_places}
 use Rattle.task_magic.specs.Committing.{record_of, AreRecords, IsRecordAt, IsPlaceOf, is_at, places_in, records_in, set_at, seen_in, least_unseen}
 use Rattle.task_requests.proofs.Told.{own_files}

@@ -6,9 +6,9 @@ use Rattle.s3_types.specs.declared.reply.Reply.{Reply}
 use Rattle.job_model.specs.Known.{Drawn, Known}
 use Rattle.job_model.specs.JobScript.{Script}
 use Rattle.job_model.specs.declared.ends.TaskEnd.{TaskEnd}
-use Rattle.job_operations.specs.Knowledge.{as_made}
+use Rattle.job_protocol.specs.Knowledge.{as_made}
 use Rattle.list_walk.specs.Walks.{Sweep, sweep_start}
-use Rattle.job_operations.specs.TaskAborts.{task_abort_hears, dropping}
+use Rattle.job_protocol.specs.TaskAborts.{task_abort_hears, dropping}
 use Rattle.task_magic.specs.Undoing.{abort_from, abort_by}
 
 -- ---- behind an upload

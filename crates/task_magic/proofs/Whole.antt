@@ -6,16 +6,16 @@ use Rattle.s3_types.specs.declared.request.Committer.{Committer}
 use Rattle.s3_types.specs.declared.request.Committer.TheVariants.{Magic}
 use Rattle.s3_types.specs.declared.reply.Reply.{Reply}
 use Rattle.path_keys.specs.Paths.{Path}
-use Rattle.sendings.specs.Retries.{WornOut}
+use Rattle.retries.specs.Retries.{WornOut}
 use Rattle.job_model.specs.Files.{File}
 use Rattle.job_model.specs.Jobs.{Task}
 use Rattle.job_model.specs.declared.ends.TaskEnd.{TaskEnd}
 use Rattle.job_model.specs.declared.ends.TaskEnd.TheVariants as ends
-use Rattle.job_operations.specs.AtWork.{Attempting, task_script, who_of, with_known, write_wants, write_told}
-use Rattle.job_operations.specs.Outputs.{files}
-use Rattle.job_operations.specs.Uploading.{Creating}
-use Rattle.job_operations.specs.Writes as writes
-use Rattle.job_operations.specs.Writes.{Write, write_start, write_start_by, write_over, writing}
+use Rattle.job_protocol.specs.AtWork.{Attempting, task_script, who_of, with_known, write_wants, write_told}
+use Rattle.job_protocol.specs.Outputs.{files}
+use Rattle.job_protocol.specs.Uploading.{Creating}
+use Rattle.job_protocol.specs.Writes as writes
+use Rattle.job_protocol.specs.Writes.{Write, write_start, write_start_by, write_over, writing}
 use Rattle.task_requests.specs.declared.stage.WriteStage.{WriteStage}
 use Rattle.task_requests.specs.declared.stage.WriteStage.TheVariants as stage
 use Rattle.task_requests.specs.Writing.{at_parts, at_stage, write_by, seen_write, Holds, IsOpen, IsWrite, dir_of, write_fits}

@@ -9,9 +9,9 @@ use Rattle.job_model.specs.Files.{File}
 use Rattle.job_model.specs.Known.{Known}
 use Rattle.job_model.specs.Jobs.{Task}
 use Rattle.job_model.specs.declared.ends.TaskEnd.{TaskEnd}
-use Rattle.job_operations.specs.AtWork.{task_script, who_of, with_known}
-use Rattle.job_operations.specs.Records.{record_key}
-use Rattle.job_operations.specs.TaskCommits.{TaskCommit, Looking, Publishing, TaskCommitOver, least_of, reading}
+use Rattle.job_protocol.specs.AtWork.{task_script, who_of, with_known}
+use Rattle.job_protocol.specs.Records.{record_key}
+use Rattle.job_protocol.specs.TaskCommits.{TaskCommit, Looking, Publishing, TaskCommitOver, least_of, reading}
 use Rattle.task_magic.specs.declared.committing.Committing.{Committing}
 use Rattle.list_walk.specs.Walks.{keys_on}
 use Rattle.task_requests.specs.Publishing.{picked, AreReady, are_places}

@@ -4,9 +4,9 @@ use Rattle.job_model.specs.Known.{Drawn, Known}
 use Rattle.job_model.specs.Jobs.{Task}
 use Rattle.job_model.specs.declared.ends.TaskEnd.{TaskEnd}
 use Rattle.job_model.specs.declared.ends.TaskEnd.TheVariants as ends
-use Rattle.job_operations.specs.Knowledge.{as_made}
+use Rattle.job_protocol.specs.Knowledge.{as_made}
 use Rattle.list_walk.specs.Walks.{Sweep}
-use Rattle.job_operations.specs.TaskAborts.{TaskAbort, Dropping, Sweeping, TaskAbortOver}
+use Rattle.job_protocol.specs.TaskAborts.{TaskAbort, Dropping, Sweeping, TaskAbortOver}
 use Rattle.task_magic.specs.declared.undoing.Undoing.{Undoing}
 
 -- ---- where it stands

@@ -4,8 +4,8 @@ use Rattle.job_model.specs.Files.{File}
 use Rattle.job_model.specs.Jobs.{Task}
 use Rattle.job_model.specs.declared.ends.TaskEnd.{TaskEnd}
 use Rattle.job_model.specs.declared.ends.TaskEnd.TheVariants as ends
-use Rattle.job_operations.specs.AtWork.{write_wants}
-use Rattle.job_operations.specs.Writes.{Write}
+use Rattle.job_protocol.specs.AtWork.{write_wants}
+use Rattle.job_protocol.specs.Writes.{Write}
 use Rattle.task_requests.specs.Writing.{write_by, seen_write, IsWrite}
 use Rattle.task_magic.specs.declared.write.Writing.{Writing}
 

@@ -1,15 +1,15 @@
 ghost use Rattle.std.specs.Prelude.{◌≡◌, ◌+◌, ◌<◌, Bool, length, drop, get_or, [], true, false, IfOk, OnOk, OnErr, Some, None, option_map, slice_get};
 ghost use Rattle.s3_types.specs.declared.request.Request.TheVariants.{GetObject};
 ghost use Rattle.s3_types.specs.declared.request.Committer.TheVariants.{Magic};
-ghost use Rattle.job_operations.specs.AtWork.{task_script, who_of};
+ghost use Rattle.job_protocol.specs.AtWork.{task_script, who_of};
 ghost use Rattle.list_walk.specs.Walks.{page_after, keys_on};
-ghost use Rattle.job_operations.specs.TaskCommits.{attempt_prefix, Looking, reading, task_commit_asks, task_commit_hears};
+ghost use Rattle.job_protocol.specs.TaskCommits.{attempt_prefix, Looking, reading, task_commit_asks, task_commit_hears};
 ghost use Rattle.task_requests.specs.Publishing.{picked};
-ghost use Rattle.task_laws.specs.Commits.{FitsCommit};
+ghost use Rattle.task_machines.specs.Commits.{FitsCommit};
 ghost use Rattle.task_magic.specs.Committing.{HoldsCommit, commit_of, Keeps, record_of, is_no_key, publishes, with_sent};
 
 use crate::listing::{Listed, files_of_keys, missing, record_at};
-use asking::Asked;
+use machine::Asked;
 use job_model::{TaskEnd, TaskPlan};
 use list_walk::KeyWalk;
 use s3_types::{Key, KeyList, Refusal, Reply, Request, Sequence, put};

@@ -1,6 +1,6 @@
 ghost use Rattle.std.specs.Prelude.{◌≡◌, ◌<◌, ℕ, List, ◌++◌, codes, length, map, get_or, [], true, false, replicate, IfOk, OnOk, IfSome, MatchOption};
-ghost use Rattle.job_operations.specs.AtWork.{task_script, who_of};
-ghost use Rattle.job_operations.specs.TaskCommits.{attempt_prefix, in_order, least_of};
+ghost use Rattle.job_protocol.specs.AtWork.{task_script, who_of};
+ghost use Rattle.job_protocol.specs.TaskCommits.{attempt_prefix, in_order, least_of};
 ghost use Rattle.task_requests.specs.Writing.{dir_of};
 ghost use Rattle.task_requests.specs.Publishing.{picked, are_places};
 ghost use Rattle.task_magic.specs.Committing.{record_of, AreRecords, IsRecordAt, IsPlaceOf, places_in, records_in, set_at, seen_in, least_unseen};

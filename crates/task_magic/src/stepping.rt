@@ -2,8 +2,8 @@ ghost use Rattle.std.specs.Prelude.{◌≡◌, ℕ, ◌+◌, ◌<◌, Bool, leng
 ghost use Rattle.s3_types.specs.declared.reply.Reply.TheVariants.{Upload, Part, Refused};
 ghost use Rattle.s3_types.specs.declared.reply.Refusal.TheVariants.{NoSuchUpload};
 ghost use Rattle.s3_types.specs.Tags.{is_plain_tag};
-ghost use Rattle.sendings.specs.Retries.{Got};
-ghost use Rattle.job_operations.specs.AtWork.{write_told};
+ghost use Rattle.retries.specs.Retries.{Got};
+ghost use Rattle.job_protocol.specs.AtWork.{write_told};
 ghost use Rattle.task_requests.specs.Writing.{dir_of, is_new, Holds, IsWrite, seen_write, write_fits, ended_by};
 
 use job_model::{TaskEnd, TaskPlan};

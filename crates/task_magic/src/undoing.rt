@@ -1,13 +1,13 @@
 ghost use Rattle.std.specs.Prelude.{◌≡◌, IfOk, OnOk, Some};
 ghost use Rattle.s3_types.specs.declared.request.Committer.TheVariants.{Magic};
-ghost use Rattle.job_operations.specs.AtWork.{task_script, who_of};
+ghost use Rattle.job_protocol.specs.AtWork.{task_script, who_of};
 ghost use Rattle.list_walk.specs.Walks.{sweep_asks};
-ghost use Rattle.job_operations.specs.TaskCommits.{attempt_prefix};
-ghost use Rattle.job_operations.specs.TaskAborts.{task_abort_hears};
-ghost use Rattle.task_laws.specs.Aborts.{FitsAbort};
+ghost use Rattle.job_protocol.specs.TaskCommits.{attempt_prefix};
+ghost use Rattle.job_protocol.specs.TaskAborts.{task_abort_hears};
+ghost use Rattle.task_machines.specs.Aborts.{FitsAbort};
 ghost use Rattle.task_magic.specs.Undoing.{abort_of, kept_if};
 
-use asking::Asked;
+use machine::Asked;
 use job_model::{TaskEnd, TaskPlan};
 use list_walk::{AllKeys, Sweep};
 use s3_types::{Reply, put};

@@ -2,7 +2,7 @@
 use Rattle.std.proofs.Common.{◌≡◌, List, [], ◌∷◌, ◌++◌, reverse, refl, sym, ap, ◌∙◌}
 use Rattle.std.proofs.lemmas.List.{reverse-reverse, reverse-append}
 use Rattle.job_model.specs.Known.{Drawn}
-use Rattle.job_operations.specs.Knowledge.{as_made}
+use Rattle.job_protocol.specs.Knowledge.{as_made}
 
 pub made_reverse : (ds : List Drawn) → as_made ds ≡ reverse ds
 made_reverse [] = refl

@@ -10,13 +10,13 @@ use Rattle.s3_types.specs.declared.request.Request.TheVariants.{PutObject}
 use Rattle.magic_paths.specs.Layout as layout
 use Rattle.pending_json.specs.Pending.{Pending, are_tags, are_sizes}
 use Rattle.job_model.specs.Jobs.{Task}
-use Rattle.job_operations.specs.AtWork.{task_script, who_of}
+use Rattle.job_protocol.specs.AtWork.{task_script, who_of}
 use Rattle.job_model.specs.Known.{Drawn, Known}
 use Rattle.job_model.specs.Files.{File}
 use Rattle.job_model.specs.JobScript.{Script}
-use Rattle.job_operations.specs.Knowledge.{as_made, drawn_in, nothing_drawn}
-use Rattle.job_operations.specs.Records.{file_key, file_record, set_text}
-use Rattle.job_operations.specs.TaskCommits.{Publishing, task_commit_asks}
+use Rattle.job_protocol.specs.Knowledge.{as_made, drawn_in, nothing_drawn}
+use Rattle.job_protocol.specs.Records.{file_key, file_record, set_text}
+use Rattle.job_protocol.specs.TaskCommits.{Publishing, task_commit_asks}
 use Rattle.task_requests.specs.Publishing.{IsLastAt, IsPending, AreReady, picked, drawn_of, records_of}
 use Rattle.task_requests.proofs.InOrder.{made_reverse}
 

@@ -14,17 +14,17 @@ use Rattle.s3_types.specs.declared.reply.Refusal.TheVariants.{NoSuchUpload}
 use Rattle.s3_types.specs.declared.request.Request.{Request}
 use Rattle.s3_types.specs.declared.request.Request.TheVariants.{CreateUpload, UploadPart, PutObject}
 use Rattle.path_keys.specs.Paths.{Path}
-use Rattle.sendings.specs.Retries.{Got}
+use Rattle.retries.specs.Retries.{Got}
 use Rattle.job_model.specs.Files.{File}
 use Rattle.job_model.specs.Jobs.{Task}
 use Rattle.job_model.specs.Known.{Drawn, Known, with_last}
 use Rattle.job_model.specs.JobScript.{Script}
 use Rattle.job_model.specs.declared.ends.TaskEnd.TheVariants as ends
-use Rattle.job_operations.specs.AtWork.{Attempting, task_script, who_of, with_known, write_wants, write_told}
-use Rattle.job_operations.specs.Knowledge.{first_drawn, drawn_last}
-use Rattle.job_operations.specs.Records.{file_key, record_key, record_text}
-use Rattle.job_operations.specs.Writes as writes
-use Rattle.job_operations.specs.Writes.{Write}
+use Rattle.job_protocol.specs.AtWork.{Attempting, task_script, who_of, with_known, write_wants, write_told}
+use Rattle.job_protocol.specs.Knowledge.{first_drawn, drawn_last}
+use Rattle.job_protocol.specs.Records.{file_key, record_key, record_text}
+use Rattle.job_protocol.specs.Writes as writes
+use Rattle.job_protocol.specs.Writes.{Write}
 use Rattle.task_requests.specs.declared.stage.WriteStage.{WriteStage}
 use Rattle.task_requests.specs.declared.stage.WriteStage.TheVariants as stage
 use Rattle.task_requests.specs.Writing.{at_parts, at_stage, seen_write, is_new, HasSent, HoldsAt, Holds, IsWrite, dir_of, IsBehind, next_stage, with_drawn, with_tag, FitsCreate, FitsPart, write_fits, upload_in, tag_in, ended_by, part_behind, size_of, parts_in, asks_behind}

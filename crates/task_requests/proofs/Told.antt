@@ -19,7 +19,7 @@ use Rattle.path_keys.specs.Paths.{below}
 use Rattle.magic_paths.specs.Layout as layout
 use Rattle.magic_paths.proofs.Tails.{below_is}
 use Rattle.std.specs.Cmp.Lexicographic.{bytes_decides}
-use Rattle.sendings.specs.Retries.{Got}
+use Rattle.retries.specs.Retries.{Got}
 use Rattle.job_model.specs.Files.{File}
 use Rattle.job_model.specs.Attempts.{Who, same_name}
 use Rattle.job_model.specs.Placed.{placed}
@@ -27,13 +27,13 @@ use Rattle.job_model.specs.Jobs.{Task}
 use Rattle.job_model.specs.Known.{Drawn, Known, with_last}
 use Rattle.job_model.specs.JobScript.{Script}
 use Rattle.job_model.specs.declared.ends.TaskEnd.TheVariants as ends
-use Rattle.job_operations.specs.AtWork.{Attempting, task_script, who_of, with_known, write_told}
-use Rattle.job_operations.specs.Knowledge.{with_part, first_drawn, is_set_key}
-use Rattle.job_operations.specs.Outputs.{files}
-use Rattle.job_operations.specs.Records.{file_key}
-use Rattle.job_operations.specs.Uploading.{sending, file_parts}
-use Rattle.job_operations.specs.Writes as writes
-use Rattle.job_operations.specs.Writes.{Write, uploaded, writing}
+use Rattle.job_protocol.specs.AtWork.{Attempting, task_script, who_of, with_known, write_told}
+use Rattle.job_protocol.specs.Knowledge.{with_part, first_drawn, is_set_key}
+use Rattle.job_protocol.specs.Outputs.{files}
+use Rattle.job_protocol.specs.Records.{file_key}
+use Rattle.job_protocol.specs.Uploading.{sending, file_parts}
+use Rattle.job_protocol.specs.Writes as writes
+use Rattle.job_protocol.specs.Writes.{Write, uploaded, writing}
 use Rattle.task_requests.specs.declared.stage.WriteStage.{WriteStage}
 use Rattle.task_requests.specs.declared.stage.WriteStage.TheVariants as stage
 use Rattle.task_requests.specs.Writing.{at_parts, at_stage, is_new, HasSent, next_stage, with_drawn, with_tag}

@@ -10,9 +10,9 @@ use Rattle.job_model.specs.Attempts.{Who}
 use Rattle.job_model.specs.Known.{Drawn, Known}
 use Rattle.job_model.specs.Jobs.{Task}
 use Rattle.job_model.specs.JobScript.{Script}
-use Rattle.job_operations.specs.AtWork.{task_script, who_of}
-use Rattle.job_operations.specs.Knowledge.{nothing_drawn, drawn_in, drawn_for}
-use Rattle.job_operations.specs.Records.{file_key, file_record, record_text}
+use Rattle.job_protocol.specs.AtWork.{task_script, who_of}
+use Rattle.job_protocol.specs.Knowledge.{nothing_drawn, drawn_in, drawn_for}
+use Rattle.job_protocol.specs.Records.{file_key, file_record, record_text}
 
 -- the files at these places
 abbrev pub picked : List File → List ℕ → List File

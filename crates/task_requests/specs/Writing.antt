@@ -18,13 +18,13 @@ use Rattle.job_model.specs.Known.{Drawn, Known, with_last}
 use Rattle.job_model.specs.JobScript.{Script}
 use Rattle.job_model.specs.declared.ends.TaskEnd.{TaskEnd}
 use Rattle.job_model.specs.declared.ends.TaskEnd.TheVariants as ends
-use Rattle.job_operations.specs.AtWork.{Attempting, task_script, who_of, write_wants}
-use Rattle.job_operations.specs.Knowledge.{drawn_last}
-use Rattle.job_operations.specs.Records.{file_key, marker_key}
+use Rattle.job_protocol.specs.AtWork.{Attempting, task_script, who_of, write_wants}
+use Rattle.job_protocol.specs.Knowledge.{drawn_last}
+use Rattle.job_protocol.specs.Records.{file_key, marker_key}
 use Rattle.s3_types.specs.declared.request.Request.TheVariants.{UploadPart, PutObject}
-use Rattle.job_operations.specs.Uploading.{Uploading, Creating, Sending, file_parts}
-use Rattle.job_operations.specs.Writes as writes
-use Rattle.job_operations.specs.Writes.{Write}
+use Rattle.job_protocol.specs.Uploading.{Uploading, Creating, Sending, file_parts}
+use Rattle.job_protocol.specs.Writes as writes
+use Rattle.job_protocol.specs.Writes.{Write}
 use Rattle.task_requests.specs.declared.stage.WriteStage.{WriteStage}
 use Rattle.task_requests.specs.declared.stage.WriteStage.TheVariants as stage
 

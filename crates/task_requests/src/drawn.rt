@@ -1,6 +1,6 @@
 ghost use Rattle.std.specs.Prelude.{◌≡◌, ◌++◌, ◌∷◌, [], IfOk, slice_get};
 ghost use Rattle.std.specs.Option.{option_copied};
-ghost use Rattle.job_operations.specs.Knowledge.{as_made};
+ghost use Rattle.job_protocol.specs.Knowledge.{as_made};
 
 use job_model::{DrawnPart, DrawnUpload, Knowledge};
 use s3_types::{Sequence, SizeList, TagList};

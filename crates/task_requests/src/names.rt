@@ -1,8 +1,8 @@
 ghost use Rattle.std.specs.Prelude.{◌≡◌, ◌++◌, IfOk, IfSome, codes, option_map, slice_get};
 ghost use Rattle.path_keys.specs.Paths.{below};
 ghost use Rattle.job_model.specs.Plans.{IsJob, IsTask};
-ghost use Rattle.job_operations.specs.AtWork.{task_script, who_of};
-ghost use Rattle.job_operations.specs.TaskCommits.{attempt_prefix};
+ghost use Rattle.job_protocol.specs.AtWork.{task_script, who_of};
+ghost use Rattle.job_protocol.specs.TaskCommits.{attempt_prefix};
 ghost use Rattle.task_requests.specs.Writing.{dir_of, IsNamed, IsFile};
 
 use job_model::{JobPlan, TaskPlan};

@@ -1,10 +1,10 @@
 ghost use Rattle.std.specs.Prelude.{◌≡◌, ◌<◌, ℕ, List, length, map, get_or, [], true, cond, IfOk, OnOk, Some, None};
 ghost use Rattle.proof_base.specs.Order.{text_eq};
 ghost use Rattle.indexmap.specs.IndexMap.{get};
-ghost use Rattle.job_operations.specs.AtWork.{task_script, who_of, task_commit_wants};
-ghost use Rattle.job_operations.specs.Knowledge.{as_made};
-ghost use Rattle.job_operations.specs.Records.{file_record, set_text};
-ghost use Rattle.job_operations.specs.TaskCommits.{Publishing, task_commit_asks};
+ghost use Rattle.job_protocol.specs.AtWork.{task_script, who_of, task_commit_wants};
+ghost use Rattle.job_protocol.specs.Knowledge.{as_made};
+ghost use Rattle.job_protocol.specs.Records.{file_record, set_text};
+ghost use Rattle.job_protocol.specs.TaskCommits.{Publishing, task_commit_asks};
 ghost use Rattle.task_requests.specs.Publishing.{picked, are_places, AreReady, IsPending, drawn_of, IsLastAt};
 
 use crate::drawn::{made, made_at};

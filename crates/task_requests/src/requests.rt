@@ -3,9 +3,9 @@ ghost use Rattle.s3_types.specs.declared.limits.TheConstants.{MOST_SCRIPT_BYTES}
 ghost use Rattle.path_keys.specs.Paths.{below};
 ghost use Rattle.pending_json.specs.Pending.{are_tags, are_sizes};
 ghost use Rattle.job_model.specs.Plans.{IsTask};
-ghost use Rattle.job_operations.specs.AtWork.{task_script, who_of, write_wants};
-ghost use Rattle.job_operations.specs.Knowledge.{drawn_last};
-ghost use Rattle.job_operations.specs.Records.{file_record, marker_key, record_key, record_text, sizes_by};
+ghost use Rattle.job_protocol.specs.AtWork.{task_script, who_of, write_wants};
+ghost use Rattle.job_protocol.specs.Knowledge.{drawn_last};
+ghost use Rattle.job_protocol.specs.Records.{file_record, marker_key, record_key, record_text, sizes_by};
 ghost use Rattle.task_requests.specs.Writing.{dir_of, IsNamed, IsFile, HasSent, Holds, IsBehind, asks_behind, one_more, part_behind, parts_in, size_of, count_of, next_stage, seen_write};
 
 use crate::cutting::{part, part_count, part_length, part_size};

@@ -1,7 +1,7 @@
 ghost use Rattle.std.specs.Prelude.{◌≡◌, ◌<◌, length, get_or, [], IfOk, OnOk, OnErr};
 ghost use Rattle.s3_types.specs.declared.request.Request.TheVariants.{UploadPart};
-ghost use Rattle.job_operations.specs.AtWork.{task_script, with_known};
-ghost use Rattle.job_operations.specs.Records.{file_key};
+ghost use Rattle.job_protocol.specs.AtWork.{task_script, with_known};
+ghost use Rattle.job_protocol.specs.Records.{file_key};
 ghost use Rattle.task_requests.specs.Writing.{part_behind, tag_in, upload_in, with_drawn, with_tag};
 
 use crate::names::{file_at, target};

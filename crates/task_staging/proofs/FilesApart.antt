@@ -9,7 +9,7 @@ use Rattle.path_keys.specs.Paths.{below}
 use Rattle.job_model.specs.Files.{File, has_path}
 use Rattle.job_model.specs.Plans.{ArePlaced}
 use Rattle.job_model.specs.JobScript.{Script}
-use Rattle.job_operations.specs.Records.{file_key}
+use Rattle.job_protocol.specs.Records.{file_key}
 
 -- ---- the file at a place
 

@@ -3,10 +3,10 @@ use Rattle.std.proofs.Common.{◌≡◌, ℕ, ◌+◌, ◌<◌, Bool, true, fals
 use Rattle.std.proofs.lemmas.List.{take_more, map-append}
 use Rattle.job_model.specs.Files.{File}
 use Rattle.job_model.specs.Jobs.{Job, Task}
-use Rattle.job_operations.specs.AtWork.{task_script, who_of}
-use Rattle.job_operations.specs.Outputs.{files, paths_of}
-use Rattle.job_operations.specs.Conflicts.{checks_partitions, partitions}
-use Rattle.job_operations.specs.TaskCommits.{to_check}
+use Rattle.job_protocol.specs.AtWork.{task_script, who_of}
+use Rattle.job_protocol.specs.Outputs.{files, paths_of}
+use Rattle.job_protocol.specs.Conflicts.{checks_partitions, partitions}
+use Rattle.job_protocol.specs.TaskCommits.{to_check}
 use Rattle.conflict.proofs.SamePartitions.{partitions_of_ordered}
 use Rattle.task_requests.proofs.Told.{own_files}
 

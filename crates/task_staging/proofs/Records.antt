@@ -10,9 +10,9 @@ use Rattle.job_model.specs.Files.{File}
 use Rattle.job_model.specs.Jobs.{Task}
 use Rattle.job_model.specs.Known.{Drawn, with_last}
 use Rattle.job_model.specs.Plans.{IsTask}
-use Rattle.job_operations.specs.AtWork.{task_script, who_of, with_known}
-use Rattle.job_operations.specs.Knowledge.{drawn_in, first_drawn, drawn_last}
-use Rattle.job_operations.specs.Records.{file_key, file_record}
+use Rattle.job_protocol.specs.AtWork.{task_script, who_of, with_known}
+use Rattle.job_protocol.specs.Knowledge.{drawn_in, first_drawn, drawn_last}
+use Rattle.job_protocol.specs.Records.{file_key, file_record}
 use Rattle.task_requests.specs.Publishing.{drawn_of, records_of}
 use Rattle.task_requests.specs.Writing.{HasSent, one_more, parts_in, with_drawn, with_tag}
 use Rattle.task_requests.proofs.Steps.{record_tags, record_sizes}

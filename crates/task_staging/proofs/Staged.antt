@@ -12,7 +12,7 @@ use Rattle.s3_types.specs.declared.reply.Reply.{Reply}
 use Rattle.s3_types.specs.declared.reply.Reply.TheVariants.{Upload, Part, Refused}
 use Rattle.s3_types.specs.declared.reply.Refusal.TheVariants.{NoSuchUpload}
 use Rattle.s3_types.proofs.Blocks.{some_parts}
-use Rattle.sendings.specs.Retries.{Got, WornOut}
+use Rattle.retries.specs.Retries.{Got, WornOut}
 use Rattle.pending_json.specs.Pending.{Pending}
 use Rattle.pending_json.specs.declared.records.PendingSet.{PendingSet}
 use Rattle.job_model.specs.Files.{File}
@@ -22,13 +22,13 @@ use Rattle.job_model.specs.Plans.{IsTask}
 use Rattle.job_model.specs.JobScript.{Script}
 use Rattle.job_model.specs.declared.ends.TaskEnd.{TaskEnd}
 use Rattle.job_model.specs.declared.ends.TaskEnd.TheVariants as ends
-use Rattle.job_operations.specs.AtWork.{Attempting, task_script, who_of, with_known, learned, task_commit_wants, task_commit_told}
-use Rattle.job_operations.specs.Knowledge.{drawn_last, first_drawn}
-use Rattle.job_operations.specs.Outputs.{files}
-use Rattle.job_operations.specs.Records.{file_key, file_record, set_text}
-use Rattle.job_operations.specs.Uploading.{Creating, sending}
-use Rattle.job_operations.specs.TaskCommits as commits
-use Rattle.job_operations.specs.TaskCommits.{TaskCommit, Storing, Renaming, TaskCommitOver, storing, checking, to_check, uploaded, renamed, temporary_path, task_commit_start, task_commit_start_by}
+use Rattle.job_protocol.specs.AtWork.{Attempting, task_script, who_of, with_known, learned, task_commit_wants, task_commit_told}
+use Rattle.job_protocol.specs.Knowledge.{drawn_last, first_drawn}
+use Rattle.job_protocol.specs.Outputs.{files}
+use Rattle.job_protocol.specs.Records.{file_key, file_record, set_text}
+use Rattle.job_protocol.specs.Uploading.{Creating, sending}
+use Rattle.job_protocol.specs.TaskCommits as commits
+use Rattle.job_protocol.specs.TaskCommits.{TaskCommit, Storing, Renaming, TaskCommitOver, storing, checking, to_check, uploaded, renamed, temporary_path, task_commit_start, task_commit_start_by}
 use Rattle.conflict.specs.Checks.{check_asks, found_below, left_after, is_none}
 use Rattle.conflict.specs.Laws.{commit_after_check}
 use Rattle.conflict.proofs.Tells.{checks_tell}
@@ -37,7 +37,7 @@ use Rattle.task_requests.specs.declared.stage.WriteStage.{WriteStage}
 use Rattle.task_requests.specs.declared.stage.WriteStage.TheVariants as write_stages
 use Rattle.task_requests.proofs.Told.{own_files, front_is, none_left, learn_last, has_more, take_next}
 use Rattle.task_requests.proofs.Steps.{file_is, first_part, first_tags, take_length, some_drawn}
-use Rattle.task_laws.specs.Commits.{FitsCommit}
+use Rattle.task_machines.specs.Commits.{FitsCommit}
 use Rattle.task_staging.specs.declared.staging.Stage.{Stage}
 use Rattle.task_staging.specs.declared.staging.Stage.TheVariants as stages
 use Rattle.task_staging.specs.declared.staging.Staging.{Staging}

@@ -10,9 +10,9 @@ use Rattle.job_model.specs.Known.{Known}
 use Rattle.job_model.specs.Jobs.{Task}
 use Rattle.job_model.specs.declared.ends.TaskEnd.{TaskEnd}
 use Rattle.job_model.specs.declared.ends.TaskEnd.TheVariants as ends
-use Rattle.job_operations.specs.AtWork.{task_script}
-use Rattle.job_operations.specs.Knowledge.{as_made}
-use Rattle.job_operations.specs.TaskAborts.{dropped, dropping, task_abort_by, task_abort_start, task_abort_hears}
+use Rattle.job_protocol.specs.AtWork.{task_script}
+use Rattle.job_protocol.specs.Knowledge.{as_made}
+use Rattle.job_protocol.specs.TaskAborts.{dropped, dropping, task_abort_by, task_abort_start, task_abort_hears}
 use Rattle.conflict.proofs.Deleting.{first_of}
 use Rattle.task_staging.specs.Undoing.{abort_from, abort_by, done_at, end_at}
 

@@ -7,10 +7,10 @@ use Rattle.s3_types.specs.declared.request.Committer.TheVariants.{Magic}
 use Rattle.job_model.specs.Jobs.{Task}
 use Rattle.job_model.specs.declared.ends.TaskEnd.{TaskEnd}
 use Rattle.job_model.specs.declared.ends.TaskEnd.TheVariants as ends
-use Rattle.job_operations.specs.AtWork.{task_script, who_of, write_wants}
-use Rattle.job_operations.specs.Outputs.{files}
-use Rattle.job_operations.specs.Writes as writes
-use Rattle.job_operations.specs.Writes.{write_start, write_start_by}
+use Rattle.job_protocol.specs.AtWork.{task_script, who_of, write_wants}
+use Rattle.job_protocol.specs.Outputs.{files}
+use Rattle.job_protocol.specs.Writes as writes
+use Rattle.job_protocol.specs.Writes.{write_start, write_start_by}
 use Rattle.task_machines.specs.Tasks.{at}
 
 pub start_is : (t : Task) → (t.job.committer ≡ Magic → ⊥) → writes.WriteOver ends.Done ≡ write_start (task_script t) (who_of t)

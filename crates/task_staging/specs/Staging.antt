@@ -7,7 +7,7 @@ use Rattle.s3_types.specs.declared.request.Request.TheVariants.{CreateUpload, Cl
 use Rattle.s3_types.specs.declared.reply.Reply.{Reply}
 use Rattle.s3_types.specs.declared.reply.Reply.TheVariants.{Refused}
 use Rattle.s3_types.specs.declared.reply.Refusal.TheVariants.{NoSuchFile}
-use Rattle.sendings.specs.Retries.{Got}
+use Rattle.retries.specs.Retries.{Got}
 use Rattle.pending_json.specs.Trees.{set_tree}
 use Rattle.pending_json.specs.declared.records.PendingSet.{PendingSet}
 use Rattle.job_model.specs.Files.{File}
@@ -16,11 +16,11 @@ use Rattle.job_model.specs.Known.{Drawn, Known}
 use Rattle.job_model.specs.JobScript.{Script}
 use Rattle.job_model.specs.declared.ends.TaskEnd.{TaskEnd}
 use Rattle.job_model.specs.declared.known.DrawnPart.{DrawnPart}
-use Rattle.job_operations.specs.AtWork.{Attempting, task_script, who_of, task_commit_wants, task_commit_told}
-use Rattle.job_operations.specs.Records.{file_key, files_set}
-use Rattle.job_operations.specs.Uploading.{Sending, file_parts}
-use Rattle.job_operations.specs.TaskCommits as commits
-use Rattle.job_operations.specs.TaskCommits.{TaskCommit, Checking, Storing, Renaming, TaskCommitOver, storing, temporary_path}
+use Rattle.job_protocol.specs.AtWork.{Attempting, task_script, who_of, task_commit_wants, task_commit_told}
+use Rattle.job_protocol.specs.Records.{file_key, files_set}
+use Rattle.job_protocol.specs.Uploading.{Sending, file_parts}
+use Rattle.job_protocol.specs.TaskCommits as commits
+use Rattle.job_protocol.specs.TaskCommits.{TaskCommit, Checking, Storing, Renaming, TaskCommitOver, storing, temporary_path}
 use Rattle.conflict.specs.Checks.{is_none}
 use Rattle.task_requests.specs.Writing.{HasSent, part_behind, parts_in, with_tag}
 use Rattle.task_staging.specs.declared.staging.Stage.{Stage}

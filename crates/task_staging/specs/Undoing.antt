@@ -4,8 +4,8 @@ use Rattle.job_model.specs.Known.{Drawn, Known}
 use Rattle.job_model.specs.Jobs.{Task}
 use Rattle.job_model.specs.declared.ends.TaskEnd.{TaskEnd}
 use Rattle.job_model.specs.declared.ends.TaskEnd.TheVariants as ends
-use Rattle.job_operations.specs.Knowledge.{as_made}
-use Rattle.job_operations.specs.TaskAborts.{TaskAbort, Dropping, Removing, TaskAbortOver}
+use Rattle.job_protocol.specs.Knowledge.{as_made}
+use Rattle.job_protocol.specs.TaskAborts.{TaskAbort, Dropping, Removing, TaskAbortOver}
 use Rattle.task_staging.specs.declared.undoing.Undoing.{Undoing}
 
 -- these uploads are to be aborted, and then its temporary file is deleted

@@ -1,7 +1,7 @@
 ghost use Rattle.std.specs.Prelude.{◌≡◌, ◌<◌, length, map, get_or, [], IfOk};
-ghost use Rattle.job_operations.specs.AtWork.{task_script, who_of};
-ghost use Rattle.job_operations.specs.Conflicts.{checks_partitions, partitions};
-ghost use Rattle.job_operations.specs.TaskCommits.{to_check};
+ghost use Rattle.job_protocol.specs.AtWork.{task_script, who_of};
+ghost use Rattle.job_protocol.specs.Conflicts.{checks_partitions, partitions};
+ghost use Rattle.job_protocol.specs.TaskCommits.{to_check};
 
 use conflict::partitions;
 use job_model::{JobPlan, TaskPlan};

@@ -1,8 +1,8 @@
 ghost use Rattle.std.specs.Prelude.{◌≡◌, ◌<◌, drop, get_or, length, [], IfOk, Some};
 ghost use Rattle.s3_types.specs.declared.request.Request.TheVariants.{ClusterPut, ClusterRename};
 ghost use Rattle.magic_paths.specs.Layout as layout;
-ghost use Rattle.job_operations.specs.AtWork.{task_script, who_of};
-ghost use Rattle.job_operations.specs.TaskCommits.{temporary_path};
+ghost use Rattle.job_protocol.specs.AtWork.{task_script, who_of};
+ghost use Rattle.job_protocol.specs.TaskCommits.{temporary_path};
 ghost use Rattle.conflict.specs.Checks.{check_asks};
 ghost use Rattle.task_requests.specs.Writing.{asks_behind, parts_in, IsBehind};
 ghost use Rattle.task_requests.specs.declared.stage.WriteStage.TheVariants as write_stages;

@@ -1,20 +1,20 @@
 ghost use Rattle.std.specs.Prelude.{◌≡◌, ◌+◌, ◌<◌, ◌≤◌, Bool, true, false, length, drop, get_or, [], IfOk, OnOk, OnErr, Some, None};
 ghost use Rattle.s3_types.specs.declared.request.Committer.TheVariants.{Magic};
 ghost use Rattle.s3_types.specs.Tags.{is_plain_tag};
-ghost use Rattle.sendings.specs.Retries.{Got, WornOut};
-ghost use Rattle.job_operations.specs.AtWork.{task_script, who_of, task_commit_wants, task_commit_told, with_known};
-ghost use Rattle.job_operations.specs.Records.{file_key, file_record};
-ghost use Rattle.job_operations.specs.Knowledge.{drawn_last};
-ghost use Rattle.job_operations.specs.TaskCommits.{TaskCommitOver, renamed};
+ghost use Rattle.retries.specs.Retries.{Got, WornOut};
+ghost use Rattle.job_protocol.specs.AtWork.{task_script, who_of, task_commit_wants, task_commit_told, with_known};
+ghost use Rattle.job_protocol.specs.Records.{file_key, file_record};
+ghost use Rattle.job_protocol.specs.Knowledge.{drawn_last};
+ghost use Rattle.job_protocol.specs.TaskCommits.{TaskCommitOver, renamed};
 ghost use Rattle.conflict.specs.Checks.{is_none};
 ghost use Rattle.s3_types.specs.declared.reply.Reply.TheVariants.{Part};
 ghost use Rattle.task_requests.specs.Writing.{next_stage, one_more, part_behind, parts_in};
-ghost use Rattle.task_laws.specs.Commits.{commit_fits};
+ghost use Rattle.task_machines.specs.Commits.{commit_fits};
 ghost use Rattle.task_staging.specs.Staging.{commit_of, seen, Keeps, IsAt, CameBack, Heard, IsLastPart, is_no_file, stores, worn_known};
 
 use crate::opening::to_check;
 use crate::requests::{check_request, next_request, part_request, rename_request, temporary};
-use asking::Asked;
+use machine::Asked;
 use conflict::CheckAbsent;
 use job_model::{DrawnPart, TaskEnd, TaskPlan};
 use pending_json::{PendingSet, PendingUpload};

@@ -1,13 +1,13 @@
 ghost use Rattle.std.specs.Prelude.{◌≡◌, IfOk, Some};
 ghost use Rattle.s3_types.specs.declared.request.Request.TheVariants.{ClusterDelete};
-ghost use Rattle.job_operations.specs.AtWork.{task_script, who_of};
-ghost use Rattle.job_operations.specs.TaskCommits.{temporary_path};
-ghost use Rattle.job_operations.specs.TaskAborts.{task_abort_hears};
+ghost use Rattle.job_protocol.specs.AtWork.{task_script, who_of};
+ghost use Rattle.job_protocol.specs.TaskCommits.{temporary_path};
+ghost use Rattle.job_protocol.specs.TaskAborts.{task_abort_hears};
 ghost use Rattle.s3_types.specs.declared.request.Committer.TheVariants.{Magic};
 ghost use Rattle.task_staging.specs.Undoing.{abort_of, done_at, end_at};
 
 use crate::requests::temporary;
-use asking::Asked;
+use machine::Asked;
 use job_model::{TaskEnd, TaskPlan};
 use s3_types::{Reply, Request, put};
 use std::alloc::{AllocError, Global};

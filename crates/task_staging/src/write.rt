@@ -1,7 +1,7 @@
 ghost use Rattle.std.specs.Prelude.{◌≡◌, ⊤};
 ghost use Rattle.s3_types.specs.declared.request.Committer.TheVariants.{Magic};
 
-use asking::Asked;
+use machine::Asked;
 use job_model::{TaskEnd, TaskPlan};
 use s3_types::{Reply, put};
 use std::alloc::{AllocError, Global};
@@ -15,7 +15,7 @@ pub struct Keeping {
 }
 
 impl Model for Keeping {
-    ghost use Rattle.job_operations.specs.Writes as writes;
+    ghost use Rattle.job_protocol.specs.Writes as writes;
 
     ghost Value = { writes.Write };
 

@@ -2,7 +2,7 @@ ghost use Rattle.std.specs.Prelude.{◌≤◌};
 
 use crate::scripts::tell_text;
 use anyhow::{Context, Result, bail};
-use made_jobs::make_script;
+use job_gen::make_script;
 use s3_types::let_go;
 use std::alloc::Global;
 

@@ -8,18 +8,18 @@ use Rattle.s3_types.specs.declared.reply.PageEntry.{PageEntry}
 use Rattle.s3_types.specs.declared.journal.Outcome.{Outcome}
 use Rattle.s3_types.specs.declared.journal.Outcome.TheVariants.{Answered, Slow, RequestLost, ReplyLost}
 use Rattle.s3_types.specs.declared.journal.Entry.{Entry}
-use Rattle.sendings.specs.Operation.{Follows, run}
-use Rattle.sendings.specs.Retries.{Retried, Item, Got, WornOut, wants_of, step, unanswered_by, wears, worn_in, is_zero}
-use Rattle.sendings.specs.Worn.{WornFirst}
-use Rattle.sendings.proofs.First.{counted_first}
+use Rattle.retries.specs.Operation.{Follows, run}
+use Rattle.retries.specs.Retries.{Retried, Item, Got, WornOut, wants_of, step, unanswered_by, wears, worn_in, is_zero}
+use Rattle.retries.specs.Worn.{WornFirst}
+use Rattle.retries.proofs.First.{counted_first}
 use Rattle.list_walk.specs.Walks.{Walked, More, Whole, keys_on, walked}
 use Rattle.job_model.specs.Attempts.{Who}
 use Rattle.job_model.specs.JobScript.{Script}
-use Rattle.job_operations.specs.Conflicts.{partitions, checks_all, checks_partitions}
-use Rattle.job_operations.specs.Outputs.{paths_of}
-use Rattle.job_operations.specs.Setup.{first_shown}
-use Rattle.job_operations.specs.TaskCommits.{partition_prefix}
-use Rattle.request_frame.proofs.Members.{some_is, none_some, false_true}
+use Rattle.job_protocol.specs.Conflicts.{partitions, checks_all, checks_partitions}
+use Rattle.job_protocol.specs.Outputs.{paths_of}
+use Rattle.job_protocol.specs.Setup.{first_shown}
+use Rattle.job_protocol.specs.TaskCommits.{partition_prefix}
+use Rattle.proof_base.proofs.Members.{some_is, none_some, false_true}
 use Rattle.twin_facts.specs.Rechecks.{Check, Looking, Probing, CheckOver, CheckEnd, Clear, Conflict, CheckFault, NoMemory, probing, files_of_all, check_by, check_start, check_asks, looked, probed, check_hears, check_over, check_after}
 use Rattle.twin_ends.specs.Checks.{checking, next, Checked, ShownBy, CheckIs}
 

@@ -9,26 +9,26 @@ use Rattle.s3_types.specs.declared.request.Mode.TheVariants.{Fail, Append, Repla
 use Rattle.s3_types.specs.declared.request.Request.{Request}
 use Rattle.s3_types.specs.declared.journal.Outcome.{Outcome}
 use Rattle.s3_types.specs.declared.journal.Entry.{Entry}
-use Rattle.sendings.specs.Operation.{run}
-use Rattle.sendings.specs.Retries.{Retried, wants_of}
-use Rattle.sendings.proofs.Runs.{run_more, follows_more}
+use Rattle.retries.specs.Operation.{run}
+use Rattle.retries.specs.Retries.{Retried, wants_of}
+use Rattle.retries.proofs.Runs.{run_more, follows_more}
 use Rattle.job_model.specs.Attempts.{Who}
 use Rattle.job_model.specs.JobScript.{Script}
 use Rattle.job_model.specs.Legal.{IsLegal}
 use Rattle.job_model.specs.declared.ends.CommitEnd.{CommitEnd}
-use Rattle.job_operations.specs.Outputs.{Picks}
-use Rattle.job_operations.specs.JobCommits.{Commit, CommitOver, commit_start, commit_asks, commit_tells}
-use Rattle.job_operations.specs.LaneTable.{Sound}
-use Rattle.job_operations.specs.Operations.{Setting, TheSetup, TheCommit, who}
-use Rattle.job_promise.specs.Ends.{is_mark_answered}
-use Rattle.job_promise.specs.Seen.{see, is_begun, nothing_seen}
-use Rattle.request_frame.proofs.Members.{false_true}
+use Rattle.job_protocol.specs.Outputs.{Picks}
+use Rattle.job_protocol.specs.JobCommits.{Commit, CommitOver, commit_start, commit_asks, commit_tells}
+use Rattle.job_protocol.specs.LaneTable.{Sound}
+use Rattle.job_protocol.specs.Operations.{Setting, TheSetup, TheCommit, who}
+use Rattle.job_spec.specs.Ends.{is_mark_answered}
+use Rattle.job_spec.specs.Seen.{see, is_begun, nothing_seen}
+use Rattle.proof_base.proofs.Members.{false_true}
 use Rattle.job_facts.specs.Told.{nothing_told, entry, driver_entry}
-use Rattle.job_facts.specs.Runs.{Stand, Beginning, BeginSetup, BeginCommit, BeginClean, nothing_learnt}
-use Rattle.job_ends.specs.CommitRuns.{CommitStands, WhereCommitted}
-use Rattle.job_ends.proofs.CommitRuns.{attempts_leave, ended_so}
-use Rattle.job_ends.proofs.CommitSteps.{at_start, where_start, answered_next, sound_now, sound_more}
-use Rattle.job_ends.proofs.Picks.{after_entry}
+use Rattle.job_traces.specs.Runs.{Stand, Beginning, BeginSetup, BeginCommit, BeginClean, nothing_learnt}
+use Rattle.job_outcomes.specs.CommitRuns.{CommitStands, WhereCommitted}
+use Rattle.job_outcomes.proofs.CommitRuns.{attempts_leave, ended_so}
+use Rattle.job_outcomes.proofs.CommitSteps.{at_start, where_start, answered_next, sound_now, sound_more}
+use Rattle.job_outcomes.proofs.Picks.{after_entry}
 use Rattle.twin_facts.specs.Rechecks.{Check, CheckOver, CheckEnd, Clear, check_start, check_asks}
 use Rattle.twin_facts.specs.SharedOperations.{SharedOperation, Alone, TheCheck, TheSparing, shared_asks, checked_by, commit_of}
 use Rattle.twin_facts.specs.Sides.{SideState, is_set, is_just_set, MayBegin, begin, IsInTime, driver_saw, attempt_saw, observed, Sends, driver_sends, attempt_sends, First, Second, TwinEntry, TwinRun, twins_begin, first_begins, second_begins, first_sends, second_sends, IsTwinOpening}

@@ -7,14 +7,14 @@ use Rattle.s3_types.specs.declared.reply.PageEntry.{PageEntry}
 use Rattle.s3_types.specs.declared.journal.Outcome.{Outcome}
 use Rattle.s3_types.specs.declared.journal.Outcome.TheVariants.{Answered}
 use Rattle.s3_types.specs.declared.journal.Entry.{Entry}
-use Rattle.sendings.specs.Operation.{Follows, run}
-use Rattle.sendings.specs.Retries.{Retried, wants_of, fresh, step}
-use Rattle.sendings.specs.Worn.{WornFirst}
+use Rattle.retries.specs.Operation.{Follows, run}
+use Rattle.retries.specs.Retries.{Retried, wants_of, fresh, step}
+use Rattle.retries.specs.Worn.{WornFirst}
 use Rattle.list_walk.specs.Walks.{keys_on, page_after}
 use Rattle.job_model.specs.Attempts.{Who}
 use Rattle.job_model.specs.JobScript.{Script}
-use Rattle.job_operations.specs.Setup.{dest_prefix, first_shown}
-use Rattle.job_operations.specs.TaskCommits.{partition_prefix}
+use Rattle.job_protocol.specs.Setup.{dest_prefix, first_shown}
+use Rattle.job_protocol.specs.TaskCommits.{partition_prefix}
 use Rattle.twin_facts.specs.Rechecks.{Check, CheckOver, CheckEnd, Clear, Conflict, CheckFault, check_start, check_asks, check_after}
 
 -- the check of the files of these attempts, as it begins

@@ -4,17 +4,17 @@ use Rattle.s3_types.specs.declared.request.Mode.{Mode}
 use Rattle.s3_types.specs.declared.request.Mode.TheVariants.{Fail}
 use Rattle.s3_types.specs.declared.request.Request.{Request}
 use Rattle.s3_types.specs.declared.journal.Entry.{Entry}
-use Rattle.sendings.specs.Retries.{Retried}
-use Rattle.sendings.specs.Worn.{WornFirst}
+use Rattle.retries.specs.Retries.{Retried}
+use Rattle.retries.specs.Worn.{WornFirst}
 use Rattle.job_model.specs.Attempts.{Who}
 use Rattle.job_model.specs.JobScript.{Script}
 use Rattle.job_model.specs.declared.ends.CommitEnd.{CommitEnd}
 use Rattle.job_model.specs.declared.ends.CommitEnd.TheVariants as commits
-use Rattle.job_operations.specs.JobCommits.{CommitOver}
-use Rattle.job_operations.specs.Operations.{TheCommit}
-use Rattle.job_promise.specs.Ends.{is_driver, is_mark_answered}
-use Rattle.job_promise.specs.Seen.{is_begun}
-use Rattle.job_ends.specs.CommitRuns.{EndsDue}
+use Rattle.job_protocol.specs.JobCommits.{CommitOver}
+use Rattle.job_protocol.specs.Operations.{TheCommit}
+use Rattle.job_spec.specs.Ends.{is_driver, is_mark_answered}
+use Rattle.job_spec.specs.Seen.{is_begun}
+use Rattle.job_outcomes.specs.CommitRuns.{EndsDue}
 use Rattle.twin_facts.specs.Rechecks.{Check, CheckOver, CheckEnd, Clear}
 use Rattle.twin_facts.specs.SharedOperations.{Alone, TheCheck}
 use Rattle.twin_facts.specs.Sides.{SideState, First, TwinEntry}

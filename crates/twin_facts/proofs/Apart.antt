@@ -13,9 +13,9 @@ use Rattle.job_model.specs.Attempts.{Who}
 use Rattle.job_model.specs.JobScript.{Script}
 use Rattle.job_model.specs.Known.{Drawn}
 use Rattle.job_model.specs.Legal.{IsLegal}
-use Rattle.request_frame.specs.Members.{IsIn}
-use Rattle.request_frame.specs.Frame.{changed_keys, changed_upload, changed_paths}
-use Rattle.request_frame.proofs.Members.{false_true, none_some}
+use Rattle.proof_base.specs.Members.{IsIn}
+use Rattle.store_frame.specs.Frame.{changed_keys, changed_upload, changed_paths}
+use Rattle.proof_base.proofs.Members.{false_true, none_some}
 use Rattle.job_facts.specs.Stores.{IsKnown}
 use Rattle.job_facts.specs.Foreign.{IsForeign}
 use Rattle.job_facts.proofs.JobCommitting.{no_magic}

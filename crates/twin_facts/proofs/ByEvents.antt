@@ -5,8 +5,8 @@ use Rattle.s3_types.specs.declared.request.Request.{Request}
 use Rattle.s3_types.specs.declared.journal.Outcome.{Outcome}
 use Rattle.s3_types.specs.declared.journal.Entry.{Entry}
 use Rattle.job_model.specs.JobScript.{Script}
-use Rattle.job_operations.specs.Operations.{Setting, TheSetup}
-use Rattle.job_promise.specs.Seen.{Seen, see, nothing_seen}
+use Rattle.job_protocol.specs.Operations.{Setting, TheSetup}
+use Rattle.job_spec.specs.Seen.{Seen, see, nothing_seen}
 use Rattle.job_facts.specs.Told.{Told, nothing_told, tell, driver_entry}
 use Rattle.twin_facts.specs.SharedOperations.{SharedOperation, Alone, TheSparing}
 use Rattle.twin_facts.specs.Sides.{Side, First, Second, TwinEntry, SideState, IsInTime, sees, Sends, driver_sends, attempt_sends, TwinRun, twins_begin, first_begins, second_begins, first_sends, second_sends, IsTwinOpening}

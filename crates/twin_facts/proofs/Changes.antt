@@ -15,17 +15,17 @@ use Rattle.pending_json.specs.Pending.{Pending}
 use Rattle.job_model.specs.Legal.{IsLegal}
 use Rattle.job_model.specs.Attempts.{Who}
 use Rattle.job_model.specs.JobScript.{Script}
-use Rattle.job_operations.specs.Lanes.{nth, completion, abort, deletion}
-use Rattle.job_operations.specs.LaneTable.{Tabled}
-use Rattle.job_operations.specs.Outputs.{Picks, files, wanted_at, is_decided}
-use Rattle.job_operations.specs.View.{is_file_path}
-use Rattle.job_operations.specs.JobCommits.{all_commits, picks_of, Commit, Fetching, Replacing, Completing, Marking, Reverting, CommitOver, set_request, commit_asks, replaced}
-use Rattle.job_operations.specs.Operations.{Setting, Operation, asks}
-use Rattle.job_promise.specs.Seen.{Seen}
-use Rattle.request_frame.specs.Members.{IsIn}
-use Rattle.request_frame.specs.Frame.{changed_keys}
-use Rattle.request_frame.proofs.Members.{some_is, same_or_other, true_or_false}
-use Rattle.request_frame.proofs.Reading.{reads_nothing}
+use Rattle.job_protocol.specs.Lanes.{nth, completion, abort, deletion}
+use Rattle.job_protocol.specs.LaneTable.{Tabled}
+use Rattle.job_protocol.specs.Outputs.{Picks, files, wanted_at, is_decided}
+use Rattle.job_protocol.specs.View.{is_file_path}
+use Rattle.job_protocol.specs.JobCommits.{all_commits, picks_of, Commit, Fetching, Replacing, Completing, Marking, Reverting, CommitOver, set_request, commit_asks, replaced}
+use Rattle.job_protocol.specs.Operations.{Setting, Operation, asks}
+use Rattle.job_spec.specs.Seen.{Seen}
+use Rattle.proof_base.specs.Members.{IsIn}
+use Rattle.store_frame.specs.Frame.{changed_keys}
+use Rattle.proof_base.proofs.Members.{some_is, same_or_other, true_or_false}
+use Rattle.store_frame.proofs.Reading.{reads_nothing}
 use Rattle.job_facts.specs.Told.{Told, known}
 use Rattle.job_facts.specs.Stores.{at_key}
 use Rattle.job_facts.specs.Facts.{IsAttempt, Hold}
@@ -44,8 +44,8 @@ use Rattle.job_facts.proofs.FilingLaws.{stranger_same}
 use Rattle.job_facts.proofs.Agreeing.{AgreeBelow, Agrees, picks_apart, decided_so, prefix_unkept}
 use Rattle.job_facts.proofs.Wanted.{wanted_here}
 use Rattle.job_facts.proofs.Whose.{attempt}
-use Rattle.job_facts.proofs.Replacing.{keeps_same, taken_after}
-use Rattle.job_facts.proofs.Steps.{hidden_same}
+use Rattle.job_traces.proofs.Replacing.{keeps_same, taken_after}
+use Rattle.job_traces.proofs.Steps.{hidden_same}
 use Rattle.twin_facts.specs.Sparing.{Sparing, Walking, Naming, Aborting, SparingOver, record_request, sparing_asks}
 use Rattle.twin_facts.specs.Sparing as sparing
 use Rattle.twin_facts.specs.Rechecks.{Check, Looking, Probing, CheckOver, check_asks}

@@ -14,19 +14,19 @@ use Rattle.job_model.specs.Files.{File}
 use Rattle.job_model.specs.JobScript.{Script}
 use Rattle.job_model.specs.Known.{Drawn, Known}
 use Rattle.job_model.specs.Legal.{IsLegal}
-use Rattle.job_operations.specs.Uploading.{Uploading, Creating, Sending, upload_asks}
+use Rattle.job_protocol.specs.Uploading.{Uploading, Creating, Sending, upload_asks}
 use Rattle.list_walk.specs.Walks.{Listing, Deleting}
-use Rattle.job_operations.specs.Writes.{Write, WriteOver, write_asks}
-use Rattle.job_operations.specs.Writes as writes
-use Rattle.job_operations.specs.TaskCommits.{TaskCommit, TaskCommitOver, task_commit_asks}
-use Rattle.job_operations.specs.TaskCommits as tasks
-use Rattle.job_operations.specs.TaskAborts.{TaskAbort, Dropping, Removing, TaskAbortOver, task_abort_asks}
-use Rattle.job_operations.specs.TaskAborts as aborts
-use Rattle.job_operations.specs.Cleanups.{Walking}
-use Rattle.job_operations.specs.Operations.{Setting, Operation, TheWrite, TheTaskCommit, TheTaskAbort, asks}
-use Rattle.request_frame.specs.Members.{IsIn}
-use Rattle.request_frame.specs.Held.{HasBucket}
-use Rattle.request_frame.proofs.Members.{some_is}
+use Rattle.job_protocol.specs.Writes.{Write, WriteOver, write_asks}
+use Rattle.job_protocol.specs.Writes as writes
+use Rattle.job_protocol.specs.TaskCommits.{TaskCommit, TaskCommitOver, task_commit_asks}
+use Rattle.job_protocol.specs.TaskCommits as tasks
+use Rattle.job_protocol.specs.TaskAborts.{TaskAbort, Dropping, Removing, TaskAbortOver, task_abort_asks}
+use Rattle.job_protocol.specs.TaskAborts as aborts
+use Rattle.job_protocol.specs.Cleanups.{Walking}
+use Rattle.job_protocol.specs.Operations.{Setting, Operation, TheWrite, TheTaskCommit, TheTaskAbort, asks}
+use Rattle.proof_base.specs.Members.{IsIn}
+use Rattle.store_frame.specs.Held.{HasBucket}
+use Rattle.proof_base.proofs.Members.{some_is}
 use Rattle.job_facts.specs.Told.{Told, known, tell_attempt}
 use Rattle.job_facts.specs.Stores.{at_id}
 use Rattle.job_facts.specs.Fits.{Fits}

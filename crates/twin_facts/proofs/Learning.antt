@@ -13,9 +13,9 @@ use Rattle.s3_types.specs.declared.journal.Outcome.TheVariants.{Answered}
 use Rattle.job_model.specs.Attempts.{Who}
 use Rattle.job_model.specs.JobScript.{Script}
 use Rattle.job_model.specs.Known.{Drawn}
-use Rattle.job_operations.specs.Knowledge.{learn, with_part}
-use Rattle.request_frame.specs.Members.{IsIn}
-use Rattle.request_frame.proofs.Members.{map_in, in_map}
+use Rattle.job_protocol.specs.Knowledge.{learn, with_part}
+use Rattle.proof_base.specs.Members.{IsIn}
+use Rattle.proof_base.proofs.Members.{map_in, in_map}
 use Rattle.job_facts.specs.Told.{Told, known, tell_attempt}
 use Rattle.job_facts.specs.Stores.{IsKnown}
 use Rattle.job_facts.proofs.Whose.{same_or_another, who_here, who_other}

@@ -16,7 +16,7 @@ use Rattle.s3_types.specs.declared.request.Committer.TheVariants.{Magic, Directo
 use Rattle.s3_types.specs.declared.reply.Reply.{Reply}
 use Rattle.s3_types.specs.declared.journal.Outcome.{Outcome}
 use Rattle.s3_types.specs.declared.journal.Outcome.TheVariants.{Answered, Slow, RequestLost, ReplyLost}
-use Rattle.sendings.specs.Retries.{step}
+use Rattle.retries.specs.Retries.{step}
 use Rattle.magic_paths.specs.Layout.{magic_prefix, cluster_prefix}
 use Rattle.magic_paths.specs.Places.{is_record}
 use Rattle.job_model.specs.Attempts.{Who}
@@ -25,12 +25,12 @@ use Rattle.job_model.specs.Known.{Drawn}
 use Rattle.job_model.specs.declared.ends.CleanEnd.TheVariants as ends
 use Rattle.list_walk.specs.Walks.{Sweep, Listing, Deleting, Walked, More, Whole, walked, page_after, sweep_hears, sweep_asks, all_go}
 use Rattle.list_walk.specs.Walks as walks
-use Rattle.job_promise.specs.Seen.{is_magic, is_staging}
-use Rattle.request_frame.specs.Members.{IsIn}
-use Rattle.request_frame.specs.Held.{HasBucket}
-use Rattle.request_frame.proofs.Members.{some_is, none_some, false_true, same_or_other, text_true, text_gone, text_left, text_exact, in_front, in_back, map_in, filter_in, in_filter}
-use Rattle.request_frame.proofs.Framed.{frame}
-use Rattle.request_frame.proofs.Reading.{reads_nothing}
+use Rattle.job_spec.specs.Seen.{is_magic, is_staging}
+use Rattle.proof_base.specs.Members.{IsIn}
+use Rattle.store_frame.specs.Held.{HasBucket}
+use Rattle.proof_base.proofs.Members.{some_is, none_some, false_true, same_or_other, text_true, text_gone, text_left, text_exact, in_front, in_back, map_in, filter_in, in_filter}
+use Rattle.store_frame.proofs.Framed.{frame}
+use Rattle.store_frame.proofs.Reading.{reads_nothing}
 use Rattle.job_facts.specs.Stores.{at_key, at_id, end_left}
 use Rattle.job_facts.specs.Driver.{AllMagic}
 use Rattle.job_facts.specs.Emptying.{OnlyThese, Empties}

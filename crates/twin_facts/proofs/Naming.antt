@@ -18,25 +18,25 @@ use Rattle.job_model.specs.Files.{File}
 use Rattle.job_model.specs.JobScript.{Script}
 use Rattle.job_model.specs.Known.{Drawn}
 use Rattle.job_model.specs.Legal.{IsLegal}
-use Rattle.job_operations.specs.Outputs.{files}
-use Rattle.job_operations.specs.Records.{file_key}
-use Rattle.job_operations.specs.Uploading.{Uploading, Creating, Sending, upload_asks}
+use Rattle.job_protocol.specs.Outputs.{files}
+use Rattle.job_protocol.specs.Records.{file_key}
+use Rattle.job_protocol.specs.Uploading.{Uploading, Creating, Sending, upload_asks}
 use Rattle.list_walk.specs.Walks.{Listing, Deleting}
-use Rattle.job_operations.specs.Writes.{Write, Marking, Recording, WriteOver, write_asks}
-use Rattle.job_operations.specs.Writes as writes
-use Rattle.job_operations.specs.TaskCommits.{TaskCommit, Looking, Reading, Publishing, Checking, Storing, Renaming, TaskCommitOver, task_commit_asks}
-use Rattle.job_operations.specs.TaskCommits as tasks
-use Rattle.job_operations.specs.TaskAborts.{TaskAbort, Dropping, Sweeping, Removing, TaskAbortOver, task_abort_asks}
-use Rattle.job_operations.specs.Setup.{dest_prefix, Setup, Heading, SetupOver, setup_asks}
-use Rattle.job_operations.specs.Setup as setups
-use Rattle.job_operations.specs.Lanes.{nth, completion, abort, deletion}
-use Rattle.job_operations.specs.LaneTable.{Tabled}
-use Rattle.job_operations.specs.JobCommits.{Sets, all_commits, Commit, Fetching, Replacing, Completing, Reverting, CommitOver, set_request, commit_asks, is_no_magic}
-use Rattle.job_operations.specs.JobCommits as commits
-use Rattle.job_operations.specs.Operations.{Setting, Operation, TheWrite, TheTaskCommit, TheTaskAbort, asks}
-use Rattle.job_promise.specs.Seen.{Seen, is_magic, is_staging}
-use Rattle.request_frame.specs.Members.{IsIn}
-use Rattle.request_frame.proofs.Members.{some_is, none_some, false_true, nat_true, nat_false}
+use Rattle.job_protocol.specs.Writes.{Write, Marking, Recording, WriteOver, write_asks}
+use Rattle.job_protocol.specs.Writes as writes
+use Rattle.job_protocol.specs.TaskCommits.{TaskCommit, Looking, Reading, Publishing, Checking, Storing, Renaming, TaskCommitOver, task_commit_asks}
+use Rattle.job_protocol.specs.TaskCommits as tasks
+use Rattle.job_protocol.specs.TaskAborts.{TaskAbort, Dropping, Sweeping, Removing, TaskAbortOver, task_abort_asks}
+use Rattle.job_protocol.specs.Setup.{dest_prefix, Setup, Heading, SetupOver, setup_asks}
+use Rattle.job_protocol.specs.Setup as setups
+use Rattle.job_protocol.specs.Lanes.{nth, completion, abort, deletion}
+use Rattle.job_protocol.specs.LaneTable.{Tabled}
+use Rattle.job_protocol.specs.JobCommits.{Sets, all_commits, Commit, Fetching, Replacing, Completing, Reverting, CommitOver, set_request, commit_asks, is_no_magic}
+use Rattle.job_protocol.specs.JobCommits as commits
+use Rattle.job_protocol.specs.Operations.{Setting, Operation, TheWrite, TheTaskCommit, TheTaskAbort, asks}
+use Rattle.job_spec.specs.Seen.{Seen, is_magic, is_staging}
+use Rattle.proof_base.specs.Members.{IsIn}
+use Rattle.proof_base.proofs.Members.{some_is, none_some, false_true, nat_true, nat_false}
 use Rattle.job_facts.specs.Told.{Told, known}
 use Rattle.job_facts.specs.Stores.{IsKnown}
 use Rattle.job_facts.specs.Facts.{IsAttempt, Facts, Hold}

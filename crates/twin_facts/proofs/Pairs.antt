@@ -13,14 +13,14 @@ use Rattle.path_keys.specs.Paths.{Path}
 use Rattle.job_model.specs.Attempts.{Who}
 use Rattle.job_model.specs.JobScript.{Script}
 use Rattle.job_model.specs.Legal.{IsLegal}
-use Rattle.job_operations.specs.Setup.{setup_asks}
-use Rattle.job_operations.specs.Operations.{Setting, TheSetup, TheCommit, who}
-use Rattle.request_frame.specs.Held.{HasBucket}
-use Rattle.request_frame.proofs.Members.{none_some, false_true}
-use Rattle.request_frame.proofs.Framed.{frame}
+use Rattle.job_protocol.specs.Setup.{setup_asks}
+use Rattle.job_protocol.specs.Operations.{Setting, TheSetup, TheCommit, who}
+use Rattle.store_frame.specs.Held.{HasBucket}
+use Rattle.proof_base.proofs.Members.{none_some, false_true}
+use Rattle.store_frame.proofs.Framed.{frame}
 use Rattle.job_facts.specs.Stores.{IsKnown}
 use Rattle.job_facts.specs.Foreign.{IsForeign}
-use Rattle.job_facts.specs.Runs.{Beginning, nothing_learnt}
+use Rattle.job_traces.specs.Runs.{Beginning, nothing_learnt}
 use Rattle.twin_facts.specs.Names.{NamesOwn, IsStranger}
 use Rattle.twin_facts.specs.Laws.{AreTwins}
 use Rattle.twin_facts.specs.Requests.{by_attempt, by_commit, by_check, by_clean}

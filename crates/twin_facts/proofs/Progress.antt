@@ -20,13 +20,13 @@ use Rattle.job_model.specs.declared.ends.CommitEnd.{CommitEnd}
 use Rattle.job_model.specs.declared.ends.CommitEnd.TheVariants as ends
 use Rattle.job_model.specs.declared.ends.Stage.TheVariants as stages
 use Rattle.list_walk.specs.Walks.{Sweep, Listing, Deleting, sweep_asks, sweep_hears}
-use Rattle.job_operations.specs.Outputs.{Picks, same_path, picked_below, is_decided, is_clash}
-use Rattle.job_operations.specs.Lanes.{Turn, again, follow, dealt, revert}
-use Rattle.job_operations.specs.JobCommits.{Sets, all_commits, picks_of, Commit, Fetching, Replacing, Completing, Marking, Reverting, CommitOver, set_request, set_read, ok_set, commit_asks, commit_hears, commit_misses, commit_tells, commit_start, completing, is_no_magic, replaced, replacing, decided, fetching, fetched, swept, reverting, worn_completion}
-use Rattle.job_operations.specs.Operations.{Setting, Operation, TheCommit, asks}
-use Rattle.job_operations.specs.Records.{files_set}
-use Rattle.job_promise.specs.Seen.{Seen, see, is_begun, is_reading, is_marking, picks_by}
-use Rattle.request_frame.proofs.Members.{some_is, none_some, false_true, same_or_not}
+use Rattle.job_protocol.specs.Outputs.{Picks, same_path, picked_below, is_decided, is_clash}
+use Rattle.job_protocol.specs.Lanes.{Turn, again, follow, dealt, revert}
+use Rattle.job_protocol.specs.JobCommits.{Sets, all_commits, picks_of, Commit, Fetching, Replacing, Completing, Marking, Reverting, CommitOver, set_request, set_read, ok_set, commit_asks, commit_hears, commit_misses, commit_tells, commit_start, completing, is_no_magic, replaced, replacing, decided, fetching, fetched, swept, reverting, worn_completion}
+use Rattle.job_protocol.specs.Operations.{Setting, Operation, TheCommit, asks}
+use Rattle.job_protocol.specs.Records.{files_set}
+use Rattle.job_spec.specs.Seen.{Seen, see, is_begun, is_reading, is_marking, picks_by}
+use Rattle.proof_base.proofs.Members.{some_is, none_some, false_true, same_or_not}
 use Rattle.job_facts.specs.Told.{Told, known, tell_driver, tell_attempt, at_event, entry, driver_entry}
 use Rattle.job_facts.specs.Stores.{sets_at}
 use Rattle.job_facts.specs.Facts.{Hold, knowing}
@@ -37,10 +37,10 @@ use Rattle.job_facts.specs.Laws.{IsSetAnswer}
 use Rattle.job_facts.proofs.Whose.{or_false}
 use Rattle.job_facts.proofs.Replies.{set_reply, bytes_read}
 use Rattle.job_facts.proofs.Reading.{reads_other}
-use Rattle.job_facts.proofs.Running.{InCommit}
+use Rattle.job_traces.proofs.Running.{InCommit}
 use Rattle.job_facts.proofs.Shows.{HidesAll}
-use Rattle.job_facts.proofs.Steps.{commit_next}
-use Rattle.job_facts.proofs.Keeping.{attempt_quiet, at_beside, commit_starts}
+use Rattle.job_traces.proofs.Steps.{commit_next}
+use Rattle.job_traces.proofs.Keeping.{attempt_quiet, at_beside, commit_starts}
 use Rattle.twin_facts.specs.TwinLaws.{is_replace}
 
 -- ---- what holds of a commit as it goes on, whoever else sends

@@ -15,7 +15,7 @@ use Rattle.s3_types.specs.declared.reply.Reply.TheVariants.{Page}
 use Rattle.s3_types.specs.declared.reply.PageEntry.{PageEntry}
 use Rattle.s3_types.specs.declared.journal.Outcome.{Outcome}
 use Rattle.s3_types.specs.declared.journal.Outcome.TheVariants.{Answered, Slow, RequestLost}
-use Rattle.sendings.specs.Retries.{Retried, step}
+use Rattle.retries.specs.Retries.{Retried, step}
 use Rattle.magic_paths.specs.Layout.{magic_prefix}
 use Rattle.magic_paths.specs.Places.{MarkerPlace, RecordPlace, is_record}
 use Rattle.pending_json.specs.Reading as reading
@@ -26,20 +26,20 @@ use Rattle.job_model.specs.JobScript.{Script}
 use Rattle.job_model.specs.Known.{Drawn}
 use Rattle.job_model.specs.Legal.{IsLegal}
 use Rattle.job_model.specs.declared.ends.TaskEnd.TheVariants as ends
-use Rattle.job_operations.specs.Knowledge.{learn, drawn_last}
-use Rattle.job_operations.specs.Outputs.{files}
-use Rattle.job_operations.specs.Records.{file_key, record_key, record_text, file_record}
-use Rattle.job_operations.specs.Uploading.{Uploading, Uploaded, Creating, Sending, GoesOn, AllSent, IsGone, upload_asks, upload_hears}
-use Rattle.job_operations.specs.Writes.{Write, Marking, Recording, WriteOver, writing, write_asks, write_after, write_hears, write_start, write_start_by, uploaded}
-use Rattle.job_operations.specs.Writes as writes
-use Rattle.job_operations.specs.TaskAborts.{TaskAbort, Sweeping, TaskAbortOver, task_abort_asks}
-use Rattle.job_operations.specs.Operations.{Setting, Operation, TheWrite, TheTaskCommit, TheTaskAbort, asks, tells}
-use Rattle.job_promise.specs.Seen.{is_magic, is_staging}
-use Rattle.request_frame.specs.Members.{IsIn}
-use Rattle.request_frame.specs.Held.{HasBucket}
-use Rattle.request_frame.specs.Frame.{changed_keys}
-use Rattle.request_frame.proofs.Members.{some_is, false_true, in_append, in_front, in_back, filter_in}
-use Rattle.request_frame.proofs.Flat.{page_begins}
+use Rattle.job_protocol.specs.Knowledge.{learn, drawn_last}
+use Rattle.job_protocol.specs.Outputs.{files}
+use Rattle.job_protocol.specs.Records.{file_key, record_key, record_text, file_record}
+use Rattle.job_protocol.specs.Uploading.{Uploading, Uploaded, Creating, Sending, GoesOn, AllSent, IsGone, upload_asks, upload_hears}
+use Rattle.job_protocol.specs.Writes.{Write, Marking, Recording, WriteOver, writing, write_asks, write_after, write_hears, write_start, write_start_by, uploaded}
+use Rattle.job_protocol.specs.Writes as writes
+use Rattle.job_protocol.specs.TaskAborts.{TaskAbort, Sweeping, TaskAbortOver, task_abort_asks}
+use Rattle.job_protocol.specs.Operations.{Setting, Operation, TheWrite, TheTaskCommit, TheTaskAbort, asks, tells}
+use Rattle.job_spec.specs.Seen.{is_magic, is_staging}
+use Rattle.proof_base.specs.Members.{IsIn}
+use Rattle.store_frame.specs.Held.{HasBucket}
+use Rattle.store_frame.specs.Frame.{changed_keys}
+use Rattle.proof_base.proofs.Members.{some_is, false_true, in_append, in_front, in_back, filter_in}
+use Rattle.store_frame.proofs.Flat.{page_begins}
 use Rattle.job_facts.specs.Told.{Told, known, undoes, tell_driver, tell_attempt, at_event}
 use Rattle.job_facts.specs.Stores.{at_key}
 use Rattle.job_facts.specs.Facts.{IsAttempt, Facts}

@@ -13,7 +13,7 @@ use Rattle.s3_types.specs.declared.request.Request.{Request}
 use Rattle.s3_types.specs.declared.request.UploadRef.{UploadRef}
 use Rattle.s3_types.specs.declared.journal.Outcome.{Outcome}
 use Rattle.s3_types.specs.declared.journal.Entry.{Entry}
-use Rattle.sendings.specs.Retries.{Retried, fresh}
+use Rattle.retries.specs.Retries.{Retried, fresh}
 use Rattle.magic_paths.specs.Layout.{magic_prefix, staged_set_path}
 use Rattle.magic_paths.specs.Places.{StagedSetPlace}
 use Rattle.pending_json.specs.Reading as reading
@@ -22,22 +22,22 @@ use Rattle.job_model.specs.Files.{File}
 use Rattle.job_model.specs.JobScript.{Script}
 use Rattle.job_model.specs.Known.{Drawn, Known}
 use Rattle.job_model.specs.Legal.{IsLegal}
-use Rattle.job_operations.specs.Outputs.{files}
-use Rattle.job_operations.specs.Records.{record_key, file_record}
-use Rattle.job_operations.specs.Setup.{setup_asks}
-use Rattle.job_operations.specs.Writes.{writing, write_start, write_start_by}
-use Rattle.job_operations.specs.TaskCommits.{task_commit_start}
-use Rattle.job_operations.specs.TaskAborts.{task_abort_start}
-use Rattle.job_operations.specs.Operations.{Setting, Operation, TheSetup, TheWrite, TheTaskCommit, TheTaskAbort, TheCommit, who, asks, tells}
-use Rattle.job_promise.specs.Seen.{is_magic, is_staging}
-use Rattle.request_frame.specs.Members.{IsIn}
-use Rattle.request_frame.specs.Held.{HasBucket}
-use Rattle.request_frame.specs.Frame.{changed_keys}
-use Rattle.request_frame.proofs.Members.{some_is, none_some, false_true}
+use Rattle.job_protocol.specs.Outputs.{files}
+use Rattle.job_protocol.specs.Records.{record_key, file_record}
+use Rattle.job_protocol.specs.Setup.{setup_asks}
+use Rattle.job_protocol.specs.Writes.{writing, write_start, write_start_by}
+use Rattle.job_protocol.specs.TaskCommits.{task_commit_start}
+use Rattle.job_protocol.specs.TaskAborts.{task_abort_start}
+use Rattle.job_protocol.specs.Operations.{Setting, Operation, TheSetup, TheWrite, TheTaskCommit, TheTaskAbort, TheCommit, who, asks, tells}
+use Rattle.job_spec.specs.Seen.{is_magic, is_staging}
+use Rattle.proof_base.specs.Members.{IsIn}
+use Rattle.store_frame.specs.Held.{HasBucket}
+use Rattle.store_frame.specs.Frame.{changed_keys}
+use Rattle.proof_base.proofs.Members.{some_is, none_some, false_true}
 use Rattle.job_facts.specs.Told.{Told, known, put_who}
 use Rattle.job_facts.specs.Foreign.{IsForeign}
 use Rattle.job_facts.specs.Facts.{IsAttempt}
-use Rattle.job_facts.specs.Runs.{Beginning, BeginSetup, BeginCommit, BeginClean, BeginWrite, BeginPublish, BeginAbort, nothing_learnt}
+use Rattle.job_traces.specs.Runs.{Beginning, BeginSetup, BeginCommit, BeginClean, BeginWrite, BeginPublish, BeginAbort, nothing_learnt}
 use Rattle.job_facts.proofs.Apart.{HasKey, record_below}
 use Rattle.job_facts.proofs.Driving.{reads_drive}
 use Rattle.job_facts.proofs.JobCommitting.{commit_drives}

@@ -13,20 +13,20 @@ use Rattle.s3_types.specs.declared.reply.Reply.{Reply}
 use Rattle.s3_types.specs.declared.reply.Reply.TheVariants.{ClusterNames}
 use Rattle.s3_types.specs.declared.journal.Outcome.{Outcome}
 use Rattle.s3_types.specs.declared.journal.Entry.{Entry}
-use Rattle.sendings.specs.Retries.{Retried, fresh, step}
+use Rattle.retries.specs.Retries.{Retried, fresh, step}
 use Rattle.magic_paths.specs.Places.{is_record}
 use Rattle.std.specs.List.{filter}
 use Rattle.job_model.specs.JobScript.{Script}
 use Rattle.job_model.specs.declared.ends.CleanEnd.TheVariants as ends
 use Rattle.list_walk.specs.Walks.{Walked, More, Whole, walked}
-use Rattle.job_operations.specs.Operations.{Setting, who}
-use Rattle.job_promise.specs.Seen.{is_staging}
-use Rattle.request_frame.specs.Held.{HasBucket}
-use Rattle.request_frame.proofs.Members.{some_is, false_true}
-use Rattle.request_frame.proofs.Framed.{frame}
+use Rattle.job_protocol.specs.Operations.{Setting, who}
+use Rattle.job_spec.specs.Seen.{is_staging}
+use Rattle.store_frame.specs.Held.{HasBucket}
+use Rattle.proof_base.proofs.Members.{some_is, false_true}
+use Rattle.store_frame.proofs.Framed.{frame}
 use Rattle.job_facts.specs.Told.{driver_entry}
 use Rattle.job_facts.specs.Foreign.{IsForeign}
-use Rattle.job_facts.specs.Runs.{BeginClean, nothing_learnt}
+use Rattle.job_traces.specs.Runs.{BeginClean, nothing_learnt}
 use Rattle.job_facts.proofs.EndedGone.{stays_gone}
 use Rattle.job_facts.proofs.Going.{step_so}
 use Rattle.twin_facts.specs.Sparing.{Sparing, Walking, Naming, Reading, Aborting, Removing, SparingOver, sparing_start, sparing_asks, sparing_hears, sparing_after, names, deleting, removing, emptying, aborting, reading_on, walking, naming}

@@ -18,7 +18,7 @@ use Rattle.s3_types.specs.declared.reply.Reply.TheVariants.{Page}
 use Rattle.s3_types.specs.declared.reply.PageEntry.{PageEntry}
 use Rattle.s3_types.specs.declared.journal.Outcome.{Outcome}
 use Rattle.s3_types.specs.declared.journal.Outcome.TheVariants.{Answered, Slow, RequestLost, ReplyLost}
-use Rattle.sendings.specs.Retries.{Retried, step}
+use Rattle.retries.specs.Retries.{Retried, step}
 use Rattle.magic_paths.specs.Layout.{magic_prefix, cluster_prefix, staged_set_path}
 use Rattle.magic_paths.specs.Places.{Place, FilePlace, MarkerPlace, RecordPlace, SetPlace, SuccessPlace, key_at, is_record}
 use Rattle.pending_json.specs.Reading as reading
@@ -27,18 +27,18 @@ use Rattle.job_model.specs.Files.{File}
 use Rattle.job_model.specs.JobScript.{Script}
 use Rattle.job_model.specs.Known.{Drawn}
 use Rattle.job_model.specs.Legal.{IsLegal}
-use Rattle.job_operations.specs.Knowledge.{drawn_for}
-use Rattle.job_operations.specs.Outputs.{files}
-use Rattle.job_operations.specs.Records.{file_key, file_record, files_set}
-use Rattle.job_operations.specs.TaskCommits.{temporary_path}
+use Rattle.job_protocol.specs.Knowledge.{drawn_for}
+use Rattle.job_protocol.specs.Outputs.{files}
+use Rattle.job_protocol.specs.Records.{file_key, file_record, files_set}
+use Rattle.job_protocol.specs.TaskCommits.{temporary_path}
 use Rattle.list_walk.specs.Walks.{walked, walked_by, keys_on, last_of, page_after}
-use Rattle.job_promise.specs.Seen.{Seen, see, is_begun, is_magic, is_staging}
-use Rattle.request_frame.specs.Members.{IsIn}
-use Rattle.request_frame.specs.Held.{HasBucket}
-use Rattle.request_frame.specs.Frame.{changed_paths}
-use Rattle.request_frame.proofs.Members.{some_is, none_or_some, false_true, nat_true, in_append, in_filter, in_map, same_or_other}
-use Rattle.request_frame.proofs.Framed.{frame}
-use Rattle.request_frame.proofs.Flat.{page_begins}
+use Rattle.job_spec.specs.Seen.{Seen, see, is_begun, is_magic, is_staging}
+use Rattle.proof_base.specs.Members.{IsIn}
+use Rattle.store_frame.specs.Held.{HasBucket}
+use Rattle.store_frame.specs.Frame.{changed_paths}
+use Rattle.proof_base.proofs.Members.{some_is, none_or_some, false_true, nat_true, in_append, in_filter, in_map, same_or_other}
+use Rattle.store_frame.proofs.Framed.{frame}
+use Rattle.store_frame.proofs.Flat.{page_begins}
 use Rattle.job_facts.specs.Told.{Told, tell_driver, at_event, driver_entry}
 use Rattle.job_facts.specs.Stores.{at_key}
 use Rattle.job_facts.specs.Facts.{IsAttempt, IsWritten, IsOwnPlace, AreCommits, Facts, Hold, knowing}

@@ -14,7 +14,7 @@ use Rattle.s3_types.specs.declared.request.UploadRef.{UploadRef}
 use Rattle.s3_types.specs.declared.journal.Outcome.{Outcome}
 use Rattle.s3_types.specs.declared.journal.Outcome.TheVariants.{Answered, Slow, RequestLost}
 use Rattle.s3_types.specs.declared.journal.Entry.{Entry}
-use Rattle.sendings.specs.Retries.{Retried, fresh, step}
+use Rattle.retries.specs.Retries.{Retried, fresh, step}
 use Rattle.magic_paths.specs.Layout.{cluster_prefix}
 use Rattle.list_walk.specs.Walks.{Listing, Deleting}
 use Rattle.job_model.specs.Attempts.{Who}
@@ -23,22 +23,22 @@ use Rattle.job_model.specs.JobScript.{Script}
 use Rattle.job_model.specs.Known.{Known}
 use Rattle.job_model.specs.Legal.{IsLegal}
 use Rattle.job_model.specs.declared.ends.SetupEnd.TheVariants as setups
-use Rattle.job_operations.specs.Setup.{Setup, Sweeping, SetupOver, setup_start, setup_asks, setup_after}
-use Rattle.job_operations.specs.Uploading.{Uploading, Creating, Sending, upload_asks}
-use Rattle.job_operations.specs.Writes.{Write, WriteOver, write_start, write_asks}
-use Rattle.job_operations.specs.Writes as writes
-use Rattle.job_operations.specs.TaskCommits.{TaskCommit, Storing, Renaming, TaskCommitOver, task_commit_start, task_commit_asks, temporary_path}
-use Rattle.job_operations.specs.TaskCommits as tasks
-use Rattle.job_operations.specs.TaskAborts.{TaskAbort, Removing, TaskAbortOver, task_abort_start, task_abort_asks}
-use Rattle.job_operations.specs.TaskAborts as aborts
-use Rattle.job_operations.specs.Operations.{Setting, Operation, TheSetup, TheWrite, TheTaskCommit, TheTaskAbort, TheCommit, who, asks, tells}
-use Rattle.job_promise.specs.Scope.{NoClusterFile}
-use Rattle.job_promise.specs.Seen.{Seen, see, is_begun, is_reading, is_marking, picks_by}
-use Rattle.request_frame.specs.Members.{IsIn}
-use Rattle.request_frame.specs.Held.{HasBucket}
-use Rattle.request_frame.specs.Frame.{changed_paths}
-use Rattle.request_frame.proofs.Members.{some_is, none_some, false_true}
-use Rattle.request_frame.proofs.Framed.{frame}
+use Rattle.job_protocol.specs.Setup.{Setup, Sweeping, SetupOver, setup_start, setup_asks, setup_after}
+use Rattle.job_protocol.specs.Uploading.{Uploading, Creating, Sending, upload_asks}
+use Rattle.job_protocol.specs.Writes.{Write, WriteOver, write_start, write_asks}
+use Rattle.job_protocol.specs.Writes as writes
+use Rattle.job_protocol.specs.TaskCommits.{TaskCommit, Storing, Renaming, TaskCommitOver, task_commit_start, task_commit_asks, temporary_path}
+use Rattle.job_protocol.specs.TaskCommits as tasks
+use Rattle.job_protocol.specs.TaskAborts.{TaskAbort, Removing, TaskAbortOver, task_abort_start, task_abort_asks}
+use Rattle.job_protocol.specs.TaskAborts as aborts
+use Rattle.job_protocol.specs.Operations.{Setting, Operation, TheSetup, TheWrite, TheTaskCommit, TheTaskAbort, TheCommit, who, asks, tells}
+use Rattle.job_spec.specs.Scope.{NoClusterFile}
+use Rattle.job_spec.specs.Seen.{Seen, see, is_begun, is_reading, is_marking, picks_by}
+use Rattle.proof_base.specs.Members.{IsIn}
+use Rattle.store_frame.specs.Held.{HasBucket}
+use Rattle.store_frame.specs.Frame.{changed_paths}
+use Rattle.proof_base.proofs.Members.{some_is, none_some, false_true}
+use Rattle.store_frame.proofs.Framed.{frame}
 use Rattle.job_facts.specs.Told.{Told, known, put_who, nothing_told, ends, tell_driver, tell_attempt, at_event, entry, driver_entry}
 use Rattle.job_facts.specs.Stores.{at_id}
 use Rattle.job_facts.specs.Foreign.{IsForeign}
@@ -47,7 +47,7 @@ use Rattle.job_facts.specs.Fits.{Fits}
 use Rattle.job_facts.specs.Emptying.{SetsUp}
 use Rattle.job_facts.specs.Turning.{NoneEnded}
 use Rattle.job_facts.specs.Filed.{Gone}
-use Rattle.job_facts.specs.Runs.{Beginning, BeginSetup, BeginCommit, BeginClean, BeginWrite, BeginPublish, BeginAbort, is_done, nothing_learnt}
+use Rattle.job_traces.specs.Runs.{Beginning, BeginSetup, BeginCommit, BeginClean, BeginWrite, BeginPublish, BeginAbort, is_done, nothing_learnt}
 use Rattle.job_facts.proofs.Whose.{same_or_another, who_here, who_other, or_false}
 use Rattle.job_facts.proofs.Starting.{facts_begin}
 use Rattle.job_facts.proofs.SettingUp.{setup_goes, setup_beside, setup_done, setup_no_file, strange_no_file}
@@ -62,7 +62,7 @@ use Rattle.job_facts.proofs.JobCommitting.{commit_drives}
 use Rattle.job_facts.proofs.Owning.{operation_own}
 use Rattle.job_facts.proofs.EndedGone.{commit_gone, first_gone, others_gone}
 use Rattle.job_facts.proofs.Shows.{HidesAll}
-use Rattle.job_facts.proofs.Keeping.{attempt_quiet, other_fits, other_known}
+use Rattle.job_traces.proofs.Keeping.{attempt_quiet, other_fits, other_known}
 use Rattle.job_facts.proofs.Turning.{still_none}
 use Rattle.twin_facts.specs.Sparing.{Sparing, sparing_start, sparing_asks, sparing_after, record_request}
 use Rattle.twin_facts.specs.Sparing as sparing

@@ -16,35 +16,35 @@ use Rattle.s3_types.specs.declared.journal.Outcome.TheVariants.{Answered, Slow, 
 use Rattle.s3_types.specs.declared.journal.Entry.{Entry}
 use Rattle.path_keys.specs.Paths.{Path, below}
 use Rattle.magic_paths.specs.Layout.{success_key}
-use Rattle.sendings.specs.Retries.{Retried}
-use Rattle.job_operations.specs.Setup.{setup_asks}
+use Rattle.retries.specs.Retries.{Retried}
+use Rattle.job_protocol.specs.Setup.{setup_asks}
 use Rattle.job_model.specs.JobScript.{Script}
 use Rattle.job_model.specs.Legal.{IsLegal}
-use Rattle.job_operations.specs.Conflicts.{keeps, partitions}
-use Rattle.job_operations.specs.Outputs.{wanted_at, wanted_paths, is_decided}
-use Rattle.job_operations.specs.Records.{mark_text}
-use Rattle.job_operations.specs.View.{is_file_path, object_at}
-use Rattle.job_operations.specs.JobCommits.{Sets, picks_of, Commit, Fetching, Replacing, Marking, commit_asks, commit_tells}
-use Rattle.job_operations.specs.Operations.{Setting, TheSetup, TheCommit, who}
-use Rattle.job_promise.specs.Ends.{is_driver}
-use Rattle.job_promise.specs.Seen.{Seen, see, is_begun, is_marking}
-use Rattle.request_frame.specs.Members.{IsIn}
-use Rattle.request_frame.specs.Frame.{changed_keys}
-use Rattle.request_frame.proofs.Members.{some_is, none_some, false_true, true_or_false, text_true}
+use Rattle.job_protocol.specs.Conflicts.{keeps, partitions}
+use Rattle.job_protocol.specs.Outputs.{wanted_at, wanted_paths, is_decided}
+use Rattle.job_protocol.specs.Records.{mark_text}
+use Rattle.job_protocol.specs.View.{is_file_path, object_at}
+use Rattle.job_protocol.specs.JobCommits.{Sets, picks_of, Commit, Fetching, Replacing, Marking, commit_asks, commit_tells}
+use Rattle.job_protocol.specs.Operations.{Setting, TheSetup, TheCommit, who}
+use Rattle.job_spec.specs.Ends.{is_driver}
+use Rattle.job_spec.specs.Seen.{Seen, see, is_begun, is_marking}
+use Rattle.proof_base.specs.Members.{IsIn}
+use Rattle.store_frame.specs.Frame.{changed_keys}
+use Rattle.proof_base.proofs.Members.{some_is, none_some, false_true, true_or_false, text_true}
 use Rattle.job_facts.specs.Told.{driver_entry}
 use Rattle.job_facts.specs.Stores.{at_key}
 use Rattle.job_facts.specs.Filed.{whole_of, Decides, FileStands, Wants}
 use Rattle.job_facts.specs.FiledLaws.{Commits}
-use Rattle.job_facts.specs.Runs.{nothing_learnt}
+use Rattle.job_traces.specs.Runs.{nothing_learnt}
 use Rattle.job_facts.proofs.Whose.{or_true}
 use Rattle.job_facts.proofs.Owning.{operation_own}
 use Rattle.job_facts.proofs.SettingUp.{no_success}
 use Rattle.job_facts.proofs.Shapes.{puts}
-use Rattle.job_facts.proofs.Keeping.{attempt_quiet}
+use Rattle.job_traces.proofs.Keeping.{attempt_quiet}
 use Rattle.job_facts.proofs.FilingLaws.{files_go, stranger_same}
 use Rattle.job_facts.proofs.Agreeing.{AgreeBelow, Agrees, decided_so}
 use Rattle.job_facts.proofs.Wanted.{same_mark, wanted_of}
-use Rattle.job_facts.proofs.Running.{InCommit, wants_of}
+use Rattle.job_traces.proofs.Running.{InCommit, wants_of}
 use Rattle.twin_facts.specs.Sparing.{Sparing, Reading, SparingOver, record_request, sparing_asks}
 use Rattle.twin_facts.specs.TwinLaws.{counted, is_replace}
 use Rattle.twin_facts.specs.Requests.{FitsSparing}

@@ -7,7 +7,7 @@ use Rattle.path_keys.specs.Paths.{below}
 use Rattle.magic_paths.specs.Layout.{attempt_key, set_key}
 use Rattle.magic_paths.specs.Places.{is_record}
 use Rattle.magic_paths.proofs.Tails.{below_is}
-use Rattle.request_frame.proofs.Members.{text_is, false_true}
+use Rattle.proof_base.proofs.Members.{text_is, false_true}
 
 abbrev ending : List ℕ
 ending = codes ".pending"

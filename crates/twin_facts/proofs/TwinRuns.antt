@@ -13,15 +13,15 @@ use Rattle.path_keys.specs.Paths.{Path}
 use Rattle.magic_paths.specs.Layout.{success_key}
 use Rattle.job_model.specs.Attempts.{Who}
 use Rattle.job_model.specs.JobScript.{Script}
-use Rattle.job_operations.specs.Operations.{Setting}
-use Rattle.job_promise.specs.Ends.{is_driver}
-use Rattle.job_promise.specs.Scope.{upload_at}
-use Rattle.job_promise.specs.Seen.{is_marking}
-use Rattle.request_frame.specs.Members.{IsIn}
-use Rattle.request_frame.specs.Frame.{changed_keys}
-use Rattle.request_frame.proofs.Members.{false_true, text_true}
+use Rattle.job_protocol.specs.Operations.{Setting}
+use Rattle.job_spec.specs.Ends.{is_driver}
+use Rattle.job_spec.specs.Scope.{upload_at}
+use Rattle.job_spec.specs.Seen.{is_marking}
+use Rattle.proof_base.specs.Members.{IsIn}
+use Rattle.store_frame.specs.Frame.{changed_keys}
+use Rattle.proof_base.proofs.Members.{false_true, text_true}
 use Rattle.job_facts.specs.Stores.{at_id}
-use Rattle.job_facts.specs.Runs.{Beginning}
+use Rattle.job_traces.specs.Runs.{Beginning}
 use Rattle.job_facts.proofs.SettingUp.{empty_none}
 use Rattle.twin_facts.specs.TwinLaws.{turned_entry, is_side, touches_mark, marks_by, is_marked_by, MayBeTwins, TwinsKeep}
 use Rattle.twin_facts.specs.Sides.{SideState, first_state, MayBegin, begin, Sends, driver_sends, attempt_sends, observed, Side, First, Second, TwinEntry, TwinRun, twins_begin, first_begins, second_begins, first_sends, second_sends, IsTwinOpening}

@@ -15,19 +15,19 @@ use Rattle.magic_paths.specs.Layout.{success_key}
 use Rattle.job_model.specs.Attempts.{Who}
 use Rattle.job_model.specs.JobScript.{Script}
 use Rattle.job_model.specs.Legal.{IsLegal}
-use Rattle.job_operations.specs.Outputs.{Picks, wanted_at, is_decided, is_picked, is_clash}
-use Rattle.job_operations.specs.Records.{mark_text}
-use Rattle.job_operations.specs.View.{is_file_path, view}
-use Rattle.job_operations.specs.JobCommits.{Commit, Marking}
-use Rattle.job_operations.specs.Operations.{Setting, TheCommit}
-use Rattle.job_promise.specs.Ends.{is_driver}
-use Rattle.job_promise.specs.Seen.{is_marking}
-use Rattle.request_frame.specs.Members.{IsIn}
-use Rattle.request_frame.specs.Held.{HasBucket}
-use Rattle.request_frame.specs.Frame.{changed_keys}
-use Rattle.request_frame.proofs.Members.{some_is, none_some, none_or_some, false_true, true_or_false, same_or_other}
+use Rattle.job_protocol.specs.Outputs.{Picks, wanted_at, is_decided, is_picked, is_clash}
+use Rattle.job_protocol.specs.Records.{mark_text}
+use Rattle.job_protocol.specs.View.{is_file_path, view}
+use Rattle.job_protocol.specs.JobCommits.{Commit, Marking}
+use Rattle.job_protocol.specs.Operations.{Setting, TheCommit}
+use Rattle.job_spec.specs.Ends.{is_driver}
+use Rattle.job_spec.specs.Seen.{is_marking}
+use Rattle.proof_base.specs.Members.{IsIn}
+use Rattle.store_frame.specs.Held.{HasBucket}
+use Rattle.store_frame.specs.Frame.{changed_keys}
+use Rattle.proof_base.proofs.Members.{some_is, none_some, none_or_some, false_true, true_or_false, same_or_other}
 use Rattle.job_facts.specs.Filed.{whole_of}
-use Rattle.job_facts.specs.Runs.{Beginning, BeginSetup, BeginCommit, BeginClean}
+use Rattle.job_traces.specs.Runs.{Beginning, BeginSetup, BeginCommit, BeginClean}
 use Rattle.job_facts.proofs.FilePaths.{file_path}
 use Rattle.job_facts.proofs.FilingLaws.{stranger_same}
 use Rattle.job_facts.proofs.Wanted.{wanted_of}

@@ -3,9 +3,9 @@ use Rattle.std.specs.Prelude.{◌≡◌, ℕ, ◌≤◌, true, false, cond, List
 use Rattle.s3_types.specs.Store.{Content}
 use Rattle.s3_types.specs.declared.journal.Entry.{Entry}
 use Rattle.job_model.specs.JobScript.{Script}
-use Rattle.job_operations.specs.Operations.{Setting}
-use Rattle.job_promise.specs.Ends.{is_driver}
-use Rattle.job_promise.specs.Seen.{Seen, see, is_begun, nothing_seen}
+use Rattle.job_protocol.specs.Operations.{Setting}
+use Rattle.job_spec.specs.Ends.{is_driver}
+use Rattle.job_spec.specs.Seen.{Seen, see, is_begun, nothing_seen}
 use Rattle.job_facts.specs.Told.{Told, strange_entry, nothing_told, tell}
 use Rattle.twin_facts.specs.Sides.{Side, First, Second, TwinEntry, SideState, TwinRun}
 use Rattle.twin_facts.specs.TwinLaws.{is_side, InEachRun, Shows, Marked, is_marked_by}

@@ -6,8 +6,8 @@ use Rattle.job_model.specs.Attempts.{Who}
 use Rattle.job_model.specs.JobScript.{Script}
 use Rattle.job_model.specs.Known.{Drawn}
 use Rattle.job_model.specs.Legal.{IsLegal}
-use Rattle.job_operations.specs.Operations.{Setting}
-use Rattle.job_promise.specs.Seen.{Seen}
+use Rattle.job_protocol.specs.Operations.{Setting}
+use Rattle.job_spec.specs.Seen.{Seen}
 use Rattle.job_facts.specs.Told.{Told}
 use Rattle.job_facts.specs.Facts.{Hold}
 use Rattle.job_facts.specs.Stores.{IsKnown}

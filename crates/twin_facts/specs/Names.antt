@@ -4,12 +4,12 @@ use Rattle.s3_types.specs.Pages.{begins}
 use Rattle.s3_types.specs.Answer.{bucket_of}
 use Rattle.s3_types.specs.declared.request.Request.{Request}
 use Rattle.s3_types.specs.declared.request.Request.TheVariants.{PutObject, GetObject, HeadObject, DeleteObject, DeleteObjects, CopyObject, CreateUpload, UploadPart, CompleteUpload, AbortUpload, ListParts, ClusterPut, ClusterRename, ClusterGet, ClusterDelete}
-use Rattle.request_frame.specs.Members.{IsIn}
+use Rattle.proof_base.specs.Members.{IsIn}
 use Rattle.magic_paths.specs.Layout.{magic_prefix, cluster_prefix}
 use Rattle.job_model.specs.Attempts.{Who}
 use Rattle.job_model.specs.JobScript.{Script}
 use Rattle.job_model.specs.Known.{Drawn}
-use Rattle.job_operations.specs.JobCommits.{is_no_magic}
+use Rattle.job_protocol.specs.JobCommits.{is_no_magic}
 use Rattle.job_facts.specs.Stores.{IsKnown}
 
 -- the keys that a request names; the prefix and the `after` of a listing name nothing

@@ -6,14 +6,14 @@ use Rattle.s3_types.specs.declared.request.Request.TheVariants.{ListPage}
 use Rattle.s3_types.specs.declared.reply.Reply.{Reply}
 use Rattle.s3_types.specs.declared.reply.Reply.TheVariants.{Page}
 use Rattle.s3_types.specs.declared.reply.PageEntry.{PageEntry}
-use Rattle.sendings.specs.Retries.{Item, Got, WornOut, OutOfMemory}
+use Rattle.retries.specs.Retries.{Item, Got, WornOut, OutOfMemory}
 use Rattle.job_model.specs.Attempts.{Who}
 use Rattle.job_model.specs.Files.{File}
 use Rattle.job_model.specs.JobScript.{Script}
-use Rattle.job_operations.specs.Outputs.{files, paths_of}
-use Rattle.job_operations.specs.Conflicts.{partitions, checks_all, checks_partitions}
-use Rattle.job_operations.specs.Setup.{dest_prefix, first_shown}
-use Rattle.job_operations.specs.TaskCommits.{partition_prefix}
+use Rattle.job_protocol.specs.Outputs.{files, paths_of}
+use Rattle.job_protocol.specs.Conflicts.{partitions, checks_all, checks_partitions}
+use Rattle.job_protocol.specs.Setup.{dest_prefix, first_shown}
+use Rattle.job_protocol.specs.TaskCommits.{partition_prefix}
 use Rattle.list_walk.specs.Walks.{Walked, More, Whole, keys_on, page_after, walked}
 
 -- how it ends: with none found, with a path or a partition where something stands, by a request that wore out, or for want of memory

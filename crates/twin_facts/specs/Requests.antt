@@ -4,15 +4,15 @@ use Rattle.s3_types.specs.declared.request.Actor.{Actor}
 use Rattle.s3_types.specs.declared.request.Actor.TheVariants.{Driver}
 use Rattle.s3_types.specs.declared.request.Request.{Request}
 use Rattle.s3_types.specs.declared.request.UploadRef.{UploadRef}
-use Rattle.request_frame.specs.Members.{IsIn}
+use Rattle.proof_base.specs.Members.{IsIn}
 use Rattle.magic_paths.specs.Places.{is_record}
 use Rattle.job_model.specs.Attempts.{Who, actor_of}
 use Rattle.job_model.specs.JobScript.{Script}
 use Rattle.job_model.specs.Known.{Drawn}
-use Rattle.job_operations.specs.Setup.{Setup, setup_asks}
-use Rattle.job_operations.specs.JobCommits.{Commit, commit_asks}
-use Rattle.job_operations.specs.Operations.{Setting, Operation, asks}
-use Rattle.job_promise.specs.Seen.{Seen, is_magic, is_staging}
+use Rattle.job_protocol.specs.Setup.{Setup, setup_asks}
+use Rattle.job_protocol.specs.JobCommits.{Commit, commit_asks}
+use Rattle.job_protocol.specs.Operations.{Setting, Operation, asks}
+use Rattle.job_spec.specs.Seen.{Seen, is_magic, is_staging}
 use Rattle.job_facts.specs.Told.{Told, known}
 use Rattle.job_facts.specs.Facts.{IsAttempt}
 use Rattle.job_facts.specs.Fits.{Fits}

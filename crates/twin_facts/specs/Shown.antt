@@ -6,23 +6,23 @@ use Rattle.s3_types.specs.declared.journal.Outcome.{Outcome}
 use Rattle.s3_types.specs.Store.{Scene}
 use Rattle.s3_types.specs.Moment.{effect}
 use Rattle.path_keys.specs.Paths.{below}
-use Rattle.request_frame.specs.Members.{IsIn}
-use Rattle.request_frame.specs.Frame.{changed_keys}
+use Rattle.proof_base.specs.Members.{IsIn}
+use Rattle.store_frame.specs.Frame.{changed_keys}
 use Rattle.job_model.specs.JobScript.{Script}
 use Rattle.job_model.specs.Legal.{IsLegal}
-use Rattle.job_operations.specs.Conflicts.{keeps_of}
-use Rattle.job_operations.specs.JobCommits.{Sets, picks_of, Commit, Fetching, Replacing, Completing, Marking, Reverting, CommitOver, replaced, commit_asks}
-use Rattle.job_operations.specs.Operations.{Setting, Operation, asks}
+use Rattle.job_protocol.specs.Conflicts.{keeps_of}
+use Rattle.job_protocol.specs.JobCommits.{Sets, picks_of, Commit, Fetching, Replacing, Completing, Marking, Reverting, CommitOver, replaced, commit_asks}
+use Rattle.job_protocol.specs.Operations.{Setting, Operation, asks}
 use Rattle.job_model.specs.Attempts.{Who}
-use Rattle.job_promise.specs.OperationEnds.{is_untouched}
+use Rattle.job_spec.specs.OperationEnds.{is_untouched}
 use Rattle.job_facts.specs.Facts.{IsAttempt, Hold}
 use Rattle.job_facts.specs.Fits.{Fits}
 use Rattle.twin_facts.specs.Sparing.{Sparing, sparing_asks}
 use Rattle.twin_facts.specs.Rechecks.{Check, check_asks}
 use Rattle.twin_facts.specs.Requests.{FitsSparing, SetsUpBy}
-use Rattle.job_operations.specs.Outputs.{Picks, wanted_at, is_decided}
-use Rattle.job_operations.specs.View.{is_file_path}
-use Rattle.job_promise.specs.Seen.{Seen}
+use Rattle.job_protocol.specs.Outputs.{Picks, wanted_at, is_decided}
+use Rattle.job_protocol.specs.View.{is_file_path}
+use Rattle.job_spec.specs.Seen.{Seen}
 use Rattle.job_facts.specs.Told.{Told, known}
 use Rattle.job_facts.specs.Stores.{at_key}
 use Rattle.job_facts.specs.Driver.{SweepsUnder}

@@ -7,20 +7,20 @@ use Rattle.s3_types.specs.declared.request.Actor.TheVariants.{Driver}
 use Rattle.s3_types.specs.declared.request.Request.{Request}
 use Rattle.s3_types.specs.declared.journal.Outcome.{Outcome}
 use Rattle.s3_types.specs.declared.journal.Entry.{Entry}
-use Rattle.sendings.specs.Retries.{fresh}
-use Rattle.request_frame.specs.Held.{HasBucket}
+use Rattle.retries.specs.Retries.{fresh}
+use Rattle.store_frame.specs.Held.{HasBucket}
 use Rattle.job_model.specs.Attempts.{Who}
-use Rattle.job_operations.specs.Setup.{setup_start}
-use Rattle.job_operations.specs.Writes.{write_start}
-use Rattle.job_operations.specs.TaskCommits.{task_commit_start}
-use Rattle.job_operations.specs.TaskAborts.{task_abort_start}
-use Rattle.job_operations.specs.Operations.{Setting, Operation, TheSetup, TheWrite, TheTaskCommit, TheTaskAbort, who, asks, tells}
-use Rattle.job_promise.specs.Seen.{Seen, see, is_begun, nothing_seen}
+use Rattle.job_protocol.specs.Setup.{setup_start}
+use Rattle.job_protocol.specs.Writes.{write_start}
+use Rattle.job_protocol.specs.TaskCommits.{task_commit_start}
+use Rattle.job_protocol.specs.TaskAborts.{task_abort_start}
+use Rattle.job_protocol.specs.Operations.{Setting, Operation, TheSetup, TheWrite, TheTaskCommit, TheTaskAbort, who, asks, tells}
+use Rattle.job_spec.specs.Seen.{Seen, see, is_begun, nothing_seen}
 use Rattle.job_facts.specs.Told.{Told, known, put_who, nothing_told, tell, entry, driver_entry, strange_entry}
 use Rattle.job_facts.specs.Stores.{at_id}
 use Rattle.job_facts.specs.Facts.{IsAttempt}
-use Rattle.job_facts.specs.Runs.{Beginning, BeginSetup, BeginCommit, BeginClean, BeginWrite, BeginPublish, BeginAbort, WriteIsDone, commit_with, nothing_learnt}
-use Rattle.job_facts.specs.Runs as runs
+use Rattle.job_traces.specs.Runs.{Beginning, BeginSetup, BeginCommit, BeginClean, BeginWrite, BeginPublish, BeginAbort, WriteIsDone, commit_with, nothing_learnt}
+use Rattle.job_traces.specs.Runs as runs
 use Rattle.twin_facts.specs.Names.{Ids}
 use Rattle.twin_facts.specs.Sparing.{sparing_start}
 use Rattle.twin_facts.specs.SharedOperations.{SharedOperation, Alone, TheSparing, shared_asks, shared_tells, commit_of}

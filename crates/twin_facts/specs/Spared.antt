@@ -9,19 +9,19 @@ use Rattle.s3_types.specs.declared.request.UploadRef.{UploadRef}
 use Rattle.s3_types.specs.declared.request.Committer.{Committer}
 use Rattle.s3_types.specs.declared.request.Committer.TheVariants.{Magic, Directory, Partitioned}
 use Rattle.s3_types.specs.declared.journal.Entry.{Entry}
-use Rattle.sendings.specs.Retries.{Retried}
-use Rattle.request_frame.specs.Members.{IsIn}
+use Rattle.retries.specs.Retries.{Retried}
+use Rattle.proof_base.specs.Members.{IsIn}
 use Rattle.magic_paths.specs.Layout.{magic_prefix, cluster_prefix}
 use Rattle.magic_paths.specs.Places.{is_record}
 use Rattle.pending_json.specs.Reading as reading
 use Rattle.job_model.specs.Attempts.{Who}
 use Rattle.job_model.specs.JobScript.{Script}
 use Rattle.job_model.specs.declared.ends.CleanEnd.TheVariants as ends
-use Rattle.job_operations.specs.Operations.{Setting}
-use Rattle.job_promise.specs.Scope.{NoMagicKey, NoClusterFile}
-use Rattle.job_promise.specs.Seen.{is_magic, is_staging}
+use Rattle.job_protocol.specs.Operations.{Setting}
+use Rattle.job_spec.specs.Scope.{NoMagicKey, NoClusterFile}
+use Rattle.job_spec.specs.Seen.{is_magic, is_staging}
 use Rattle.job_facts.specs.Stores.{at_key, at_id, sets_at}
-use Rattle.job_facts.specs.Runs.{Beginning, BeginClean}
+use Rattle.job_traces.specs.Runs.{Beginning, BeginClean}
 use Rattle.twin_facts.specs.Sparing.{Sparing, SparingOver, record_names, set_names}
 use Rattle.twin_facts.specs.SharedOperations.{TheSparing}
 use Rattle.twin_facts.specs.Sides.{SideState, is_set, begun_driver, begin, MayBegin, Sends, observed}

@@ -14,7 +14,7 @@ use Rattle.pending_json.specs.Pending.{Pending}
 use Rattle.pending_json.specs.Reading as reading
 use Rattle.pending_json.specs.declared.fault.RecordFault.{RecordFault}
 use Rattle.pending_json.specs.declared.records.PendingSet.{PendingSet}
-use Rattle.sendings.specs.Retries.{Item, Got, WornOut, OutOfMemory}
+use Rattle.retries.specs.Retries.{Item, Got, WornOut, OutOfMemory}
 use Rattle.job_model.specs.JobScript.{Script}
 use Rattle.job_model.specs.declared.ends.CleanEnd.{CleanEnd}
 use Rattle.job_model.specs.declared.ends.CleanEnd.TheVariants as ends

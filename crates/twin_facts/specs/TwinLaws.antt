@@ -8,18 +8,18 @@ use Rattle.s3_types.specs.Moment.{is_effective}
 use Rattle.s3_types.specs.declared.object.Object.{Object}
 use Rattle.s3_types.specs.declared.request.Request.{Request}
 use Rattle.s3_types.specs.declared.journal.Entry.{Entry}
-use Rattle.request_frame.specs.Frame.{changed_keys}
+use Rattle.store_frame.specs.Frame.{changed_keys}
 use Rattle.magic_paths.specs.Layout.{success_key}
 use Rattle.job_model.specs.JobScript.{Script}
 use Rattle.job_model.specs.Legal.{IsLegal}
 use Rattle.s3_types.specs.declared.request.Mode.{Mode}
 use Rattle.s3_types.specs.declared.request.Mode.TheVariants.{Replace}
-use Rattle.job_operations.specs.Outputs.{Picks, wanted_at, is_picked, is_clash, is_decided}
-use Rattle.job_operations.specs.Records.{mark_text}
-use Rattle.job_operations.specs.View.{Shown, view, object_at}
-use Rattle.job_operations.specs.Operations.{Setting}
-use Rattle.job_promise.specs.Ends.{is_driver}
-use Rattle.job_promise.specs.Seen.{Seen, is_marking}
+use Rattle.job_protocol.specs.Outputs.{Picks, wanted_at, is_picked, is_clash, is_decided}
+use Rattle.job_protocol.specs.Records.{mark_text}
+use Rattle.job_protocol.specs.View.{Shown, view, object_at}
+use Rattle.job_protocol.specs.Operations.{Setting}
+use Rattle.job_spec.specs.Ends.{is_driver}
+use Rattle.job_spec.specs.Seen.{Seen, is_marking}
 use Rattle.job_facts.specs.Facts.{Hold}
 use Rattle.job_facts.specs.Stores.{IsKnown}
 use Rattle.twin_facts.specs.Names.{IsStranger}

@@ -13,23 +13,23 @@ use Rattle.s3_types.specs.declared.request.Request.{Request}
 use Rattle.s3_types.specs.declared.journal.Outcome.{Outcome}
 use Rattle.s3_types.specs.declared.journal.Outcome.TheVariants.{Answered}
 use Rattle.s3_types.specs.declared.journal.Entry.{Entry}
-use Rattle.request_frame.specs.Members.{IsIn}
-use Rattle.request_frame.proofs.Members.{none_some, some_is, text_is}
+use Rattle.proof_base.specs.Members.{IsIn}
+use Rattle.proof_base.proofs.Members.{none_some, some_is, text_is}
 use Rattle.magic_paths.specs.Layout.{magic_prefix, cluster_prefix, success_key}
 use Rattle.job_model.specs.Files.{File}
 use Rattle.job_model.specs.JobScript.{Script}
-use Rattle.job_operations.specs.Outputs.{Picks, wanted_at, is_picked, is_clash}
-use Rattle.job_operations.specs.Records.{mark_text}
-use Rattle.job_operations.specs.View.{view, object_at}
-use Rattle.job_promise.specs.Ends.{is_driver}
-use Rattle.job_promise.specs.Seen.{Seen, see, see_by, is_begun, nothing_seen}
+use Rattle.job_protocol.specs.Outputs.{Picks, wanted_at, is_picked, is_clash}
+use Rattle.job_protocol.specs.Records.{mark_text}
+use Rattle.job_protocol.specs.View.{view, object_at}
+use Rattle.job_spec.specs.Ends.{is_driver}
+use Rattle.job_spec.specs.Seen.{Seen, see, see_by, is_begun, nothing_seen}
 use Rattle.twin_facts.specs.Names.{Ids, named_keys, named_upload, named_paths, IsStranger}
 use Rattle.twin_facts.specs.Sides.{Side, First, Second, TwinEntry}
 use Rattle.twin_facts.specs.TwinLaws.{Gives, Shows, Marked, is_side}
 use Rattle.twin_facts.specs.Events.{see_strange, see_own, see_twin, see_twins, seen_twin}
-use Rattle.worked_runs.specs.OneFile.{opening}
-use Rattle.worked_runs.proofs.Checks.{dest, are_ours, visible}
-use Rattle.worked_runs.proofs.Kept.{nothing, book_at, files_then}
+use Rattle.job_examples.specs.OneFile.{opening}
+use Rattle.job_examples.proofs.Checks.{dest, are_ours, visible}
+use Rattle.job_examples.proofs.Kept.{nothing, book_at, files_then}
 use Rattle.worked_twins.specs.Sided.{sided, StrangeBy, AllStrange}
 
 -- ---- strangers

@@ -5,12 +5,12 @@ use Rattle.json.specs.Print.{escape_byte}
 use Rattle.s3_types.specs.Blocks.{block_of, parts_of}
 use Rattle.s3_types.specs.Moment.{moment}
 use Rattle.s3_types.specs.declared.object.Object.{Object}
-use Rattle.request_frame.proofs.Members.{false_true}
-use Rattle.job_promise.specs.Seen.{Seen}
-use Rattle.worked_runs.specs.OneFile.{opening}
-use Rattle.worked_runs.proofs.Kept.{Sendings, nothing, is_honest, object_then}
-use Rattle.worked_lanes.specs.FourFiles.{hellos}
-use Rattle.worked_lanes.specs.TwoJobs.{jb, mark_bytes}
+use Rattle.proof_base.proofs.Members.{false_true}
+use Rattle.job_spec.specs.Seen.{Seen}
+use Rattle.job_examples.specs.OneFile.{opening}
+use Rattle.job_examples.proofs.Kept.{Sendings, nothing, is_honest, object_then}
+use Rattle.job_examples.specs.FourFileLanes.{hellos}
+use Rattle.job_examples.specs.TwoJobs.{jb, mark_bytes}
 use Rattle.twin_facts.specs.Sides.{First, Second}
 use Rattle.twin_facts.specs.Events.{seen_twin}
 use Rattle.worked_twins.specs.Conflict.{ja, mine, journal, entries, drew_first, drew_second, Stands, FoundConflict}

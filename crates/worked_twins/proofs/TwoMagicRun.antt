@@ -7,20 +7,20 @@ use Rattle.s3_types.specs.Store.{Scene}
 use Rattle.s3_types.specs.Moment.{moment}
 use Rattle.s3_types.specs.declared.object.Object.{Object}
 use Rattle.s3_types.specs.declared.journal.Entry.{Entry}
-use Rattle.request_frame.proofs.Members.{false_true, none_some}
-use Rattle.job_operations.specs.View.{view}
-use Rattle.job_promise.specs.Seen.{Seen}
-use Rattle.worked_runs.specs.OneFile.{opening}
-use Rattle.worked_runs.proofs.Kept.{nothing, files_then, object_then}
+use Rattle.proof_base.proofs.Members.{false_true, none_some}
+use Rattle.job_protocol.specs.View.{view}
+use Rattle.job_spec.specs.Seen.{Seen}
+use Rattle.job_examples.specs.OneFile.{opening}
+use Rattle.job_examples.proofs.Kept.{nothing, files_then, object_then}
 use Rattle.words.specs.Parts.{parts_from}
 use Rattle.s3_types.specs.Names.{is_key_path}
 use Rattle.pending_json.specs.Reading as reading
 use Rattle.pending_json.proofs.RoundTrip.{pending_text}
-use Rattle.worked_runs.specs.Runs.{hello}
-use Rattle.worked_runs.specs.FourFiles.{of_file}
-use Rattle.worked_runs.proofs.OneSet.{key_by, pending_by}
-use Rattle.worked_lanes.specs.FourFiles.{record_bytes, hellos}
-use Rattle.worked_lanes.specs.TwoJobs.{ja, jb, mark_bytes, marks, quiet_entries, journal, mine}
+use Rattle.job_examples.specs.Runs.{hello}
+use Rattle.job_examples.specs.FourFiles.{of_file}
+use Rattle.job_examples.proofs.OneSet.{key_by, pending_by}
+use Rattle.job_examples.specs.FourFileLanes.{record_bytes, hellos}
+use Rattle.job_examples.specs.TwoJobs.{ja, jb, mark_bytes, marks, quiet_entries, journal, mine}
 use Rattle.twin_facts.specs.Sides.{First, Second}
 use Rattle.twin_facts.specs.Events.{seen_twin, AtMoment}
 use Rattle.worked_twins.specs.TwoMagic.{entries, drew_first, drew_second, Stands, hasty, TwoMagic}

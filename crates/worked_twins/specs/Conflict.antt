@@ -18,13 +18,13 @@ use Rattle.pending_json.specs.declared.records.PendingSet.{PendingSet}
 use Rattle.job_model.specs.JobScript.{Script}
 use Rattle.job_model.specs.declared.events.Op.TheVariants as ops
 use Rattle.job_model.specs.declared.events.Event.TheVariants.{Do}
-use Rattle.job_operations.specs.Operations.{who}
-use Rattle.job_facts.specs.Runs.{nothing_learnt}
-use Rattle.worked_runs.specs.Jobs.{lake, job, attempt, worker, said, hello_tag}
-use Rattle.worked_runs.specs.OneFile.{opening}
-use Rattle.worked_runs.specs.Runs.{setting}
-use Rattle.worked_lanes.specs.FourFiles.{out}
-use Rattle.worked_lanes.specs.TwoJobs.{jb, set_key, below_attempt, pending, set_bytes, mark_bytes, prepares, reads, completes, marks}
+use Rattle.job_protocol.specs.Operations.{who}
+use Rattle.job_traces.specs.Runs.{nothing_learnt}
+use Rattle.job_examples.specs.Jobs.{lake, job, attempt, worker, said, hello_tag}
+use Rattle.job_examples.specs.OneFile.{opening}
+use Rattle.job_examples.specs.Runs.{setting}
+use Rattle.job_examples.specs.FourFileLanes.{out}
+use Rattle.job_examples.specs.TwoJobs.{jb, set_key, below_attempt, pending, set_bytes, mark_bytes, prepares, reads, completes, marks}
 use Rattle.twin_facts.specs.Names.{Ids}
 use Rattle.twin_facts.specs.Rechecks.{Conflict}
 use Rattle.twin_facts.specs.SharedOperations.{SharedOperation, SharedEnd, CheckEnded, shared_asks, shared_tells, shared_over, commit_of}

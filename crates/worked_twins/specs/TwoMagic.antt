@@ -2,13 +2,13 @@
 use Rattle.std.specs.Prelude.{◌≡◌, ℕ, nat_eq, false, true, List, [], ◌∷◌, ◌++◌, length, take, Some, None, codes}
 use Rattle.s3_types.specs.declared.request.Request.TheVariants.{AbortUpload}
 use Rattle.s3_types.specs.declared.journal.Outcome.{Outcome}
-use Rattle.sendings.specs.Operation.{Follows, run}
-use Rattle.sendings.specs.Retries.{Retried, wants_of, fresh, step}
+use Rattle.retries.specs.Operation.{Follows, run}
+use Rattle.retries.specs.Retries.{Retried, wants_of, fresh, step}
 use Rattle.job_model.specs.declared.ends.CleanEnd.TheVariants as cleans
-use Rattle.worked_runs.specs.Jobs.{lake}
-use Rattle.worked_runs.specs.OneFile.{opening}
-use Rattle.worked_lanes.specs.FourFiles.{out}
-use Rattle.worked_lanes.specs.TwoJobs.{ja, jb, marks, quiet_entries, clean_entries, journal, mine}
+use Rattle.job_examples.specs.Jobs.{lake}
+use Rattle.job_examples.specs.OneFile.{opening}
+use Rattle.job_examples.specs.FourFileLanes.{out}
+use Rattle.job_examples.specs.TwoJobs.{ja, jb, marks, quiet_entries, clean_entries, journal, mine}
 use Rattle.twin_facts.specs.Names.{Ids, IsStranger}
 use Rattle.twin_facts.specs.Sides.{First, Second, TwinEntry}
 use Rattle.twin_facts.specs.TwinLaws.{is_marked_by}

@@ -22,10 +22,10 @@ use Rattle.fs_ops.specs.declared.climb.Climbed.{Climbed}
 use Rattle.fs_ops.specs.declared.climb.Climbed.TheVariants.{File, On as Goes_on, Free}
 use Rattle.fs_ops.specs.code.Climbs.{climbing, climbed}
 use Rattle.bucket_walks.specs.Walking.{walk_asks, fits}
-use Rattle.fs_moves.specs.declared.copying.CopyStep.{CopyStep}
-use Rattle.fs_moves.specs.declared.copying.CopyStep.TheVariants.{Next as NextCopy, All}
-use Rattle.fs_moves.specs.Keys.{place_of, new_keys}
-use Rattle.fs_moves.specs.Copies.{copy_asks, has_more, copied_next}
+use Rattle.fs_rename.specs.declared.copying.CopyStep.{CopyStep}
+use Rattle.fs_rename.specs.declared.copying.CopyStep.TheVariants.{Next as NextCopy, All}
+use Rattle.fs_rename.specs.Keys.{place_of, new_keys}
+use Rattle.fs_rename.specs.Copies.{copy_asks, has_more, copied_next}
 use Rattle.copy_tree.specs.declared.stages.Parts.{Parts}
 use Rattle.copy_tree.specs.declared.stages.CopyStage.{CopyStage}
 use Rattle.copy_tree.specs.declared.stages.CopyStage.TheVariants.{Here, Walk, Up, WalkTarget, Source, Target, Copy}

@@ -9,7 +9,7 @@ use Rattle.fs_tree.specs.Copies.{IsOverlap, HasSource, HasPlace, MayCopy, Copies
 use Rattle.fs_ops.specs.Places.{prefix_of}
 use Rattle.fs_ops.specs.code.Climbs.{IsClimb}
 use Rattle.bucket_walks.specs.Walking.{all_below, keys_below, IsWalking, walk_left}
-use Rattle.fs_moves.specs.Copies.{Move, IsOneOf, sources, targets, IsCopying, copies_left, moves_of}
+use Rattle.fs_rename.specs.Copies.{Move, IsOneOf, sources, targets, IsCopying, copies_left, moves_of}
 use Rattle.copy_tree.specs.declared.stages.Parts.{Parts}
 use Rattle.copy_tree.specs.declared.stages.CopyStage.{CopyStage}
 use Rattle.copy_tree.specs.declared.stages.CopyStage.TheVariants.{Here, Walk, Up, WalkTarget, Source, Target, Copy}

@@ -11,7 +11,7 @@ use Rattle.fs_ops.specs.Places.{prefix_of, NoFileAt}
 use Rattle.bucket_walks.specs.Walking.{IsWalking, walk_left}
 use Rattle.list_walk.specs.Walks.{sweep_start}
 use Rattle.bucket_walks.specs.Sweeping.{IsDeleting, IsDeleted, sweep_left}
-use Rattle.fs_moves.specs.Copies.{sources, copied_all, IsCopying, moves_of, copies_left}
+use Rattle.fs_rename.specs.Copies.{sources, copied_all, IsCopying, moves_of, copies_left}
 use Rattle.fs_rename.specs.declared.stages.Spot.{Spot}
 use Rattle.fs_rename.specs.declared.stages.Spot.TheVariants.{Source, Target, Inside, Above}
 use Rattle.fs_rename.specs.declared.stages.RenameStage.{RenameStage}

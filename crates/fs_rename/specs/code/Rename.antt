@@ -22,10 +22,10 @@ use Rattle.fs_ops.specs.code.Delete.{entries_in}
 use Rattle.fs_ops.specs.code.Steps.{unless}
 use Rattle.bucket_walks.specs.Sweeping.{sweep_asks}
 use Rattle.bucket_walks.specs.Walking.{walk_asks, fits}
-use Rattle.fs_moves.specs.declared.copying.CopyStep.{CopyStep}
-use Rattle.fs_moves.specs.declared.copying.CopyStep.TheVariants.{Next as NextCopy, All}
-use Rattle.fs_moves.specs.Keys.{place_of, fitting, new_keys}
-use Rattle.fs_moves.specs.Copies.{copy_asks, has_more, copied_next}
+use Rattle.fs_rename.specs.declared.copying.CopyStep.{CopyStep}
+use Rattle.fs_rename.specs.declared.copying.CopyStep.TheVariants.{Next as NextCopy, All}
+use Rattle.fs_rename.specs.Keys.{place_of, fitting, new_keys}
+use Rattle.fs_rename.specs.Copies.{copy_asks, has_more, copied_next}
 use Rattle.fs_rename.specs.declared.stages.Spot.{Spot}
 use Rattle.fs_rename.specs.declared.stages.Spot.TheVariants.{Source, Target, Inside, Above}
 use Rattle.fs_rename.specs.declared.stages.Kind.{Kind}

@@ -2,7 +2,7 @@
 use Rattle.std.specs.Prelude.{◌≡◌, ℕ, ◌<◌, true, List, [], ◌∷◌, ◌++◌, take, Result, Ok, Err}
 use Rattle.s3_types.specs.Store.{Objects}
 use Rattle.s3_types.specs.declared.reply.PageEntry.{PageEntry}
-use Rattle.request_frame.specs.Members.{IsIn}
+use Rattle.proof_base.specs.Members.{IsIn}
 use Rattle.bucket_ops.specs.Asks.{Ask, edited, is_look}
 use Rattle.bucket_walks.specs.Walking.{all_below}
 use Rattle.fs_tree.specs.Tree.{IsDirectory}

@@ -1,6 +1,6 @@
 use Rattle.std.proofs.Common.{refl, ◌≡◌, ◌+◌, ◌∙◌, ap, sym, subst, ◌||◌, inl, inr, [], ◌<◌, ◌++◌, append_assoc, append-nil, ◌∷◌, length}
 use Rattle.std.proofs.lemmas.Bool.{false≢true}
-use Rattle.sendings.specs.Retries.{step}
+use Rattle.retries.specs.Retries.{step}
 use Rattle.machine.specs.Turns.{retried, tells_worn}
 use Rattle.s3_types.specs.Foretold.{IsForetold}
 use Rattle.machine.proofs.Counts.{counted_none, counted_then}

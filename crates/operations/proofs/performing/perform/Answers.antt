@@ -1,6 +1,6 @@
 use Rattle.std.proofs.Common.{◌≡◌, ◌∙◌, ap, sym, refl, ℕ, Ok, Err, subst, List, Result}
 use Rattle.machine.specs.declared.retrying.Retrying.{Retrying}
-use Rattle.sendings.specs.Retries.{Retried, fresh}
+use Rattle.retries.specs.Retries.{Retried, fresh}
 use Rattle.machine.specs.Turns.{retried}
 use Rattle.machine.specs.Tries.{Tried, IsFaultBy}
 use Rattle.machine.specs.declared.driving.DriveStop.{DriveStop}

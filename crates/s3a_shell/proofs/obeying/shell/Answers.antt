@@ -7,7 +7,7 @@ use Rattle.machine.specs.Turns.{AreBy}
 use Rattle.s3a_shell.specs.declared.obeying.ShellEnd.{ShellEnd}
 use Rattle.s3a_shell.specs.Doings.{only_looks, Does, MayStandAt}
 use Rattle.s3_service.specs.Ids.{AreBelow}
-use Rattle.request_frame.specs.Held.{upload_at}
+use Rattle.store_frame.specs.Held.{upload_at}
 use Rattle.s3a_shell.specs.Sendings.{has_changed}
 use Rattle.s3a_shell.specs.Stays.{OnlyIn, bucket_in, ended_by}
 use Rattle.s3a_shell.proofs.Ending.{all_moments, all_by, all_answered, all_honest, did_at, only_at, ended_at, undone_at, same_at, content_at}

@@ -1,4 +1,4 @@
-use Rattle.kept_stores.specs.declared.held.Held.TheVariants.{Nothing}
+use Rattle.durable_store.specs.declared.held.Held.TheVariants.{Nothing}
 use Rattle.s3a_top.proofs.Results.{over_of, image_over}
 use Rattle.s3a_top.proofs.Telling.{script_taken, shelf_causes}
 use Rattle.s3a_top.proofs.jobs.play_new.Goals as goal

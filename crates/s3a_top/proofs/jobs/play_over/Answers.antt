@@ -1,5 +1,5 @@
 use Rattle.std.proofs.Common.{refl}
-use Rattle.kept_stores.specs.declared.held.Held.TheVariants.{Store}
+use Rattle.durable_store.specs.declared.held.Held.TheVariants.{Store}
 use Rattle.s3a_top.proofs.Results.{over_of, image_over}
 use Rattle.s3a_top.proofs.Telling.{shelf_causes}
 use Rattle.s3a_top.proofs.jobs.play_over.Goals as goal

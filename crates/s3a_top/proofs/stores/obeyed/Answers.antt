@@ -1,5 +1,5 @@
 use Rattle.std.proofs.Common.{ap}
-use Rattle.kept_stores.specs.Doing.{work_in}
+use Rattle.durable_store.specs.Doing.{work_in}
 use Rattle.s3a_top.specs.Statuses.{code, written_text}
 use Rattle.s3a_top.proofs.Obeying.{answer_which, done_of, calls_of}
 use Rattle.s3a_top.proofs.stores.obeyed.Goals as goal

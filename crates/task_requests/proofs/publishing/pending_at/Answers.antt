@@ -2,7 +2,7 @@ use Rattle.std.proofs.Common.{◌∙◌, ap, slice_get}
 use Rattle.proof_base.specs.Order.{text_eq}
 use Rattle.indexmap.specs.IndexMap.{get}
 use Rattle.job_model.specs.Jobs.{Task}
-use Rattle.job_operations.specs.Knowledge.{as_made}
+use Rattle.job_protocol.specs.Knowledge.{as_made}
 use Rattle.task_requests.proofs.Steps.{ok_as}
 use Rattle.task_requests.proofs.LastDrawn.{not_none, not_behind, drawn_tags, drawn_sizes, same_record}
 use Rattle.task_requests.proofs.publishing.pending_at.Goals as goal

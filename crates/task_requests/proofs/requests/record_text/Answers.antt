@@ -4,8 +4,8 @@ use Rattle.pending_json.specs.Trees.{pending_tree}
 use Rattle.pending_json.specs.Pending.{Pending}
 use Rattle.job_model.specs.Jobs.{Task}
 use Rattle.job_model.specs.Known.{Drawn}
-use Rattle.job_operations.specs.AtWork.{task_script, who_of}
-use Rattle.job_operations.specs.Records.{record_text}
+use Rattle.job_protocol.specs.AtWork.{task_script, who_of}
+use Rattle.job_protocol.specs.Records.{record_text}
 use Rattle.task_requests.proofs.Steps.{record_tags, record_sizes, record_last, ok_as}
 use Rattle.task_requests.proofs.requests.record_text.Goals as goal
 

@@ -4,8 +4,8 @@ use Rattle.job_model.specs.Files.{File}
 use Rattle.job_model.specs.Jobs.{Task}
 use Rattle.job_model.specs.Known.{Known}
 use Rattle.job_model.specs.contracts.plan.TaskPlan.{the_view}
-use Rattle.job_operations.specs.AtWork.{task_script}
-use Rattle.job_operations.specs.Records.{file_key}
+use Rattle.job_protocol.specs.AtWork.{task_script}
+use Rattle.job_protocol.specs.Records.{file_key}
 use Rattle.s3_types.proofs.Blocks.{some_parts}
 use Rattle.task_requests.specs.Writing.{size_of, part_behind, with_drawn}
 use Rattle.task_requests.proofs.Steps.{known_of, file_is, begun_asked, begun_drawn}

@@ -3,7 +3,7 @@ use Rattle.std.specs.Option.{option_copied}
 use Rattle.fs_tree.specs.Tree.{is_marker}
 use Rattle.fs_ops.specs.Places.{prefix_of}
 use Rattle.copy_tree.specs.code.Copy.{CopyPaths}
-use Rattle.fs_moves.proofs.Places.{place_marker}
+use Rattle.fs_rename.proofs.Places.{place_marker}
 use Rattle.copy_tree.proofs.names.CopyNames.placed.Goals as goal
 
 pub new_keys-requires : goal.new_keys-requires

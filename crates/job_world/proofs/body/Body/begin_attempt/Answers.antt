@@ -1,4 +1,4 @@
-use Rattle.job_works.proofs.Picking.{picks_go}
+use Rattle.job_actor.proofs.Picking.{picks_go}
 use Rattle.job_world.proofs.Moments.{event_of, no_entries}
 use Rattle.job_world.proofs.Frames.{begun_entered}
 use Rattle.job_world.proofs.Beginning.{begins_op, gives_plan, event_then, few_then, legal_then, plan_then, attempt_begun}

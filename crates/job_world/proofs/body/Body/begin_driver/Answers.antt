@@ -1,6 +1,6 @@
 use Rattle.std.proofs.Common.{refl}
 use Rattle.s3_types.specs.declared.request.Actor.TheVariants.{Driver}
-use Rattle.job_works.proofs.Picking.{picks_go}
+use Rattle.job_actor.proofs.Picking.{picks_go}
 use Rattle.job_world.proofs.Moments.{event_of, no_entries}
 use Rattle.job_world.proofs.Frames.{begun_entered}
 use Rattle.job_world.proofs.Beginning.{begins_op, place_within, event_then, few_then, legal_then, driver_begun}

@@ -6,8 +6,8 @@ use Rattle.s3_types.specs.Pages.{listed}
 use Rattle.s3_types.specs.Store.{Objects}
 use Rattle.s3_types.specs.declared.reply.PageEntry.{PageEntry}
 use Rattle.object_store.specs.declared.page.Page.{Page}
-use Rattle.request_frame.specs.Walk.{walked}
-use Rattle.request_frame.proofs.Listed.{walked_listed}
+use Rattle.store_frame.specs.Walk.{walked}
+use Rattle.store_frame.proofs.Listed.{walked_listed}
 use Rattle.object_store.proofs.objects.Objects.list_page.Goals as goal
 
 -- what is walked is what is listed, folded or not

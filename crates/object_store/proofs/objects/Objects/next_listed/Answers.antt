@@ -5,8 +5,8 @@ use Rattle.proof_base.specs.Order.{text_cmp}
 use Rattle.proof_base.proofs.Tree.{map_sorted}
 use Rattle.s3_types.specs.Pages.{begins}
 use Rattle.s3_types.specs.declared.object.Object.{Object}
-use Rattle.request_frame.specs.Walk.{ComesNext}
-use Rattle.request_frame.proofs.Walked.{found_next}
+use Rattle.store_frame.specs.Walk.{ComesNext}
+use Rattle.store_frame.proofs.Walked.{found_next}
 use Rattle.object_store.proofs.objects.Objects.next_listed.Goals as goal
 
 pub returns-then-starts_with : goal.returns-then-starts_with

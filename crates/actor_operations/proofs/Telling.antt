@@ -1,0 +1,45 @@
+-- Operations as they are told outcomes, and what want of memory leaves of them.
+use Rattle.std.proofs.Common.{◌≡◌, ℕ, refl, sym, ap, subst, ◌∙◌}
+use Rattle.std.specs.Option.{option_map}
+use Rattle.retries.specs.Retries.{Retried, OutOfMemory}
+use Rattle.machine.specs.Turns.{retried}
+use Rattle.machine.specs.declared.retrying.Retrying.{Retrying}
+use Rattle.job_model.specs.declared.ends.OpEnd.TheVariants as ends
+use Rattle.job_protocol.specs.Setup as setups
+use Rattle.job_protocol.specs.Writes as writes
+use Rattle.job_protocol.specs.TaskCommits as commits
+use Rattle.job_protocol.specs.TaskAborts as aborts
+use Rattle.job_protocol.specs.JobCommits as jobs
+use Rattle.job_protocol.specs.Cleanups as cleans
+use Rattle.job_protocol.specs.AtWork.{Attempting, Driving, Committing, setup_wants, setup_told, write_wants, write_told, task_commit_wants, task_commit_told, task_abort_wants, task_abort_told, commit_wants, clean_wants, clean_told}
+use Rattle.commit_laws.specs.Fitting.{without_memory}
+use Rattle.job_actor.specs.Acts.{EndsWanting}
+use Rattle.actor_operations.specs.declared.act.Act.TheVariants.{Setup, Write, CommitTask, AbortTask, Commit, Clean}
+use Rattle.actor_operations.specs.Acts.{under, wants_of, end_of}
+
+-- a machine by its counter and its retries
+pub whole : {M : Type 0} (t : Retrying M) (x : Retried M) (retries : ℕ) → retried t ≡ x → t.retries ≡ retries → t ≡ under retries x
+whole t x retries e r = ap (λ n. record { machine = t.machine; retries = n; spare = t.spare; repeated = t.repeated }) r ∙ ap (under retries) e
+
+pub machine_of : {M : Type 0} (t : Retrying M) (x : Retried M) → retried t ≡ x → t.machine ≡ x.operation
+machine_of t x e = ap (λ r. r.operation) e
+
+-- ---- where memory was wanting
+
+pub setup_wanting : (t u : Retrying (Driving setups.Setup)) → u.machine ≡ setup_told t.machine OutOfMemory → EndsWanting (wants_of (Setup u)) (end_of (Setup u))
+setup_wanting t u e = subst (λ m. EndsWanting (setup_wants m) (option_map ends.Setup (setups.setup_over m.operation))) (sym e) (record { none = refl; wanting = refl })
+
+pub write_wanting : (t u : Retrying (Attempting writes.Write)) → u.machine ≡ write_told t.machine OutOfMemory → EndsWanting (wants_of (Write u)) (end_of (Write u))
+write_wanting t u e = subst (λ m. EndsWanting (write_wants m) (option_map ends.Task (writes.write_over m.operation))) (sym e) (record { none = refl; wanting = refl })
+
+pub commit_task_wanting : (t u : Retrying (Attempting commits.TaskCommit)) → u.machine ≡ task_commit_told t.machine OutOfMemory → EndsWanting (wants_of (CommitTask u)) (end_of (CommitTask u))
+commit_task_wanting t u e = subst (λ m. EndsWanting (task_commit_wants m) (option_map ends.Task (commits.task_commit_over m.operation))) (sym e) (record { none = refl; wanting = refl })
+
+pub abort_task_wanting : (t u : Retrying (Attempting aborts.TaskAbort)) → u.machine ≡ task_abort_told t.machine OutOfMemory → EndsWanting (wants_of (AbortTask u)) (end_of (AbortTask u))
+abort_task_wanting t u e = subst (λ m. EndsWanting (task_abort_wants m) (option_map ends.Task (aborts.task_abort_over m.operation))) (sym e) (record { none = refl; wanting = refl })
+
+pub commit_wanting : (c d : Committing) → d ≡ without_memory c → EndsWanting (wants_of (Commit d)) (end_of (Commit d))
+commit_wanting c d e = subst (λ m. EndsWanting (commit_wants m) (option_map ends.Commit (jobs.commit_over m.operation))) (sym e) (record { none = refl; wanting = refl })
+
+pub clean_wanting : (t u : Retrying (Driving cleans.Clean)) → u.machine ≡ clean_told t.machine OutOfMemory → EndsWanting (wants_of (Clean u)) (end_of (Clean u))
+clean_wanting t u e = subst (λ m. EndsWanting (clean_wants m) (option_map ends.Clean (cleans.clean_over m.operation))) (sym e) (record { none = refl; wanting = refl })

@@ -1,0 +1,179 @@
+-- Each outcome that is due to what a job's actor asks fits.
+use Rattle.std.proofs.Common.{◌≡◌, ℕ, ◌<◌, ◌≤◌, inl, inr, nat_lt, Bool, Option, Some, sym, ap, subst, ◌∙◌, arith}
+use Rattle.s3_types.specs.Store.{Content, Scene}
+use Rattle.s3_types.specs.Answer.{answer}
+use Rattle.s3_types.specs.Moment.{IsHonestOutcome}
+use Rattle.s3_types.specs.declared.request.Actor.{Actor}
+use Rattle.s3_types.specs.declared.request.Request.{Request}
+use Rattle.s3_types.specs.declared.reply.Reply.{Reply}
+use Rattle.s3_types.specs.declared.journal.Outcome.{Outcome}
+use Rattle.s3_types.specs.declared.journal.Outcome.TheVariants.{Answered}
+use Rattle.machine.specs.Turns.{FitsOutcome}
+use Rattle.machine.specs.declared.retrying.Retrying.{Retrying}
+use Rattle.job_model.specs.Attempts.{Who, actor_of}
+use Rattle.job_model.specs.Jobs.{Job, Task}
+use Rattle.job_model.specs.Known.{Known}
+use Rattle.job_model.specs.declared.ends.SetupEnd.TheVariants as ends
+use Rattle.job_protocol.specs.Setup as setups
+use Rattle.job_protocol.specs.Writes as writes
+use Rattle.job_protocol.specs.TaskCommits as commits
+use Rattle.job_protocol.specs.TaskAborts as aborts
+use Rattle.job_protocol.specs.Cleanups as cleans
+use Rattle.job_protocol.specs.JobCommits.{commit_asks}
+use Rattle.job_protocol.specs.Operations.{Setting}
+use Rattle.job_protocol.specs.AtWork.{Attempting, Driving, Committing, job_of, task_of, task_script, who_of, setup_wants, write_wants, task_commit_wants, task_abort_wants, commit_wants, clean_wants}
+use Rattle.proof_base.proofs.Members.{none_some}
+use Rattle.task_requests.specs.Writing.{write_fits}
+use Rattle.task_machines.specs.Commits.{commit_fits as task_commit_fits}
+use Rattle.task_machines.specs.Aborts.{abort_fits as task_abort_fits}
+use Rattle.job_setup.specs.Fits.{FitsDriving as setup_fits}
+use Rattle.cleanup.specs.Fits.{FitsDriving as clean_fits}
+use Rattle.commit_laws.specs.Fitting.{FitsCommit}
+use Rattle.job_facts.specs.Told.{known}
+use Rattle.job_traces.specs.Runs.{Stand, is_set}
+use Rattle.job_actor.specs.Posting.{DueFits}
+use Rattle.job_steps.specs.Transitions.{Play, scene_of, knows_now}
+use Rattle.job_actor.specs.Works.{IsAt}
+use Rattle.job_refinement.specs.Due.{FitsDue}
+use Rattle.job_refinement.proofs.Attempts.{write_due, commit_due, abort_due}
+use Rattle.job_refinement.proofs.Drivers.{setup_due, clean_due, job_due}
+use Rattle.actor_operations.specs.declared.act.Act.{Act}
+use Rattle.actor_operations.specs.declared.act.Act.TheVariants.{Setup, Write, CommitTask, AbortTask, Commit, Clean}
+use Rattle.actor_operations.specs.Acts.{wants_of, FitsAct}
+use Rattle.actor_operations.specs.Plans.{counted, known_now, running_of, IsAttempt, IsOf}
+use Rattle.actor_operations.proofs.Going.{drawn_by}
+use Rattle.actor_operations.proofs.WorksStand.{run, stand, scene_is, driver_is, attempt_is, late_by, late_set, own_now, setup_now}
+use Rattle.actor_operations.proofs.WorksFew.{reads_few}
+use Rattle.actor_operations.proofs.WorksGo.{few_now, commit_at, asks}
+
+-- what is due to a machine's request fits it under its retries
+outcome_fits : {M : Type 0} (wants : M → Option Request) (fits : M → Reply → Bool → Type 0) (t : Retrying M) (s : Scene) → FitsDue wants fits t.machine s → (r : Request) (o : Outcome) → wants t.machine ≡ Some r → IsHonestOutcome o (answer s r) → FitsOutcome fits t o
+outcome_fits wants fits t s h r (Answered x) e honest = subst (λ y. fits t.machine y t.repeated) (sym honest) (h r e t.repeated)
+outcome_fits wants fits t s h r _ e honest = tt
+
+-- the same at another plan
+driving_by : {O : Type 0} (wants : Driving O → Option Request) (fits : Driving O → Reply → Bool → Type 0) (m : Driving O) (j : Job) (s : Scene) → m.plan ≡ j → FitsDue wants fits (record { plan = j; operation = m.operation }) s → FitsDue wants fits m s
+driving_by wants fits m j s e h = subst (λ p. FitsDue wants fits (record { plan = p; operation = m.operation }) s) (sym e) h
+
+attempting_by : {O : Type 0} (wants : Attempting O → Option Request) (fits : Attempting O → Reply → Bool → Type 0) (m : Attempting O) (t : Task) (s : Scene) → m.plan ≡ t → FitsDue wants fits (record { plan = t; operation = m.operation }) s → FitsDue wants fits m s
+attempting_by wants fits m t s e h = subst (λ p. FitsDue wants fits (record { plan = p; operation = m.operation }) s) (sym e) h
+
+-- the uploads that a plan knows are those that its attempt knows now
+drawn_is : {O : Type 0} (wants : Attempting O → Option Request) (t : Retrying (Attempting O)) (k : Known) → known_now wants t ≡ k → t.machine.plan.known.drawn ≡ k.drawn
+drawn_is wants t k e = sym (drawn_by (task_script t.machine.plan) (who_of t.machine.plan) t.machine.plan.known (wants t.machine) (nat_lt t.spare t.retries)) ∙ ap (λ (v : Known). v.drawn) e
+
+module _ (g : Setting) (opening : Content) (x : Play) where
+  abbrev At : Actor → Act → Type 0
+  At a work = IsAt IsOf running_of g opening x a work
+
+  abbrev Due : Act → Type 0
+  Due work = DueFits wants_of FitsAct work (scene_of opening x)
+
+  -- who does an attempt's operation is an attempt
+  pub by_attempt : (a : Actor) (work : Act) → (h : IsAttempt a) → At a work → (b : Who) × (a ≡ actor_of b) × At (actor_of b) work
+  by_attempt a work h at = (record { task = h.0; attempt = h.1 }, h.2, subst (λ c. At c work) h.2 at)
+
+  -- ---- the driver's
+
+  module _ (a : Actor) (t : Retrying (Driving setups.Setup)) (at : At a (Setup t)) where
+    abbrev setting_up : Stand
+    setting_up = stand g opening x at.legal at.opens at.happened
+
+    setup_over : (c : setups.Setup) (j : Job) (r : Request) → c ≡ setups.SetupOver ends.Done → setup_wants (record { plan = j; operation = c }) ≡ Some r → ⊥
+    setup_over c j r is e = none_some (ap (λ v. setup_wants (record { plan = j; operation = v })) is) e
+
+    setup_fits_due : FitsDue setup_wants setup_fits t.machine setting_up.seen.scene
+    setup_fits_due r e repeated = elim (setup_now g opening x at.legal at.opens at.happened (counted t.spare t.repeated t.machine.operation) (driver_is g opening x at.legal at.opens at.happened a (running_of (knows_now g x a) (Setup t)) at.goes_by.actor at.at)) [
+      | inl over ↦ absurd (setup_over t.machine.operation t.machine.plan r over e)
+      | inr up ↦ driving_by setup_wants setup_fits t.machine (job_of g.script) setting_up.seen.scene at.goes_by.plan (setup_due g.script setting_up.seen.scene t.machine.operation up.0) r e repeated
+    ]
+
+    due_setup : Due (Setup t)
+    due_setup r o e honest = outcome_fits setup_wants setup_fits t (scene_of opening x) (subst (FitsDue setup_wants setup_fits t.machine) (scene_is g opening x at.legal at.opens at.happened) setup_fits_due) r o e honest
+
+  module _ (a : Actor) (t : Retrying (Driving cleans.Clean)) (at : At a (Clean t)) where
+    abbrev cleaning : Stand
+    cleaning = stand g opening x at.legal at.opens at.happened
+
+    due_clean : Due (Clean t)
+    due_clean r o e honest =
+        let d = driver_is g opening x at.legal at.opens at.happened a (running_of (knows_now g x a) (Clean t)) at.goes_by.actor at.at in
+        let l = late_set g opening x at.legal at.opens at.happened (ap is_set d) in
+        let h = driving_by clean_wants clean_fits t.machine (job_of g.script) cleaning.seen.scene at.goes_by.plan (clean_due g.script cleaning.seen.scene l.hold.there t.machine.operation) in
+        outcome_fits clean_wants clean_fits t (scene_of opening x) (subst (FitsDue clean_wants clean_fits t.machine) (scene_is g opening x at.legal at.opens at.happened) h) r o e honest
+
+  module _ (a : Actor) (c : Committing) (at : At a (Commit c)) where
+    abbrev committed : Stand
+    committed = stand g opening x at.legal at.opens at.happened
+
+    some_lane : {n : ℕ} → 1 ≤ n → 0 < n
+    some_lane l = omega arith
+
+    due_commit : Due (Commit c)
+    due_commit r o e honest =
+        let s = committed.seen in
+        let v = commit_at g opening x a c at in
+        let few = few_now g opening x a (Commit c) at in
+        let due : IsHonestOutcome o (answer s.scene r) = subst (λ z. IsHonestOutcome o (answer z r)) (sym (scene_is g opening x at.legal at.opens at.happened)) honest in
+        let asked : commit_asks g.script c.operation ≡ Some r = sym (asks g opening x a (Commit c) at) ∙ e in
+        let is : c.plan ≡ job_of g.script = at.goes_by.1 in
+        let wanted : commit_wants (record { plan = job_of g.script; picked = c.picked; operation = c.operation }) ≡ Some r = ap (λ p. commit_wants (record { plan = p; picked = c.picked; operation = c.operation })) (sym is) ∙ e in
+        record {
+          lanes = subst (λ (p : Job). 0 < p.lanes) (sym is) (some_lane at.legal.one_lane);
+          fits = subst (λ p. FitsCommit (record { plan = p; picked = c.picked; operation = c.operation }) o) (sym is) (job_due g.script g.minimum s committed.told at.legal few c.operation v.commits v.stands c.picked r wanted o due);
+          few = reads_few g.script g.minimum s.scene s.last committed.told at.legal v.commits.hold few c.operation v.commits.fits r asked o due;
+        }
+
+  -- ---- an attempt's
+
+  module _ (b : Who) (t : Retrying (Attempting writes.Write)) (at : At (actor_of b) (Write t)) where
+    abbrev writing : Stand
+    writing = stand g opening x at.legal at.opens at.happened
+
+    due_write : Due (Write t)
+    due_write r o e honest =
+        let m = running_of (knows_now g x (actor_of b)) (Write t) in
+        let here = attempt_is g opening x at.legal at.opens at.happened b m at.at in
+        let l = late_by g opening x at.legal at.opens at.happened b m.operation here in
+        let k = t.machine.plan.known in
+        let drawn = drawn_is write_wants t (known writing.told b) ((run g opening x at.legal at.opens at.happened).last b m at.at) in
+        let h = write_due g.script g.minimum writing.seen.scene writing.seen.last writing.told at.legal l.hold b k drawn t.machine.operation (l.fine b m.operation here).1.1 in
+        let plan = attempting_by write_wants write_fits t.machine (task_of g.script g.minimum b k) writing.seen.scene at.goes_by.plan h in
+        outcome_fits write_wants write_fits t (scene_of opening x) (subst (FitsDue write_wants write_fits t.machine) (scene_is g opening x at.legal at.opens at.happened) plan) r o e honest
+
+  module _ (b : Who) (t : Retrying (Attempting commits.TaskCommit)) (at : At (actor_of b) (CommitTask t)) where
+    abbrev publishing : Stand
+    publishing = stand g opening x at.legal at.opens at.happened
+
+    due_task_commit : Due (CommitTask t)
+    due_task_commit r o e honest =
+        let m = running_of (knows_now g x (actor_of b)) (CommitTask t) in
+        let here = attempt_is g opening x at.legal at.opens at.happened b m at.at in
+        let l = late_by g opening x at.legal at.opens at.happened b m.operation here in
+        let k = t.machine.plan.known in
+        let own = own_now g opening x at.legal at.opens at.happened b m.operation here in
+        let drawn = drawn_is task_commit_wants t (known publishing.told b) ((run g opening x at.legal at.opens at.happened).last b m at.at) in
+        let h = commit_due g.script g.minimum publishing.seen.scene publishing.seen.last publishing.told at.legal l.hold b k drawn (few_now g opening x (actor_of b) (CommitTask t) at) t.machine.operation (l.fine b m.operation here).1.1 own in
+        let plan = attempting_by task_commit_wants task_commit_fits t.machine (task_of g.script g.minimum b k) publishing.seen.scene at.goes_by.plan h in
+        outcome_fits task_commit_wants task_commit_fits t (scene_of opening x) (subst (FitsDue task_commit_wants task_commit_fits t.machine) (scene_is g opening x at.legal at.opens at.happened) plan) r o e honest
+
+  module _ (b : Who) (t : Retrying (Attempting aborts.TaskAbort)) (at : At (actor_of b) (AbortTask t)) where
+    abbrev aborting : Stand
+    aborting = stand g opening x at.legal at.opens at.happened
+
+    due_task_abort : Due (AbortTask t)
+    due_task_abort r o e honest =
+        let m = running_of (knows_now g x (actor_of b)) (AbortTask t) in
+        let l = late_by g opening x at.legal at.opens at.happened b m.operation (attempt_is g opening x at.legal at.opens at.happened b m at.at) in
+        let k = t.machine.plan.known in
+        let h = abort_due g.script g.minimum aborting.seen.scene l.hold.there b k t.machine.operation in
+        let plan = attempting_by task_abort_wants task_abort_fits t.machine (task_of g.script g.minimum b k) aborting.seen.scene at.goes_by.plan h in
+        outcome_fits task_abort_wants task_abort_fits t (scene_of opening x) (subst (FitsDue task_abort_wants task_abort_fits t.machine) (scene_is g opening x at.legal at.opens at.happened) plan) r o e honest
+
+pub due : (g : Setting) (opening : Content) (x : Play) (a : Actor) (work : Act) → IsAt IsOf running_of g opening x a work → DueFits wants_of FitsAct work (scene_of opening x)
+due g opening x a (Setup t) at = due_setup g opening x a t at
+due g opening x a (Write t) at = let b = by_attempt g opening x a (Write t) at.goes_by.actor at in due_write g opening x b.0 t b.2
+due g opening x a (CommitTask t) at = let b = by_attempt g opening x a (CommitTask t) at.goes_by.actor at in due_task_commit g opening x b.0 t b.2
+due g opening x a (AbortTask t) at = let b = by_attempt g opening x a (AbortTask t) at.goes_by.actor at in due_task_abort g opening x b.0 t b.2
+due g opening x a (Commit c) at = due_commit g opening x a c at
+due g opening x a (Clean t) at = due_clean g opening x a t at

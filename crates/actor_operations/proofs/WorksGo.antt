@@ -1,0 +1,57 @@
+-- The operations of a job's actors ask and go on as the script's.
+use Rattle.std.proofs.Common.{◌≡◌, ◌≤◌, ◌^◌, Some, sym, subst, ◌∙◌}
+use Rattle.s3_types.specs.Store.{Content, Scene}
+use Rattle.s3_types.specs.Answer.{answer}
+use Rattle.s3_types.specs.Moment.{IsHonestOutcome}
+use Rattle.s3_types.specs.declared.request.Actor.{Actor}
+use Rattle.s3_types.specs.declared.request.Request.{Request}
+use Rattle.s3_types.specs.declared.journal.Outcome.{Outcome}
+use Rattle.job_model.specs.Known.{Known}
+use Rattle.job_protocol.specs.JobCommits.{commit_asks}
+use Rattle.job_protocol.specs.Operations as operations
+use Rattle.job_protocol.specs.Operations.{Setting, advance, over}
+use Rattle.job_protocol.specs.AtWork.{Committing}
+use Rattle.job_steps.specs.Transitions.{Play, scene_of, knows_now}
+use Rattle.job_actor.specs.Works.{IsAt}
+use Rattle.job_refinement.proofs.Telling.{asks_same, tells_same}
+use Rattle.actor_operations.specs.declared.act.Act.{Act}
+use Rattle.actor_operations.specs.declared.act.Act.TheVariants.{Setup, Commit}
+use Rattle.actor_operations.specs.Acts.{wants_of, tells_of, end_of}
+use Rattle.actor_operations.specs.Plans.{running_of, IsOf, AsksSo, GoesSo}
+use Rattle.actor_operations.proofs.ActorsGo.{actors_go}
+use Rattle.actor_operations.proofs.WorksStand.{stand, scene_is, driver_is, CommitNow, commit_now}
+
+-- the store has drawn fewer ids than there are
+pub few_now : (g : Setting) (opening : Content) (x : Play) (a : Actor) (work : Act) → (at : IsAt IsOf running_of g opening x a work) → (stand g opening x at.legal at.opens at.happened).seen.scene.content.next ≤ 2 ^ 64
+few_now g opening x a work at = subst (λ (s : Scene). s.content.next ≤ 2 ^ 64) (sym (scene_is g opening x at.legal at.opens at.happened)) at.few
+
+-- the job's commit, with all that is asked of it
+pub commit_at : (g : Setting) (opening : Content) (x : Play) (a : Actor) (c : Committing) → (at : IsAt IsOf running_of g opening x a (Commit c)) → let s = stand g opening x at.legal at.opens at.happened in CommitNow g s.seen s.told c.operation
+commit_at g opening x a c at = commit_now g opening x at.legal at.opens at.happened c.operation (driver_is g opening x at.legal at.opens at.happened a (running_of (knows_now g x a) (Commit c)) at.goes_by.0 at.at)
+
+asks_so : (g : Setting) (opening : Content) (x : Play) (a : Actor) (work : Act) → IsAt IsOf running_of g opening x a work → AsksSo g.script work
+asks_so g opening x a (Commit c) at = let s = stand g opening x at.legal at.opens at.happened in asks_same g.script g.minimum s.told at.legal c.operation (commit_at g opening x a c at).commits.fits
+asks_so g opening x a _ at = tt
+
+pub asks : (g : Setting) (opening : Content) (x : Play) (a : Actor) (work : Act) → IsAt IsOf running_of g opening x a work → wants_of work ≡ operations.wants g a (running_of (knows_now g x a) work)
+asks g opening x a work at = actors_go.wants g a (knows_now g x a) work at.goes_by (asks_so g opening x a work at)
+
+goes_so : (g : Setting) (opening : Content) (x : Play) (a : Actor) (work : Act) → IsAt IsOf running_of g opening x a work → (r : Request) → wants_of work ≡ Some r → (o : Outcome) → IsHonestOutcome o (answer (scene_of opening x) r) → GoesSo g.script work o
+goes_so g opening x a (Commit c) at r e o honest =
+    let s = stand g opening x at.legal at.opens at.happened in
+    let v = (commit_at g opening x a c at).commits in
+    let asked : commit_asks g.script c.operation ≡ Some r = sym (asks g opening x a (Commit c) at) ∙ e in
+    let due : IsHonestOutcome o (answer s.seen.scene r) = subst (λ z. IsHonestOutcome o (answer z r)) (sym (scene_is g opening x at.legal at.opens at.happened)) honest in
+    tells_same g.script g.minimum s.seen.scene s.seen.last s.told at.legal v.hold (few_now g opening x a (Commit c) at) c.operation v.fits r asked o due
+goes_so g opening x a (Setup t) at r e o honest = tt
+goes_so g opening x a _ at r e o honest = tt
+
+pub goes : (g : Setting) (opening : Content) (x : Play) (a : Actor) (work : Act) → IsAt IsOf running_of g opening x a work → (r : Request) → wants_of work ≡ Some r → (o : Outcome) → IsHonestOutcome o (answer (scene_of opening x) r)
+    → IsOf g a (tells_of work o) × (running_of (advance g a (running_of (knows_now g x a) work) o).known (tells_of work o) ≡ advance g a (running_of (knows_now g x a) work) o)
+goes g opening x a work at r e o honest = (
+  actors_go.stays g a work o at.goes_by,
+  actors_go.goes g a (knows_now g x a) work o at.goes_by (asks_so g opening x a work at) (goes_so g opening x a work at r e o honest),
+)
+
+pub ends : (k : Known) (work : Act) → end_of work ≡ over (running_of k work).operation
+ends k work = actors_go.ends k work

@@ -1,0 +1,46 @@
+-- What attempts are at in a run: a task's commit reads records of its own files alone.
+use Rattle.std.proofs.Common.{◌≡◌, ℕ, List, Option, Some, refl}
+use Rattle.s3_types.specs.Store.{Content}
+use Rattle.s3_types.specs.declared.journal.Outcome.{Outcome}
+use Rattle.s3_types.specs.declared.journal.Entry.{Entry}
+use Rattle.retries.specs.Retries.{fresh}
+use Rattle.job_model.specs.Attempts.{Who}
+use Rattle.job_model.specs.Legal.{IsLegal}
+use Rattle.job_model.specs.JobScript.{Script}
+use Rattle.job_protocol.specs.Writes.{write_start}
+use Rattle.job_protocol.specs.TaskCommits.{task_commit_start}
+use Rattle.job_protocol.specs.TaskAborts.{task_abort_start}
+use Rattle.job_protocol.specs.Operations.{Setting, Operation, TheWrite, TheTaskCommit, TheTaskAbort, tells}
+use Rattle.proof_base.proofs.Members.{none_some}
+use Rattle.job_facts.specs.Told.{known}
+use Rattle.job_facts.proofs.Whose.{put_at}
+use Rattle.job_traces.specs.Runs.{Stand, Runs, run_begins, driver_sends, attempt_sends, IsOpening, Beginning, BeginWrite, BeginPublish, BeginAbort, begin, actor_begins, strays}
+use Rattle.job_refinement.specs.Due.{ReadsOwn}
+use Rattle.job_refinement.proofs.Kept.{reads_begin, reads_go}
+
+abbrev pub OwnTask : Script → Who → Operation → Type 0
+OwnTask w a (TheTaskCommit t) = ReadsOwn w a t.operation
+OwnTask w a _ = Unit {0}
+
+own_tells : (g : Setting) (a : Who) (op : Operation) (o : Outcome) → OwnTask g.script a op → OwnTask g.script a (tells g a op o)
+own_tells g a (TheTaskCommit t) o h = reads_go g.script g.minimum g.script.retries a t o h
+own_tells g a _ o h = tt
+
+-- ---- every run
+
+module _ (g : Setting) (k : Option ℕ) (opening : Content) (j : IsLegal g.script) (is_opening : IsOpening g opening) where
+  abbrev w : Script
+  w = g.script
+
+  own_begin : (y : Stand) (b : Beginning) → ((a : Who) (op : Operation) → y.attempts a ≡ Some op → OwnTask w a op) → (a : Who) (op : Operation) → (begin g y b).attempts a ≡ Some op → OwnTask w a op
+  own_begin y (BeginWrite b) old a op e = put_at (OwnTask w) y.attempts b (TheWrite (fresh w.retries (write_start w b))) tt old a op e
+  own_begin y (BeginPublish b) old a op e = put_at (OwnTask w) y.attempts b (TheTaskCommit (fresh w.retries (task_commit_start w b))) (reads_begin w b) old a op e
+  own_begin y (BeginAbort b) old a op e = put_at (OwnTask w) y.attempts b (TheTaskAbort (fresh w.retries (task_abort_start w (known y.told b)))) tt old a op e
+  own_begin y _ old a op e = old a op e
+
+  pub own_task : (es : List Entry) (x : Stand) → Runs g k opening es x → (a : Who) (op : Operation) → x.attempts a ≡ Some op → OwnTask w a op
+  own_task es x (run_begins c) a op e = absurd (none_some refl e)
+  own_task es x (actor_begins fs y b run may) a op e = own_begin y b (own_task fs y run) a op e
+  own_task es x (driver_sends fs y v n r o run d asked timely few honest) a op e = own_task fs y run a op e
+  own_task es x (attempt_sends fs y b v n r o run set at asked honest) a op e = put_at (OwnTask w) y.attempts b (tells g b v o) (own_tells g b v o (own_task fs y run b v at)) (own_task fs y run) a op e
+  own_task es x (strays fs y n r o run f) a op e = own_task fs y run a op e

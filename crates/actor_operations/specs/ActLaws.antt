@@ -1,0 +1,120 @@
+-- What holds of every operation of a job's actors.
+use Rattle.std.specs.Prelude.{◌≡◌, ◌+◌, ◌<◌, ◌≤◌, Bool, not, Option, Some, None, is_some}
+use Rattle.std.proofs.Common.{refl, arith, sym, ◌∙◌}
+use Rattle.std.specs.Option.{option_map}
+use Rattle.s3_types.specs.Store.{Scene}
+use Rattle.s3_types.specs.Answer.{answer, apply}
+use Rattle.s3_types.specs.Moment.{effect, IsHonestOutcome}
+use Rattle.s3_types.specs.declared.request.Request.{Request}
+use Rattle.s3_types.specs.declared.reply.Reply.{Reply}
+use Rattle.s3_types.specs.declared.journal.Outcome.{Outcome}
+use Rattle.s3_types.specs.declared.journal.Outcome.TheVariants.{Answered, Slow, RequestLost, ReplyLost}
+use Rattle.job_protocol.specs.Setup as setups
+use Rattle.job_protocol.specs.Writes as writes
+use Rattle.job_protocol.specs.TaskCommits as commits
+use Rattle.job_protocol.specs.TaskAborts as aborts
+use Rattle.job_protocol.specs.JobCommits as jobs
+use Rattle.job_protocol.specs.Cleanups as cleans
+use Rattle.job_protocol.specs.AtWork.{Attempting, Driving, Committing, setup_wants, write_wants, task_commit_wants, task_abort_wants, commit_wants, clean_wants}
+use Rattle.job_setup.proofs.Falling.{set_ups_end}
+use Rattle.task_machines.proofs.WriteFalls.{write_falls}
+use Rattle.task_machines.proofs.CommitFalls.{commit_falls as task_commit_falls}
+use Rattle.task_machines.proofs.AbortFalls.{abort_falls as task_abort_falls}
+use Rattle.commit_laws.proofs.Falling.{commit_falls}
+use Rattle.cleanup.proofs.Falling.{cleans_end}
+use Rattle.job_actor.specs.Acts.{ActLaws}
+use Rattle.actor_operations.specs.declared.act.Act.{Act}
+use Rattle.actor_operations.specs.declared.act.Act.TheVariants.{Setup, Write, CommitTask, AbortTask, Commit, Clean}
+use Rattle.actor_operations.specs.Acts.{most_commits, wants_of, tells_of, FitsAct, end_of, left_of, rise_of}
+use Rattle.actor_operations.specs.Falls.{sending_falls, sending_rises}
+
+-- ---- it asks exactly until it has ended
+
+setup_goes_on : (m : Driving setups.Setup) (o : setups.Setup) → is_some (setup_wants (record { plan = m.plan; operation = o })) ≡ not (is_some (setups.setup_over o))
+setup_goes_on m setups.Heading = refl
+setup_goes_on m (setups.Checking keys) = refl
+setup_goes_on m setups.Clearing = refl
+setup_goes_on m (setups.Sweeping s) = refl
+setup_goes_on m (setups.SetupOver end) = refl
+
+write_goes_on : (m : Attempting writes.Write) (o : writes.Write) → is_some (write_wants (record { plan = m.plan; operation = o })) ≡ not (is_some (writes.write_over o))
+write_goes_on m (writes.Uploads f fs u) = refl
+write_goes_on m (writes.Marking f fs) = refl
+write_goes_on m (writes.Recording f fs) = refl
+write_goes_on m (writes.WriteOver end) = refl
+
+commit_goes_on : (m : Attempting commits.TaskCommit) (o : commits.TaskCommit) → is_some (task_commit_wants (record { plan = m.plan; operation = o })) ≡ not (is_some (commits.task_commit_over o))
+commit_goes_on m (commits.Looking keys) = refl
+commit_goes_on m (commits.Reading cs f fs) = refl
+commit_goes_on m (commits.Publishing cs) = refl
+commit_goes_on m (commits.Checking d ds) = refl
+commit_goes_on m (commits.Uploads f fs u) = refl
+commit_goes_on m commits.Storing = refl
+commit_goes_on m commits.Renaming = refl
+commit_goes_on m (commits.TaskCommitOver end) = refl
+
+abort_goes_on : (m : Attempting aborts.TaskAbort) (o : aborts.TaskAbort) → is_some (task_abort_wants (record { plan = m.plan; operation = o })) ≡ not (is_some (aborts.task_abort_over o))
+abort_goes_on m (aborts.Dropping d ds sent) = refl
+abort_goes_on m (aborts.Sweeping s) = refl
+abort_goes_on m aborts.Removing = refl
+abort_goes_on m (aborts.TaskAbortOver end) = refl
+
+job_goes_on : (m : Committing) (c : jobs.Commit) → is_some (commit_wants (record { plan = m.plan; picked = m.picked; operation = c })) ≡ not (is_some (jobs.commit_over c))
+job_goes_on m (jobs.Fetching sets n) = refl
+job_goes_on m (jobs.Replacing sets p ps s n) = refl
+job_goes_on m (jobs.Completing sets x xs finished) = refl
+job_goes_on m (jobs.Marking sets n) = refl
+job_goes_on m (jobs.Reverting r rs n) = refl
+job_goes_on m (jobs.CommitOver end) = refl
+
+clean_goes_on : (m : Driving cleans.Clean) (o : cleans.Clean) → is_some (clean_wants (record { plan = m.plan; operation = o })) ≡ not (is_some (cleans.clean_over o))
+clean_goes_on m (cleans.Walking found) = refl
+clean_goes_on m (cleans.Aborting u us) = refl
+clean_goes_on m (cleans.Sweeping s) = refl
+clean_goes_on m cleans.Naming = refl
+clean_goes_on m (cleans.Removing p ps) = refl
+clean_goes_on m (cleans.CleanOver end) = refl
+
+mapped : {X Y : Type 0} (f : X → Y) (o : Option X) → is_some (option_map f o) ≡ is_some o
+mapped f (Some x) = refl
+mapped f None = refl
+
+asks_on : {X Y : Type 0} (f : X → Y) (o : Option X) (b : Bool) → b ≡ not (is_some o) → b ≡ not (is_some (option_map f o))
+asks_on f (Some x) b h = h
+asks_on f None b h = h
+
+goes_on : (a : Act) → is_some (wants_of a) ≡ not (is_some (end_of a))
+goes_on (Setup t) = asks_on _ _ _ (setup_goes_on t.machine t.machine.operation)
+goes_on (Write t) = asks_on _ _ _ (write_goes_on t.machine t.machine.operation)
+goes_on (CommitTask t) = asks_on _ _ _ (commit_goes_on t.machine t.machine.operation)
+goes_on (AbortTask t) = asks_on _ _ _ (abort_goes_on t.machine t.machine.operation)
+goes_on (Commit c) = asks_on _ _ _ (job_goes_on c c.operation)
+goes_on (Clean t) = asks_on _ _ _ (clean_goes_on t.machine t.machine.operation)
+
+-- ---- what is left
+
+-- an honest answer is the one that is due
+due_is : (o : Outcome) (due : Reply) → IsHonestOutcome o due → (a : Reply) → o ≡ Answered a → a ≡ due
+due_is (Answered b) due h a e = let k : b ≡ a = cc in sym k ∙ h
+due_is Slow due h a e = absurd (cc)
+due_is RequestLost due h a e = absurd (cc)
+due_is ReplyLost due h a e = absurd (cc)
+
+falls : (a : Act) (s : Scene) (r : Request) (o : Outcome) → wants_of a ≡ Some r → FitsAct a o → IsHonestOutcome o (answer s r) → left_of (tells_of a o) (effect s r o) < left_of a s
+falls (Setup t) s r o w f e = sending_falls set_ups_end t s r o w f e
+falls (Write t) s r o w f e = sending_falls write_falls t s r o w f e
+falls (CommitTask t) s r o w f e = sending_falls task_commit_falls t s r o w f e
+falls (AbortTask t) s r o w f e = sending_falls task_abort_falls t s r o w f e
+falls (Commit c) s r o w f e = commit_falls.falls most_commits c s r o w f (due_is o (answer s r) e)
+falls (Clean t) s r o w f e = sending_falls cleans_end t s r o w f e
+
+others : (a : Act) (s : Scene) (r : Request) → left_of a (apply s r) ≤ left_of a s + rise_of a r
+others (Setup t) s r = sending_rises set_ups_end t s r
+others (Write t) s r = let k = sending_rises write_falls t s r in omega (arith, k)
+others (CommitTask t) s r = sending_rises task_commit_falls t s r
+others (AbortTask t) s r = sending_rises task_abort_falls t s r
+others (Commit c) s r = commit_falls.others most_commits c s r
+others (Clean t) s r = sending_rises cleans_end t s r
+
+pub act_laws : ActLaws wants_of tells_of FitsAct end_of left_of rise_of
+act_laws = record { goes_on = goes_on; falls = falls; others = others }

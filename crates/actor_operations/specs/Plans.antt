@@ -1,0 +1,91 @@
+-- What the operations of a job's actors go by, and which the script gives.
+use Rattle.std.specs.Prelude.{◌≡◌, ℕ, ◌≤◌, nat_lt, Bool, cond, List, Option, Some, None}
+use Rattle.s3_types.specs.declared.request.Actor.{Actor}
+use Rattle.s3_types.specs.declared.request.Actor.TheVariants.{Driver, Attempt}
+use Rattle.s3_types.specs.declared.request.Request.{Request}
+use Rattle.s3_types.specs.declared.journal.Outcome.{Outcome}
+use Rattle.s3_types.specs.declared.journal.Outcome.TheVariants.{RequestLost}
+use Rattle.retries.specs.Retries.{Retried}
+use Rattle.machine.specs.declared.retrying.Retrying.{Retrying}
+use Rattle.job_model.specs.Known.{Known}
+use Rattle.job_model.specs.JobScript.{Script}
+use Rattle.job_model.specs.declared.ends.Pick.{Pick}
+use Rattle.job_protocol.specs.JobCommits.{commit_asks, commit_tells}
+use Rattle.job_protocol.specs.Operations.{Setting, TheSetup, TheWrite, TheTaskCommit, TheTaskAbort, TheCommit, TheClean, Running, who, learn_of}
+use Rattle.job_protocol.specs.AtWork.{Attempting, Driving, task_script, who_of, read_script, sets_in, sets_after, job_of, task_of, write_wants, task_commit_wants, task_abort_wants}
+use Rattle.job_commit.specs.Holds.{picks_from}
+use Rattle.actor_operations.specs.declared.act.Act.{Act}
+use Rattle.actor_operations.specs.declared.act.Act.TheVariants.{Setup, Write, CommitTask, AbortTask, Commit, Clean}
+use Rattle.job_actor.specs.declared.plan.Plan.{Plan}
+use Rattle.job_actor.specs.declared.plan.Plan.TheVariants as plans
+
+-- the plan, with what an attempt knows as the operation leaves it
+abbrev pub plan_of : Act → Plan
+plan_of (Setup t) = plans.Job t.machine.plan
+plan_of (Write t) = plans.Task t.machine.plan
+plan_of (CommitTask t) = plans.Task t.machine.plan
+plan_of (AbortTask t) = plans.Task t.machine.plan
+plan_of (Commit c) = plans.Job c.plan
+plan_of (Clean t) = plans.Job t.machine.plan
+
+-- the attempts whose sets a job's commit has read
+abbrev pub picks_of : Act → Option (List Pick)
+picks_of (Commit c) = Some (picks_from 0 c.picked)
+picks_of _ = None
+
+-- ---- the operation in the table of operations
+
+-- the counter of a machine's sendings
+abbrev pub counted : {O : Type 0} → ℕ → Bool → O → Retried O
+counted spare repeated o = record { operation = o; spare = spare; repeated = repeated }
+
+-- What an attempt knows. Its plan is told when its request is answered or wears out; what a sending that got no answer teaches, as that the publishing request was sent, holds from that sending on.
+abbrev pub known_now : {O : Type 0} → (Attempting O → Option Request) → Retrying (Attempting O) → Known
+known_now wants t = cond (nat_lt t.spare t.retries) (learn_of (task_script t.machine.plan) (who_of t.machine.plan) t.machine.plan.known (wants t.machine) RequestLost) t.machine.plan.known
+
+-- the operation with what its actor knows; of the driver, of whose knowledge nothing is asked, that is k
+abbrev pub running_of : Known → Act → Running
+running_of k (Setup t) = record { operation = TheSetup (counted t.spare t.repeated t.machine.operation); known = k }
+running_of k (Write t) = record { operation = TheWrite (counted t.spare t.repeated t.machine.operation); known = known_now write_wants t }
+running_of k (CommitTask t) = record { operation = TheTaskCommit (counted t.spare t.repeated t.machine.operation); known = known_now task_commit_wants t }
+running_of k (AbortTask t) = record { operation = TheTaskAbort (counted t.spare t.repeated t.machine.operation); known = known_now task_abort_wants t }
+running_of k (Commit c) = record { operation = TheCommit c.operation; known = k }
+running_of k (Clean t) = record { operation = TheClean (counted t.spare t.repeated t.machine.operation); known = k }
+
+-- ---- the plans that a script gives
+
+-- the actor is an attempt
+abbrev pub IsAttempt : Actor → Type 0
+IsAttempt a = (task : ℕ) × (attempt : ℕ) × (a ≡ Attempt task attempt)
+
+-- the driver's, by the plan of the job
+pub record OfDriver {O : Type 0} (w : Script) (a : Actor) (t : Retrying (Driving O)) : Type 0 where
+  pub actor : a ≡ Driver
+  pub plan : t.machine.plan ≡ job_of w
+  pub retries : t.retries ≡ w.retries
+
+-- an attempt's, by its own plan
+pub record OfAttempt {O : Type 0} (g : Setting) (a : Actor) (t : Retrying (Attempting O)) : Type 0 where
+  pub actor : IsAttempt a
+  pub plan : t.machine.plan ≡ task_of g.script g.minimum (who a) t.machine.plan.known
+  pub retries : t.retries ≡ g.script.retries
+  pub spare : t.spare ≤ t.retries
+
+-- the operation goes by the plan that the script gives this actor
+abbrev pub IsOf : Setting → Actor → Act → Type 0
+IsOf g a (Setup t) = OfDriver g.script a t
+IsOf g a (Write t) = OfAttempt g a t
+IsOf g a (CommitTask t) = OfAttempt g a t
+IsOf g a (AbortTask t) = OfAttempt g a t
+IsOf g a (Commit c) = (a ≡ Driver) × (c.plan ≡ job_of g.script)
+IsOf g a (Clean t) = OfDriver g.script a t
+
+-- by the sets that it read a job's commit asks what the script asks
+abbrev pub AsksSo : Script → Act → Type 0
+AsksSo w (Commit c) = commit_asks (read_script (job_of w) (sets_in c.operation)) c.operation ≡ commit_asks w c.operation
+AsksSo w _ = Unit {0}
+
+-- by the sets that it read a job's commit goes where the script goes
+abbrev pub GoesSo : Script → Act → Outcome → Type 0
+GoesSo w (Commit c) o = commit_tells (read_script (job_of w) (sets_after c.operation o)) c.operation o ≡ commit_tells w c.operation o
+GoesSo w _ o = Unit {0}

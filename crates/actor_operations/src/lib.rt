@@ -1,0 +1,20 @@
+//! The operations of a job's actors, whichever an actor is at: begun from its plan, told the outcome of
+//! each sending, and the plan back from it.
+//!
+//! # What is proved
+//!
+//! `Act`: The operations of a job's actors as one enum, of every committer, which keeps the laws of
+//! `job_actor` and of `job_actor`. What it begins from a plan is that operation as the script begins it,
+//! and it asks, goes on and ends as the script's operation does, in what its attempt knows too
+//! (`ActorsGo`). What an attempt has left is not raised by a request that puts nothing below its
+//! directory (`AttemptsStay`).
+#![tactic(auto)]
+
+mod act;
+mod begun;
+mod ends;
+mod laws;
+mod works;
+
+pub use act::Act;
+pub use laws::{actors_go, attempts_stay};

@@ -1,0 +1,81 @@
+-- What a command is to do, by what is held.
+use Rattle.std.specs.Prelude.{◌≡◌, ℕ, ◌≤◌, Bool, true, false, List, [], length, codes, Option, Some, None}
+use Rattle.s3_types.specs.Store.{Content, opening, new_content}
+use Rattle.s3_types.specs.Moment.{moment, IsHonest}
+use Rattle.s3_types.specs.declared.limits.TheConstants.{MOST_MINIMUM}
+use Rattle.s3_types.specs.declared.request.Actor.TheVariants.{Shell}
+use Rattle.s3_types.specs.declared.journal.Entry.{Entry}
+use Rattle.machine.specs.Counted.{AreAnswered}
+use Rattle.machine.specs.Turns.{AreBy}
+use Rattle.s3a_words.specs.declared.command.Command.{Command}
+use Rattle.s3a_words.specs.declared.command.Command.TheVariants.{Init}
+use Rattle.s3a_words.specs.Kinds.{kind_of, is_put, is_play}
+use Rattle.store_frame.specs.Held.{upload_at}
+use Rattle.s3a_shell.specs.declared.said.Said.{Said}
+use Rattle.s3a_shell.specs.Doings.{only_looks, Does, MayStandAt}
+use Rattle.s3a_shell.specs.Sendings.{has_changed}
+use Rattle.s3a_shell.specs.Stays.{OnlyIn, bucket_in, ended_by}
+use Rattle.s3a_shell.specs.Texts.{refused_line}
+use Rattle.durable_store.specs.Stores.{fault_text}
+use Rattle.durable_store.specs.Works.{Work, Says, Saves}
+use Rattle.durable_store.specs.declared.held.Held.{Held}
+use Rattle.durable_store.specs.declared.held.Held.TheVariants.{Nothing, Store, Faulty}
+
+-- the commands that read the input
+abbrev pub takes_input : Command → Bool
+takes_input command = is_put (kind_of command)
+
+-- the commands that play a job
+abbrev pub plays : Command → Bool
+plays command = is_play (kind_of command)
+
+-- the least size of a part in bytes, where none is given
+abbrev pub minimum_of : Option ℕ → ℕ
+minimum_of None = MOST_MINIMUM
+minimum_of (Some bytes) = bytes
+
+-- `init`: a store with no bucket, where nothing is held
+unfoldable pub init_work : Option ℕ → Held → Work
+init_work minimum Nothing = Saves (new_content (minimum_of minimum)) [] []
+init_work minimum (Store c) = Says 1 (refused_line (codes "exists") None) []
+init_work minimum (Faulty number place) = Says 7 (fault_text number place) []
+
+-- what was said is to be written; a store that was changed is kept
+abbrev pub work_said : Bool → Bool → Content → List ℕ → List Entry → Work
+work_said true changed c text sent = Says 1 text sent
+work_said false true c text sent = Saves c text sent
+work_said false false c text sent = Says 0 text sent
+
+-- a command was done on a store, with the bytes of its input
+pub record Done (command : Command) (bytes : List ℕ) (c : Content) (work : Work) : Type 0 where
+  pub what : Said
+  pub sent : List Entry
+  -- what it says and leaves is what the command does
+  pub did : Does command bytes (opening c) what (moment c sent (length sent))
+  -- it was sent by the shell, in event 0, and each sending has the answer that was due
+  pub by : AreBy Shell 0 sent
+  pub answered : AreAnswered sent
+  pub honest : IsHonest c sent
+  -- at each moment, wherever it stops, there stands what may stand then of the command
+  pub moments : (m : ℕ) → MayStandAt command bytes (opening c) (moment c sent m)
+  -- other buckets stand, and so do the uploads that it does not end
+  pub stays : OnlyIn (bucket_in command) (ended_by command c) c (moment c sent (length sent)).content
+  -- no upload that it began itself is live
+  pub ended : (id : ℕ) → c.next ≤ id → upload_at (moment c sent (length sent)).content (bucket_in command) id ≡ None
+  -- one that only looks sends no change
+  pub reads : only_looks command ≡ true → has_changed sent ≡ false
+  -- one that was refused, or that sent no change, left the store as it was
+  pub refused : what.refused ≡ true → (moment c sent (length sent)).content ≡ c
+  pub unchanged : has_changed sent ≡ false → (moment c sent (length sent)).content ≡ c
+  pub is : work ≡ work_said what.refused (has_changed sent) c what.text sent
+
+-- on what is held: a new store where nothing is
+abbrev pub DoneOn : Command → List ℕ → Held → Work → Type 0
+DoneOn command bytes Nothing work = Done command bytes (new_content MOST_MINIMUM) work
+DoneOn command bytes (Store c) work = Done command bytes c work
+DoneOn command bytes (Faulty number place) work = work ≡ Says 7 (fault_text number place) []
+
+-- what a command is to do
+abbrev pub IsWork : Command → List ℕ → Held → Work → Type 0
+IsWork (Init minimum) bytes held work = work ≡ init_work minimum held
+IsWork command bytes held work = DoneOn command bytes held work

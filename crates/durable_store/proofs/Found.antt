@@ -1,0 +1,116 @@
+-- What is found on a shelf, by what was loaded.
+use Rattle.std.proofs.Common.{◌≡◌, ◌⊎◌, inl, inr, ℕ, ◌<◌, ◌≤◌, ◌^◌, ◌||◌, nat_lt, nat_le, Bool, true, false, cond, List, Option, Some, None, Result, Ok, Err, IfOk, length, refl, sym, ap, subst, ◌∙◌, arith}
+use Rattle.std.proofs.lemmas.Bool.Decides.{nat_tests}
+use Rattle.std.proofs.lemmas.Bool.{and_parts, leb-true}
+use Rattle.std.specs.FinMap as fin
+use Rattle.std.specs.List.{AllByRecursion}
+use Rattle.proof_base.specs.Order.{text_cmp, text_total}
+use Rattle.s3_types.specs.Names.{is_bucket, is_key}
+use Rattle.s3_types.specs.Store.{Content}
+use Rattle.s3_types.specs.declared.request.Request.{Request}
+use Rattle.log_format.specs.declared.held.Held as logs
+use Rattle.shelf.specs.Logged.{Stored, most_base, most_file, IsSmall, IsLoaded, IsTooLarge, IsBad}
+use Rattle.shelf.specs.Logged.Holding.{Stands}
+use Rattle.store_image.specs.Image.{image}
+use Rattle.store_image.specs.Content.{IsObject, IsBucket, IsContent}
+use Rattle.store_image.proofs.Whole as images
+use Rattle.store_image.specs.Reading.{content_in}
+use Rattle.journal_log.specs.Changes.{content_after}
+use Rattle.journal_log.specs.Made.{IsMade}
+use Rattle.journal_log.proofs.Imaged.{all, at}
+use Rattle.durable_store.specs.declared.held.Held.{Held}
+use Rattle.durable_store.specs.declared.held.Held.TheVariants.{Nothing, Store, Faulty}
+use Rattle.durable_store.specs.Stores.{counted, unfolded, read_as, found}
+use Rattle.journal_log.specs.Kept.{kept}
+use Rattle.durable_store.specs.Outcomes.{IsSound, AreAtKeys, IsOf}
+
+-- ---- the store that is unfolded
+
+pub few : (d : Content) → d.next ≤ 2 ^ 62 → Store d ≡ counted d
+few d h =
+    let test : nat_lt (2 ^ 62) d.next ≡ false = grind (arith, nat_tests) in
+    rw test refl
+
+pub many : (d : Content) → 2 ^ 62 < d.next → Faulty 5 0 ≡ counted d
+many d h =
+    let test : nat_lt (2 ^ 62) d.next ≡ true = grind (arith, nat_tests) in
+    rw test refl
+
+-- it is what the base and the changes stand for
+pub stood : (held : logs.Held) (c : Content) → held.base ≡ image c → IsOf (counted (content_after c held.changes)) (Stands held)
+stood held c is = by (nat_lt (2 ^ 62) (content_after c held.changes).next)
+  where
+    by : (t : Bool) → IsOf (cond t (Faulty 5 0) (Store (content_after c held.changes))) (Stands held)
+    by true = tt
+    by false = record { first = c; is_image = is; folded = refl }
+
+-- so what was followed stands for what is held
+pub stand_if : {E : Type 0} (r : Result Held E) (held : logs.Held) (c : Content) (rs : List Request) → rs ≡ held.changes → held.base ≡ image c → IfOk r (λ h. h ≡ counted (content_after c rs)) → IfOk r (λ h. IsOf h (Stands held))
+stand_if (Ok h) held c rs same is e = subst (λ (x : Held). IsOf x (Stands held)) (sym (e ∙ ap (λ (l : List Request). counted (content_after c l)) same)) (stood held c is)
+stand_if (Err fault) held c rs same is e = tt
+
+-- a store that can have an image has ids left
+pub few_ids : (c : Content) → IsContent c → c.next ≤ 2 ^ 62
+few_ids c is = leb-true c.next (2 ^ 62) (and_parts (nat_le 1 c.next) (nat_le c.next (2 ^ 62)) is.counter).1
+
+-- and it can have an image
+pub imaged : (c d : Content) (rs : List Request) → d ≡ content_after c rs → AllByRecursion IsMade rs → (content_after c rs).next ≤ 2 ^ 62 → IsContent c → IsSound (Store d)
+imaged c d rs same m few is = subst IsContent (sym same) (all c rs is m few)
+
+pub sound_if : {E : Type 0} (r : Result Held E) (c : Content) → IsContent c → IfOk r (λ h. IsContent c → IsSound h) → IfOk r IsSound
+sound_if (Ok h) c is f = f is
+sound_if (Err fault) c is f = tt
+
+-- ---- the whole
+
+small : (s : Stored) → IsSmall s → found s ≡ read_as s.holding
+unfolding found
+small s h =
+    let test : (nat_lt most_base s.base_length || nat_lt most_file s.file_length) ≡ false = grind (arith, nat_tests) in
+    rw test refl
+
+pub again : (s : Stored) (c : Content) (rs : List Request) → s.holding ≡ kept c rs → IsSmall s → length (image c) < 2 ^ 64 → IsContent c → (content_after c rs).next ≤ 2 ^ 62 → found s ≡ Store (content_after c rs)
+again s c rs h sm fits is less = small s sm ∙ ap read_as h ∙ ap (λ r. unfolded r rs) (images.read_again (image c) c fits is refl) ∙ sym (few (content_after c rs) less)
+
+pub at_keys : (c : Content) → IsContent c → AreAtKeys c
+at_keys c is n k b o g h =
+    let exact : fin.IsAntisymmetric text_cmp = fin.slice_cmp-IsAntisymmetric fin.nat_cmp-IsAntisymmetric in
+    let bucket = at text_total exact is_bucket (IsBucket c.next) c.buckets n b is.buckets g in
+    (at text_total exact is_key IsObject b.objects k o bucket.value.objects h).key
+
+-- nothing was loaded
+pub found_nothing : (o : Option Stored) (s : Stored) → IsLoaded o None → o ≡ Some s → Nothing ≡ found s
+found_nothing None s loaded e = cc
+found_nothing (Some t) s loaded e =
+    let is : t ≡ s = cc in
+    subst (λ (x : Stored). Nothing ≡ found x) is (sym (small t loaded.1 ∙ ap read_as loaded.0))
+
+-- this was loaded
+pub found_held : (o : Option Stored) (held : logs.Held) (s : Stored) → IsLoaded o (Some held) → o ≡ Some s → unfolded (content_in held.base) held.changes ≡ found s
+found_held None held s loaded e = cc
+found_held (Some t) held s loaded e =
+    let is : t ≡ s = cc in
+    subst (λ (x : Stored). unfolded (content_in held.base) held.changes ≡ found x) is (sym (small t loaded.1 ∙ ap read_as loaded.0))
+
+-- the log is bad
+pub found_bad : (o : Option Stored) (place : ℕ) (s : Stored) → IsBad o place → o ≡ Some s → Faulty 9 place ≡ found s
+found_bad None place s bad e = cc
+found_bad (Some t) place s bad e =
+    let is : t ≡ s = cc in
+    subst (λ (x : Stored). Faulty 9 place ≡ found x) is (sym (small t bad.1 ∙ ap read_as bad.0))
+
+-- more is held than is loaded
+large : (s : Stored) → (most_base < s.base_length) ⊎ (most_file < s.file_length) → found s ≡ Faulty 8 most_base
+unfolding found
+large s (inl h) =
+    let test : nat_lt most_base s.base_length ≡ true = grind (arith, nat_tests) in
+    rw test refl
+large s (inr h) =
+    let test : (nat_lt most_base s.base_length || nat_lt most_file s.file_length) ≡ true = grind (arith, nat_tests) in
+    rw test refl
+
+pub found_large : (o : Option Stored) (s : Stored) → IsTooLarge o → o ≡ Some s → Faulty 8 most_base ≡ found s
+found_large None s h e = cc
+found_large (Some t) s h e =
+    let is : t ≡ s = cc in
+    subst (λ (x : Stored). Faulty 8 most_base ≡ found x) is (sym (large t h))

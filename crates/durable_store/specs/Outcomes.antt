@@ -1,0 +1,114 @@
+-- What comes of a load and of a command, beside what the shelf holds.
+use Rattle.std.specs.Prelude.{◌≡◌, ◌≢◌, ℕ, ◌<◌, ◌≤◌, ◌^◌, ◌⊎◌, true, List, [], length, Option, Some, Result, Ok, Err}
+use Rattle.std.specs.FinMap as fin
+use Rattle.s3_types.specs.Names.{is_key}
+use Rattle.s3_types.specs.Store.{BucketContent, Content}
+use Rattle.s3_types.specs.declared.object.Object.{Object}
+use Rattle.s3_types.specs.declared.journal.Entry.{Entry}
+use Rattle.s3_types.specs.declared.request.Request.{Request}
+use Rattle.shelf.specs.Logged.{Holding, Stored, fresh, IsSmall, IsDurable, LeavesOnly}
+use Rattle.shelf.specs.Logged.Holding.{Nothing as Absent}
+use Rattle.store_image.specs.Image.{image}
+use Rattle.store_image.specs.Content.{IsContent}
+use Rattle.journal_log.specs.Changes.{changes, content_after}
+use Rattle.journal_log.specs.Made.{KeepsImages}
+use Rattle.journal_log.specs.Kept.{StandsFor, IsMoment, kept, Holds, HoldsPart}
+use Rattle.journal_log.specs.Crashes.{WhereTold}
+use Rattle.journal_log.specs.Appends.{AreCalled, AreCut}
+use Rattle.durable_store.specs.Stores.{found}
+use Rattle.durable_store.specs.Works.{Work, Says, Saves}
+use Rattle.durable_store.specs.declared.held.Held.{Held}
+use Rattle.durable_store.specs.declared.held.Held.TheVariants.{Nothing, Store, Faulty}
+use Rattle.durable_store.specs.declared.held.ShelfStop.{ShelfStop}
+use Rattle.durable_store.specs.declared.held.ShelfStop.TheVariants.{Failed, NoMemory}
+
+-- ---- a load
+
+-- the shelf's count of faults rose where it failed, and else stands
+abbrev pub Counts : {A : Type 0} → Result A ShelfStop → ℕ → ℕ → Type 0
+Counts (Ok x) before after = after ≡ before
+Counts (Err Failed) before after = before < after
+Counts (Err NoMemory) before after = after ≡ before
+
+-- the store that was found can have an image
+abbrev pub IsSound : Held → Type 0
+IsSound Nothing = Unit {0}
+IsSound (Store c) = IsContent c
+IsSound (Faulty number place) = Unit {0}
+
+-- the objects of a store stand at keys
+abbrev pub AreAtKeys : Content → Type 0
+AreAtKeys c = (n k : List ℕ) (b : BucketContent) (o : Object) → fin.get c.buckets n ≡ Some b → fin.get b.objects k ≡ Some o → is_key k ≡ true
+
+-- a store that can have an image is found again behind its changes, where it is small and its counter is at most 2^62
+pub record LoadsAgain : Type 0 where
+  pub found_again : (s : Stored) (c : Content) (rs : List Request) → s.holding ≡ kept c rs → IsSmall s → length (image c) < 2 ^ 64
+      → IsContent c → (content_after c rs).next ≤ 2 ^ 62 → found s ≡ Store (content_after c rs)
+
+-- the store that was found is what is held stands for
+abbrev pub IsOf : Held → Holding → Type 0
+IsOf Nothing h = h ≡ Absent
+IsOf (Store c) h = StandsFor h c
+IsOf (Faulty number place) h = Unit {0}
+
+-- where what was found is no fault
+abbrev pub WhereSound : Held → Type 0 → Type 0
+WhereSound Nothing P = P
+WhereSound (Store c) P = P
+WhereSound (Faulty number place) P = Unit {0}
+
+-- ---- a save
+
+-- the image of a store was put in place of what was held
+pub record Replaced {S : Type 0} (held : S → Option Stored) (may_leave : S → Holding → Type 0) (answers : S → S → Type 0) (moment_of : S → ℕ) (left_since : S → ℕ → Holding → Type 0) (c : Content) (old new : S) : Type 0 where
+  pub holds : Holds (held new) c (changes [])
+  pub durable : IsDurable (held new) (may_leave new)
+  pub leaves : LeavesOnly moment_of left_since old new (λ h. may_leave old h ⊎ (h ≡ fresh (image c)))
+  pub answered : answers old new
+
+-- ---- a command
+
+-- the status of a save
+abbrev pub status_of : {A : Type 0} → Result A ShelfStop → ℕ
+status_of (Ok x) = 0
+status_of (Err Failed) = 5
+status_of (Err NoMemory) = 9
+
+-- What is answered: what is to be said, with what was sent. What is saved is answered by 0 and its text, or by 5 where the shelf
+-- failed and by 9 where memory was wanting, with no text, and in each case with what was sent.
+pub data IsAnswer : Work → (due : ℕ) (text : List ℕ) (sent : List Entry) → Type 0 where
+  said : (due : ℕ) (text : List ℕ) (es : List Entry) → IsAnswer (Says due text es) due text es
+  saved : (c : Content) (text : List ℕ) (es : List Entry) → IsAnswer (Saves c text es) 0 text es
+  failed : (c : Content) (text : List ℕ) (es : List Entry) → IsAnswer (Saves c text es) 5 [] es
+  wanting : (c : Content) (text : List ℕ) (es : List Entry) → IsAnswer (Saves c text es) 9 [] es
+
+-- what the shelf holds after a command: what it held, or the store that was to be saved with all that was sent, or, after 5 and 9, with the first of it
+abbrev pub IsHeld : Work → (due : ℕ) (before after : Option Stored) → Type 0
+IsHeld (Says d text es) due before after = after ≡ before
+IsHeld (Saves c text es) due before after = (due ≡ 0 → Holds after c (changes es)) × (due ≢ 0 → (after ≡ before) ⊎ HoldsPart after c es)
+
+-- what is saved leads through stores that can have an image
+abbrev pub HasImages : Work → Type 0
+HasImages (Says d text es) = Unit {0}
+HasImages (Saves c text es) = KeepsImages c es
+
+-- what a crash since the command began might have left: what one before it may leave, or a moment of what was saved
+abbrev pub MightLeave : Work → (told : Option Stored) (at_first : Holding → Type 0) → Holding → Type 0
+MightLeave (Says d text es) told at_first h = at_first h
+MightLeave (Saves c text es) told at_first h = WhereTold told (at_first h ⊎ IsMoment c es h)
+
+-- what one after it may leave
+abbrev pub IsDurableNow : Work → (due : ℕ) (held : Option Stored) (leaves : Holding → Type 0) → Type 0
+IsDurableNow (Says d text es) due held leaves = Unit {0}
+IsDurableNow (Saves c text es) due held leaves = due ≡ 0 → IsDurable held leaves
+
+-- How the shelf was called: not at all where something is said; once for the image and once for each change where all was kept; and
+-- else as far as to the call that failed.
+abbrev pub CallsBy : {S : Type 0} → (answers fails : S → S → Type 0) → Work → (due : ℕ) (old new : S) → Type 0
+CallsBy answers fails (Says d text es) due old new = old ≡ new
+CallsBy answers fails (Saves c text es) due old new = (due ≡ 0 → AreCalled answers (changes es) old new) × (due ≢ 0 → AreCut answers fails (changes es) old new)
+
+-- a count of faults rose where this status is due, and else stands
+pub record Tells (status due before after : ℕ) : Type 0 where
+  pub rose : due ≡ status → before < after
+  pub stands : due ≢ status → after ≡ before

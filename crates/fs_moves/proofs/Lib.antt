@@ -1,6 +1,0 @@
-pub mod Buckets
-pub mod CopyLaws
-pub mod Places
-pub mod Whole
-pub mod NewKeys
-pub mod Placed

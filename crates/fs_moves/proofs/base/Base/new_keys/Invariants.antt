@@ -1,8 +1,0 @@
-use Rattle.std.proofs.Common.{◌≡◌, drop}
-use Rattle.dir_markers.specs.Markers.{marker_of}
-use Rattle.fs_moves.specs.Keys.{with_front, new_keys}
-use Rattle.fs_moves.proofs.base.Base.new_keys.Given as goal
-
--- the new keys so far and those of the keys that are left are all
-abbrev pub invariant-loop-key : goal.invariant-loop-key
-invariant-loop-key l = with_front l.new (new_keys l.from (marker_of l.self) (drop l.key-index l.keys)) ≡ new_keys l.from (marker_of l.self) l.keys

@@ -1,0 +1,77 @@
+-- An operation in one bucket, or between two of them.
+use Rattle.std.proofs.Common.{◌≡◌, ℕ, zero, suc, ◌+◌, ◌<◌, Bool, true, false, not, List, [], ◌++◌, take, length, Some, None, Option, Ok, refl, sym, ap, subst, ◌∙◌, arith, length-append}
+use Rattle.std.specs.List.{slice_get}
+use Rattle.std.proofs.lemmas.Bool.{false≢true}
+use Rattle.std.proofs.lemmas.List.{append-nil}
+use Rattle.proof_base.specs.Order.{text_eq}
+use Rattle.s3_types.specs.Store.{Objects, Scene}
+use Rattle.s3_types.specs.Moment.{after_all}
+use Rattle.s3_types.specs.declared.request.Actor.{Actor}
+use Rattle.s3_types.specs.declared.request.Request.{Request}
+use Rattle.machine.specs.Tries.{HasUnanswered}
+use Rattle.proof_base.proofs.Members.{none_some, text_is, text_true}
+use Rattle.operations.specs.Performed.{Seen, Performed}
+use Rattle.bucket_ops.specs.Asks.{objects_at}
+use Rattle.bucket_ops.proofs.AskLaws.{with_same}
+use Rattle.bucket_ops.specs.Phases.{InScene, GivesIn, AlwaysIn}
+use Rattle.fs_rename.specs.Between.{GivesBetween}
+
+-- ---- in one bucket
+
+same_bucket : (b c : List ℕ) → false ≡ not (text_eq b c) → b ≡ c
+same_bucket b c h = text_is b c (by (text_eq b c) h)
+  where
+    by : (t : Bool) → false ≡ not t → t ≡ true
+    by true h = refl
+    by false h = absurd (false≢true h)
+
+pub given_one : {A : Type 0} (b c : List ℕ) (gives : Objects → A → Objects → Type 0) (absent refused : A) (z : Scene) (a : A) (s : Scene) → false ≡ not (text_eq b c) → GivesIn b gives absent z a s → GivesBetween b c gives absent refused z a s
+given_one b c gives absent refused z a s e h = record { one = λ f. h; other = λ f. absurd (f (same_bucket b c e)) }
+
+-- ---- between two buckets
+
+other_bucket : (b c : List ℕ) → true ≡ not (text_eq b c) → b ≡ c → ⊥
+other_bucket b c h e = false≢true (sym (h ∙ ap not (text_true b c e)))
+
+pub given_other : {A : Type 0} (b c : List ℕ) (gives : Objects → A → Objects → Type 0) (absent refused : A) (z : Scene) → true ≡ not (text_eq b c) → GivesBetween b c gives absent refused z refused z
+given_other b c gives absent refused z e = record { one = λ f. absurd (other_bucket b c e f); other = λ f. (refl, refl) }
+
+-- where nothing was sent, all stands as it stood
+still_in : (b : List ℕ) (always : Objects → Objects → Type 0) (z : Scene) → ((m : Objects) → always m m) → AlwaysIn b always z z
+still_in b always z same = by (objects_at z b) refl
+  where
+    by : (x : Option Objects) → objects_at z b ≡ x → InScene x (λ m n. always m n) (Unit {0}) z b z
+    by None e = (refl, tt)
+    by (Some m) e = (m, sym (with_same z b m e), same m)
+
+none_taken : (z : Scene) (m : ℕ) → after_all z (take m []) ≡ z
+none_taken z zero = refl
+none_taken z (suc m) = refl
+
+get_none : (n : ℕ) → slice_get [] n ≡ Some false → ⊥
+get_none zero h = none_some refl h
+get_none (suc n) h = none_some refl h
+
+none_unanswered : (many : ℕ) → 0 < many → HasUnanswered many [] → ⊥
+none_unanswered many some h =
+    let a = ap length h.is in
+    let b = length-append h.before (h.these ++ h.behind) in
+    let c = length-append h.these h.behind in
+    omega (arith, a, b, c, h.count, some)
+
+pub performed_none : {A : Type 0} {actor : Actor} {event retries : ℕ} {old : Seen} {x : A}
+    → (b : List ℕ) (always : Objects → Objects → Type 0) (sends : Request → Type 0) → ((m : Objects) → always m m)
+    → Performed actor event retries (AlwaysIn b always old.scene) sends old old (Ok x)
+performed_none {retries = retries} {old = old} b always sends same = record {
+  part = [];
+  appended = sym (append-nil old.entries);
+  by = tt;
+  honest = tt;
+  scene = refl;
+  moments = λ m. subst (AlwaysIn b always old.scene) (sym (none_taken old.scene m)) (still_in b always old.scene same);
+  sent = tt;
+  tried = record { tries = []; rest = []; entries = refl; each = tt; broken_off = tt; told = (refl, refl); fault = λ e h. none_unanswered (retries + 1) (omega arith) h };
+  literal = λ r w. get_none (w.0 + 0) (w.1 0 (omega arith));
+  foretold = tt;
+  counts = record { made = refl; foretold = λ n. refl; losses = omega arith; kept = λ part e g. refl };
+}

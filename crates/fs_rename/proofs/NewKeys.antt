@@ -1,0 +1,91 @@
+-- New keys are keys.
+use Rattle.std.proofs.Common.{◌≡◌, ℕ, zero, suc, ◌-◌, ◌≤◌, ◌&&◌, nat_eq, nat_lt, cond, Bool, true, false, List, [], ◌∷◌, ◌++◌, length, drop, Some, None, refl, sym, ap, ◌∙◌, arith, length-append, append_assoc, if◌then◌else◌}
+use Rattle.std.specs.List.{slice_get, starts_with}
+use Rattle.std.proofs.lemmas.Bool.{le-leb}
+use Rattle.std.proofs.lemmas.Bool.Decides.{nat_tests, Decides-eqb}
+use Rattle.std.proofs.lemmas.Slice.Eq.{starts_is}
+use Rattle.s3_types.specs.Names.{are_elements, is_key_path, trimmed}
+use Rattle.path_keys.proofs.Beneath.{elements_append, key_path_from}
+use Rattle.dir_markers.specs.Markers.{marker_of}
+use Rattle.proof_base.proofs.Members.{some_is, none_some}
+use Rattle.fs_tree.specs.Tree.{is_marker}
+use Rattle.fs_tree.specs.Moves.{is_too_long}
+use Rattle.fs_tree.proofs.Above.{marker_ends, marker_behind, other_end, cut_elements, key_elements, marker_elements}
+use Rattle.fs_ops.specs.code.List.{rest_of}
+use Rattle.fs_ops.proofs.Showing.{rest_is as rest_follows}
+use Rattle.fs_rename.specs.Keys.{new_by, new_key}
+
+-- ---- markers and limits
+
+marker_got : (bs : List ℕ) (n b : ℕ) → suc n ≡ length bs → slice_get bs n ≡ Some b → nat_eq b 47 ≡ is_marker bs
+marker_got [] n b e h = absurd (omega (arith, e))
+marker_got (x ∷ []) zero b e h = ap (λ v. nat_eq v 47) (sym (some_is h))
+marker_got (x ∷ []) (suc n) b e h = absurd (omega (arith, e))
+marker_got (x ∷ y ∷ bs) zero b e h = absurd (omega (arith, e))
+marker_got (x ∷ y ∷ bs) (suc n) b e h = marker_got (y ∷ bs) n b (omega (arith, e)) h
+
+some_length : (bs : List ℕ) (b : ℕ) → slice_get bs (length bs - 1) ≡ Some b → suc (length bs - 1) ≡ length bs
+some_length [] b h = absurd (cc)
+some_length (x ∷ bs) b h = omega arith
+
+pub marker_last : (bs : List ℕ) (b : ℕ) → Some b ≡ slice_get bs (length bs - 1) → nat_eq b 47 ≡ is_marker bs
+marker_last bs b h = marker_got bs (length bs - 1) b (some_length bs b (sym h)) (sym h)
+
+short_by : (b : Bool) (n : ℕ) → nat_lt (cond b 1024 1023) n ≡ false → n ≤ 1024
+short_by true n h = grind (arith, nat_tests)
+short_by false n h = grind (arith, nat_tests)
+
+short : (k : List ℕ) → is_too_long k ≡ false → length k ≤ 1024
+short k h = short_by (is_marker k) (length k) h
+
+-- ---- keys
+
+pub base_key : (q : List ℕ) → are_elements q ≡ true → is_too_long q ≡ false → is_key_path q ≡ true
+base_key q e f = key_path_from q e (short q f)
+
+all_three : (a b c : Bool) → a ≡ true → b ≡ true → c ≡ true → (a && b && c) ≡ true
+all_three a b c h i j = rw (h, i, j) refl
+
+key_path : (t : List ℕ) → 1 ≤ length t → length t ≤ 1024 → are_elements (trimmed t) ≡ true → is_key_path t ≡ true
+key_path t some most h = all_three _ _ _ (le-leb 1 (length t) some) (le-leb (length t) 1024 most) h
+
+module _ (q front : List ℕ) (e : are_elements q ≡ true) where
+  ended : (r f : List ℕ) → 47 ∷ r ≡ f ++ 47 ∷ [] → is_key_path (front ++ 47 ∷ r) ≡ true → are_elements (trimmed (q ++ 47 ∷ r)) ≡ true
+  ended r [] h k = marker_elements (q ++ 47 ∷ r) q (ap (λ l. q ++ l) h) ∙ e
+  ended r (y ∷ f) h k =
+      let s : 47 ≡ y = cc in
+      let a : 47 ∷ r ≡ (47 ∷ f) ++ 47 ∷ [] = h ∙ ap (λ y. y ∷ f ++ 47 ∷ []) (sym s) in
+      let old = ap (λ l. front ++ l) a ∙ sym (append_assoc front (47 ∷ f) (47 ∷ [])) in
+      let new = ap (λ l. q ++ l) a ∙ sym (append_assoc q (47 ∷ f) (47 ∷ [])) in
+      let els = sym (marker_elements (front ++ 47 ∷ r) (front ++ 47 ∷ f) old) ∙ key_elements (front ++ 47 ∷ r) k in
+      marker_elements (q ++ 47 ∷ r) (q ++ 47 ∷ f) new ∙ elements_append q f e (cut_elements front f els).1
+
+  by_end : (r : List ℕ) (b : Bool) → is_marker (47 ∷ r) ≡ b → is_key_path (front ++ 47 ∷ r) ≡ true → are_elements (trimmed (q ++ 47 ∷ r)) ≡ true
+  by_end r true i k = let w = marker_ends (47 ∷ r) i in ended r w.0 w.1 k
+  by_end r false i k =
+      let els = ap are_elements (other_end (front ++ 47 ∷ r) (marker_behind front 47 r ∙ i)) ∙ key_elements (front ++ 47 ∷ r) k in
+      ap are_elements (sym (other_end (q ++ 47 ∷ r) (marker_behind q 47 r ∙ i))) ∙ elements_append q r e (cut_elements front r els).1
+
+  -- what a key has behind a `/` is so behind other elements, within the limit
+  pub below_key : (r : List ℕ) → is_key_path (front ++ 47 ∷ r) ≡ true → is_too_long (q ++ 47 ∷ r) ≡ false → is_key_path (q ++ 47 ∷ r) ≡ true
+  below_key r k f = key_path (q ++ 47 ∷ r) (let l = length-append q (47 ∷ r) in omega (arith, l)) (short (q ++ 47 ∷ r) f) (by_end r (is_marker (47 ∷ r)) refl k)
+
+-- what stands behind a text
+pub rest_is : (from k r : List ℕ) → rest_of from k ≡ Some r → k ≡ from ++ r
+rest_is from k r h = by (starts_with nat_eq k from) refl h
+  where
+    by : (b : Bool) → starts_with nat_eq k from ≡ b → (if b then Some (drop (length from) k) else None) ≡ Some r → k ≡ from ++ r
+    by true e g = (starts_is Decides-eqb k from (starts_with nat_eq k from) refl).0 e ∙ ap (λ r. from ++ r) (some_is g)
+    by false e g = absurd (none_some refl g)
+
+-- what a key has behind a text it has behind another
+pub new_is : (from to r : List ℕ) → new_key from to (from ++ r) ≡ to ++ r
+new_is from to r = ap (λ o. new_by o to (from ++ r)) (rest_follows from r)
+
+-- what a key has behind a marker, behind another path's marker, is a key within the limit
+pub new_legal : (q from k rest prefix text : List ℕ) → are_elements q ≡ true → is_marker from ≡ true → is_key_path k ≡ true → rest_of from k ≡ Some rest → prefix ≡ marker_of q → text ≡ prefix ++ rest → is_too_long text ≡ false → is_key_path text ≡ true
+new_legal q from k rest prefix text e m h r a b f =
+    let w = marker_ends from m in
+    let old : k ≡ w.0 ++ 47 ∷ rest = rest_is from k rest r ∙ ap (λ l. l ++ rest) w.1 ∙ append_assoc w.0 (47 ∷ []) rest in
+    let new : text ≡ q ++ 47 ∷ rest = b ∙ ap (λ l. l ++ rest) a ∙ append_assoc q (47 ∷ []) rest in
+    ap is_key_path new ∙ below_key q w.0 e rest (ap is_key_path (sym old) ∙ h) (ap is_too_long (sym new) ∙ f)

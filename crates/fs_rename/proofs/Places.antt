@@ -1,0 +1,40 @@
+-- The target as a new place.
+use Rattle.std.proofs.Common.{◌≡◌, ℕ, suc, ◌<◌, ◌==◌, true, false, List, [], ◌∷◌, length, Some, None, refl, arith}
+use Rattle.std.proofs.lemmas.Bool.{true≢false, eqb-true}
+use Rattle.s3_types.specs.Names.{are_elements}
+use Rattle.path_keys.specs.Paths.{is_key}
+use Rattle.path_keys.proofs.Keys.{some_key}
+use Rattle.proof_base.proofs.Members.{none_some}
+use Rattle.fs_tree.specs.Tree.{is_marker}
+use Rattle.fs_tree.proofs.Begins.{marker_is}
+use Rattle.fs_ops.specs.Places.{prefix_of}
+use Rattle.fs_rename.specs.Keys.{place_of}
+
+pub not_zero : (n : ℕ) → (suc n == 0) ≡ true → ⊥
+not_zero n e = let z = eqb-true (suc n) 0 e in absurd (omega (arith, z))
+
+pub some_long : (s : List ℕ) → (length s == 0) ≡ false → 0 < length s
+some_long [] h = absurd (true≢false h)
+some_long (x ∷ s) h = omega arith
+
+pub target_elements : (t : List ℕ) → (length t == 0) ≡ false → is_key t ≡ true → are_elements t ≡ true
+target_elements t f k = (some_key t (some_long t f) k).0
+
+pub source_none : (s t : List ℕ) → (length s == 0) ≡ true → place_of s t ≡ None
+source_none [] t h = refl
+source_none (x ∷ s) t h = absurd (not_zero (length s) h)
+
+pub target_none : (s t : List ℕ) → (length t == 0) ≡ true → place_of s t ≡ None
+target_none [] t h = refl
+target_none (x ∷ s) [] h = refl
+target_none (x ∷ s) (y ∷ t) h = absurd (not_zero (length t) h)
+
+pub target_some : (s t : List ℕ) → (length s == 0) ≡ false → (length t == 0) ≡ false → place_of s t ≡ Some t
+target_some [] t f g = absurd (true≢false f)
+target_some (x ∷ s) [] f g = absurd (true≢false g)
+target_some (x ∷ s) (y ∷ t) f g = refl
+
+-- what has a new place is below a marker
+pub place_marker : (s t q : List ℕ) → place_of s t ≡ Some q → is_marker (prefix_of s) ≡ true
+place_marker [] t q h = absurd (none_some refl h)
+place_marker (x ∷ s) t q h = marker_is (x ∷ s)

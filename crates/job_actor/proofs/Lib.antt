@@ -1,0 +1,5 @@
+pub mod Appended
+pub mod Picking
+pub mod Tallies
+pub mod Unread
+pub mod Keeping

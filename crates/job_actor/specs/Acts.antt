@@ -1,0 +1,28 @@
+-- What an actor is at, beside the contracts of its calls.
+use Rattle.std.specs.Prelude.{◌≡◌, ℕ, ◌+◌, ◌<◌, ◌≤◌, Bool, true, false, not, Option, Some, None, is_some}
+use Rattle.s3_types.specs.Store.{Scene}
+use Rattle.s3_types.specs.Answer.{answer, apply}
+use Rattle.s3_types.specs.Moment.{effect, IsHonestOutcome}
+use Rattle.s3_types.specs.declared.request.Request.{Request}
+use Rattle.s3_types.specs.declared.journal.Outcome.{Outcome}
+use Rattle.job_model.specs.declared.ends.OpEnd.{OpEnd}
+use Rattle.job_spec.specs.Turns.{is_memory}
+
+-- it ended, and for want of memory
+abbrev pub ends_wanting : Option OpEnd → Bool
+ends_wanting (Some end) = is_memory end
+ends_wanting None = false
+
+-- memory was wanting: no request is asked, and the end says so
+pub record EndsWanting (asked : Option Request) (end : Option OpEnd) : Type 0 where
+  pub none : asked ≡ None
+  pub wanting : ends_wanting end ≡ true
+
+-- what an actor is at asks a request until it has ended, and ends
+pub record ActLaws {A : Type 0} (wants : A → Option Request) (tells : A → Outcome → A) (fits : A → Outcome → Type 0) (end_of : A → Option OpEnd) (left : A → Scene → ℕ) (rise : A → Request → ℕ) : Type 0 where
+  -- it asks a request exactly until it has ended
+  pub goes_on : (a : A) → is_some (wants a) ≡ not (is_some (end_of a))
+  -- what is left falls with each sending of its own, whatever becomes of it
+  pub falls : (a : A) (s : Scene) (r : Request) (o : Outcome) → wants a ≡ Some r → fits a o → IsHonestOutcome o (answer s r) → left (tells a o) (effect s r o) < left a s
+  -- by a request of another actor it rises by no more than that
+  pub others : (a : A) (s : Scene) (r : Request) → left a (apply s r) ≤ left a s + rise a r

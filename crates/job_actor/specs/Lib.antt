@@ -1,0 +1,5 @@
+pub mod Acts
+pub mod Posting
+pub mod Plans
+pub mod Picks
+pub mod Works

@@ -1,0 +1,44 @@
+-- The picks of a job's commit, as a run goes on.
+use Rattle.std.specs.Prelude.{◌≡◌, Bool, true, false, List, [], Option, Some, None}
+use Rattle.s3_types.specs.Store.{Content}
+use Rattle.s3_types.specs.declared.request.Actor.TheVariants.{Driver}
+use Rattle.job_model.specs.Legal.{IsLegal}
+use Rattle.job_model.specs.declared.events.Event.{Event}
+use Rattle.job_model.specs.declared.ends.EventEnd.{EventEnd}
+use Rattle.job_model.specs.declared.ends.Pick.{Pick}
+use Rattle.job_protocol.specs.Operations.{Setting, Operation, Running, TheSetup, TheWrite, TheTaskCommit, TheTaskAbort, TheCommit, TheClean}
+use Rattle.job_spec.specs.States.{begins_commit, is_commit}
+use Rattle.job_spec.specs.Promise.{all_picks}
+use Rattle.job_traces.specs.Runs.{IsOpening}
+use Rattle.job_steps.specs.Transitions.{Play, Reachable, MayOpen}
+use Rattle.job_steps.specs.Running.{Ahead}
+
+-- these are the picks that are seen so far, however the run goes on
+abbrev pub ArePicksOf : Setting → Content → Play → List Pick → Type 0
+ArePicksOf g opening x ps = (xs : List EventEnd) → Ahead x xs → ps ≡ all_picks g.script opening x.journal xs
+
+-- what an operation has picked, if it picks, is what is seen
+abbrev pub HasPicked : Setting → Content → Play → Option (List Pick) → Type 0
+HasPicked g opening x (Some ps) = ArePicksOf g opening x ps
+HasPicked g opening x None = Unit {0}
+
+-- the operation is the job's commit
+abbrev pub is_job_commit : Operation → Bool
+is_job_commit (TheSetup t) = false
+is_job_commit (TheWrite t) = false
+is_job_commit (TheTaskCommit t) = false
+is_job_commit (TheTaskAbort t) = false
+is_job_commit (TheCommit c) = true
+is_job_commit (TheClean t) = false
+
+-- what an actor began last is the job's commit
+abbrev pub is_committing : Option Running → Bool
+is_committing None = false
+is_committing (Some m) = is_job_commit m.operation
+
+-- How picks go.
+pub record PicksGo : Type 0 where
+  -- what the driver began last is the job's commit exactly where that is at it
+  pub doing : (g : Setting) (opening : Content) (x : Play) → IsLegal g.script → Reachable g opening x → is_committing (x.running Driver) ≡ is_commit (x.live.doing Driver)
+  -- where the job's commit may begin nothing was picked
+  pub none_before : (g : Setting) (opening : Content) (x : Play) → IsLegal g.script → IsOpening g opening → Reachable g opening x → (ev : Event) → begins_commit ev ≡ true → MayOpen g x ev None → ArePicksOf g opening x []

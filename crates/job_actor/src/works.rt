@@ -1,0 +1,62 @@
+ghost use Rattle.std.specs.Prelude.{◌≡◌, ℕ, IfOk, List, Option, None};
+ghost use Rattle.std.specs.Option.{option_copied};
+ghost use Rattle.s3_types.specs.declared.request.Actor.{Actor};
+ghost use Rattle.job_model.specs.Known.{Known};
+ghost use Rattle.job_model.specs.Legal.{HasOp, IsLegal};
+ghost use Rattle.job_model.specs.JobScript.{Script};
+ghost use Rattle.job_model.specs.declared.ends.Pick.{Pick};
+ghost use Rattle.commit_laws.specs.Fitting.{least_missing};
+ghost use Rattle.job_protocol.specs.Operations.{Setting, Running};
+ghost use Rattle.job_actor.specs.Plans.{IsPlanOf};
+ghost use Rattle.job_actor.specs.Works.{WorkLaws, Starts};
+
+use crate::{Acts, Plan};
+use job_model::{Op, PickList, TaskSet};
+use s3_types::Actor;
+use std::alloc::{AllocError, Global};
+
+/// The operations of a job's actors, each made from the plan that its actor goes by.
+pub trait Works: Acts {
+    /// It goes by the plan of this actor of a job.
+    ghost is_of: { Setting → Actor → Self → Type 0 };
+
+    /// The operation with what its attempt knows; of the driver, of whose knowledge nothing is asked, that is as
+    /// given.
+    ghost running: { Known → Self → Running };
+
+    /// By at most so many a request of an attempt raises what the driver's operation has left.
+    ghost rise: { Script → ℕ };
+
+    /// The attempts whose sets a job's commit has read, by task; no other operation has them.
+    ghost picks_of: { Self → Option (List Pick) };
+
+    /// Begins an operation of this actor; of the job's commit, where these tasks are reported. After want of
+    /// memory the plan is lost, with the actor.
+    fn begin(
+        alloc: Global,
+        plan: Plan,
+        actor: Actor,
+        op: Op,
+        reported: &TaskSet,
+    ) -> Result<Self, AllocError>
+        ensures { (g : Setting) (k : Known) → IsLegal g.script → IsPlanOf g actor k plan → HasOp actor op
+            → IfOk result (λ work. Starts is_of running picks_of g actor op (least_missing g.script.tasks reported.now)
+            k work) };
+
+    /// Gives the plan back, with what its attempt knows as the operation leaves it. Takes no memory.
+    fn into_plan(self) -> Plan
+        ensures { (g : Setting) (a : Actor) (k : Known) → is_of g a self → Self.wants self ≡ None
+            → IsPlanOf g a (running k self).known result };
+
+    /// The attempts whose sets a job's commit has read; of any other operation None. Takes no memory.
+    fn picks(&self) -> Option<&PickList>
+        ensures { option_copied result ≡ picks_of self.now };
+
+    /// Gives them. Takes no memory.
+    fn into_picks(self) -> Option<PickList>
+        ensures { result ≡ picks_of self };
+
+    /// What holds of them in every run of a legal script. Does nothing.
+    fn laws()
+        ensures { WorkLaws Self.wants Self.tells Self.fits Self.end_of Self.left is_of running rise picks_of };
+}

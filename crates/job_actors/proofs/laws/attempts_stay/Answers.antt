@@ -1,5 +1,0 @@
-use Rattle.job_actors.proofs.Beside.{attempts_stay}
-use Rattle.job_actors.proofs.laws.attempts_stay.Goals as goal
-
-pub returns : goal.returns
-returns c = attempts_stay

@@ -1,5 +1,0 @@
-use Rattle.job_ends.proofs.RunEntries.{run_entries}
-use Rattle.job_ends.proofs.entries.Goals as goal
-
-pub returns : goal.returns
-returns c = record { whose = run_entries }

@@ -1,0 +1,5 @@
+use Rattle.job_examples.proofs.TwoAttemptRuns as runs
+use Rattle.job_examples.proofs.two_attempts.Goals as goal
+
+pub returns : goal.returns
+returns c = runs.two_attempts

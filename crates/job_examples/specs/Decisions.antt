@@ -1,0 +1,104 @@
+-- The verdict on runs, and what a restart changes.
+use Rattle.std.specs.Prelude.{◌≡◌, List, [], ◌∷◌, Some, None, codes}
+use Rattle.s3_types.specs.declared.request.Actor.TheVariants.{Driver}
+use Rattle.s3_types.specs.declared.request.Committer.TheVariants.{Magic}
+use Rattle.s3_types.specs.declared.request.Mode.TheVariants.{Append}
+use Rattle.job_model.specs.JobScript.{Script}
+use Rattle.job_model.specs.declared.events.Op.TheVariants.{Setup, Write, Commit, Abort}
+use Rattle.job_model.specs.declared.events.Event.{Event}
+use Rattle.job_model.specs.declared.events.Event.TheVariants.{Do, Start, Kill, Restart, Recover}
+use Rattle.job_model.specs.declared.ends.SetupEnd.TheVariants as setups
+use Rattle.job_model.specs.declared.ends.TaskEnd.TheVariants as tasks
+use Rattle.job_model.specs.declared.ends.CommitEnd.TheVariants as commits
+use Rattle.job_model.specs.declared.ends.OpEnd.TheVariants as ends
+use Rattle.job_model.specs.declared.ends.EventEnd.{EventEnd}
+use Rattle.job_model.specs.declared.ends.EventEnd.TheVariants.{Done, Ended, Refused}
+use Rattle.job_model.specs.declared.ends.EventFault.TheVariants as faults
+use Rattle.job_model.specs.declared.states.ActorStage.TheVariants as stage
+use Rattle.job_spec.specs.States.{past, missing, refusal, commit_event, verdict, idle, dead}
+use Rattle.job_examples.specs.Jobs.{job, attempt, worker}
+
+-- one attempt with one file, and these events
+abbrev pub script : List Event → Script
+script events = job Magic Append 1 3 1 (attempt 0 0 ((codes "part-00000", codes "hello") ∷ []) ∷ []) events
+
+-- a set-up that is done
+abbrev pub done_setup : EventEnd
+done_setup = Ended (ends.Setup setups.Done)
+
+-- an attempt's operation that is done
+abbrev pub done_task : EventEnd
+done_task = Ended (ends.Task tasks.Done)
+
+-- a set-up that wears out, and then one whose driver is killed in it
+abbrev pub killed_setup : Script
+killed_setup = script (Do Driver Setup ∷ Start Driver Setup ∷ Kill Driver ∷ [])
+
+-- the ends of a set-up that wore out and of one whose driver was killed
+abbrev pub killed_setup_ends : List EventEnd
+killed_setup_ends = Ended (ends.Setup setups.StoreFault) ∷ Done ∷ Done ∷ []
+
+-- set-up, write, task's commit, job's commit
+abbrev pub whole : Script
+whole = script (Do Driver Setup ∷ Do worker Write ∷ Do worker Commit ∷ Do Driver Commit ∷ [])
+
+-- the ends of a whole run, with that of its commit
+abbrev pub whole_ends : EventEnd → List EventEnd
+whole_ends end = done_setup ∷ done_task ∷ done_task ∷ end ∷ []
+
+-- a set-up that wears out, so that the commit is refused
+abbrev pub refused_commit : Script
+refused_commit = script (Do Driver Setup ∷ Do Driver Commit ∷ [])
+
+-- a driver that is killed in its commit and restarted
+abbrev pub killed_commit : Script
+killed_commit = script (Do Driver Setup ∷ Do worker Write ∷ Do worker Commit ∷ Start Driver Commit ∷ Kill Driver ∷ Restart ∷ Restart ∷ Recover worker ∷ Do Driver Commit ∷ Do Driver Abort ∷ [])
+
+-- the ends of a run whose driver is killed in its commit and restarted
+abbrev pub killed_commit_ends : List EventEnd
+killed_commit_ends = done_setup ∷ done_task ∷ done_task ∷ Done ∷ Done ∷ Done ∷ []
+
+-- a driver that is killed after a task's commit and restarted
+abbrev pub forgotten : Script
+forgotten = script (Do Driver Setup ∷ Do worker Write ∷ Do worker Commit ∷ Kill Driver ∷ Restart ∷ Do Driver Commit ∷ [])
+
+-- the ends of a run whose driver is killed after a task's commit and restarted
+abbrev pub forgotten_ends : List EventEnd
+forgotten_ends = done_setup ∷ done_task ∷ done_task ∷ Done ∷ Done ∷ []
+
+-- the verdict that is due of each of these runs
+pub record DecidesSo : Type 0 where
+  -- nothing was begun
+  pub nothing : verdict whole [] ≡ 1
+  -- the last set-up that was begun decides, also where it has no end
+  pub worn_setup : verdict killed_setup (Ended (ends.Setup setups.StoreFault) ∷ []) ≡ 8
+  pub killed : verdict killed_setup killed_setup_ends ≡ 1
+  -- the commit decides where one was begun
+  pub committed : verdict whole (whole_ends (Ended (ends.Commit commits.Committed))) ≡ 0
+  pub missing : verdict whole (whole_ends (Ended (ends.Commit (commits.Missing 0)))) ≡ 1
+  pub no_memory : verdict whole (whole_ends (Ended (ends.Commit commits.NoMemory))) ≡ 9
+  pub not_made : verdict whole (whole_ends (Ended ends.NoMemory)) ≡ 9
+  -- a commit that was not reached, or was refused, does not decide
+  pub unreached : verdict whole (Ended (ends.Setup setups.StoreFault) ∷ []) ≡ 8
+  pub refused : verdict refused_commit (Ended (ends.Setup setups.StoreFault) ∷ Refused faults.NotSet ∷ []) ≡ 8
+  -- one whose driver was killed in it decides, also after a restart
+  pub killed_commit : verdict killed_commit killed_commit_ends ≡ 1
+
+-- what a restart changes, and what is refused behind it
+pub record RestartsSo : Type 0 where
+  -- the dead driver is committing; a restart makes it idle and its commit failed, and gives the next number
+  pub before : (past killed_commit (done_setup ∷ done_task ∷ done_task ∷ Done ∷ Done ∷ [])).state Driver ≡ dead stage.Committing
+  pub after : (past killed_commit killed_commit_ends).state Driver ≡ idle stage.Failed
+  pub number : (past killed_commit killed_commit_ends).attempt ≡ 2
+  -- a second restart, a recovery and a second commit are refused, an abort is not
+  pub again : refusal (past killed_commit killed_commit_ends).state Restart ≡ Some faults.NotDead
+  pub recovery : refusal (past killed_commit killed_commit_ends).state (Recover worker) ≡ Some faults.NoRecovery
+  pub commit : refusal (past killed_commit killed_commit_ends).state (Do Driver Commit) ≡ Some faults.WrongState
+  pub abort : refusal (past killed_commit killed_commit_ends).state (Do Driver Abort) ≡ None
+  -- the first commit stays the job's
+  pub begun : commit_event killed_commit killed_commit_ends ≡ Some 4
+  -- a report from before a restart does not count, but other stages stay
+  pub reported : missing forgotten (past forgotten (done_setup ∷ done_task ∷ done_task ∷ Done ∷ [])).reported ≡ None
+  pub forgot : missing forgotten (past forgotten forgotten_ends).reported ≡ Some 0
+  pub stays : (past forgotten forgotten_ends).state Driver ≡ idle stage.Set
+  pub goes_on : (past forgotten forgotten_ends).state worker ≡ idle stage.Committed

@@ -1,0 +1,80 @@
+-- A job's commit that completes four uploads, in one lane and in two, and its revert.
+use Rattle.std.specs.Prelude.{◌≡◌, ℕ, List, [], ◌∷◌, Option, Some, None, codes}
+use Rattle.s3_types.specs.declared.request.Actor.TheVariants.{Driver}
+use Rattle.s3_types.specs.declared.request.Request.{Request}
+use Rattle.s3_types.specs.declared.request.Request.TheVariants.{CompleteUpload, DeleteObject, AbortUpload, PutObject}
+use Rattle.s3_types.specs.declared.reply.Reply.TheVariants.{Stored, Deleted, Completed, Aborted, Refused}
+use Rattle.s3_types.specs.declared.reply.Refusal.TheVariants.{NoSuchUpload}
+use Rattle.s3_types.specs.declared.journal.Outcome.{Outcome}
+use Rattle.s3_types.specs.declared.journal.Outcome.TheVariants.{Answered, Slow, ReplyLost}
+use Rattle.s3_types.specs.declared.request.Committer.TheVariants.{Magic}
+use Rattle.s3_types.specs.declared.request.Mode.TheVariants.{Append}
+use Rattle.pending_json.specs.Pending.{Pending}
+use Rattle.job_model.specs.JobScript.{Script}
+use Rattle.job_model.specs.declared.ends.CommitEnd.TheVariants as commits
+use Rattle.job_model.specs.declared.ends.Stage.TheVariants as stages
+use Rattle.job_model.specs.declared.ends.OpEnd.TheVariants as ends
+use Rattle.job_model.specs.Known.{nothing_known}
+use Rattle.job_protocol.specs.JobCommits.{Sets, replacing, picks_of}
+use Rattle.job_protocol.specs.Records.{mark_text}
+use Rattle.job_protocol.specs.Operations.{TheCommit}
+use Rattle.job_examples.specs.Jobs.{lake, job, attempt, hello_tag}
+use Rattle.job_examples.specs.Steps.{Course, course_of}
+
+-- the job's script
+abbrev pub script : ℕ → ℕ → Script
+script retries lanes = job Magic Append 1 retries lanes (attempt 0 0 ((codes "a", codes "hello") ∷ (codes "b", codes "hello") ∷ (codes "c", codes "hello") ∷ (codes "d", codes "hello") ∷ []) ∷ []) []
+
+-- a pending upload of five bytes
+abbrev pub upload : List ℕ → ℕ → Pending
+upload key id = record { task = 0; attempt = 0; bucket = lake; destination = key; upload = id; length = 5; tags = hello_tag ∷ []; sizes = Some (5 ∷ []) }
+
+-- the set that was read: four uploads
+abbrev pub sets : Sets
+sets = record { job = codes "j1"; task = 0; attempt = 0; commits = upload (codes "out/a") 1 ∷ upload (codes "out/b") 2 ∷ upload (codes "out/c") 3 ∷ upload (codes "out/d") 4 ∷ [] } ∷ []
+
+-- the completion of an upload
+abbrev pub completes : List ℕ → ℕ → Option Request
+completes key id = Some (CompleteUpload lake key id (record { number = 1; tag = hello_tag } ∷ []))
+
+-- the abort of an upload
+abbrev pub aborts : List ℕ → ℕ → Option Request
+aborts key id = Some (AbortUpload lake key id)
+
+-- the deletion of a key
+abbrev pub deletes : List ℕ → Option Request
+deletes key = Some (DeleteObject lake key)
+
+-- the put of `_SUCCESS`
+abbrev pub marks : Script → Option Request
+marks w = Some (PutObject lake (codes "out/_SUCCESS") (mark_text w (picks_of sets)) None)
+
+-- a completion is answered
+abbrev pub done : Outcome
+done = Answered (Completed hello_tag)
+
+-- the put of the marker is answered
+abbrev pub put_done : Outcome
+put_done = Answered (Stored hello_tag)
+
+-- the commit once its set is read, over these outcomes
+abbrev pub goes : ℕ → ℕ → List Outcome → Course
+goes retries lanes os = course_of (record { script = script retries lanes; minimum = 5242880 }) Driver (record { operation = TheCommit (replacing (script retries lanes) sets []); known = nothing_known }) os
+
+-- what a commit sends in one lane and in two, and what its revert takes back
+pub record LanesRun : Type 0 where
+  -- in one lane one after the other; a lost one is sent again at once
+  pub one : goes 3 1 (ReplyLost ∷ Answered (Refused NoSuchUpload) ∷ done ∷ done ∷ done ∷ put_done ∷ [])
+      ≡ record { requests = completes (codes "out/a") 1 ∷ completes (codes "out/a") 1 ∷ completes (codes "out/b") 2 ∷ completes (codes "out/c") 3 ∷ completes (codes "out/d") 4 ∷ marks (script 3 1) ∷ []; end = Some (ends.Commit commits.Committed) }
+  -- in two lanes by turns; a lost one is sent again at its lane's next turn
+  pub two : goes 3 2 (ReplyLost ∷ done ∷ Answered (Refused NoSuchUpload) ∷ done ∷ done ∷ put_done ∷ [])
+      ≡ record { requests = completes (codes "out/a") 1 ∷ completes (codes "out/b") 2 ∷ completes (codes "out/a") 1 ∷ completes (codes "out/d") 4 ∷ completes (codes "out/c") 3 ∷ marks (script 3 2) ∷ []; end = Some (ends.Commit commits.Committed) }
+  -- a completion that wears out is aborted and its key deleted, then the completed key, and then the uploads that were never sent are aborted
+  pub reverts : goes 0 1 (done ∷ ReplyLost ∷ Answered Aborted ∷ Answered Deleted ∷ Answered Deleted ∷ Answered Aborted ∷ Answered Aborted ∷ [])
+      ≡ record { requests = completes (codes "out/a") 1 ∷ completes (codes "out/b") 2 ∷ aborts (codes "out/b") 2 ∷ deletes (codes "out/b") ∷ deletes (codes "out/a") ∷ aborts (codes "out/c") 3 ∷ aborts (codes "out/d") 4 ∷ []; end = Some (ends.Commit (commits.StoreFault stages.Complete)) }
+  -- with lanes, so is each other one that was sent and got no answer, also where it was merely slow; what wears out in a revert is passed over
+  pub reverts_tried : goes 1 2 (ReplyLost ∷ Slow ∷ ReplyLost ∷ Answered Aborted ∷ Answered Deleted ∷ Answered Aborted ∷ ReplyLost ∷ ReplyLost ∷ Answered Aborted ∷ Answered Aborted ∷ [])
+      ≡ record { requests = completes (codes "out/a") 1 ∷ completes (codes "out/b") 2 ∷ completes (codes "out/a") 1 ∷ aborts (codes "out/a") 1 ∷ deletes (codes "out/a") ∷ aborts (codes "out/b") 2 ∷ deletes (codes "out/b") ∷ deletes (codes "out/b") ∷ aborts (codes "out/c") 3 ∷ aborts (codes "out/d") 4 ∷ []; end = Some (ends.Commit (commits.StoreFault stages.Complete)) }
+  -- a put of the marker that wears out reverts nothing
+  pub marker : goes 1 4 (done ∷ done ∷ done ∷ done ∷ ReplyLost ∷ Slow ∷ [])
+      ≡ record { requests = completes (codes "out/a") 1 ∷ completes (codes "out/b") 2 ∷ completes (codes "out/c") 3 ∷ completes (codes "out/d") 4 ∷ marks (script 1 4) ∷ marks (script 1 4) ∷ []; end = Some (ends.Commit (commits.StoreFault stages.Success)) }

@@ -1,0 +1,74 @@
+-- Four files, the reply to the first completion lost, and a commit whose driver is killed after five sendings: in two lanes and in one.
+use Rattle.std.specs.Prelude.{◌≡◌, ℕ, true, false, List, [], ◌∷◌, ◌++◌, length, Some, None, codes}
+use Rattle.std.specs.FinMap as fin
+use Rattle.s3_types.specs.Moment.{IsHonest, moment}
+use Rattle.s3_types.specs.declared.fates.Fate.TheVariants.{After}
+use Rattle.s3_types.specs.declared.request.Actor.TheVariants.{Driver}
+use Rattle.s3_types.specs.declared.journal.Entry.{Entry}
+use Rattle.job_model.specs.JobScript.{Script}
+use Rattle.job_model.specs.declared.events.Op.TheVariants as ops
+use Rattle.job_model.specs.declared.events.Event.TheVariants.{Start, Step, Kill}
+use Rattle.job_model.specs.declared.ends.EventEnd.{EventEnd}
+use Rattle.job_model.specs.declared.ends.EventEnd.TheVariants.{Done}
+use Rattle.job_model.specs.declared.states.ActorStage.TheVariants as stage
+use Rattle.job_protocol.specs.View.{object_at}
+use Rattle.job_spec.specs.Headline.{Always}
+use Rattle.job_spec.specs.Entries.{ZeroRename, OutsideStays}
+use Rattle.job_spec.specs.Seen.{Seen, seen}
+use Rattle.job_spec.specs.States.{past, dead, verdict}
+use Rattle.job_examples.specs.Jobs.{lake}
+use Rattle.job_examples.specs.OneFile.{opening}
+use Rattle.job_examples.specs.FourFileLanes as files
+use Rattle.job_examples.specs.FourFileLanes.{read_entries, completes, loses, finds_none, done_events, Shows, hellos, Goes, Prepared}
+
+-- the reply of the sending 27 is lost
+abbrev pub script : ℕ → Script
+script lanes = files.script 3 lanes (fin.insert fin.empty 27 After) (Start Driver ops.Commit ∷ Step Driver 5 ∷ Kill Driver ∷ [])
+
+-- the five sendings are of event 5
+abbrev pub two_entries : List Entry
+two_entries = loses 5 (codes "a") 1 ∷ completes 5 (codes "b") 2 ∷ finds_none 5 (codes "a") 1 ∷ completes 5 (codes "d") 4 ∷ []
+
+-- the sendings of the commit in one lane
+abbrev pub one_entries : List Entry
+one_entries = loses 5 (codes "a") 1 ∷ finds_none 5 (codes "a") 1 ∷ completes 5 (codes "b") 2 ∷ completes 5 (codes "c") 3 ∷ []
+
+-- the journal in two lanes
+abbrev pub in_two : List Entry
+in_two = read_entries 5 ++ two_entries
+
+-- the journal in one lane
+abbrev pub in_one : List Entry
+in_one = read_entries 5 ++ one_entries
+
+-- the ends of the run's events
+abbrev pub the_ends : List EventEnd
+the_ends = done_events ++ Done ∷ Done ∷ Done ∷ []
+
+-- what is seen after the first m entries
+abbrev pub at : ℕ → List Entry → ℕ → Seen
+at lanes journal m = seen (script lanes) (Some 4) opening journal m
+
+-- of a job with so many lanes, its journal and the names of the files that are left
+pub record KilledWith (lanes : ℕ) (journal : List Entry) (names : List (List ℕ)) : Type 0 where
+  pub sent : length journal ≡ 30
+  pub always : Always (script lanes) (Some 4) opening journal
+  pub honest : IsHonest opening journal
+  pub zero_rename : ZeroRename (script lanes) opening journal
+  pub outside : OutsideStays (script lanes) opening journal
+  pub prepared : Prepared (script lanes) journal
+  -- the commit began in event 4, and has no end
+  pub commit : Goes (script lanes) journal Driver ops.Commit 4 None 6 None
+  pub dead : (past (script lanes) the_ends).state Driver ≡ dead stage.Committing
+  pub verdict : verdict (script lanes) the_ends ≡ 1
+  pub begun : (at lanes journal 26).begun ≡ true
+  pub picked : (at lanes journal 26).picks 0 ≡ Some 0
+  -- three files are left, and no marker
+  pub left : Shows (script lanes) journal 30 (hellos names)
+  pub unmarked : (at lanes journal 30).put_mark ≡ false
+  pub unmade : object_at (moment opening journal 30).content lake (codes "out/_SUCCESS") ≡ None
+
+-- three whole files are shown in either, other ones, and no marker
+pub record LanesKilled : Type 0 where
+  pub two : KilledWith 2 in_two (codes "a" ∷ codes "b" ∷ codes "d" ∷ [])
+  pub one : KilledWith 1 in_one (codes "a" ∷ codes "b" ∷ codes "c" ∷ [])

@@ -1,0 +1,80 @@
+-- Four files in two lanes: the reply to the first completion is lost, and the commit ends all the same.
+use Rattle.std.specs.Prelude.{◌≡◌, ℕ, true, false, List, [], ◌∷◌, ◌++◌, length, Option, Some, None, codes}
+use Rattle.std.specs.FinMap as fin
+use Rattle.s3_types.specs.Moment.{IsHonest, moment}
+use Rattle.s3_types.specs.declared.fates.Fate.TheVariants.{After}
+use Rattle.s3_types.specs.declared.object.Object.{Object}
+use Rattle.s3_types.specs.declared.request.Actor.TheVariants.{Driver}
+use Rattle.s3_types.specs.declared.journal.Entry.{Entry}
+use Rattle.retries.specs.Worn.{first_worn}
+use Rattle.job_model.specs.JobScript.{Script}
+use Rattle.job_model.specs.declared.events.Op.TheVariants as ops
+use Rattle.job_model.specs.declared.events.Event.TheVariants.{Do}
+use Rattle.job_model.specs.declared.ends.CommitEnd.TheVariants as commits
+use Rattle.job_model.specs.declared.ends.OpEnd.TheVariants as ends
+use Rattle.job_model.specs.declared.ends.EventEnd.{EventEnd}
+use Rattle.job_model.specs.declared.ends.EventEnd.TheVariants.{Ended}
+use Rattle.job_protocol.specs.View.{object_at}
+use Rattle.job_spec.specs.Headline.{Always}
+use Rattle.job_spec.specs.Entries.{ZeroRename, OutsideStays}
+use Rattle.job_spec.specs.Ends.{commit_due, is_mark_answered}
+use Rattle.job_spec.specs.Seen.{Seen, seen}
+use Rattle.job_spec.specs.States.{verdict}
+use Rattle.job_spec.specs.Turns.{by_actor, since}
+use Rattle.job_examples.specs.Jobs.{lake}
+use Rattle.job_examples.specs.OneFile.{opening}
+use Rattle.job_examples.specs.FourFileLanes as files
+use Rattle.job_examples.specs.FourFileLanes.{read_entries, completes, loses, finds_none, the_marking, mark_bytes, done_events, Shows, hellos, Goes, Prepared}
+
+-- the reply of the sending 27 is lost
+abbrev pub script : Script
+script = files.script 3 2 (fin.insert fin.empty 27 After) (Do Driver ops.Commit ∷ [])
+
+-- the lanes are a and c, b and d: the lost completion is sent again at its lane's next turn
+abbrev pub commit_entries : List Entry
+commit_entries = loses 4 (codes "a") 1 ∷ completes 4 (codes "b") 2 ∷ finds_none 4 (codes "a") 1 ∷ completes 4 (codes "d") 4 ∷ completes 4 (codes "c") 3 ∷ the_marking ∷ []
+
+-- the run's journal
+abbrev pub journal : List Entry
+journal = read_entries 4 ++ commit_entries
+
+-- the ends of the run's events
+abbrev pub the_ends : List EventEnd
+the_ends = done_events ++ Ended (ends.Commit commits.Committed) ∷ []
+
+-- what is seen after the first m entries
+abbrev pub at : ℕ → Seen
+at m = seen script (Some 4) opening journal m
+
+-- the object at the key of the marker after the first m entries
+abbrev pub marker_at : ℕ → Option Object
+marker_at m = object_at (moment opening journal m).content lake (codes "out/_SUCCESS")
+
+-- the commit ends committed, with all four files
+pub record LanesLost : Type 0 where
+  pub sent : length journal ≡ 32
+  pub always : Always script (Some 4) opening journal
+  pub honest : IsHonest opening journal
+  pub zero_rename : ZeroRename script opening journal
+  pub outside : OutsideStays script opening journal
+  pub prepared : Prepared script journal
+  pub commit : Goes script journal Driver ops.Commit 4 None 4 (Some (ends.Commit commits.Committed))
+  -- no request wears out, so it is due that the job is committed; its marker was answered
+  pub worn : first_worn 3 (since 4 (by_actor Driver journal)) ≡ None
+  pub due : commit_due script (at 32).picks None (first_worn 3 (since 4 (by_actor Driver journal))) ≡ commits.Committed
+  pub answered : is_mark_answered script (since 4 (by_actor Driver journal)) ≡ true
+  pub verdict : verdict script the_ends ≡ 0
+  pub begun : (at 26).begun ≡ true
+  pub picked : (at 26).picks 0 ≡ Some 0
+  pub unmarked : (at 31).put_mark ≡ false
+  pub marked : (at 32).put_mark ≡ true
+  -- the files come in the order of the lanes' turns, and the marker stands over all four
+  pub none : Shows script journal 26 []
+  pub one : Shows script journal 27 (hellos (codes "a" ∷ []))
+  pub two : Shows script journal 28 (hellos (codes "a" ∷ codes "b" ∷ []))
+  pub again : Shows script journal 29 (hellos (codes "a" ∷ codes "b" ∷ []))
+  pub three : Shows script journal 30 (hellos (codes "a" ∷ codes "b" ∷ codes "d" ∷ []))
+  pub four : Shows script journal 31 (hellos (codes "a" ∷ codes "b" ∷ codes "c" ∷ codes "d" ∷ []))
+  pub whole : Shows script journal 32 (hellos (codes "a" ∷ codes "b" ∷ codes "c" ∷ codes "d" ∷ []))
+  pub unmade : marker_at 31 ≡ None
+  pub stands : marker_at 32 ≡ Some (record { bytes = mark_bytes; header = None })

@@ -1,0 +1,84 @@
+-- Four files in one lane: the second completion takes effect and its reply is lost, so it wears out, and the commit is reverted.
+use Rattle.std.specs.Prelude.{◌≡◌, ℕ, true, false, List, [], ◌∷◌, ◌++◌, length, Some, None, codes}
+use Rattle.std.specs.FinMap as fin
+use Rattle.s3_types.specs.Moment.{IsHonest}
+use Rattle.s3_types.specs.declared.fates.Fate.TheVariants.{After}
+use Rattle.s3_types.specs.declared.request.Actor.TheVariants.{Driver}
+use Rattle.s3_types.specs.declared.request.Request.TheVariants.{AbortUpload, DeleteObject}
+use Rattle.s3_types.specs.declared.reply.Reply.TheVariants.{Deleted, Aborted, Refused}
+use Rattle.s3_types.specs.declared.reply.Refusal.TheVariants.{NoSuchUpload}
+use Rattle.s3_types.specs.declared.journal.Entry.{Entry}
+use Rattle.retries.specs.Worn.{first_worn}
+use Rattle.job_model.specs.JobScript.{Script}
+use Rattle.job_model.specs.declared.events.Op.TheVariants as ops
+use Rattle.job_model.specs.declared.events.Event.TheVariants.{Do}
+use Rattle.job_model.specs.declared.ends.CommitEnd.TheVariants as commits
+use Rattle.job_model.specs.declared.ends.Stage.TheVariants as stages
+use Rattle.job_model.specs.declared.ends.OpEnd.TheVariants as ends
+use Rattle.job_model.specs.declared.ends.EventEnd.{EventEnd}
+use Rattle.job_model.specs.declared.ends.EventEnd.TheVariants.{Ended}
+use Rattle.job_spec.specs.Headline.{Always}
+use Rattle.job_spec.specs.Entries.{ZeroRename, OutsideStays}
+use Rattle.job_spec.specs.Ends.{commit_due}
+use Rattle.job_spec.specs.Seen.{Seen, seen}
+use Rattle.job_spec.specs.States.{verdict}
+use Rattle.job_spec.specs.Turns.{by_actor, since}
+use Rattle.job_examples.specs.Jobs.{lake, said}
+use Rattle.job_examples.specs.OneFile.{opening}
+use Rattle.job_examples.specs.FourFileLanes as files
+use Rattle.job_examples.specs.FourFileLanes.{out, read_entries, completion, completes, loses, done_events, Shows, hellos, Goes, Prepared}
+
+-- no request is sent again, and the reply of the sending 28 is lost
+abbrev pub script : Script
+script = files.script 0 1 (fin.insert fin.empty 28 After) (Do Driver ops.Commit ∷ [])
+
+-- the upload of b is gone, its file is deleted, then that of a, and the uploads of c and d are aborted
+abbrev pub commit_entries : List Entry
+commit_entries =
+    completes 4 (codes "a") 1
+    ∷ loses 4 (codes "b") 2
+    ∷ said 4 Driver (AbortUpload lake (out (codes "b")) 2) (Refused NoSuchUpload)
+    ∷ said 4 Driver (DeleteObject lake (out (codes "b"))) Deleted
+    ∷ said 4 Driver (DeleteObject lake (out (codes "a"))) Deleted
+    ∷ said 4 Driver (AbortUpload lake (out (codes "c")) 3) Aborted
+    ∷ said 4 Driver (AbortUpload lake (out (codes "d")) 4) Aborted
+    ∷ []
+
+-- the run's journal
+abbrev pub journal : List Entry
+journal = read_entries 4 ++ commit_entries
+
+-- the ends of the run's events
+abbrev pub the_ends : List EventEnd
+the_ends = done_events ++ Ended (ends.Commit (commits.StoreFault stages.Complete)) ∷ []
+
+-- what is seen after the first m entries
+abbrev pub at : ℕ → Seen
+at m = seen script (Some 4) opening journal m
+
+-- the commit is reverted, and nothing is shown
+pub record LanesReverted : Type 0 where
+  pub sent : length journal ≡ 33
+  pub always : Always script (Some 4) opening journal
+  pub honest : IsHonest opening journal
+  pub zero_rename : ZeroRename script opening journal
+  pub outside : OutsideStays script opening journal
+  pub prepared : Prepared script journal
+  pub commit : Goes script journal Driver ops.Commit 4 None 4 (Some (ends.Commit (commits.StoreFault stages.Complete)))
+  -- the second completion wears out, and its stage is the end that is due
+  pub worn : first_worn 0 (since 4 (by_actor Driver journal)) ≡ Some (completion (codes "b") 2)
+  pub due : commit_due script (at 33).picks None (first_worn 0 (since 4 (by_actor Driver journal))) ≡ commits.StoreFault stages.Complete
+  pub verdict : verdict script the_ends ≡ 8
+  -- the commit begins with the read, which picks the attempt; no marker is put
+  pub not_begun : (at 25).begun ≡ false
+  pub begun : (at 26).begun ≡ true
+  pub unpicked : (at 25).picks 0 ≡ None
+  pub picked : (at 26).picks 0 ≡ Some 0
+  pub unmarked : (at 33).put_mark ≡ false
+  -- a is shown with its completion and b with the lost one; the revert hides b and then a
+  pub none : Shows script journal 26 []
+  pub one : Shows script journal 27 (hellos (codes "a" ∷ []))
+  pub two : Shows script journal 28 (hellos (codes "a" ∷ codes "b" ∷ []))
+  pub undone : Shows script journal 30 (hellos (codes "a" ∷ []))
+  pub reverted : Shows script journal 31 []
+  pub whole : Shows script journal 33 []

@@ -1,0 +1,77 @@
+-- Journals that a job's promise refuses, each by the part of it that is named.
+use Rattle.std.specs.Prelude.{ℕ, List, [], ◌∷◌, ◌++◌, Some, None, codes}
+use Rattle.std.specs.FinMap as fin
+use Rattle.s3_types.specs.Store.{Content}
+use Rattle.s3_types.specs.Tags.{plain_tag}
+use Rattle.s3_types.specs.declared.request.Actor.TheVariants.{Driver}
+use Rattle.s3_types.specs.declared.request.Request.TheVariants.{PutObject, DeleteObject}
+use Rattle.s3_types.specs.declared.reply.Reply.TheVariants.{Stored, Deleted}
+use Rattle.s3_types.specs.declared.journal.Entry.{Entry}
+use Rattle.job_model.specs.declared.ends.Pick.{Pick}
+use Rattle.job_model.specs.declared.ends.SetupEnd.TheVariants as setups
+use Rattle.job_model.specs.declared.ends.TaskEnd.TheVariants as tasks
+use Rattle.job_model.specs.declared.ends.OpEnd.TheVariants as ends
+use Rattle.job_model.specs.declared.ends.EventEnd.{EventEnd}
+use Rattle.job_model.specs.declared.ends.EventEnd.TheVariants.{Ended}
+use Rattle.job_spec.specs.Headline.{Always}
+use Rattle.job_spec.specs.Promise.{Promised}
+use Rattle.job_examples.specs.Jobs.{lake, said}
+use Rattle.job_examples.specs.OneFile.{script, opening, setup_entries, write_entries, attempt_entries, the_read, the_completion, the_marking}
+
+-- the ends of the events before the commit
+abbrev pub before_commit : List EventEnd
+before_commit = Ended (ends.Setup setups.Done) ∷ Ended (ends.Task tasks.Done) ∷ Ended (ends.Task tasks.Done) ∷ []
+
+-- the driver puts an object while its commit goes on
+abbrev pub puts : List ℕ → List ℕ → Entry
+puts key bytes = said 4 Driver (PutObject lake key bytes None) (Stored (plain_tag bytes))
+
+-- a foreign file stands at the destination after the commit has begun
+abbrev pub foreign : List Entry
+foreign = attempt_entries ++ the_read ∷ puts (codes "out/other") (codes "hello") ∷ []
+
+-- the file of the pick is torn
+abbrev pub torn : List Entry
+torn = attempt_entries ++ the_read ∷ puts (codes "out/part-00000") (codes "hel") ∷ []
+
+-- the driver completes the upload in an event before that of its commit
+abbrev pub early : List Entry
+early = setup_entries ++ write_entries ++ the_completion 3 ∷ []
+
+-- its commit completes the upload before it has read the set
+abbrev pub unread : List Entry
+unread = attempt_entries ++ the_completion 4 ∷ []
+
+-- the marker is put while the file is not there
+abbrev pub marked_early : List Entry
+marked_early = attempt_entries ++ the_read ∷ the_marking ∷ []
+
+-- a store that shows one file already
+abbrev pub old_opening : Content
+old_opening = record {
+  buckets = fin.insert fin.empty lake (record { objects = fin.insert fin.empty (codes "out/old") (record { bytes = codes "old"; header = None }); uploads = fin.empty });
+  next = 1;
+  minimum = 5242880;
+}
+
+-- a kept file is gone, in the mode append
+abbrev pub kept_gone : List Entry
+kept_gone = attempt_entries ++ the_read ∷ said 4 Driver (DeleteObject lake (codes "out/old")) Deleted ∷ []
+
+-- none of these is what a reader may rely on, so none is promised, whatever picks are told
+pub record Misshown : Type 0 where
+  pub foreign : Always script (Some 4) opening foreign → ⊥
+  pub torn : Always script (Some 4) opening torn → ⊥
+  pub early : Always script (Some 4) opening early → ⊥
+  pub unread : Always script (Some 4) opening unread → ⊥
+  pub marked_early : Always script (Some 4) opening marked_early → ⊥
+  pub kept_gone : Always script (Some 4) old_opening kept_gone → ⊥
+
+-- no such run is promised, whatever picks are told
+pub record MisshownRuns : Type 0 where
+  pub foreign : (ps : List Pick) → Promised script opening foreign ps before_commit → ⊥
+  pub torn : (ps : List Pick) → Promised script opening torn ps before_commit → ⊥
+  pub early : (ps : List Pick) → Promised script opening early ps before_commit → ⊥
+  pub unread : (ps : List Pick) → Promised script opening unread ps before_commit → ⊥
+  pub marked_early : (ps : List Pick) → Promised script opening marked_early ps before_commit → ⊥
+  pub kept_gone : (ps : List Pick) → Promised script old_opening kept_gone ps before_commit → ⊥

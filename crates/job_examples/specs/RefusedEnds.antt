@@ -1,0 +1,136 @@
+-- Ends that are not those that are due, and a run that shows two attempts of one task.
+use Rattle.std.specs.Prelude.{ℕ, List, [], ◌∷◌, ◌++◌, Some, None, codes}
+use Rattle.serde_json.specs.Written.{compact_text}
+use Rattle.s3_types.specs.Tags.{plain_tag, joined_tag}
+use Rattle.s3_types.specs.declared.request.Actor.{Actor}
+use Rattle.s3_types.specs.declared.request.Actor.TheVariants.{Driver, Attempt}
+use Rattle.s3_types.specs.declared.request.Request.TheVariants.{PutObject, GetObject, CreateUpload, UploadPart, CompleteUpload, AbortUpload, DeleteObject}
+use Rattle.s3_types.specs.declared.reply.Reply.TheVariants.{Stored, Object, Deleted, Upload, Part, Completed, Aborted}
+use Rattle.s3_types.specs.declared.request.Committer.TheVariants.{Magic}
+use Rattle.s3_types.specs.declared.request.Mode.TheVariants.{Append}
+use Rattle.s3_types.specs.declared.journal.Outcome.TheVariants.{ReplyLost}
+use Rattle.s3_types.specs.declared.journal.Entry.{Entry}
+use Rattle.pending_json.specs.Pending.{Pending}
+use Rattle.pending_json.specs.Trees.{set_tree, success_tree}
+use Rattle.pending_json.specs.declared.records.PendingSet.{PendingSet}
+use Rattle.pending_json.specs.declared.records.SuccessMark.{SuccessMark}
+use Rattle.job_model.specs.JobScript.{Script}
+use Rattle.job_model.specs.declared.events.Op.TheVariants as ops
+use Rattle.job_model.specs.declared.events.Event.TheVariants.{Do, Kill, Restart}
+use Rattle.job_model.specs.declared.ends.SetupEnd.TheVariants as setups
+use Rattle.job_model.specs.declared.ends.TaskEnd.TheVariants as tasks
+use Rattle.job_model.specs.declared.ends.CommitEnd.TheVariants as commits
+use Rattle.job_model.specs.declared.ends.CleanEnd.TheVariants as cleans
+use Rattle.job_model.specs.declared.ends.Stage.TheVariants as stages
+use Rattle.job_model.specs.declared.ends.OpEnd.TheVariants as ends
+use Rattle.job_model.specs.declared.ends.EventEnd.{EventEnd}
+use Rattle.job_model.specs.declared.ends.EventEnd.TheVariants.{Done, Ended}
+use Rattle.job_spec.specs.Follows.{Plays}
+use Rattle.job_spec.specs.Headline.{Always}
+use Rattle.job_spec.specs.Promise.{CommitsEnd}
+use Rattle.job_examples.specs.Jobs.{lake, job, attempt, worker, entry, said, hello_tag}
+use Rattle.job_examples.specs.OneFile.{opening, journal, setting, attempt_entries}
+use Rattle.job_examples.specs.OneFinished.{the_ends}
+
+-- a set-up that is done
+abbrev pub done_setup : EventEnd
+done_setup = Ended (ends.Setup setups.Done)
+
+-- an attempt's operation that is done
+abbrev pub done_task : EventEnd
+done_task = Ended (ends.Task tasks.Done)
+
+-- an upload of `hello` by an attempt, and its completion by the driver
+abbrev pub drafts : ℕ → Actor → List ℕ → ℕ → List Entry
+drafts k a key id = said k a (CreateUpload lake key) (Upload id) ∷ said k a (UploadPart lake key id 1 (codes "hello")) (Part hello_tag) ∷ []
+
+-- the completion of an upload by the driver
+abbrev pub completes : ℕ → List ℕ → ℕ → Entry
+completes k key id = said k Driver (CompleteUpload lake key id (record { number = 1; tag = hello_tag } ∷ [])) (Completed (joined_tag (hello_tag ∷ [])))
+
+-- ---- two attempts of one task
+
+-- the other attempt
+abbrev pub other : Actor
+other = Attempt 0 1
+
+-- the script of two attempts of one task
+abbrev pub both_script : Script
+both_script = job Magic Append 1 3 1
+    (attempt 0 0 ((codes "a", codes "hello") ∷ []) ∷ attempt 0 1 ((codes "b", codes "hello") ∷ []) ∷ [])
+    (Do Driver ops.Setup ∷ Do worker ops.Write ∷ Do worker ops.Commit ∷ Do other ops.Write ∷ Do other ops.Commit ∷ Do Driver ops.Commit ∷ [])
+
+-- the second attempt's pending upload
+abbrev pub b_record : Pending
+b_record = record { task = 0; attempt = 1; bucket = lake; destination = codes "out/b"; upload = 2; length = 5; tags = hello_tag ∷ []; sizes = Some (5 ∷ []) }
+
+-- the second attempt's set
+abbrev pub b_set : PendingSet
+b_set = record { job = codes "j1"; task = 0; attempt = 1; commits = b_record ∷ [] }
+
+-- what `_SUCCESS` says of the second attempt
+abbrev pub b_mark : SuccessMark
+b_mark = record { job = codes "j1"; committer = Magic; files = codes "b" ∷ []; stamp = None }
+
+-- both attempts publish, the driver reads the set of the later one, completes the uploads of both and puts the marker
+abbrev pub both_attempts : List Entry
+both_attempts =
+    drafts 2 worker (codes "out/a") 1
+    ++ drafts 4 other (codes "out/b") 2
+    ++ said 5 other (PutObject lake (codes "out/__magic/job-j1/sets/task_0.pendingset") (compact_text (set_tree b_set)) None) (Stored (plain_tag (compact_text (set_tree b_set))))
+    ∷ said 6 Driver (GetObject lake (codes "out/__magic/job-j1/sets/task_0.pendingset")) (Object (compact_text (set_tree b_set)) None)
+    ∷ completes 6 (codes "out/a") 1
+    ∷ completes 6 (codes "out/b") 2
+    ∷ said 6 Driver (PutObject lake (codes "out/_SUCCESS") (compact_text (success_tree b_mark)) None) (Stored (plain_tag (compact_text (success_tree b_mark))))
+    ∷ []
+
+-- ---- a revert
+
+-- no request is sent again, and the job's commit is the event 4
+abbrev pub revert_script : Script
+revert_script = job Magic Append 1 0 1 (attempt 0 0 ((codes "a", codes "hello") ∷ (codes "b", codes "hello") ∷ []) ∷ []) (Do Driver ops.Setup ∷ Do worker ops.Write ∷ Do worker ops.Commit ∷ Do Driver ops.Commit ∷ [])
+
+-- `out/a` is completed, the completion of `out/b` is lost, and its revert leaves out the deletion of `out/a`
+abbrev pub half_reverted : List Entry
+half_reverted =
+    drafts 2 worker (codes "out/a") 1
+    ++ drafts 2 worker (codes "out/b") 2
+    ++ completes 4 (codes "out/a") 1
+    ∷ entry 4 Driver (CompleteUpload lake (codes "out/b") 2 (record { number = 1; tag = hello_tag } ∷ [])) ReplyLost
+    ∷ said 4 Driver (AbortUpload lake (codes "out/b") 2) Aborted
+    ∷ said 4 Driver (DeleteObject lake (codes "out/b")) Deleted
+    ∷ []
+
+-- the ends of a run whose commit is reverted
+abbrev pub revert_ends : List EventEnd
+revert_ends = done_setup ∷ done_task ∷ done_task ∷ Ended (ends.Commit (commits.StoreFault stages.Complete)) ∷ []
+
+-- ---- a task that is reported after a restart
+
+-- the script in which a task is reported behind the restart
+abbrev pub anew_script : Script
+anew_script = job Magic Append 1 3 1 (attempt 0 0 ((codes "part-00000", codes "hello") ∷ []) ∷ [])
+    (Do Driver ops.Setup ∷ Do worker ops.Write ∷ Kill Driver ∷ Restart ∷ Do worker ops.Commit ∷ Do Driver ops.Commit ∷ [])
+
+-- the new driver's commit misses the task all the same
+abbrev pub anew_ends : List EventEnd
+anew_ends = done_setup ∷ done_task ∷ Done ∷ Done ∷ done_task ∷ Ended (ends.Commit (commits.Missing 0)) ∷ []
+
+-- ---- whose want of memory it is
+
+-- the fourth event, the driver's commit, is told to have ended as a clean that found no memory
+abbrev pub strange_ends : List EventEnd
+strange_ends = done_setup ∷ done_task ∷ done_task ∷ Ended (ends.Clean cleans.NoMemory) ∷ []
+
+-- no such end is due
+pub record Misended : Type 0 where
+  -- the marker stands over the files of two attempts of one task
+  pub both : Always both_script (Some 6) opening both_attempts → ⊥
+  -- an upload that a revert leaves completed
+  pub left : CommitsEnd revert_script opening half_reverted revert_ends → ⊥
+  -- a task is missing that was reported after the restart
+  pub anew : CommitsEnd anew_script opening [] anew_ends → ⊥
+  -- an end stands behind that of the last event
+  pub beyond : Plays setting (the_ends ++ Done ∷ []) journal → ⊥
+  -- a job's commit that found no memory is told as a clean that found none
+  pub strange : Plays setting strange_ends attempt_entries → ⊥

@@ -1,0 +1,113 @@
+-- What attempts and the driver of a job send for files of five bytes, and what whole runs of them keep.
+use Rattle.std.specs.Prelude.{◌≡◌, ℕ, ◌-◌, false, List, [], ◌∷◌, ◌++◌, take, slice_get, Option, Some, None, codes}
+use Rattle.std.specs.FinMap as fin
+use Rattle.serde_json.specs.Written.{compact_text}
+use Rattle.s3_types.specs.Store.{Content, Upload as Live}
+use Rattle.s3_types.specs.Tags.{Spelled, plain_tag}
+use Rattle.s3_types.specs.declared.request.Actor.{Actor}
+use Rattle.s3_types.specs.declared.request.Actor.TheVariants.{Driver}
+use Rattle.s3_types.specs.declared.request.Request.TheVariants.{PutObject, GetObject, ListPage, CreateUpload, UploadPart}
+use Rattle.s3_types.specs.declared.reply.Reply.TheVariants.{Stored, Object, Page, Upload, Part}
+use Rattle.s3_types.specs.declared.reply.PageEntry.{PageEntry}
+use Rattle.s3_types.specs.declared.journal.Entry.{Entry}
+use Rattle.pending_json.specs.Pending.{Pending}
+use Rattle.pending_json.specs.Trees.{pending_tree, set_tree}
+use Rattle.pending_json.specs.declared.records.PendingSet.{PendingSet}
+use Rattle.job_model.specs.JobScript.{Script}
+use Rattle.job_model.specs.declared.events.Op.{Op}
+use Rattle.job_model.specs.declared.events.Event.TheVariants.{Do}
+use Rattle.job_model.specs.declared.ends.OpEnd.{OpEnd}
+use Rattle.job_model.specs.declared.ends.EventEnd.{EventEnd}
+use Rattle.job_model.specs.declared.ends.EventEnd.TheVariants.{Ended}
+use Rattle.job_protocol.specs.Operations.{Setting}
+use Rattle.job_spec.specs.Headline.{Always}
+use Rattle.job_spec.specs.Entries.{ZeroRename, OutsideStays}
+use Rattle.job_spec.specs.Promise.{Sent}
+use Rattle.job_spec.specs.Follows.{OpFollows, op_over}
+use Rattle.job_spec.specs.States.{past, refusal}
+use Rattle.job_spec.specs.Turns.{until, of_event, by_actor, AllBy}
+use Rattle.job_examples.specs.Jobs.{lake, said, hello_tag}
+use Rattle.job_examples.specs.OneFile.{doing as begun_so}
+
+-- ---- requests
+
+-- a text of five bytes with its tag
+pub record Text : Type 0 where
+  pub bytes : List ℕ
+  pub tag : Spelled
+
+-- the text `hello`
+abbrev pub hello : Text
+hello = record { bytes = codes "hello"; tag = hello_tag }
+
+-- the pending upload of a task's attempt for a file that has this text
+abbrev pub upload : Text → ℕ → ℕ → List ℕ → ℕ → Pending
+upload text task attempt path id = record { task = task; attempt = attempt; bucket = lake; destination = codes "out/" ++ path; upload = id; length = 5; tags = text.tag ∷ []; sizes = Some (5 ∷ []) }
+
+-- an attempt's set of such uploads
+abbrev pub set_of : ℕ → ℕ → List Pending → PendingSet
+set_of task attempt uploads = record { job = codes "j1"; task = task; attempt = attempt; commits = uploads }
+
+-- the live upload of a file that has `hello`, as the store holds it with its one part
+abbrev pub held : List ℕ → Live
+held path = record { key = codes "out/" ++ path; parts = fin.insert fin.empty 1 (codes "hello") }
+
+-- a put of a text, and a read of it
+abbrev pub puts : ℕ → Actor → List ℕ → List ℕ → Entry
+puts k a key text = said k a (PutObject lake key text None) (Stored (plain_tag text))
+
+-- a read of a text
+abbrev pub reads : ℕ → Actor → List ℕ → List ℕ → Entry
+reads k a key text = said k a (GetObject lake key) (Object text None)
+
+-- a page of a listing, which is the last
+abbrev pub lists : ℕ → Actor → List ℕ → List PageEntry → Entry
+lists k a prefix found = said k a (ListPage lake prefix false [] 1000) (Page found false)
+
+-- a file's upload, its part, its marker and its record, below the attempt's directory
+abbrev pub writes : Text → ℕ → Actor → List ℕ → List ℕ → Pending → List Entry
+writes text k a directory path u =
+    said k a (CreateUpload lake u.destination) (Upload u.upload)
+    ∷ said k a (UploadPart lake u.destination u.upload 1 text.bytes) (Part text.tag)
+    ∷ said k a (PutObject lake (directory ++ path) [] (Some 5)) (Stored (plain_tag []))
+    ∷ puts k a (directory ++ path ++ codes ".pending") (compact_text (pending_tree u))
+    ∷ []
+
+-- the read of a file's record
+abbrev pub reads_record : ℕ → Actor → List ℕ → List ℕ → Pending → Entry
+reads_record k a directory path u = reads k a (directory ++ path ++ codes ".pending") (compact_text (pending_tree u))
+
+-- the put of a set
+abbrev pub puts_set : ℕ → Actor → List ℕ → PendingSet → Entry
+puts_set k a key s = puts k a key (compact_text (set_tree s))
+
+-- the driver's read of a set
+abbrev pub reads_set : ℕ → List ℕ → PendingSet → Entry
+reads_set k key s = reads k Driver key (compact_text (set_tree s))
+
+-- ---- runs
+
+-- what stays while the run goes on
+abbrev pub setting : Script → Setting
+setting w = record { script = w; minimum = 5242880 }
+
+-- Event k, where the events had these ends: it has the actor do a whole operation, as it may, with this task missing then.
+-- Its entries are the actor's; the actor's entries up to there are what the operation asks, they lead to this end, and the event has it.
+pub record Goes (w : Script) (xs : List EventEnd) (journal : List Entry) (a : Actor) (op : Op) (k : ℕ) (missing : Option ℕ) (end : OpEnd) : Type 0 where
+  pub event : slice_get w.events (k - 1) ≡ Some (Do a op)
+  pub may : refusal (past w (take (k - 1) xs)).state (Do a op) ≡ None
+  pub doing : (past w (take k xs)).doing a ≡ Some (begun_so op k missing)
+  pub turns : AllBy a (of_event k journal)
+  pub follows : OpFollows (setting w) a (begun_so op k missing) (by_actor a (until k journal))
+  pub over : op_over (setting w) a (begun_so op k missing) (by_actor a (until k journal)) ≡ Some end
+  pub has_ended : slice_get xs (k - 1) ≡ Some (Ended end)
+
+-- What is kept of a run whose commit is this event.
+pub record Keeps (w : Script) (commit : Option ℕ) (opening : Content) (journal : List Entry) : Type 0 where
+  -- at each moment a reader is shown what he may rely on
+  pub always : Always w commit opening journal
+  -- each answer is the one that was due, and each sending has the outcome that the script names for its number
+  pub sent : Sent w opening journal
+  -- nothing is copied, the driver sends no data, and only it shows files
+  pub zero_rename : ZeroRename w opening journal
+  pub outside : OutsideStays w opening journal

@@ -1,0 +1,25 @@
+-- Entries that are nobody's turn.
+use Rattle.std.specs.Prelude.{ℕ, List, [], ◌∷◌, None, codes}
+use Rattle.s3_types.specs.declared.request.Actor.{Actor}
+use Rattle.s3_types.specs.declared.request.Actor.TheVariants.{Driver, Attempt}
+use Rattle.s3_types.specs.declared.request.Request.TheVariants.{PutObject}
+use Rattle.s3_types.specs.declared.reply.Reply.TheVariants.{Stored}
+use Rattle.s3_types.specs.declared.journal.Entry.{Entry}
+use Rattle.job_spec.specs.Follows.{Plays}
+use Rattle.job_examples.specs.Jobs.{lake, said, worker, hello_tag}
+use Rattle.job_examples.specs.OneFile.{setting}
+use Rattle.job_examples.specs.OneFinished.{the_ends}
+
+-- a put of the task's set, by this actor in this event
+abbrev pub stray : ℕ → Actor → List Entry
+stray k a = said k a (PutObject lake (codes "out/__magic/job-j1/sets/task_0.pendingset") (codes "hello") None) (Stored hello_tag) ∷ []
+
+-- an entry that is nobody's turn is in no run
+pub record StraysAreRefused : Type 0 where
+  -- before the first event
+  pub no_event : Plays setting [] (stray 0 worker) → ⊥
+  -- in the set-up, which has no end yet: of an attempt that is not declared, and of one that has begun nothing
+  pub undeclared : Plays setting [] (stray 1 (Attempt 9 9)) → ⊥
+  pub idle : Plays setting [] (stray 1 worker) → ⊥
+  -- behind the last event
+  pub late : Plays setting the_ends (stray 5 Driver) → ⊥

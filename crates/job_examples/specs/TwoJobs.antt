@@ -1,0 +1,226 @@
+-- Two jobs at one destination, one file each, in one journal: what each of them sees.
+use Rattle.std.specs.Prelude.{◌≡◌, ℕ, ◌+◌, ◌||◌, not, nat_le, Bool, true, false, List, [], ◌∷◌, ◌++◌, length, Option, Some, None, codes}
+use Rattle.serde_json.specs.Written.{compact_text}
+use Rattle.s3_types.specs.Tags.{plain_tag, joined_tag}
+use Rattle.s3_types.specs.Moment.{IsHonest, moment}
+use Rattle.s3_types.specs.declared.object.Object.{Object}
+use Rattle.s3_types.specs.declared.request.Actor.TheVariants.{Driver}
+use Rattle.s3_types.specs.declared.request.Request.TheVariants.{PutObject, GetObject, HeadObject, DeleteObject, DeleteObjects, ListPage, CreateUpload, UploadPart, CompleteUpload, AbortUpload}
+use Rattle.s3_types.specs.declared.reply.Reply.TheVariants.{Stored, Object as Read, Deleted, Page, Upload, Part, Completed, Refused}
+use Rattle.s3_types.specs.declared.reply.Refusal.TheVariants.{NoSuchKey, NoSuchUpload}
+use Rattle.s3_types.specs.declared.reply.PageEntry.TheVariants.{Object as Listed}
+use Rattle.s3_types.specs.declared.request.Committer.TheVariants.{Magic}
+use Rattle.s3_types.specs.declared.request.Mode.TheVariants.{Append}
+use Rattle.s3_types.specs.declared.journal.Entry.{Entry}
+use Rattle.retries.specs.Worn.{first_worn}
+use Rattle.pending_json.specs.Trees.{set_tree, success_tree}
+use Rattle.pending_json.specs.declared.records.PendingSet.{PendingSet}
+use Rattle.pending_json.specs.declared.records.SuccessMark.{SuccessMark}
+use Rattle.job_model.specs.JobScript.{Script}
+use Rattle.job_model.specs.declared.events.Op.TheVariants as ops
+use Rattle.job_model.specs.declared.events.Event.{Event}
+use Rattle.job_model.specs.declared.events.Event.TheVariants.{Do}
+use Rattle.job_model.specs.declared.ends.CommitEnd.TheVariants as commits
+use Rattle.job_model.specs.declared.ends.CleanEnd.TheVariants as cleans
+use Rattle.job_model.specs.declared.ends.OpEnd.TheVariants as ends
+use Rattle.job_model.specs.declared.ends.EventEnd.{EventEnd}
+use Rattle.job_model.specs.declared.ends.EventEnd.TheVariants.{Ended}
+use Rattle.job_protocol.specs.View.{object_at}
+use Rattle.job_spec.specs.Entries.{ZeroRename}
+use Rattle.job_spec.specs.Ends.{commit_due}
+use Rattle.job_spec.specs.Eyes.{in_eyes}
+use Rattle.job_spec.specs.Follows.{OpFollows}
+use Rattle.job_spec.specs.Seen.{Seen, seen}
+use Rattle.job_spec.specs.States.{verdict}
+use Rattle.job_spec.specs.Turns.{until, since, by_actor}
+use Rattle.job_examples.specs.Jobs.{lake, job, attempt, worker, said, hello_tag}
+use Rattle.job_examples.specs.OneFile.{opening, doing}
+use Rattle.job_examples.specs.Runs.{setting}
+use Rattle.job_examples.specs.FourFiles.{of_file}
+use Rattle.job_examples.specs.FourFileLanes.{out, record_bytes, Shows, hellos, Goes, Prepared, done_events}
+
+-- ---- the jobs
+
+-- the script of a job with one file
+abbrev pub script : List ℕ → List ℕ → List Event → Script
+script id name later = record (job Magic Append 1 3 1 (attempt 0 0 ((name, codes "hello") ∷ []) ∷ []) (Do Driver ops.Setup ∷ Do worker ops.Write ∷ Do worker ops.Commit ∷ Do Driver ops.Commit ∷ later)) { job = id }
+
+-- the first job, with the file `x`
+abbrev pub ja : Script
+ja = script (codes "ja") (codes "x") (Do Driver ops.Clean ∷ [])
+
+-- the second job, with the file `y`
+abbrev pub jb : Script
+jb = script (codes "jb") (codes "y") []
+
+-- ---- a job's keys and records
+
+-- a job's magic directory
+abbrev pub magic : List ℕ → List ℕ
+magic id = codes "out/__magic/job-" ++ (id ++ codes "/")
+
+-- the key of a file's marker
+abbrev pub below_attempt : List ℕ → List ℕ → List ℕ
+below_attempt id name = magic id ++ (codes "tasks/0_0/__base/" ++ name)
+
+-- the key of a file's record
+abbrev pub pending : List ℕ → List ℕ → List ℕ
+pending id name = below_attempt id (name ++ codes ".pending")
+
+-- the key of the task's set
+abbrev pub set_key : List ℕ → List ℕ
+set_key id = magic id ++ codes "sets/task_0.pendingset"
+
+-- a job's set
+abbrev pub set_of : List ℕ → List ℕ → ℕ → PendingSet
+set_of id name upload = record { job = id; task = 0; attempt = 0; commits = of_file name upload ∷ [] }
+
+-- the text of the set
+abbrev pub set_bytes : List ℕ → List ℕ → ℕ → List ℕ
+set_bytes id name upload = compact_text (set_tree (set_of id name upload))
+
+-- what `_SUCCESS` says of a job
+abbrev pub mark_of : List ℕ → List ℕ → SuccessMark
+mark_of id name = record { job = id; committer = Magic; files = name ∷ []; stamp = None }
+
+-- the text of `_SUCCESS`
+abbrev pub mark_bytes : List ℕ → List ℕ → List ℕ
+mark_bytes id name = compact_text (success_tree (mark_of id name))
+
+-- ---- its entries: set-up, write and task's commit are the events from k on
+
+-- a job's entries up to its task's commit; its set-up is event k
+abbrev pub prepares : List ℕ → List ℕ → ℕ → ℕ → List Entry
+prepares id name upload k =
+    said k Driver (HeadObject lake (codes "out")) (Refused NoSuchKey)
+    ∷ said k Driver (DeleteObject lake (codes "out/_SUCCESS")) Deleted
+    ∷ said k Driver (ListPage lake (magic id) false [] 1000) (Page [] false)
+    ∷ said (k + 1) worker (CreateUpload lake (out name)) (Upload upload)
+    ∷ said (k + 1) worker (UploadPart lake (out name) upload 1 (codes "hello")) (Part hello_tag)
+    ∷ said (k + 1) worker (PutObject lake (below_attempt id name) [] (Some 5)) (Stored (plain_tag []))
+    ∷ said (k + 1) worker (PutObject lake (pending id name) (record_bytes name upload) None) (Stored (plain_tag (record_bytes name upload)))
+    ∷ said (k + 2) worker (ListPage lake (below_attempt id []) false [] 1000) (Page (Listed (below_attempt id name) 0 ∷ Listed (pending id name) 168 ∷ []) false)
+    ∷ said (k + 2) worker (GetObject lake (pending id name)) (Read (record_bytes name upload) None)
+    ∷ said (k + 2) worker (PutObject lake (set_key id) (set_bytes id name upload) None) (Stored (plain_tag (set_bytes id name upload)))
+    ∷ []
+
+-- the read of its set, the completion and the put of its marker
+abbrev pub reads : List ℕ → List ℕ → ℕ → ℕ → Entry
+reads id name upload k = said k Driver (GetObject lake (set_key id)) (Read (set_bytes id name upload) None)
+
+-- the completion of a job's upload
+abbrev pub completes : List ℕ → ℕ → ℕ → Entry
+completes name upload k = said k Driver (CompleteUpload lake (out name) upload (record { number = 1; tag = hello_tag } ∷ [])) (Completed (joined_tag (hello_tag ∷ [])))
+
+-- the put of a job's `_SUCCESS`
+abbrev pub marks : List ℕ → List ℕ → ℕ → Entry
+marks id name k = said k Driver (PutObject lake (codes "out/_SUCCESS") (mark_bytes id name) None) (Stored (plain_tag (mark_bytes id name)))
+
+-- A clean that spares the other job's uploads: it lists what the job kept, aborts what its records name, and deletes it. This is
+-- none of the operations of one job alone, whose clean lists all live uploads below the destination.
+abbrev pub clean_entries : List Entry
+clean_entries =
+    said 9 Driver (ListPage lake (magic (codes "ja")) false [] 1000) (Page (
+    Listed (set_key (codes "ja")) (length (set_bytes (codes "ja") (codes "x") 1))
+    ∷ Listed (below_attempt (codes "ja") (codes "x")) 0
+    ∷ Listed (pending (codes "ja") (codes "x")) 168
+    ∷ []) false)
+    ∷ said 9 Driver (GetObject lake (pending (codes "ja") (codes "x"))) (Read (record_bytes (codes "x") 1) None)
+    ∷ said 9 Driver (AbortUpload lake (out (codes "x")) 1) (Refused NoSuchUpload)
+    ∷ said 9 Driver (DeleteObjects lake (set_key (codes "ja") ∷ below_attempt (codes "ja") (codes "x") ∷ pending (codes "ja") (codes "x") ∷ [])) Deleted
+    ∷ []
+
+-- ---- the run: three events of ja, four of jb, two of ja
+
+-- up to the read of jb's commit, the sending 21
+abbrev pub quiet_entries : List Entry
+quiet_entries = prepares (codes "ja") (codes "x") 1 1 ++ prepares (codes "jb") (codes "y") 2 4 ++ reads (codes "jb") (codes "y") 2 7 ∷ []
+
+-- the entries behind the read of jb's commit
+abbrev pub later_entries : List Entry
+later_entries =
+    completes (codes "y") 2 7
+    ∷ marks (codes "jb") (codes "y") 7
+    ∷ reads (codes "ja") (codes "x") 1 8
+    ∷ completes (codes "x") 1 8
+    ∷ marks (codes "ja") (codes "x") 8
+    ∷ clean_entries
+
+-- the run's journal
+abbrev pub journal : List Entry
+journal = quiet_entries ++ later_entries
+
+-- the events 4 to 7 are those of jb, and all others are those of ja
+abbrev pub mine : ℕ → Bool
+mine n = nat_le n 3 || nat_le 8 n
+
+-- the journal in the eyes of ja
+abbrev pub eyes : List Entry
+eyes = in_eyes mine journal
+
+-- the ends of the run's events
+abbrev pub the_ends : List EventEnd
+the_ends = done_events ++ Ended (ends.Commit commits.Committed) ∷ Ended (ends.Clean cleans.Done) ∷ []
+
+-- what is seen after the first m entries
+abbrev pub at : ℕ → Seen
+at m = seen ja (Some 4) opening eyes m
+
+-- the object at a key after the first m entries
+abbrev pub object_then : ℕ → List ℕ → Option Object
+object_then m key = object_at (moment opening eyes m).content lake key
+
+-- of the object at a key after m entries: these bytes, without a header
+abbrev pub Holds : ℕ → List ℕ → List ℕ → Type 0
+Holds m key bytes = object_then m key ≡ Some (record { bytes = bytes; header = None })
+
+-- the three keys below jb's magic directory have what jb put there
+pub record Kept (m : ℕ) : Type 0 where
+  pub set : Holds m (set_key (codes "jb")) (set_bytes (codes "jb") (codes "y") 2)
+  pub marker : object_then m (below_attempt (codes "jb") (codes "y")) ≡ Some (record { bytes = []; header = Some 5 })
+  pub pending : Holds m (pending (codes "jb") (codes "y")) (record_bytes (codes "y") 2)
+
+-- what ja keeps and sees beside jb
+pub record TwoJobs : Type 0 where
+  pub sent : length eyes ≡ 30
+  pub honest : IsHonest opening eyes
+  -- each entry of ja is none of a copy and leaves all outside the destination, whatever jb sends
+  pub zero_rename : ZeroRename ja opening eyes
+  pub prepared : Prepared ja eyes
+  pub commit : Goes ja eyes Driver ops.Commit 4 None 4 (Some (ends.Commit commits.Committed))
+  -- a clean of one job alone does not go so: it would abort what the other has not completed
+  pub other_clean : OpFollows (setting ja) Driver (doing ops.Clean 5 None) (by_actor Driver eyes) → ⊥
+  pub worn : first_worn 3 (since 4 (by_actor Driver (until 4 eyes))) ≡ None
+  pub due : commit_due ja (at 26).picks None None ≡ commits.Committed
+  pub verdict : verdict ja the_ends ≡ 0
+  -- neither jb's commit nor its marker is ja's
+  pub not_begun : (at 23).begun ≡ false
+  pub begun : (at 24).begun ≡ true
+  pub unpicked : (at 23).picks 0 ≡ None
+  pub picked : (at 24).picks 0 ≡ Some 0
+  pub unmarked : (at 25).put_mark ≡ false
+  pub marked : (at 26).put_mark ≡ true
+  -- y is shown with jb's commit and x with ja's; the later marker stands
+  pub none : Shows ja eyes 21 []
+  pub one : Shows ja eyes 22 (hellos (codes "y" ∷ []))
+  pub two : Shows ja eyes 25 (hellos (codes "x" ∷ codes "y" ∷ []))
+  pub whole : Shows ja eyes 30 (hellos (codes "x" ∷ codes "y" ∷ []))
+  pub first_mark : Holds 23 (codes "out/_SUCCESS") (mark_bytes (codes "jb") (codes "y"))
+  pub last_mark : Holds 30 (codes "out/_SUCCESS") (mark_bytes (codes "ja") (codes "x"))
+  -- ja's own keys are gone after its clean, and those of jb stay
+  pub gone : object_then 30 (set_key (codes "ja")) ≡ None
+  pub before : Kept 26
+  pub stay : Kept 30
+
+-- the journal in the eyes of jb
+abbrev pub other_eyes : List Entry
+other_eyes = in_eyes (λ n. not (mine n)) journal
+
+-- what jb keeps and sees beside ja
+pub record TheOther : Type 0 where
+  pub zero_rename : ZeroRename jb opening other_eyes
+  pub prepared : Prepared jb other_eyes
+  pub commit : Goes jb other_eyes Driver ops.Commit 4 None 4 (Some (ends.Commit commits.Committed))
+  pub not_begun : (seen jb (Some 4) opening other_eyes 20).begun ≡ false
+  pub begun : (seen jb (Some 4) opening other_eyes 21).begun ≡ true
+  pub marked : (seen jb (Some 4) opening other_eyes 23).put_mark ≡ true

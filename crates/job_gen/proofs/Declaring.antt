@@ -1,0 +1,117 @@
+-- The attempts of a made job.
+use Rattle.std.proofs.Common.{◌≡◌, ℕ, zero, suc, ◌+◌, ◌<◌, ◌≤◌, Bool, true, false, cond, is_some, ◌⊎◌, inl, inr, List, [], ◌∷◌, ◌++◌, Some, refl, sym, ap, subst, ◌∙◌, arith, append_assoc}
+use Rattle.std.specs.List.{flat_map, range_with_len}
+use Rattle.std.specs.Map.{lookup}
+use Rattle.std.proofs.lemmas.Bool.{eq-eqb, ne_eqb, cases_lt}
+use Rattle.job_model.specs.Files.{File}
+use Rattle.job_model.specs.Attempts.{Who, Declared, same_name, declares}
+use Rattle.job_model.specs.Legal.{AreFiles, AreAttempts}
+use Rattle.job_gen.specs.Made.{attempt_of, is_twice, attempts_of}
+use Rattle.job_gen.proofs.Ranges.{flat_map_next}
+
+-- ---- which attempts are declared
+
+-- an attempt that is declared behind others
+pub later : (xs ys : List Declared) (m : Who) → declares ys m ≡ true → declares (xs ++ ys) m ≡ true
+later [] ys m h = h
+later (x ∷ xs) ys m h = by (same_name m x.0) (later xs ys m h)
+  where
+    by : (b : Bool) → declares (xs ++ ys) m ≡ true → is_some (cond b (Some x.1) (lookup (same_name m) (xs ++ ys))) ≡ true
+    by true k = refl
+    by false k = k
+
+-- one that is declared neither before nor behind
+pub neither : (xs ys : List Declared) (m : Who) → declares xs m ≡ false → declares ys m ≡ false → declares (xs ++ ys) m ≡ false
+neither [] ys m h k = k
+neither (x ∷ xs) ys m h k = by (same_name m x.0) h (λ e. neither xs ys m e k)
+  where
+    by : (b : Bool) → is_some (cond b (Some x.1) (lookup (same_name m) xs)) ≡ false → (declares xs m ≡ false → declares (xs ++ ys) m ≡ false) → is_some (cond b (Some x.1) (lookup (same_name m) (xs ++ ys))) ≡ false
+    by true e rest = e
+    by false e rest = rest e
+
+other_task : (t a k i : ℕ) → (t ≡ a → ⊥) → same_name (attempt_of t k) (attempt_of a i) ≡ false
+other_task t a k i ne = rw (ne_eqb t a ne) refl
+
+same_own : (t k : ℕ) → same_name (attempt_of t k) (attempt_of t k) ≡ true
+same_own t k = rw (eq-eqb t t refl, eq-eqb k k refl) refl
+
+second_new : (t : ℕ) → same_name (attempt_of t 1) (attempt_of t 0) ≡ false
+second_new t = rw (eq-eqb t t refl) refl
+
+-- the attempts of a task that has two of them, or one
+abbrev pub one_or_two : Bool → List File → ℕ → List Declared
+one_or_two b fs a = cond b ((attempt_of a 0, fs) ∷ (attempt_of a 1, fs) ∷ []) ((attempt_of a 0, fs) ∷ [])
+
+not_of : (fs : List File) (t a k : ℕ) → (t ≡ a → ⊥) → declares (attempts_of fs a) (attempt_of t k) ≡ false
+not_of fs t a k ne = by (is_twice a)
+  where
+    by : (b : Bool) → declares (one_or_two b fs a) (attempt_of t k) ≡ false
+    by true = rw (other_task t a k 0 ne, other_task t a k 1 ne) refl
+    by false = rw (other_task t a k 0 ne) refl
+
+-- attempts of the tasks from a on, by the files of each task
+abbrev pub attempts_from : (ℕ → List File) → ℕ → ℕ → List Declared
+attempts_from g a n = flat_map (λ t. attempts_of (g t) t) (range_with_len a n)
+
+-- an attempt of a later task is not declared yet
+pub new_task : (g : ℕ → List File) (a n t k : ℕ) → a + n ≤ t → declares (attempts_from g a n) (attempt_of t k) ≡ false
+new_task g a zero t k h = refl
+new_task g a (suc n) t k h = neither (attempts_of (g a) a) (attempts_from g (a + 1) n) (attempt_of t k) (not_of (g a) t a k (λ e. omega arith)) (new_task g (a + 1) n t k (omega arith))
+
+has_first : (fs : List File) (rest : List Declared) (a : ℕ) → declares (attempts_of fs a ++ rest) (attempt_of a 0) ≡ true
+has_first fs rest a = by (is_twice a)
+  where
+    by : (b : Bool) → declares (one_or_two b fs a ++ rest) (attempt_of a 0) ≡ true
+    by true = rw (same_own a 0) refl
+    by false = rw (same_own a 0) refl
+
+has_second : (fs : List File) (rest : List Declared) (a : ℕ) → is_twice a ≡ true → declares (attempts_of fs a ++ rest) (attempt_of a 1) ≡ true
+has_second fs rest a h = rw (h, second_new a, same_own a 1) refl
+
+same_or_later : (a t : ℕ) → a ≤ t → (t ≡ a) ⊎ (a + 1 ≤ t)
+same_or_later a t h = elim (cases_lt a t) [ inl less ↦ inr (omega arith) | inr le ↦ inl (omega arith) ]
+
+-- the first attempt of each task is declared
+pub first_known : (g : ℕ → List File) (a n t : ℕ) → a ≤ t → t < a + n → declares (attempts_from g a n) (attempt_of t 0) ≡ true
+first_known g a zero t h k = absurd (omega arith)
+first_known g a (suc n) t h k = elim (same_or_later a t h) [
+  | inl e ↦ ap (λ x. declares (attempts_from g a (suc n)) (attempt_of x 0)) e ∙ has_first (g a) (attempts_from g (a + 1) n) a
+  | inr less ↦ later (attempts_of (g a) a) (attempts_from g (a + 1) n) (attempt_of t 0) (first_known g (a + 1) n t less (omega arith))
+]
+
+-- and the second one of each that has two
+pub second_known : (g : ℕ → List File) (a n t : ℕ) → a ≤ t → t < a + n → is_twice t ≡ true → declares (attempts_from g a n) (attempt_of t 1) ≡ true
+second_known g a zero t h k two = absurd (omega arith)
+second_known g a (suc n) t h k two = elim (same_or_later a t h) [
+  | inl e ↦ ap (λ x. declares (attempts_from g a (suc n)) (attempt_of x 1)) e ∙ has_second (g a) (attempts_from g (a + 1) n) a (sym (ap is_twice e) ∙ two)
+  | inr less ↦ later (attempts_of (g a) a) (attempts_from g (a + 1) n) (attempt_of t 1) (second_known g (a + 1) n t less (omega arith) two)
+]
+
+-- ---- they are such as a script may declare
+
+behind : (tasks : ℕ) (before rest : List Declared) (fs : List File) (a : ℕ) (b : Bool) → a < tasks → declares before (attempt_of a 0) ≡ false → declares before (attempt_of a 1) ≡ false → AreFiles [] fs
+    → AreAttempts tasks (before ++ one_or_two b fs a) rest → AreAttempts tasks before (one_or_two b fs a ++ rest)
+behind tasks before rest fs a true less first second fit h = (
+  less,
+  omega arith,
+  first,
+  fit,
+  (
+    less,
+    omega arith,
+    neither before ((attempt_of a 0, fs) ∷ []) (attempt_of a 1) second (rw (second_new a) refl),
+    fit,
+    subst (λ (l : List Declared). AreAttempts tasks l rest) (sym (append_assoc before ((attempt_of a 0, fs) ∷ []) ((attempt_of a 1, fs) ∷ []))) h,
+  ),
+)
+behind tasks before rest fs a false less first second fit h = (less, omega arith, first, fit, h)
+
+pub attempts_fit : (g : ℕ → List File) (tasks a n : ℕ) → ((t : ℕ) → t < tasks → AreFiles [] (g t)) → a + n ≤ tasks → AreAttempts tasks (attempts_from g 0 a) (attempts_from g a n)
+attempts_fit g tasks a zero fit h = tt
+attempts_fit g tasks a (suc n) fit h =
+    behind tasks (attempts_from g 0 a) (attempts_from g (a + 1) n) (g a) a (is_twice a) (omega arith) (new_task g 0 a a 0 (omega arith)) (new_task g 0 a a 1 (omega arith)) (fit a (omega arith))
+    (subst (λ (l : List Declared). AreAttempts tasks l (attempts_from g (a + 1) n)) (flat_map_next (λ t. attempts_of (g t) t) a) (attempts_fit g tasks (a + 1) n fit (omega arith)))
+
+-- a second attempt is not declared by the first
+pub second_free : (before : List Declared) (fs : List File) (t : ℕ) → declares before (attempt_of t 1) ≡ false → declares (before ++ (attempt_of t 0, fs) ∷ []) (attempt_of t 1) ≡ false
+second_free before fs t h = neither before ((attempt_of t 0, fs) ∷ []) (attempt_of t 1) h (rw (second_new t) refl)

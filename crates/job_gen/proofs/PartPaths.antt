@@ -1,0 +1,76 @@
+-- The paths of a made job's files.
+use Rattle.std.proofs.Common.{◌≡◌, ℕ, zero, suc, ◌+◌, ◌/◌, ◌%◌, ◌<◌, ◌≤◌, nat_lt, Bool, true, false, cond, is_some, ◌&&◌, List, [], ◌∷◌, ◌++◌, map, codes, Some, refl, ap, ◌∙◌, arith}
+use Rattle.std.specs.List.{list_all, range_with_len}
+use Rattle.std.specs.Map.{lookup}
+use Rattle.std.specs.Str.{IsAscii, is_utf8}
+use Rattle.std.proofs.lemmas.Bool.{and_parts}
+use Rattle.std.proofs.lemmas.Bool.Decides.{nat_tests}
+use Rattle.std.proofs.lemmas.List.Folds.{list_all-append}
+use Rattle.std.proofs.lemmas.Str.{is_utf8-from_IsUtf8, IsUtf8-from_ascii}
+use Rattle.std.proofs.lemmas.Str.Ascii.{IsAscii-nil, IsAscii-cons}
+use Rattle.proof_base.specs.Order.{text_eq}
+use Rattle.proof_base.proofs.Numbers.{below_is}
+use Rattle.words.specs.Parts.{is_other}
+use Rattle.words.specs.Words.{is_bare}
+use Rattle.words.proofs.Pieces.{one_part}
+use Rattle.proof_base.proofs.Members.{text_false}
+use Rattle.job_model.specs.Files.{File, has_path}
+use Rattle.job_model.specs.Legal.{IsGiven}
+use Rattle.job_gen.specs.Made.{two_digits, three_digits, part_path}
+
+-- a test that holds of the letters and of each digit holds of the whole path
+all_part : (p : ℕ → Bool) (t j : ℕ) → t < 1000 → j < 100 → list_all p (codes "part-") ≡ true → p 45 ≡ true → ((d : ℕ) → d < 10 → p (48 + d) ≡ true) → list_all p (part_path t j) ≡ true
+all_part p t j small few letters dash digit =
+    let a = digit (t / 100) (omega arith) in
+    let b = digit (t % 100 / 10) (omega arith) in
+    let c = digit (t % 100 % 10) (omega arith) in
+    let d = digit (j / 10) (omega arith) in
+    let e = digit (j % 10) (omega arith) in
+    let rest : list_all p (three_digits t ++ (codes "-" ++ two_digits j)) ≡ true = rw (a, b, c, dash, d, e) refl in
+    list_all-append p (codes "part-") (three_digits t ++ (codes "-" ++ two_digits j)) ∙ (λ i. letters i && rest i)
+
+small_byte : (b : ℕ) → nat_lt b 128 ≡ true → b < 128
+small_byte b h = below_is b 128 h
+
+all_small : (bs : List ℕ) → list_all (λ b. nat_lt b 128) bs ≡ true → IsAscii bs
+all_small [] h = IsAscii-nil
+all_small (b ∷ bs) h = let p = and_parts (nat_lt b 128) _ h in IsAscii-cons b bs (small_byte b p.0) (all_small bs p.1)
+
+pub text_fits : (bs : List ℕ) → list_all (λ b. nat_lt b 128) bs ≡ true → is_utf8 bs ≡ true
+text_fits bs h = is_utf8-from_IsUtf8 bs (IsUtf8-from_ascii bs (all_small bs h))
+
+digit_small : (d : ℕ) → d < 10 → nat_lt (48 + d) 128 ≡ true
+digit_small d h = grind (arith, nat_tests)
+
+digit_other : (d : ℕ) → d < 10 → is_other 47 (48 + d) ≡ true
+digit_other d h = grind (arith, nat_tests)
+
+digit_bare : (d : ℕ) → d < 10 → is_bare (48 + d) ≡ true
+digit_bare d h = grind (arith, nat_tests)
+
+-- such a path is one that a script may give
+pub path_given : (t j : ℕ) → t < 1000 → j < 100 → IsGiven (part_path t j)
+path_given t j small few =
+    let alone = one_part 47 (part_path t j) (all_part (is_other 47) t j small few refl refl digit_other) in
+    record {
+      stated = rw alone refl;
+      shown = rw alone refl;
+      word = (text_fits (part_path t j) (all_part (λ b. nat_lt b 128) t j small few refl refl digit_small), all_part is_bare t j small few refl refl digit_bare);
+    }
+
+-- paths of two files of a task differ
+path_other : (t i j : ℕ) → i < j → j < 100 → part_path t j ≡ part_path t i → ⊥
+path_other t i j less few e =
+    let tens : 48 + j / 10 ≡ 48 + i / 10 = cc in
+    let ones : 48 + j % 10 ≡ 48 + i % 10 = cc in
+    omega arith
+
+-- a path that no earlier file of the task has
+pub path_free : (t j a n : ℕ) (fs : List File) → map (λ f. f.0) fs ≡ map (part_path t) (range_with_len a n) → a + n ≤ j → j < 100 → has_path fs (part_path t j) ≡ false
+path_free t j a n [] e less few = refl
+path_free t j a zero (f ∷ fs) e less few = absurd cc
+path_free t j a (suc n) (f ∷ fs) e less few =
+    let here : f.0 ≡ part_path t a = cc in
+    let rest : map (λ g. g.0) fs ≡ map (part_path t) (range_with_len (a + 1) n) = cc in
+    let other : text_eq (part_path t j) f.0 ≡ false = ap (text_eq (part_path t j)) here ∙ text_false (part_path t j) (part_path t a) (path_other t a j (omega arith) few) in
+    ap (λ b. is_some (cond b (Some f.1) (lookup (text_eq (part_path t j)) fs))) other ∙ path_free t j (a + 1) n fs rest (omega arith) few

@@ -1,3 +1,0 @@
-pub mod Happenings
-pub mod Laws
-pub mod Running

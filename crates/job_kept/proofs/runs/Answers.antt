@@ -1,6 +1,0 @@
-use Rattle.job_kept.proofs.Kept.{runs_are_kept, kept_among}
-use Rattle.job_kept.proofs.Facts.{runs_hold_facts}
-use Rattle.job_kept.proofs.runs.Goals as goal
-
-pub returns : goal.returns
-returns c = record { among = kept_among; kept = runs_are_kept; facts = runs_hold_facts }

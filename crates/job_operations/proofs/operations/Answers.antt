@@ -1,5 +1,0 @@
-use Rattle.job_operations.proofs.Tabled.{goes_on, starts}
-use Rattle.job_operations.proofs.operations.Goals as goal
-
-pub returns : goal.returns
-returns c = record { table = record { goes_on = goes_on; starts = starts } }

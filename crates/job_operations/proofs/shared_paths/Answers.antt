@@ -1,5 +1,0 @@
-use Rattle.job_operations.proofs.Shared.{shared_found, shared_none}
-use Rattle.job_operations.proofs.shared_paths.Goals as goal
-
-pub returns : goal.returns
-returns c = record { shared = record { found = shared_found; none = shared_none } }

@@ -1,0 +1,204 @@
+-- How the driver's abort or clean of the job ends, by its own entries.
+use Rattle.std.proofs.Common.{◌≡◌, ℕ, ◌⊎◌, inl, inr, Bool, true, List, [], ◌∷◌, Option, Some, None, refl, sym, ap, subst, ◌∙◌}
+use Rattle.std.specs.Option.{is_some, option_map}
+use Rattle.std.specs.FinMap as fin
+use Rattle.s3_types.specs.Store.{BucketContent, Scene}
+use Rattle.s3_types.specs.Answer.{answer, answer_at, apply}
+use Rattle.s3_types.specs.Moment.{after_all, AreHonest}
+use Rattle.s3_types.specs.declared.request.Actor.{Actor}
+use Rattle.s3_types.specs.declared.request.Committer.{Committer}
+use Rattle.s3_types.specs.declared.request.Committer.TheVariants.{Magic}
+use Rattle.s3_types.specs.declared.request.Request.{Request}
+use Rattle.s3_types.specs.declared.request.UploadRef.{UploadRef}
+use Rattle.s3_types.specs.declared.reply.Reply.{Reply}
+use Rattle.s3_types.specs.declared.reply.Reply.TheVariants.{ClusterNames, Refused}
+use Rattle.s3_types.specs.declared.reply.Refusal.TheVariants.{NoSuchBucket}
+use Rattle.s3_types.specs.declared.journal.Outcome.{Outcome}
+use Rattle.s3_types.specs.declared.journal.Outcome.TheVariants.{Answered, ReplyLost}
+use Rattle.s3_types.specs.declared.journal.Entry.{Entry}
+use Rattle.retries.specs.Operation.{run, Follows}
+use Rattle.retries.specs.Retries.{Retried, fresh, step, spent_in}
+use Rattle.retries.specs.Worn.{WornFirst}
+use Rattle.job_model.specs.Legal.{IsLegal}
+use Rattle.job_model.specs.JobScript.{Script}
+use Rattle.job_model.specs.Known.{Known}
+use Rattle.job_model.specs.declared.ends.CleanEnd.{CleanEnd}
+use Rattle.job_model.specs.declared.ends.CleanEnd.TheVariants as cleans
+use Rattle.job_model.specs.declared.ends.OpEnd.TheVariants as ends
+use Rattle.job_protocol.specs.View.{view}
+use Rattle.list_walk.specs.Walks.{uploads_after, Walked, More, Whole, walked_uploads, Sweep, Listing, Deleting, sweep_hears, all_go}
+use Rattle.job_protocol.specs.Setup.{dest_prefix}
+use Rattle.job_protocol.specs.Cleanups.{Clean, Walking, Aborting, Sweeping, Naming, Removing, CleanOver, clean_start, clean_asks, clean_hears, clean_after, clean_over, aborted, aborting, walking, sweeping, removing, naming}
+use Rattle.job_protocol.specs.Operations.{Setting, wants, advance, over}
+use Rattle.job_protocol.specs.Laws.{is_fault, spare_of}
+use Rattle.job_protocol.proofs.Wearing.{first_spent}
+use Rattle.job_protocol.proofs.Faults.{faults}
+use Rattle.job_spec.specs.Headline.{Same}
+use Rattle.job_spec.specs.OperationEnds.{CleanIs, Cleaned}
+use Rattle.proof_base.proofs.Members.{some_is, none_some, false_true}
+use Rattle.store_frame.proofs.Reading.{reads_nothing}
+use Rattle.job_facts.specs.Clearing.{Clears}
+use Rattle.job_facts.proofs.Aborting.{taken_in}
+use Rattle.job_facts.proofs.Clearing.{clean_clears}
+use Rattle.job_facts.proofs.Going.{step_so}
+use Rattle.job_facts.proofs.Shows.{HidesAll, hidden_shows}
+use Rattle.job_outcomes.specs.CleanEnds.{cleaning, CleanEnds}
+use Rattle.job_outcomes.proofs.Alone.{clean_follows, clean_run}
+use Rattle.job_outcomes.proofs.Went.{Went, went}
+
+-- ---- it ends Done, or a request wore out
+
+abbrev Ends : CleanEnd → Type 0
+Ends e = (e ≡ cleans.StoreFault) ⊎ (e ≡ cleans.Done)
+
+abbrev Over : Clean → Type 0
+Over (CleanOver end) = Ends end
+Over _ = Unit {0}
+
+aborted_so : (c : Committer) → Over (aborted c)
+aborted_so Magic = tt
+aborted_so _ = tt
+
+aborting_so : (c : Committer) (us : List UploadRef) → Over (aborting c us)
+aborting_so c [] = aborted_so c
+aborting_so c (u ∷ us) = tt
+
+walking_so : (c : Committer) (x : Walked UploadRef) → Over (walking c x)
+walking_so c (More found) = tt
+walking_so c (Whole found) = aborting_so c found
+
+sweeping_so : (s : Option Sweep) → Over (sweeping s)
+sweeping_so (Some s) = tt
+sweeping_so None = inr refl
+
+removing_so : (ps : List (List ℕ)) → Over (removing ps)
+removing_so [] = inr refl
+removing_so (p ∷ ps) = tt
+
+naming_so : (r : Reply) → Over (naming r)
+naming_so (ClusterNames paths) = removing_so paths
+naming_so _ = tt
+
+heard_so : (w : Script) (c : Clean) (r : Reply) → Over c → Over (clean_hears w c r)
+heard_so w (Walking found) r h = walking_so w.committer (walked_uploads found r)
+heard_so w (Aborting u us) r h = aborting_so w.committer us
+heard_so w (Sweeping s) r h = sweeping_so (sweep_hears all_go s r)
+heard_so w Naming r h = naming_so r
+heard_so w (Removing p ps) r h = removing_so ps
+heard_so w (CleanOver end) r h = h
+
+step_over : (w : Script) (t : Retried Clean) (o : Outcome) → Over t.operation → Over (step w.retries (clean_after w) t o).operation
+step_over w t o h = step_so w.retries (clean_after w) t o Over (λ x e. heard_so w t.operation x h) (λ n. h) (λ n. inl refl)
+
+run_over : (w : Script) (t : Retried Clean) (es : List Entry) → Over t.operation → Over (run (step w.retries (clean_after w)) t es).operation
+run_over w t [] h = h
+run_over w t (e ∷ es) h = run_over w (step w.retries (clean_after w) t e.outcome) es (step_over w t e.outcome h)
+
+over_so : (c : Clean) → Over c → (e : CleanEnd) → option_map ends.Clean (clean_over c) ≡ Some (ends.Clean e) → Ends e
+over_so (CleanOver end) h e is = subst Ends (same is) h
+  where
+    same : {d e : CleanEnd} → Some (ends.Clean d) ≡ Some (ends.Clean e) → d ≡ e
+    same e = cc
+over_so (Walking found) h e is = absurd (none_some refl is)
+over_so _ h e is = absurd (none_some refl is)
+
+fault_is : (e : CleanEnd) → is_fault (Some (ends.Clean e)) ≡ true → e ≡ cleans.StoreFault
+fault_is cleans.StoreFault h = refl
+fault_is _ h = absurd (false_true refl h)
+
+module _ (g : Setting) (a : Actor) (k : Known) (es : List Entry) (f : Follows (wants g a) (advance g a) (cleaning g k) es) where
+  abbrev w : Script
+  w = g.script
+
+  abbrev first : Retried Clean
+  first = fresh w.retries clean_start
+
+  abbrev at_end : Clean
+  at_end = (run (step w.retries (clean_after w)) first es).operation
+
+  end_is : over (run (advance g a) (cleaning g k) es).operation ≡ option_map ends.Clean (clean_over at_end)
+  end_is = ap over (clean_run g a k first es)
+
+  pub clean_ends : (e : CleanEnd) → over (run (advance g a) (cleaning g k) es).operation ≡ Some (ends.Clean e) → (worn : Option Request) × WornFirst w.retries es worn × CleanIs worn e
+  clean_ends e is =
+      let worn = spent_in (advance g a) (λ y. spare_of y.operation) (cleaning g k) es in
+      (worn, first_spent g a (cleaning g k) refl refl es f, by worn (sym (ap is_fault is) ∙ faults g a (cleaning g k) refl refl es f) (over_so at_end (run_over w first es tt) e (sym end_is ∙ is)))
+    where
+      by : (worn : Option Request) → is_fault (Some (ends.Clean e)) ≡ is_some worn → Ends e → CleanIs worn e
+      by (Some r) h d = fault_is e h
+      by None h (inl d) = absurd (false_true h (ap (λ v. is_fault (Some (ends.Clean v))) d))
+      by None h (inr d) = d
+
+  -- ---- what it leaves
+
+  module _ (j : IsLegal g.script) (s0 : Scene) where
+    -- where there is no bucket it lists for ever
+    abbrev Bare : Scene → Clean → Type 0
+    Bare s (Walking found) = fin.get s.content.buckets w.dest.bucket ≡ None
+    Bare s _ = ⊥
+
+    abbrev Cleans : Scene → Clean → Type 0
+    Cleans s t = Clears w s t × Same (view w.dest s.content) (view w.dest s0.content)
+
+    abbrev Holds : Scene → Clean → Type 0
+    Holds s t = Cleans s t ⊎ Bare s t
+
+    -- it hides nothing
+    shows : (s : Scene) (t : Clean) → Clears w s t → (r : Request) → clean_asks w t ≡ Some r → Same (view w.dest (apply s r).content) (view w.dest s.content)
+    shows s (Sweeping (Listing keys)) h r e = hidden_shows j s r ReplyLost h.2 (subst (HidesAll w) (some_is e) (λ b q i. absurd i))
+    shows s (Sweeping (Deleting q qs)) h r e = hidden_shows j s r ReplyLost h.2 (subst (HidesAll w) (some_is e) (λ b x i. h.3 x (taken_in 1000 (q ∷ qs) x i)))
+    shows s Naming h r e = subst (λ v. Same (view w.dest (apply s v).content) (view w.dest s.content)) (some_is e) (λ p. refl)
+    shows s (Removing p ps) h r e = subst (λ v. Same (view w.dest (apply s v).content) (view w.dest s.content)) (some_is e) (λ q. refl)
+    shows s (CleanOver end) h r e = absurd (none_some refl e)
+    shows s _ h r e = hidden_shows j s r ReplyLost h.0 (subst (HidesAll w) (some_is e) (λ b q i. absurd i))
+
+    refused : (s : Scene) (found : List UploadRef) → fin.get s.content.buckets w.dest.bucket ≡ None → answer s (uploads_after w.dest.bucket (dest_prefix w) found) ≡ Refused NoSuchBucket
+    refused s found e = ap (λ o. answer_at o s.content.next s.content.minimum (uploads_after w.dest.bucket (dest_prefix w) found)) e
+
+    bare_still : (s : Scene) (m : Clean) → Bare s m → (r : Request) → clean_asks w m ≡ Some r → Bare (apply s r) m
+    bare_still s (Walking found) h r asked = ap (λ v. fin.get v.content.buckets w.dest.bucket) (ap (apply s) (sym (some_is asked)) ∙ reads_nothing s (uploads_after w.dest.bucket (dest_prefix w) found) refl) ∙ h
+    bare_still s _ h r asked = absurd h
+
+    bare_heard : (s : Scene) (m : Clean) → Bare s m → (r : Request) → clean_asks w m ≡ Some r → (x : Reply) → x ≡ answer s r → Bare (apply s r) (clean_hears w m x)
+    bare_heard s (Walking found) h r asked x e =
+        let due : x ≡ Refused NoSuchBucket = e ∙ ap (answer s) (sym (some_is asked)) ∙ refused s found h in
+        subst (λ y. Bare (apply s r) (clean_hears w (Walking found) y)) (sym due) (bare_still s (Walking found) h r asked)
+    bare_heard s _ h r asked x e = absurd h
+
+    heard : (s : Scene) (m : Clean) → Holds s m → (r : Request) → clean_asks w m ≡ Some r → (x : Reply) (repeated : Bool) → x ≡ answer s r → Holds (apply s r) (clean_hears w m x)
+    heard s m (inl h) r asked x repeated e = inl (clean_clears w s w.retries 0 repeated m h.0 r asked (Answered x) e, λ p. shows s m h.0 r asked p ∙ h.1 p)
+    heard s m (inr h) r asked x repeated e = inr (bare_heard s m h r asked x e)
+
+    still : (s : Scene) (m : Clean) → Holds s m → (r : Request) → clean_asks w m ≡ Some r → Holds (apply s r) m
+    still s m (inl h) r asked = inl (clean_clears w s w.retries 1 true m h.0 r asked ReplyLost tt, λ p. shows s m h.0 r asked p ∙ h.1 p)
+    still s m (inr h) r asked = inr (bare_still s m h r asked)
+
+    begins_so : (o : Option BucketContent) → fin.get s0.content.buckets w.dest.bucket ≡ o → Holds s0 clean_start
+    begins_so (Some b) e = inl (((b, e), λ id u g c. inr refl), λ p. refl)
+    begins_so None e = inr e
+
+    left : (s : Scene) (m : Clean) → Holds s m → clean_over m ≡ Some cleans.Done → Cleaned w s0 s
+    left s (CleanOver end) (inl h) e = record { nothing = h.0 (some_is e); view_stays = h.1 }
+    left s (CleanOver end) (inr h) e = absurd h
+    left s (Walking found) h e = absurd (none_some refl e)
+    left s (Aborting u us) h e = absurd (none_some refl e)
+    left s (Sweeping t) h e = absurd (none_some refl e)
+    left s Naming h e = absurd (none_some refl e)
+    left s (Removing p ps) h e = absurd (none_some refl e)
+
+    pub clean_leaves : AreHonest s0 es → over (run (advance g a) (cleaning g k) es).operation ≡ Some (ends.Clean cleans.Done) → Cleaned w s0 (after_all s0 es)
+    clean_leaves honest is = by (went w.retries (clean_asks w) (clean_after w) Holds heard still (λ m. refl) es s0 first (begins_so (fin.get s0.content.buckets w.dest.bucket) refl) (clean_follows g a k first es f) honest)
+      where
+        done : clean_over at_end ≡ Some cleans.Done
+        done = same (clean_over at_end) (sym end_is ∙ is)
+          where
+            same : (o : Option CleanEnd) → option_map ends.Clean o ≡ Some (ends.Clean cleans.Done) → o ≡ Some cleans.Done
+            same None e = absurd (none_some refl e)
+            same (Some d) e = cc
+
+        by : Went w.retries (clean_asks w) (clean_after w) Holds heard still (λ m. refl) first s0 es → Cleaned w s0 (after_all s0 es)
+        by (inl h) = left (after_all s0 es) at_end h.1 done
+        by (inr h) = let no : cleans.StoreFault ≡ cleans.Done = some_is (sym (ap clean_over h.3) ∙ done) in absurd cc
+
+pub cleans_end : CleanEnds
+cleans_end = record { ends = clean_ends; cleaned = λ g j a k s es f honest is. clean_leaves g a k es f j s honest is }

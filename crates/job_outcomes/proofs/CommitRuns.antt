@@ -1,0 +1,320 @@
+-- The driver's commit in every run.
+use Rattle.std.proofs.Common.{◌≡◌, ℕ, zero, suc, ◌<◌, ◌≤◌, ◌^◌, ◌⊎◌, inl, inr, ◌&&◌, ◌||◌, Bool, true, false, cond, List, [], ◌∷◌, ◌++◌, length, Option, Some, None, refl, sym, ap, subst, ◌∙◌, arith, append-nil}
+use Rattle.std.specs.Option.{is_some}
+use Rattle.s3_types.specs.Store.{Content}
+use Rattle.s3_types.specs.Pages.{begins}
+use Rattle.s3_types.specs.Answer.{answer}
+use Rattle.s3_types.specs.Moment.{IsHonestOutcome}
+use Rattle.s3_types.specs.declared.request.Actor.TheVariants.{Driver}
+use Rattle.s3_types.specs.declared.request.Request.{Request}
+use Rattle.s3_types.specs.declared.journal.Outcome.{Outcome}
+use Rattle.s3_types.specs.declared.journal.Outcome.TheVariants.{Answered}
+use Rattle.s3_types.specs.declared.journal.Entry.{Entry}
+use Rattle.magic_paths.specs.Layout.{magic_prefix, success_key}
+use Rattle.magic_paths.specs.Places.{SuccessPlace}
+use Rattle.magic_paths.proofs.Tails.{key_magic}
+use Rattle.retries.specs.Operation.{run, Follows}
+use Rattle.retries.specs.Retries.{Retried}
+use Rattle.retries.specs.Worn.{WornFirst}
+use Rattle.retries.proofs.First.{none_sent}
+use Rattle.retries.proofs.Runs.{run_more, follows_more}
+use Rattle.job_model.specs.Attempts.{Who}
+use Rattle.job_model.specs.Legal.{IsLegal}
+use Rattle.job_model.specs.JobScript.{Script}
+use Rattle.job_model.specs.declared.ends.CommitEnd.{CommitEnd}
+use Rattle.job_model.specs.declared.ends.CommitEnd.TheVariants as commits
+use Rattle.job_protocol.specs.Outputs.{Picks, same_path}
+use Rattle.job_protocol.specs.Setup.{Setup, Sweeping, SetupOver, setup_asks}
+use Rattle.list_walk.specs.Walks.{Listing}
+use Rattle.job_protocol.specs.Cleanups.{Clean, CleanOver, clean_asks}
+use Rattle.job_protocol.specs.Cleanups as cleanups
+use Rattle.job_protocol.specs.JobCommits.{picks_of, Commit, CommitOver, commit_start, commit_asks, commit_tells, commit_over}
+use Rattle.job_protocol.specs.LaneTable.{Sound, AllSound}
+use Rattle.job_protocol.specs.Laws.{EndIs}
+use Rattle.job_protocol.specs.Operations.{Setting, Operation, TheSetup, TheCommit, who, asks, tells}
+use Rattle.job_protocol.proofs.LaneEnds.{ends_by_worn}
+use Rattle.job_spec.specs.Entries.{AreOwn}
+use Rattle.job_spec.specs.Ends.{commit_due, end_or, is_mark_answered, CommitEnded}
+use Rattle.job_spec.specs.Promise.{picks_below, picked}
+use Rattle.job_spec.specs.Seen.{Seen, see, is_begun, is_reading, is_marked}
+use Rattle.proof_base.proofs.Members.{some_is, none_some, false_true, same_or_not}
+use Rattle.job_facts.specs.Told.{entry, driver_entry}
+use Rattle.job_facts.specs.Stores.{at_key}
+use Rattle.job_facts.specs.Facts.{Hold}
+use Rattle.job_traces.specs.Runs.{Stand, Beginning, BeginSetup, BeginCommit, BeginClean, BeginWrite, BeginPublish, BeginAbort, begin, MayBegin, Runs, run_begins, actor_begins, driver_sends, attempt_sends, strays, IsOpening, is_set, is_just_set, IsTimely, nothing_learnt, with_driver, with_commit, commit_with, saw}
+use Rattle.job_facts.proofs.Legal.{some_dest}
+use Rattle.job_facts.proofs.Owning.{operation_own}
+use Rattle.job_traces.proofs.Keeping.{Quiet, attempt_quiet}
+use Rattle.job_traces.proofs.Running.{InCommit, At}
+use Rattle.job_traces.proofs.EveryRun.{good, just_set, just_idle, late, own_front, own_last}
+use Rattle.job_outcomes.specs.CommitRuns.{IsDue, WhereCommitted, CommitStands, PicksOneMore, PicksGrow, EndsDue, CommitRuns}
+use Rattle.job_outcomes.proofs.Shared.{same_shared}
+use Rattle.job_outcomes.proofs.CommitSteps.{at_start, one_start, where_on, where_start, answered_next, marked_next, sound_now, sound_more}
+use Rattle.job_outcomes.proofs.Picks.{after_entry}
+
+some_lane : {a : ℕ} → 1 ≤ a → 0 < a
+some_lane y = omega arith
+
+pub commit_is : {c d : Commit} → Some (TheCommit c) ≡ Some (TheCommit d) → c ≡ d
+commit_is e = cc
+
+no_setup : {t : Retried Setup} {c : Commit} → Some (TheSetup t) ≡ Some (TheCommit c) → ⊥
+no_setup e = cc
+
+pub attempts_leave : (w : Script) (k : Option ℕ) (s : Seen) (a : Who) (n : ℕ) (r : Request) (o : Outcome) → (see w k s (entry a n r o)).picks ≡ s.picks
+attempts_leave w k s a n r (Answered y) = refl
+attempts_leave w k s a n r _ = refl
+
+module _ (g : Setting) (j : IsLegal g.script) (k : Option ℕ) (opening : Content) (is_opening : IsOpening g opening) where
+  abbrev w : Script
+  w = g.script
+
+  abbrev Stood : Stand → Type 0
+  Stood x = (c : Commit) → x.driver ≡ Some (TheCommit c) → CommitStands g x c
+
+  -- ---- as it begins
+
+  starts : (es : List Entry) (y : Stand) → Runs g k opening es y → (missing : Option ℕ) → is_just_set y.driver ≡ true
+      → CommitStands g (record { seen = y.seen; told = y.told; attempts = y.attempts; driver = Some (TheCommit (commit_start w missing)); commit = [] }) (commit_start w missing)
+  starts es y run missing just =
+      let l = late g k opening j is_opening y (good g k opening j is_opening es y run) (just_set y.driver just) in
+      let idle = just_idle g k opening j is_opening y.driver y.seen y.told l.driver just in
+      record { missing = missing; follows = tt; leads = refl; sound = tt; sets = []; at = at_start w missing; picks = λ t l. idle.unpicked t; answered = where_start _ w missing }
+
+  -- ---- one of its entries
+
+  late_at : (es : List Entry) (x : Stand) → Runs g k opening es x → (c : Commit) → x.driver ≡ Some (TheCommit c) → Hold w g.minimum x.seen x.told × InCommit g opening x.seen.picks x.told c
+  late_at es x run c d =
+      let l = late g k opening j is_opening x (good g k opening j is_opening es x run) (ap is_set d) in
+      (l.hold, subst (λ v. At g opening v x.seen x.told) d l.driver)
+
+  module _ (es : List Entry) (x : Stand) (runs : Runs g k opening es x) (c : Commit) (d : x.driver ≡ Some (TheCommit c)) (old : CommitStands g x c) (n : ℕ) (r : Request) (o : Outcome) (asked : commit_asks w c ≡ Some r) (timely : is_begun k n ≡ true) (few : x.seen.scene.content.next ≤ 2 ^ 64) (honest : IsHonestOutcome o (answer x.seen.scene r)) where
+    abbrev next : Stand
+    next = with_commit (with_driver (saw g k x (driver_entry n r o)) (TheCommit (commit_tells w c o))) (x.commit ++ driver_entry n r o ∷ [])
+
+    abbrev first : Commit
+    first = commit_start w old.missing
+
+    sends_on : CommitStands g next (commit_tells w c o)
+    sends_on =
+        let l = late_at es x runs c d in
+        let a = after_entry g j k x.seen x.told l.0 l.1.uncleaned few n timely old.missing old.sets c l.1.decides old.at old.picks r asked o honest in
+        record {
+          missing = old.missing;
+          follows = follows_more (commit_asks w) (commit_tells w) first x.commit (driver_entry n r o) old.follows (ap (commit_asks w) old.leads ∙ asked);
+          leads = run_more (commit_tells w) first x.commit (driver_entry n r o) ∙ ap (λ v. commit_tells w v o) old.leads;
+          sound = sound_more w first x.commit (driver_entry n r o) old.sound (subst Sound (sym old.leads) (sound_now w g.minimum x.seen x.told j l.0 c l.1.fits));
+          sets = a.sets;
+          at = a.at;
+          picks = a.picks;
+          answered = answered_next w k x.seen l.0.there n r x.commit c asked o;
+        }
+
+    pub picks_on : PicksGrow w x.seen.picks (see w k x.seen (driver_entry n r o)).picks c (commit_tells w c o)
+    picks_on = let l = late_at es x runs c d in (after_entry g j k x.seen x.told l.0 l.1.uncleaned few n timely old.missing old.sets c l.1.decides old.at old.picks r asked o honest).grows
+
+  driver_on : (es : List Entry) (x : Stand) → Runs g k opening es x → Stood x → (op : Operation) (n : ℕ) (r : Request) (o : Outcome) → x.driver ≡ Some op → asks g (who Driver) nothing_learnt op ≡ Some r → IsTimely k x.told.cleans_at n op → x.seen.scene.content.next ≤ 2 ^ 64 → IsHonestOutcome o (answer x.seen.scene r)
+      → Stood (with_commit (with_driver (saw g k x (driver_entry n r o)) (tells g (who Driver) op o)) (commit_with op x.commit (driver_entry n r o)))
+  driver_on es x runs old (TheCommit c) n r o d asked timely few honest v e = subst (CommitStands g _) (commit_is e) (sends_on es x runs c d (old c d) n r o asked timely.0 few honest)
+  driver_on es x runs old _ n r o d asked timely few honest v e = absurd cc
+
+  -- ---- entries of others, and what begins beside it
+
+  same_stand : (x y : Stand) → ((t : ℕ) → y.seen.picks t ≡ x.seen.picks t) → y.commit ≡ x.commit → (c : Commit) → CommitStands g x c → CommitStands g y c
+  same_stand x y s e c h = record {
+    missing = h.missing;
+    follows = subst (Follows (commit_asks w) (commit_tells w) (commit_start w h.missing)) (sym e) h.follows;
+    leads = ap (run (commit_tells w) (commit_start w h.missing)) e ∙ h.leads;
+    sound = subst (AllSound w (commit_start w h.missing)) (sym e) h.sound;
+    sets = h.sets;
+    at = h.at;
+    picks = λ t v. s t ∙ h.picks t v;
+    answered = subst (λ l. WhereCommitted (is_mark_answered w l ≡ true) c) (sym e) h.answered;
+  }
+
+  begins_on : (es : List Entry) (x : Stand) → Runs g k opening es x → Stood x → (b : Beginning) → MayBegin g x b → Stood (begin g x b)
+  begins_on es x runs old BeginSetup may c e = absurd (no_setup e)
+  begins_on es x runs old (BeginCommit missing) may c e = subst (CommitStands g _) (commit_is e) (starts es x runs missing may)
+  begins_on es x runs old BeginClean may c e = absurd cc
+  begins_on es x runs old (BeginWrite a) may c e = same_stand x (begin g x (BeginWrite a)) (λ t. refl) refl c (old c e)
+  begins_on es x runs old (BeginPublish a) may c e = same_stand x (begin g x (BeginPublish a)) (λ t. refl) refl c (old c e)
+  begins_on es x runs old (BeginAbort a) may c e = same_stand x (begin g x (BeginAbort a)) (λ t. refl) refl c (old c e)
+
+  -- ---- every run
+
+  pub stood : (es : List Entry) (x : Stand) → Runs g k opening es x → Stood x
+  stood es x (run_begins v) c e = absurd (none_some refl e)
+  stood es x (actor_begins fs y b runs may) c e = begins_on fs y runs (stood fs y runs) b may c e
+  stood es x (driver_sends fs y op n r o runs d asked timely few honest) c e = driver_on fs y runs (stood fs y runs) op n r o d asked timely few honest c e
+  stood es x (attempt_sends fs y a op n r o runs set at asked honest) c e = same_stand y x (λ t. ap (λ (p : Picks). p t) (attempts_leave w k y.seen a n r o)) refl c (stood fs y runs c e)
+  stood es x (strays fs y n r o runs f) c e = same_stand y x (λ t. refl) refl c (stood fs y runs c e)
+
+  -- ---- the marker stands, where no stranger sends
+
+  abbrev Marked : Stand → Type 0
+  Marked x = (c : Commit) → x.driver ≡ Some (TheCommit c) → WhereCommitted (is_marked w x.seen ≡ true) c
+
+  success_free : begins (magic_prefix w.dest.key w.job) (success_key w.dest.key) ≡ false
+  success_free = key_magic w.dest.key w.job SuccessPlace (some_dest j) tt
+
+  still_marked : (s u : Seen) → Quiet w s u → is_marked w u ≡ is_marked w s
+  still_marked s u q = ap (λ b. b && is_some (at_key w u.scene.content (success_key w.dest.key))) q.mark ∙ ap (λ y. s.put_mark && is_some y) (q.keys (success_key w.dest.key) success_free)
+
+  mark_begins : (x : Stand) → Marked x → (b : Beginning) → Marked (begin g x b)
+  mark_begins x old BeginSetup c e = absurd (no_setup e)
+  mark_begins x old (BeginCommit missing) c e = subst (WhereCommitted (is_marked w x.seen ≡ true)) (commit_is e) (where_start _ w missing)
+  mark_begins x old BeginClean c e = absurd cc
+  mark_begins x old _ c e = old c e
+
+  mark_driver : (es : List Entry) (x : Stand) → Runs g k opening es x → (op : Operation) → x.driver ≡ Some op → (n : ℕ) (r : Request) (o : Outcome) → asks g (who Driver) nothing_learnt op ≡ Some r
+      → Marked (with_commit (with_driver (saw g k x (driver_entry n r o)) (tells g (who Driver) op o)) (commit_with op x.commit (driver_entry n r o)))
+  mark_driver es x runs (TheCommit v) d n r o asked c e = subst (WhereCommitted (is_marked w (see w k x.seen (driver_entry n r o)) ≡ true)) (commit_is e) (marked_next w k x.seen (late_at es x runs v d).0.there n r x.commit v asked o)
+  mark_driver es x runs _ d n r o asked c e = absurd cc
+
+  pub marks : (es : List Entry) (x : Stand) → Runs g k opening es x → AreOwn es → Marked x
+  marks es x (run_begins v) own c e = absurd (none_some refl e)
+  marks es x (actor_begins fs y b runs may) own c e = mark_begins y (marks fs y runs own) b c e
+  marks es x (driver_sends fs y op n r o runs d asked timely few honest) own c e = mark_driver fs y runs op d n r o asked c e
+  marks es x (attempt_sends fs y a op n r o runs set at asked honest) own c e =
+      let l = late g k opening j is_opening y (good g k opening j is_opening fs y runs) set in
+      let f = l.fine a op at in
+      let mine = operation_own g j y.told a f.0 op f.1 r asked in
+      let q = attempt_quiet w k y.seen a n r l.hold.there (λ b v i. mine.keys v i) o in
+      where_on (λ h. still_marked y.seen (see w k y.seen (entry a n r o)) q ∙ h) c (marks fs y runs (own_front fs _ own) c e)
+  marks es x (strays fs y n r o runs f) own c e = absurd (false_true refl (own_last fs _ own))
+
+-- ---- the end
+
+pub no_entry : (w : Script) (end : CommitEnd) (es : List Entry) → Follows (commit_asks w) (commit_tells w) (CommitOver end) es → es ≡ []
+no_entry w end [] f = refl
+no_entry w end (e ∷ es) f = absurd (none_some refl f.0)
+
+module _ (g : Setting) (j : IsLegal g.script) (x : Stand) (end : CommitEnd) (h : CommitStands g x (CommitOver end)) where
+  abbrev u : Script
+  u = g.script
+
+  shared : same_path u x.seen.picks ≡ same_path u (picks_of h.sets)
+  shared = same_shared u (picks_of h.sets) x.seen.picks h.picks
+
+  due_same : (missing : Option ℕ) (worn : Option Request) → commit_due u x.seen.picks missing worn ≡ commit_due u (picks_of h.sets) missing worn
+  due_same (Some t) worn = refl
+  due_same None (Some r) = refl
+  due_same None None = ap (λ o. end_or o commits.Committed) shared
+
+  -- with a missing task nothing was sent
+  missing_end : (t : ℕ) → h.missing ≡ Some t → EndsDue u x.seen.picks h.missing x.commit end
+  missing_end t e =
+      let none : x.commit ≡ [] = no_entry u (commits.Missing t) x.commit (subst (λ v. Follows (commit_asks u) (commit_tells u) (commit_start u v) x.commit) e h.follows) in
+      let is : CommitOver (commits.Missing t) ≡ CommitOver end = sym (ap (λ v. run (commit_tells u) (commit_start u v) x.commit) e ∙ ap (run (commit_tells u) (CommitOver (commits.Missing t))) none) ∙ h.leads in
+      let one : commits.Missing t ≡ end = cc in
+      (None, subst (λ l. WornFirst u.retries l None) (sym none) (none_sent u.retries), sym one ∙ ap (λ v. commit_due u x.seen.picks v None) (sym e))
+
+  by_worn : h.missing ≡ None → (worn : Option Request) → EndIs worn end → end ≡ commit_due u x.seen.picks h.missing worn
+  by_worn e (Some r) is = is ∙ ap (λ v. commit_due u x.seen.picks v (Some r)) (sym e)
+  by_worn e None is = by end is h.at ∙ sym (due_same h.missing None)
+    where
+      by : (v : CommitEnd) → EndIs None v → IsDue u h.missing h.sets v → v ≡ commit_due u (picks_of h.sets) h.missing None
+      by (commits.StoreFault t) is d = absurd is
+      by (commits.Missing t) is d = ap (λ v. commit_due u (picks_of h.sets) v None) (sym d.0)
+      by _ is d = d
+
+  none_missing : h.missing ≡ None → EndsDue u x.seen.picks h.missing x.commit end
+  none_missing e =
+      let o = ends_by_worn u (some_lane j.one_lane) x.commit (subst (λ v. Follows (commit_asks u) (commit_tells u) (commit_start u v) x.commit) e h.follows) (subst (λ v. AllSound u (commit_start u v) x.commit) e h.sound) end
+      (ap (λ v. commit_over (run (commit_tells u) (commit_start u v) x.commit)) (sym e) ∙ ap commit_over h.leads) in
+      (o.0, o.1, by_worn e o.0 o.2)
+
+  pub ended_so : EndsDue u x.seen.picks h.missing x.commit end
+  ended_so = by h.missing refl
+    where
+      by : (v : Option ℕ) → h.missing ≡ v → EndsDue u x.seen.picks h.missing x.commit end
+      by None e = none_missing e
+      by (Some t) e = missing_end t e
+
+has_answered : (g : Setting) (x : Stand) (end : CommitEnd) → CommitStands g x (CommitOver end) → end ≡ commits.Committed → is_mark_answered g.script x.commit ≡ true
+has_answered g x end h e = subst (λ v. WhereCommitted (is_mark_answered g.script x.commit ≡ true) (CommitOver v)) e h.answered
+
+commit_ended : (g : Setting) → IsLegal g.script → (k : Option ℕ) (opening : Content) → IsOpening g opening → (es : List Entry) (x : Stand) → Runs g k opening es x → (end : CommitEnd) → x.driver ≡ Some (TheCommit (CommitOver end))
+    → (missing : Option ℕ) → run (commit_tells g.script) (commit_start g.script missing) x.commit ≡ CommitOver end → CommitEnded g.script x.seen missing x.commit end
+commit_ended g j k opening is_opening es x runs end d missing leads =
+    let h = stood g j k opening is_opening es x runs (CommitOver end) d in
+    let o = ended_so g j x end h in
+    let one : h.missing ≡ missing = one_start g.script h.missing missing x.commit (h.leads ∙ sym leads) in
+    record { worn = o.0; first = o.1; due = inr (o.2 ∙ ap (λ v. commit_due g.script x.seen.picks v o.0) one); answered = has_answered g x end h }
+
+-- ---- the driver's other operations read no set
+
+and_none : (b : Bool) → (b && false) ≡ false
+and_none true = refl
+and_none false = refl
+
+pub driver_leaves : (w : Script) (k : Option ℕ) (s : Seen) (n : ℕ) (r : Request) (o : Outcome) → ((t : ℕ) → is_reading w t r ≡ false) → (t : ℕ) → (see w k s (driver_entry n r o)).picks t ≡ s.picks t
+driver_leaves w k s n r (Answered y) e t = ap (λ b. cond ((s.begun || is_begun k n) && b) (s.last t) (s.picks t)) (e t) ∙ ap (λ b. cond b (s.last t) (s.picks t)) (and_none (s.begun || is_begun k n))
+driver_leaves w k s n r _ e t = refl
+
+pub setup_reads : (w : Script) (c : Setup) (r : Request) → setup_asks w c ≡ Some r → (t : ℕ) → is_reading w t r ≡ false
+setup_reads w (Sweeping (Listing keys)) r e t = ap (is_reading w t) (sym (some_is e))
+setup_reads w (SetupOver end) r e t = absurd (none_some refl e)
+setup_reads w _ r e t = ap (is_reading w t) (sym (some_is e))
+
+pub clean_reads : (w : Script) (c : Clean) (r : Request) → clean_asks w c ≡ Some r → (t : ℕ) → is_reading w t r ≡ false
+clean_reads w (cleanups.Sweeping (Listing keys)) r e t = ap (is_reading w t) (sym (some_is e))
+clean_reads w (CleanOver end) r e t = absurd (none_some refl e)
+clean_reads w _ r e t = ap (is_reading w t) (sym (some_is e))
+
+-- ---- the list of picks
+
+order : (a b : ℕ) → (a < b) ⊎ (b ≤ a)
+order zero zero = inr (omega arith)
+order zero (suc b) = inl (omega arith)
+order (suc a) zero = inr (omega arith)
+order (suc a) (suc b) = elim (order a b) [ inl h ↦ inl (omega arith) | inr h ↦ inr (omega arith) ]
+
+list_same : (before now : Picks) (n : ℕ) → ((t : ℕ) → t < n → now t ≡ before t) → picks_below now n ≡ picks_below before n
+list_same before now zero h = refl
+list_same before now (suc n) h = ap (λ l. l ++ picked n (now n)) (list_same before now n (λ t l. h t (omega arith))) ∙ ap (λ o. picks_below before n ++ picked n o) (h n (omega arith))
+
+list_more : (w : Script) (before now : Picks) (c d : Commit) → (m : PicksOneMore w before now c d) → (n : ℕ) → length m.sets < n → n ≤ w.tasks → picks_below now n ≡ picks_below before n ++ picked (length m.sets) (Some m.set.attempt)
+list_more w before now c d m zero l high = absurd (omega arith)
+list_more w before now c d m (suc n) l high = by (same_or_not n (length m.sets)) (list_more w before now c d m n)
+  where
+    here : n ≡ length m.sets → picks_below now (suc n) ≡ picks_below before (suc n) ++ picked (length m.sets) (Some m.set.attempt)
+    here is =
+        let low : picks_below now n ≡ picks_below before n = list_same before now n (λ t k. m.others t (omega arith) (λ e. absurd (omega (arith, e, k, is)))) in
+        let none : before n ≡ None = m.behind n (omega arith) (omega (arith, is)) in
+        ap (λ l. l ++ picked n (now n)) low
+        ∙ ap (λ o. picks_below before n ++ picked n o) (ap now is ∙ m.picked)
+        ∙ ap (λ v. picks_below before n ++ picked v (Some m.set.attempt)) is
+        ∙ ap (λ l. l ++ picked (length m.sets) (Some m.set.attempt)) (sym (append-nil (picks_below before n)))
+        ∙ ap (λ o. (picks_below before n ++ picked n o) ++ picked (length m.sets) (Some m.set.attempt)) (sym none)
+
+    later : (n ≡ length m.sets → ⊥) → picks_below now n ≡ picks_below before n ++ picked (length m.sets) (Some m.set.attempt) → picks_below now (suc n) ≡ picks_below before (suc n) ++ picked (length m.sets) (Some m.set.attempt)
+    later ne old =
+        let none : before n ≡ None = m.behind n (omega arith) (omega arith) in
+        let none_now : now n ≡ None = m.others n (omega arith) ne ∙ none in
+        ap (λ o. picks_below now n ++ picked n o) none_now ∙ append-nil (picks_below now n) ∙ old
+        ∙ ap (λ l. l ++ picked (length m.sets) (Some m.set.attempt)) (sym (append-nil (picks_below before n)))
+        ∙ ap (λ o. (picks_below before n ++ picked n o) ++ picked (length m.sets) (Some m.set.attempt)) (sym none)
+
+    above : (a b : ℕ) → b < suc a → (a ≡ b → ⊥) → b < a
+    above a b l ne = elim (order b a) [ inl h ↦ h | inr h ↦ absurd (ne (omega arith)) ]
+
+    by : (n ≡ length m.sets) ⊎ (n ≡ length m.sets → ⊥) → (length m.sets < n → n ≤ w.tasks → picks_below now n ≡ picks_below before n ++ picked (length m.sets) (Some m.set.attempt)) → picks_below now (suc n) ≡ picks_below before (suc n) ++ picked (length m.sets) (Some m.set.attempt)
+    by (inl is) old = here is
+    by (inr ne) old = later ne (old (above n (length m.sets) l ne) (omega arith))
+
+pub commit_runs : CommitRuns
+commit_runs = record {
+  stands = λ g j k opening is_opening es x runs c d. stood g j k opening is_opening es x runs c d;
+  one_start = one_start;
+  ends = λ g j x end h. ended_so g j x end h;
+  answered = has_answered;
+  marked = λ g j k opening is_opening es x runs own d. marks g j k opening is_opening es x runs own (CommitOver commits.Committed) d;
+  ended = commit_ended;
+  grows = λ g j k opening is_opening es x runs c d n r o asked timely few honest. picks_on g j k opening is_opening es x runs c d (stood g j k opening is_opening es x runs c d) n r o asked timely few honest;
+  list = λ w before now c d m. list_more w before now c d m w.tasks m.next (omega arith);
+  same = list_same;
+  attempts = attempts_leave;
+  setup = λ w k s n c r o e. driver_leaves w k s n r o (setup_reads w c r e);
+  clean = λ w k s n c r o e. driver_leaves w k s n r o (clean_reads w c r e);
+}

@@ -1,0 +1,232 @@
+-- The picks that are seen after one more entry of the driver's commit.
+use Rattle.std.proofs.Common.{◌≡◌, ℕ, zero, suc, ◌<◌, ◌≤◌, ◌^◌, ◌⊎◌, inl, inr, ◌&&◌, ◌||◌, Bool, true, false, cond, List, [], ◌∷◌, ◌++◌, length, slice_get, Option, Some, None, refl, sym, ap, subst, ◌∙◌, arith}
+use Rattle.std.specs.Option.{option_map}
+use Rattle.s3_types.specs.Answer.{answer, found, read_answer}
+use Rattle.s3_types.specs.Moment.{IsHonestOutcome}
+use Rattle.s3_types.specs.declared.object.Object.{Object}
+use Rattle.s3_types.specs.declared.request.Committer.{Committer}
+use Rattle.s3_types.specs.declared.request.Committer.TheVariants.{Magic, Directory, Partitioned}
+use Rattle.s3_types.specs.declared.request.Request.{Request}
+use Rattle.s3_types.specs.declared.reply.Reply.{Reply}
+use Rattle.s3_types.specs.declared.reply.Reply.TheVariants.{Refused}
+use Rattle.s3_types.specs.declared.reply.Refusal.TheVariants.{NoSuchKey, NoSuchFile}
+use Rattle.s3_types.specs.declared.journal.Outcome.{Outcome}
+use Rattle.s3_types.specs.declared.journal.Outcome.TheVariants.{Answered, Slow, RequestLost, ReplyLost}
+use Rattle.magic_paths.specs.Places.{SetPlace, key_at}
+use Rattle.pending_json.specs.declared.records.PendingSet.{PendingSet}
+use Rattle.job_model.specs.Legal.{IsLegal}
+use Rattle.job_protocol.specs.Records.{files_set}
+use Rattle.job_model.specs.JobScript.{Script}
+use Rattle.job_protocol.specs.Outputs.{Picks}
+use Rattle.list_walk.specs.Walks.{Sweep, Listing, Deleting, sweep_asks}
+use Rattle.job_protocol.specs.JobCommits.{Sets, picks_of, set_request, set_read, Commit, Fetching, Replacing, Completing, Marking, Reverting, CommitOver, fetched, commit_asks, commit_tells}
+use Rattle.job_protocol.specs.Operations.{Setting}
+use Rattle.job_spec.specs.Seen.{Seen, see, is_begun, is_reading, picks_by}
+use Rattle.proof_base.proofs.Members.{some_is, none_some, false_true, same_or_not, none_or_some}
+use Rattle.job_facts.specs.Told.{Told, driver_entry}
+use Rattle.job_facts.specs.Stores.{at_place, sets_at, set_at}
+use Rattle.job_facts.specs.Facts.{Hold, knowing}
+use Rattle.job_facts.specs.Filed.{Decides}
+use Rattle.job_facts.proofs.Whose.{or_true}
+use Rattle.job_facts.proofs.Shapes.{answer_is, key_before}
+use Rattle.job_facts.proofs.Replies.{set_answered}
+use Rattle.job_facts.proofs.Reading.{reads_it, reads_other}
+use Rattle.job_outcomes.specs.CommitRuns.{IsAt, ArePicks, PicksGrow}
+use Rattle.job_outcomes.proofs.CommitSteps.{at_fetching, IsRead, at_tells}
+
+-- ---- one more set
+
+slice_last : {X : Type 0} (xs : List X) (y : X) → slice_get (xs ++ y ∷ []) (length xs) ≡ Some y
+slice_last [] y = refl
+slice_last (x ∷ xs) y = slice_last xs y
+
+slice_other : {X : Type 0} (xs : List X) (y : X) (n : ℕ) → (n ≡ length xs → ⊥) → slice_get (xs ++ y ∷ []) n ≡ slice_get xs n
+slice_other [] y zero ne = absurd (ne refl)
+slice_other [] y (suc n) ne = refl
+slice_other (x ∷ xs) y zero ne = refl
+slice_other (x ∷ xs) y (suc n) ne = slice_other xs y n (λ e. ne (ap suc e))
+
+slice_end : {X : Type 0} (xs : List X) → slice_get xs (length xs) ≡ None
+slice_end [] = refl
+slice_end (x ∷ xs) = slice_end xs
+
+slice_behind : {X : Type 0} (xs : List X) (n : ℕ) → length xs ≤ n → slice_get xs n ≡ None
+slice_behind [] n l = refl
+slice_behind (x ∷ xs) zero l = absurd (omega arith)
+slice_behind (x ∷ xs) (suc n) l = slice_behind xs n (omega arith)
+
+none_of : (sets : Sets) → picks_of sets (length sets) ≡ None
+none_of sets = ap (option_map (λ (v : PendingSet). v.attempt)) (slice_end sets)
+
+and_false : (b : Bool) → (b && false) ≡ false
+and_false true = refl
+and_false false = refl
+
+module _ (g : Setting) (j : IsLegal g.script) (k : Option ℕ) (s : Seen) (m : Told) (h : Hold g.script g.minimum s m) (before : m.cleaned ≡ false) (few : s.scene.content.next ≤ 2 ^ 64) (n : ℕ) (timely : is_begun k n ≡ true) where
+  abbrev w : Script
+  w = g.script
+
+  abbrev begun_now : Bool
+  begun_now = s.begun || is_begun k n
+
+  has_begun : begun_now ≡ true
+  has_begun = ap (λ b. s.begun || b) timely ∙ or_true s.begun
+
+  abbrev after : Request → Outcome → Picks
+  after r o = (see w k s (driver_entry n r o)).picks
+
+  -- the commit after one more entry
+  pub record After (missing : Option ℕ) (c : Commit) (r : Request) (o : Outcome) : Type 0 where
+    pub sets : Sets
+    pub picks : ArePicks w (after r o) sets
+    pub at : IsAt w missing sets (commit_tells w c o)
+    pub grows : PicksGrow w s.picks (after r o) c (commit_tells w c o)
+
+  -- ---- what is no read
+
+  unread : (r : Request) → ((t : ℕ) → is_reading w t r ≡ false) → (o : Outcome) (t : ℕ) → after r o t ≡ s.picks t
+  unread r e (Answered y) t = ap (λ b. cond (begun_now && b) (s.last t) (s.picks t)) (e t) ∙ ap (λ b. cond b (s.last t) (s.picks t)) (and_false begun_now)
+  unread r e _ t = refl
+
+  sweep_unread : (p : List ℕ) (x : Sweep) (t : ℕ) → is_reading w t (sweep_asks w.dest.bucket p x) ≡ false
+  sweep_unread p (Listing keys) t = refl
+  sweep_unread p (Deleting q qs) t = refl
+
+  -- ---- a read
+
+  module _ (sets : Sets) (low : length sets < w.tasks) (agree : ArePicks w s.picks sets) where
+    abbrev r : Request
+    r = set_request w.committer w (length sets)
+
+    abbrev next : Picks
+    next = picks_by w begun_now s.last s.picks r
+
+    here : next (length sets) ≡ s.last (length sets)
+    here = ap (λ b. cond (begun_now && b) (s.last (length sets)) (s.picks (length sets))) (reads_it j (length sets)) ∙ ap (λ b. cond (b && true) (s.last (length sets)) (s.picks (length sets))) has_begun
+
+    other : (t : ℕ) → t < w.tasks → (t ≡ length sets → ⊥) → next t ≡ s.picks t
+    other t l ne = ap (λ b. cond (begun_now && b) (s.last t) (s.picks t)) (reads_other j t (length sets) l low ne) ∙ ap (λ b. cond b (s.last t) (s.picks t)) (and_false begun_now)
+
+    no_later : (t : ℕ) → t < w.tasks → length sets ≤ t → s.picks t ≡ None
+    no_later t l high = agree t l ∙ ap (option_map (λ (v : PendingSet). v.attempt)) (slice_behind sets t high)
+
+    no_pick : s.picks (length sets) ≡ None
+    no_pick = agree (length sets) low ∙ none_of sets
+
+    one_more : (x : PendingSet) → s.last (length sets) ≡ Some x.attempt → ArePicks w next (sets ++ x ∷ [])
+    one_more x latest t l = elim (same_or_not t (length sets)) [
+      | inl is ↦ ap next is ∙ here ∙ latest ∙ sym (ap (picks_of (sets ++ x ∷ [])) is ∙ ap (option_map (λ (v : PendingSet). v.attempt)) (slice_last sets x))
+      | inr ne ↦ other t l ne ∙ agree t l ∙ sym (ap (option_map (λ (v : PendingSet). v.attempt)) (slice_other sets x t ne))
+    ]
+
+    -- where none stands none has published
+    none_published : sets_at w s.scene (length sets) ≡ None → s.last (length sets) ≡ None
+    none_published e = elim (none_or_some (s.last (length sets))) [
+      | inl none ↦ none
+      | inr a ↦ absurd (none_some e (h.standing before (length sets) a.0 low a.1).1)
+    ]
+
+    still : s.last (length sets) ≡ None → (t : ℕ) → t < w.tasks → next t ≡ s.picks t
+    still none t l = elim (same_or_not t (length sets)) [
+      | inl is ↦ ap next is ∙ here ∙ none ∙ sym (ap s.picks is ∙ no_pick)
+      | inr ne ↦ other t l ne
+    ]
+
+    abbrev IsRefused : Reply → Type 0
+    IsRefused x = (x ≡ Refused NoSuchKey) ⊎ (x ≡ Refused NoSuchFile)
+
+    -- what stands is not refused
+    not_refused : (c : Committer) (b : List ℕ) → set_at c w s.scene (length sets) ≡ Some b → IsRefused (answer s.scene (set_request c w (length sets))) → ⊥
+    not_refused Magic b e x = by (at_place w s.scene.content (SetPlace (length sets))) refl
+      where
+        due : answer s.scene (set_request Magic w (length sets)) ≡ found (at_place w s.scene.content (SetPlace (length sets)))
+        due = answer_is w s.scene h.there.0 h.there.1 (set_request Magic w (length sets)) refl ∙ ap found (sym (key_before w s.scene h.there.0 h.there.1 (key_at w.dest.key w.job (SetPlace (length sets)))))
+
+        by : (o : Option Object) → at_place w s.scene.content (SetPlace (length sets)) ≡ o → ⊥
+        by None q = none_some (ap (option_map (λ (y : Object). y.bytes)) q) e
+        by (Some y) q = let is : answer s.scene (set_request Magic w (length sets)) ≡ found (Some y) = due ∙ ap found q in elim x [ inl z ↦ absurd cc | inr z ↦ absurd cc ]
+    not_refused Directory b e x = let is : answer s.scene (set_request Directory w (length sets)) ≡ read_answer (Some b) = ap read_answer e in elim x [ inl z ↦ absurd cc | inr z ↦ absurd cc ]
+    not_refused Partitioned b e x = let is : answer s.scene (set_request Partitioned w (length sets)) ≡ read_answer (Some b) = ap read_answer e in elim x [ inl z ↦ absurd cc | inr z ↦ absurd cc ]
+
+    -- the answer brings nothing, and no pick, or the set of the last publisher
+    abbrev Brings : Reply → Type 0
+    Brings y = ((set_read y ≡ None) × (s.last (length sets) ≡ None)) ⊎ ((x : PendingSet) × (set_read y ≡ Some x) × (s.last (length sets) ≡ Some x.attempt))
+
+    refused_none : (y : Reply) → IsRefused y → set_read y ≡ None
+    refused_none y (inl e) = ap set_read e
+    refused_none y (inr e) = ap set_read e
+
+    pub brings : Brings (answer s.scene r)
+    brings = elim (set_answered j h few (length sets) low) [
+      | inl none ↦ elim (none_or_some (sets_at w s.scene (length sets))) [
+        | inl gone ↦ inl (refused_none (answer s.scene r) none, none_published gone)
+        | inr b ↦ absurd (not_refused w.committer b.0 b.1 none)
+      ]
+      | inr there ↦ inr (files_set w there.set.by there.set.commits (knowing (m.drawn there.set.by)), there.is_read, there.set.latest)
+    ]
+
+    -- so the commit goes on with one more set, and one more pick, or with the same
+    read_next : (missing : Option ℕ) (x : ℕ) → missing ≡ None → (y : Reply) → y ≡ answer s.scene r → After missing (Fetching sets x) r (Answered y)
+    read_next missing x m y e = by (set_read y) refl (subst Brings (sym e) brings)
+      where
+        by : (o : Option PendingSet) → set_read y ≡ o → Brings y → After missing (Fetching sets x) r (Answered y)
+        by o q (inl none) = record {
+          sets = sets;
+          picks = λ t l. still none.1 t l ∙ agree t l;
+          at = subst (λ v. IsAt w missing sets (fetched w sets v)) (sym none.0) (m, refl);
+          grows = inl (still none.1);
+        }
+        by o q (inr some) = record {
+          sets = sets ++ some.0 ∷ [];
+          picks = one_more some.0 some.2;
+          at = subst (λ v. IsAt w missing (sets ++ some.0 ∷ []) (fetched w sets v)) (sym some.1) (at_fetching w missing (sets ++ some.0 ∷ []) m);
+          grows = inr (record {
+            sets = sets;
+            missed = x;
+            set = some.0;
+            from = refl;
+            to = ap (fetched w sets) some.1;
+            next = low;
+            picked = here ∙ some.2;
+            others = other;
+            behind = no_later;
+          });
+        }
+
+  -- ---- any entry of the commit
+
+  abbrev D : Commit → Type 0
+  D c = Decides w g.minimum m.publish_sent m.drawn c
+
+  abbrev is_fetching : Commit → Bool
+  is_fetching (Fetching sets x) = true
+  is_fetching _ = false
+
+  pub other_unread : (c : Commit) → is_fetching c ≡ false → D c → (r : Request) → commit_asks w c ≡ Some r → (t : ℕ) → is_reading w t r ≡ false
+  other_unread (Fetching sets x) z d r e t = absurd (false_true z refl)
+  other_unread (Replacing sets p ps x y) z d r e t = ap (is_reading w t) (sym (some_is e)) ∙ sweep_unread p x t
+  other_unread (Reverting q qs x) z d r e t = ap (is_reading w t) (sym (some_is e)) ∙ elim (d q (inl refl)).2 [ inl y ↦ ap (is_reading w t) y | inr y ↦ ap (is_reading w t) y ]
+  other_unread (CommitOver end) z d r e t = absurd (none_some refl e)
+  other_unread _ z d r e t = ap (is_reading w t) (sym (some_is e))
+
+  same_after : (missing : Option ℕ) (sets : Sets) (c : Commit) (r : Request) (o : Outcome) → (IsRead w c o → ⊥) → D c → IsAt w missing sets c → ArePicks w s.picks sets → ((t : ℕ) → after r o t ≡ s.picks t) → After missing c r o
+  same_after missing sets c r o not_read d at agree same = record {
+    sets = sets;
+    picks = λ t l. same t ∙ agree t l;
+    at = at_tells w g.minimum m missing sets c o not_read d at;
+    grows = inl (λ t l. same t);
+  }
+
+  pub after_entry : (missing : Option ℕ) (sets : Sets) (c : Commit) → D c → IsAt w missing sets c → ArePicks w s.picks sets → (r : Request) → commit_asks w c ≡ Some r → (o : Outcome) → IsHonestOutcome o (answer s.scene r) → After missing c r o
+  after_entry missing sets (Fetching x y) d at agree r asked (Answered z) honest =
+      let is : set_request w.committer w (length x) ≡ r = some_is asked in
+      let P : Request → Type 0 = λ q. z ≡ answer s.scene q → After missing (Fetching x y) q (Answered z) in
+      subst P is (read_next x d (subst (ArePicks w s.picks) (sym at.1) agree) missing y at.0 z) honest
+  after_entry missing sets (Fetching x y) d at agree r asked Slow honest = same_after missing sets (Fetching x y) r Slow (λ i. i) d at agree (λ t. refl)
+  after_entry missing sets (Fetching x y) d at agree r asked RequestLost honest = same_after missing sets (Fetching x y) r RequestLost (λ i. i) d at agree (λ t. refl)
+  after_entry missing sets (Fetching x y) d at agree r asked ReplyLost honest = same_after missing sets (Fetching x y) r ReplyLost (λ i. i) d at agree (λ t. refl)
+  after_entry missing sets (Replacing x p ps y z) d at agree r asked o honest = same_after missing sets (Replacing x p ps y z) r o (λ i. i) d at agree (unread r (other_unread (Replacing x p ps y z) refl d r asked) o)
+  after_entry missing sets (Completing x y ys finished) d at agree r asked o honest = same_after missing sets (Completing x y ys finished) r o (λ i. i) d at agree (unread r (other_unread (Completing x y ys finished) refl d r asked) o)
+  after_entry missing sets (Marking x y) d at agree r asked o honest = same_after missing sets (Marking x y) r o (λ i. i) d at agree (unread r (other_unread (Marking x y) refl d r asked) o)
+  after_entry missing sets (Reverting q qs x) d at agree r asked o honest = same_after missing sets (Reverting q qs x) r o (λ i. i) d at agree (unread r (other_unread (Reverting q qs x) refl d r asked) o)
+  after_entry missing sets (CommitOver end) d at agree r asked o honest = absurd (none_some refl asked)

@@ -1,0 +1,316 @@
+-- What the driver's commit is answered in every run: a completion finds no upload only where an earlier sending of it was lost, and a read of a set finds it where its task has a last publisher.
+use Rattle.std.proofs.Common.{◌≡◌, ℕ, nat_lt, ◌≤◌, ◌^◌, ◌⊎◌, inl, inr, ◌&&◌, ◌||◌, Bool, true, false, cond, List, [], ◌∷◌, ◌++◌, length, Option, Some, None, IsSome, is_some, refl, sym, ap, subst, ◌∙◌}
+use Rattle.std.specs.List.{list_any}
+use Rattle.std.proofs.lemmas.List.Folds.{list_any-append}
+use Rattle.s3_types.specs.Blocks.{named_from}
+use Rattle.s3_types.specs.Store.{Content}
+use Rattle.s3_types.specs.Multipart.{live, with_key, joined}
+use Rattle.s3_types.specs.Answer.{answer, complete_answer}
+use Rattle.s3_types.specs.Moment.{IsHonestOutcome}
+use Rattle.s3_types.specs.declared.request.Actor.TheVariants.{Driver, Shell}
+use Rattle.s3_types.specs.declared.request.Request.{Request}
+use Rattle.s3_types.specs.declared.reply.Refusal.{Refusal}
+use Rattle.s3_types.specs.declared.reply.Refusal.TheVariants.{NoSuchUpload}
+use Rattle.s3_types.specs.declared.reply.Reply.{Reply}
+use Rattle.s3_types.specs.declared.reply.Reply.TheVariants.{Refused}
+use Rattle.s3_types.specs.declared.journal.Outcome.{Outcome}
+use Rattle.s3_types.specs.declared.journal.Outcome.TheVariants.{Answered, Slow}
+use Rattle.s3_types.specs.declared.journal.Entry.{Entry}
+use Rattle.pending_json.specs.Pending.{Pending}
+use Rattle.pending_json.specs.declared.records.PendingSet.{PendingSet}
+use Rattle.retries.specs.Same.{same_request}
+use Rattle.retries.proofs.SameRequest.{same_self}
+use Rattle.job_model.specs.Attempts.{Who, actor_of}
+use Rattle.job_model.specs.Legal.{IsLegal}
+use Rattle.job_model.specs.JobScript.{Script}
+use Rattle.job_model.specs.declared.ends.CommitEnd.{CommitEnd}
+use Rattle.job_model.specs.declared.ends.Stage.TheVariants as stages
+use Rattle.job_protocol.specs.Outputs.{same_path}
+use Rattle.list_walk.specs.Walks.{Sweep, Listing, sweep_hears}
+use Rattle.job_protocol.specs.Lanes.{Turn, again, follow, dealt, nth, completion, revert}
+use Rattle.job_protocol.specs.LaneTable.{In, Tabled}
+use Rattle.job_protocol.specs.JobCommits.{Sets, picks_of, all_commits, set_request, set_read, Commit, Fetching, Replacing, Completing, Marking, Reverting, CommitOver, is_no_magic, completing, replaced, replacing, decided, fetching, fetched, swept, reverting, worn_completion, commit_start, commit_asks, commit_hears, commit_misses, commit_tells, stage_of}
+use Rattle.job_protocol.specs.Operations.{Setting, Operation, TheSetup, TheWrite, TheTaskCommit, TheTaskAbort, TheCommit, TheClean, who, asks, tells}
+use Rattle.job_protocol.proofs.LaneEnds.{read_stage}
+use Rattle.job_protocol.proofs.Members.{in_append, in_push}
+use Rattle.job_protocol.proofs.Tables.{dealt_fresh, follow_cases}
+use Rattle.job_spec.specs.OperationEnds.{is_lost, was_lost}
+use Rattle.job_spec.specs.Seen.{Seen, is_begun, is_reading}
+use Rattle.proof_base.proofs.Members.{some_is, none_some, false_true, true_or_false}
+use Rattle.job_facts.specs.Told.{Told, entry, driver_entry, strange_entry}
+use Rattle.job_facts.specs.Facts.{Hold}
+use Rattle.job_facts.specs.Filed.{Gone}
+use Rattle.job_facts.specs.Driver.{Reads}
+use Rattle.job_facts.specs.Turning.{Turns}
+use Rattle.job_traces.specs.Runs.{Stand, Runs, run_begins, actor_begins, driver_sends, attempt_sends, strays, Beginning, BeginSetup, BeginCommit, BeginClean, begin, IsOpening, is_set, IsTimely, nothing_learnt, with_commit, with_driver, commit_with, saw}
+use Rattle.job_facts.proofs.Whose.{or_true}
+use Rattle.job_facts.proofs.Held.{nth_of, of_sets}
+use Rattle.job_facts.proofs.Replies.{completed}
+use Rattle.job_facts.proofs.Shapes.{id_before, answer_is}
+use Rattle.job_facts.proofs.Turning.{turn_answered}
+use Rattle.job_facts.proofs.Reading.{reads_it}
+use Rattle.job_traces.proofs.Entries.{late_now, sees}
+use Rattle.job_traces.proofs.Running.{At, InCommit}
+use Rattle.job_outcomes.specs.CommitRuns.{ArePicks, Unpublished, CommitAnswers}
+use Rattle.job_outcomes.proofs.Picks.{other_unread, brings}
+use Rattle.job_outcomes.proofs.CommitRuns.{commit_is, stood, setup_reads, clean_reads}
+use Rattle.job_outcomes.proofs.CommitMoments.{no_driver}
+
+-- ---- a fact of each of a list's members, by those before it
+
+abbrev pub Each : {X : Type 0} → (List X → X → Type 0) → List X → Type 0
+Each {X} P xs = (before : List X) (x : X) (later : List X) → xs ≡ before ++ x ∷ later → P before x
+
+no_member : {X : Type 0} (before : List X) (x : X) (later : List X) → [] ≡ before ++ x ∷ later → ⊥
+no_member [] x later e = cc
+no_member (y ∷ before) x later e = cc
+
+pub each_more : {X : Type 0} (P : List X → X → Type 0) (xs : List X) (z : X) → Each P xs → P xs z → Each P (xs ++ z ∷ [])
+each_more P [] z old new [] x later e = let is : z ≡ x = cc in subst (P []) is new
+each_more P [] z old new (y ∷ before) x later e = let none : [] ≡ before ++ x ∷ later = cc in absurd (no_member before x later none)
+each_more P (w ∷ xs) z old new [] x later e = let is : w ≡ x = cc in old [] x xs (ap (λ v. v ∷ xs) is)
+each_more P (w ∷ xs) z old new (y ∷ before) x later e =
+    let is : w ≡ y = cc in
+    let rest : xs ++ z ∷ [] ≡ before ++ x ∷ later = cc in
+    subst (λ v. P (v ∷ before) x) is (each_more (λ b. P (w ∷ b)) xs z (λ b v l q. old (w ∷ b) v l (ap (λ t. w ∷ t) q)) new before x later rest)
+
+-- ---- sendings that were lost
+
+lost_before : (r : Request) (es : List Entry) (e : Entry) → was_lost r es ≡ true → was_lost r (es ++ e ∷ []) ≡ true
+lost_before r es e h = list_any-append (λ v. same_request r v.request && is_lost v.outcome) es (e ∷ []) ∙ ap (λ b. b || list_any (λ v. same_request r v.request && is_lost v.outcome) (e ∷ [])) h
+
+lost_here : (r : Request) (es : List Entry) (e : Entry) → r ≡ e.request → is_lost e.outcome ≡ true → was_lost r (es ++ e ∷ []) ≡ true
+lost_here r es e is lost =
+    let here : (same_request r e.request && is_lost e.outcome) ≡ true = ap (λ b. b && is_lost e.outcome) (subst (λ q. same_request r q ≡ true) is (same_self r)) ∙ lost in
+    list_any-append (λ v. same_request r v.request && is_lost v.outcome) es (e ∷ [])
+    ∙ ap (λ b. list_any (λ v. same_request r v.request && is_lost v.outcome) es || (b || false)) here
+    ∙ or_true (list_any (λ v. same_request r v.request && is_lost v.outcome) es)
+
+-- each turn with a sending lost has one among these entries
+abbrev TurnsLost : List Entry → Sets → List Turn → Type 0
+TurnsLost es sets xs = (x : Turn) → In x xs → x.lost ≡ true → was_lost (completion (nth (all_commits sets) x.number)) es ≡ true
+
+abbrev Lost : List Entry → Commit → Type 0
+Lost es (Completing sets x xs finished) = TurnsLost es sets (x ∷ xs)
+Lost es _ = Unit {0}
+
+module _ (w : Script) (es : List Entry) where
+  lost_completing : (sets : Sets) (xs : List Turn) (finished : List ℕ) → TurnsLost es sets xs → Lost es (completing sets xs finished)
+  lost_completing sets [] finished h = tt
+  lost_completing sets (x ∷ xs) finished h = h
+
+  lost_reverting : (rs : List Request) → Lost es (reverting rs)
+  lost_reverting [] = tt
+  lost_reverting (r ∷ rs) = tt
+
+  lost_either : (b : Bool) (c d : Commit) → Lost es c → Lost es d → Lost es (cond b c d)
+  lost_either true c d h g = h
+  lost_either false c d h g = g
+
+  lost_replacing : (sets : Sets) (ps : List (List ℕ)) → Lost es (replacing w sets ps)
+  lost_replacing sets [] = lost_completing sets (dealt w.lanes (length (all_commits sets))) [] (λ x i e. absurd (false_true (dealt_fresh w.lanes (length (all_commits sets)) x i).1 e))
+  lost_replacing sets (p ∷ ps) = tt
+
+  lost_decided : (sets : Sets) (o : Option CommitEnd) → Lost es (decided w sets o)
+  lost_decided sets (Some end) = tt
+  lost_decided sets None = lost_replacing sets (replaced w.committer w.mode w (picks_of sets))
+
+  lost_fetching : (sets : Sets) → Lost es (fetching w sets)
+  lost_fetching sets = lost_either (nat_lt (length sets) w.tasks) (Fetching sets 0) (decided w sets (same_path w (picks_of sets))) tt (lost_decided sets (same_path w (picks_of sets)))
+
+  lost_fetched : (sets : Sets) (o : Option PendingSet) → Lost es (fetched w sets o)
+  lost_fetched sets (Some s) = lost_fetching (sets ++ s ∷ [])
+  lost_fetched sets None = tt
+
+  lost_swept : (sets : Sets) (p : List ℕ) (ps : List (List ℕ)) (o : Option Sweep) → Lost es (swept w sets p ps o)
+  lost_swept sets p ps (Some s) = tt
+  lost_swept sets p ps None = lost_replacing sets ps
+
+  lost_start : (missing : Option ℕ) → Lost es (commit_start w missing)
+  lost_start (Some t) = tt
+  lost_start None = lost_fetching []
+
+-- the lane's next upload was not sent
+follow_fresh : (lanes total n : ℕ) (y : Turn) → In y (follow lanes total n) → y.lost ≡ false
+follow_fresh lanes total n y i = elim (follow_cases lanes total n) [
+  | inl h ↦ elim (subst (In y) h.1 i) [ inl e ↦ sym (ap (λ (v : Turn). v.lost) e) | inr none ↦ absurd none ]
+  | inr h ↦ absurd (subst (In y) h.1 i)
+]
+
+module _ (w : Script) (es : List Entry) (e : Entry) where
+  abbrev now : List Entry
+  now = es ++ e ∷ []
+
+  lost_heard : (c : Commit) (x : Reply) → Lost es c → Lost now (commit_hears w c x)
+  lost_heard (Fetching sets n) x h = lost_fetched w now sets (set_read x)
+  lost_heard (Replacing sets p ps s n) x h = lost_swept w now sets p ps (sweep_hears (is_no_magic w) s x)
+  lost_heard (Completing sets y ys finished) x h = lost_completing w now sets (ys ++ follow w.lanes (length (all_commits sets)) y.number) (y.number ∷ finished) (λ z i l.
+      elim (in_append z ys (follow w.lanes (length (all_commits sets)) y.number) i) [
+        | inl old ↦ lost_before (completion (nth (all_commits sets) z.number)) es e (h z (inr old) l)
+        | inr new ↦ absurd (false_true (follow_fresh w.lanes (length (all_commits sets)) y.number z new) l)
+      ])
+  lost_heard (Reverting q qs n) x h = lost_reverting w now qs
+  lost_heard _ x h = tt
+
+  lost_missed : (c : Commit) (lost : Bool) → commit_asks w c ≡ Some e.request → (lost ≡ true → is_lost e.outcome ≡ true) → Lost es c → Lost now (commit_misses w c lost)
+  lost_missed (Fetching sets n) lost asked so h = lost_either w now (nat_lt n w.retries) _ _ tt tt
+  lost_missed (Replacing sets p ps s n) lost asked so h = lost_either w now (nat_lt n w.retries) _ _ tt tt
+  lost_missed (Completing sets y ys finished) lost asked so h =
+      lost_either w now (nat_lt y.missed w.retries) (completing sets (ys ++ again y lost ∷ []) finished) (worn_completion sets y ys finished)
+      (lost_completing w now sets (ys ++ again y lost ∷ []) finished (λ z i l. elim (in_push z ys (again y lost) i) [
+        | inl old ↦ lost_before (completion (nth (all_commits sets) z.number)) es e (h z (inr old) l)
+        | inr is ↦
+            subst (λ (v : Turn). was_lost (completion (nth (all_commits sets) v.number)) now ≡ true) is (by y.lost lost refl refl (ap (λ (v : Turn). v.lost) is ∙ l))
+      ]))
+      (lost_reverting w now (revert (all_commits sets) y.number ys finished))
+    where
+      by : (a b : Bool) → y.lost ≡ a → lost ≡ b → (a || b) ≡ true → was_lost (completion (nth (all_commits sets) y.number)) now ≡ true
+      by true b p q l = lost_before (completion (nth (all_commits sets) y.number)) es e (h y (inl refl) p)
+      by false b p q l = lost_here (completion (nth (all_commits sets) y.number)) es e (some_is asked) (so (q ∙ l))
+  lost_missed (Marking sets n) lost asked so h = lost_either w now (nat_lt n w.retries) _ _ tt tt
+  lost_missed (Reverting q qs n) lost asked so h = lost_either w now (nat_lt n w.retries) _ _ tt (lost_reverting w now qs)
+  lost_missed (CommitOver end) lost asked so h = tt
+
+  lost_tells : (c : Commit) → commit_asks w c ≡ Some e.request → Lost es c → Lost now (commit_tells w c e.outcome)
+  lost_tells c asked h = by e.outcome refl
+    where
+      by : (o : Outcome) → e.outcome ≡ o → Lost now (commit_tells w c o)
+      by (Answered x) is = lost_heard c x h
+      by Slow is = lost_missed c false asked (λ l. absurd (false_true refl l)) h
+      by _ is = lost_missed c true asked (λ l. ap is_lost is) h
+
+-- ---- an answer to a completion
+
+no_upload : {why : Refusal} → Refused NoSuchUpload ≡ Refused why → why ≡ NoSuchUpload
+no_upload e = cc
+
+module _ (w : Script) (minimum : ℕ) (s : Seen) (m : Told) (j : IsLegal w) (h : Hold w minimum s m) (gone : Gone w s.scene.content m) where
+  -- a refused one found no upload, and a sending of it was lost
+  refused_lost : (sets : Sets) (x : Turn) (xs : List Turn) (finished : List ℕ) → Reads w minimum m.publish_sent m.drawn sets → Tabled w (Completing sets x xs finished) → Turns m (Completing sets x xs finished)
+      → (why : Refusal) → Refused why ≡ answer s.scene (completion (nth (all_commits sets) x.number)) → (why ≡ NoSuchUpload) × (x.lost ≡ true)
+  refused_lost sets x xs finished reads tabled turns why e = elim (true_or_false x.lost) [
+    | inr fresh ↦ let no = e ∙ turn_answered w minimum s m j h sets x xs finished reads tabled turns fresh in absurd cc
+    | inl lost ↦
+        let p = nth (all_commits sets) x.number in
+        let ps = named_from 1 p.tags in
+        let v = (of_sets j h sets reads p (nth_of (all_commits sets) x.number (tabled.within x (inl refl)))).1.commit in
+        let due : answer s.scene (completion p) ≡ complete_answer ps (joined (live h.there.0.uploads p.destination p.upload) ps s.scene.content.minimum) =
+        answer_is w s.scene h.there.0 h.there.1 (completion p) (ap (λ (z : Pending). z.bucket) v.is) in
+        elim (true_or_false (m.ended p.upload)) [
+          | inl ended ↦
+              let none : live h.there.0.uploads p.destination p.upload ≡ None = ap (with_key p.destination) (sym (id_before w s.scene h.there.0 h.there.1 p.upload) ∙ (gone p.upload ended).1) in
+              (no_upload (sym (e ∙ due ∙ ap (λ o. complete_answer ps (joined o ps s.scene.content.minimum)) none)), lost)
+          | inr mine ↦
+              let open_one : m.ended v.written.drawn.upload ≡ false = ap m.ended (sym (ap (λ (z : Pending). z.upload) v.is)) ∙ mine in
+              let no = e ∙ ap (λ (z : Pending). answer s.scene (completion z)) v.is ∙ completed j h v.by v.file v.mine v.written open_one (h.kept v.by v.has_sent) in
+              absurd cc
+        ]
+  ]
+
+-- ---- every run
+
+no_complete : stages.Read ≡ stages.Complete → ⊥
+no_complete e = cc
+
+module _ (g : Setting) (k : Option ℕ) (opening : Content) (j : IsLegal g.script) (is_opening : IsOpening g opening) where
+  abbrev w : Script
+  w = g.script
+
+  -- what is known while the commit goes on
+  pub in_commit : (es : List Entry) (x : Stand) → Runs g k opening es x → (c : Commit) → x.driver ≡ Some (TheCommit c)
+      → Hold w g.minimum x.seen x.told × Gone w x.seen.scene.content x.told × InCommit g opening x.seen.picks x.told c
+  in_commit es x run c d =
+      let l = late_now g k opening j is_opening es x run (ap is_set d) in
+      let i : InCommit g opening x.seen.picks x.told c = subst (λ v. At g opening v x.seen x.told) d l.driver in
+      (l.hold, l.gone i.uncleaned, i)
+
+  -- ---- completions
+
+  abbrev IsRefusedLost : List Entry → Entry → Type 0
+  IsRefusedLost before e = (why : Refusal) → stage_of e.request ≡ stages.Complete → e.outcome ≡ Answered (Refused why) → (why ≡ NoSuchUpload) × (was_lost e.request before ≡ true)
+
+  refused_next : (es : List Entry) (x : Stand) → Runs g k opening es x → (c : Commit) → x.driver ≡ Some (TheCommit c) → Lost x.commit c → (n : ℕ) (r : Request) (o : Outcome) → commit_asks w c ≡ Some r → IsHonestOutcome o (answer x.seen.scene r)
+      → IsRefusedLost x.commit (driver_entry n r o)
+  refused_next es x run (Completing sets y ys finished) d lost n r o asked honest why stage got =
+      let i = in_commit es x run (Completing sets y ys finished) d in
+      let due : Refused why ≡ answer x.seen.scene r = subst (λ v. IsHonestOutcome v (answer x.seen.scene r)) got honest in
+      let z = refused_lost w g.minimum x.seen x.told j i.0 i.1 sets y ys finished i.2.fits i.2.tabled i.2.turns why (due ∙ ap (answer x.seen.scene) (sym (some_is asked))) in
+      (z.0, subst (λ q. was_lost q x.commit ≡ true) (some_is asked) (lost y (inl refl) z.1))
+  refused_next es x run (Fetching sets i) d lost n r o asked honest why stage got = absurd (no_complete (sym (read_stage w.committer w (length sets)) ∙ ap stage_of (some_is asked) ∙ stage))
+  refused_next es x run (Replacing sets p ps (Listing keys) i) d lost n r o asked honest why stage got = let no = ap stage_of (some_is asked) ∙ stage in absurd cc
+  refused_next es x run (Reverting q qs i) d lost n r o asked honest why stage got =
+      let z = (in_commit es x run (Reverting q qs i) d).2.decides q (inl refl) in
+      let is = ap stage_of (some_is asked) ∙ stage in
+      elim z.2 [ inl y ↦ let no = sym (ap stage_of y) ∙ is in absurd cc | inr y ↦ let no = sym (ap stage_of y) ∙ is in absurd cc ]
+  refused_next es x run (CommitOver end) d lost n r o asked honest why stage got = absurd (none_some refl asked)
+  refused_next es x run _ d lost n r o asked honest why stage got = let no = ap stage_of (some_is asked) ∙ stage in absurd cc
+
+  abbrev Answers : Stand → Type 0
+  Answers x = (c : Commit) → x.driver ≡ Some (TheCommit c) → Lost x.commit c × Each IsRefusedLost x.commit
+
+  driver_answers : (es : List Entry) (x : Stand) → Runs g k opening es x → Answers x → (op : Operation) (n : ℕ) (r : Request) (o : Outcome) → x.driver ≡ Some op → asks g (who Driver) nothing_learnt op ≡ Some r → IsHonestOutcome o (answer x.seen.scene r)
+      → Answers (with_commit (with_driver (saw g k x (driver_entry n r o)) (tells g (who Driver) op o)) (commit_with op x.commit (driver_entry n r o)))
+  driver_answers es x run old (TheCommit c) n r o d asked honest v e =
+      let h = old c d in (
+        subst (Lost (x.commit ++ driver_entry n r o ∷ [])) (commit_is e) (lost_tells w x.commit (driver_entry n r o) c asked h.0),
+        each_more IsRefusedLost x.commit (driver_entry n r o) h.1 (refused_next es x run c d h.0 n r o asked honest),
+      )
+  driver_answers es x run old _ n r o d asked honest v e = absurd cc
+
+  begin_answers : (x : Stand) (b : Beginning) → Answers x → Answers (begin g x b)
+  begin_answers x (BeginCommit missing) old c e = (subst (Lost []) (commit_is e) (lost_start w [] missing), λ before z later q. absurd (no_member before z later q))
+  begin_answers x BeginSetup old c e = absurd cc
+  begin_answers x BeginClean old c e = absurd cc
+  begin_answers x _ old c e = old c e
+
+  pub answers : (es : List Entry) (x : Stand) → Runs g k opening es x → Answers x
+  answers es x (run_begins v) c e = absurd (none_some refl e)
+  answers es x (actor_begins fs y b run may) c e = begin_answers y b (answers fs y run) c e
+  answers es x (driver_sends fs y op n r o run d asked timely few honest) c e = driver_answers fs y run (answers fs y run) op n r o d asked honest c e
+  answers es x (attempt_sends fs y a op n r o run set at asked honest) c e = answers fs y run c e
+  answers es x (strays fs y n r o run f) c e = answers fs y run c e
+
+  -- ---- reads
+
+  abbrev IsThere : List Entry → Entry → Type 0
+  IsThere before e = e.actor ≡ Driver → (t : ℕ) (y : Reply) → e.request ≡ set_request w.committer w t → e.outcome ≡ Answered y → IsSome (set_read y) ⊎ Unpublished w k opening before
+
+  commit_there : (fs : List Entry) (x : Stand) → Runs g k opening fs x → (c : Commit) (n : ℕ) (r : Request) (o : Outcome) → x.driver ≡ Some (TheCommit c) → commit_asks w c ≡ Some r → is_begun k n ≡ true → x.seen.scene.content.next ≤ 2 ^ 64 → IsHonestOutcome o (answer x.seen.scene r) → IsThere fs (driver_entry n r o)
+  commit_there fs x run (Fetching sets i) n r o d asked timely few honest by t y is got =
+      let v = in_commit fs x run (Fetching sets i) d in
+      let st = stood g j k opening is_opening fs x run (Fetching sets i) d in
+      let due : y ≡ answer x.seen.scene (set_request w.committer w (length sets)) = subst (λ u. IsHonestOutcome u (answer x.seen.scene r)) got honest ∙ ap (answer x.seen.scene) (sym (some_is asked)) in
+      elim (brings g j k x.seen x.told v.0 v.2.uncleaned few n timely sets v.2.fits.0 (subst (ArePicks w x.seen.picks) (sym st.at.1) st.picks)) [
+        | inl none ↦ inr (length sets, v.2.fits.0, ap (λ (s : Seen). s.last (length sets)) (sym (sees g k opening j is_opening fs x run)) ∙ none.1)
+        | inr z ↦ inl (ap is_some (ap set_read due ∙ z.1))
+      ]
+  commit_there fs x run c n r o d asked timely few honest by t y is got =
+      let v = in_commit fs x run c d in
+      absurd (false_true (other_unread g j k x.seen x.told v.0 v.2.uncleaned few n timely c refl v.2.decides r asked t) (ap (is_reading w t) is ∙ reads_it j t))
+
+  driver_there : (fs : List Entry) (x : Stand) → Runs g k opening fs x → (op : Operation) (n : ℕ) (r : Request) (o : Outcome) → x.driver ≡ Some op → asks g (who Driver) nothing_learnt op ≡ Some r → IsTimely k x.told.cleans_at n op → x.seen.scene.content.next ≤ 2 ^ 64 → IsHonestOutcome o (answer x.seen.scene r) → IsThere fs (driver_entry n r o)
+  driver_there fs x run (TheCommit c) n r o d asked timely few honest by t y is got = commit_there fs x run c n r o d asked timely.0 few honest by t y is got
+  driver_there fs x run (TheSetup c) n r o d asked timely few honest by t y is got = absurd (false_true (setup_reads w c.operation r asked t) (ap (is_reading w t) is ∙ reads_it j t))
+  driver_there fs x run (TheClean c) n r o d asked timely few honest by t y is got = absurd (false_true (clean_reads w c.operation r asked t) (ap (is_reading w t) is ∙ reads_it j t))
+  driver_there fs x run (TheWrite c) n r o d asked timely few honest by t y is got = absurd (no_driver g j k opening is_opening fs x run (TheWrite c) d (λ z. z))
+  driver_there fs x run (TheTaskCommit c) n r o d asked timely few honest by t y is got = absurd (no_driver g j k opening is_opening fs x run (TheTaskCommit c) d (λ z. z))
+  driver_there fs x run (TheTaskAbort c) n r o d asked timely few honest by t y is got = absurd (no_driver g j k opening is_opening fs x run (TheTaskAbort c) d (λ z. z))
+
+  not_driver : (a : Who) → actor_of a ≡ Driver → ⊥
+  not_driver a e = cc
+
+  no_shell : Shell ≡ Driver → ⊥
+  no_shell e = cc
+
+  pub there : (es : List Entry) (x : Stand) → Runs g k opening es x → Each IsThere es
+  there es x (run_begins v) = λ before z later q. absurd (no_member before z later q)
+  there es x (actor_begins fs y b run may) = there fs y run
+  there es x (driver_sends fs y op n r o run d asked timely few honest) = each_more IsThere fs (driver_entry n r o) (there fs y run) (driver_there fs y run op n r o d asked timely few honest)
+  there es x (attempt_sends fs y a op n r o run set at asked honest) = each_more IsThere fs (entry a n r o) (there fs y run) (λ by t v is got. absurd (not_driver a by))
+  there es x (strays fs y n r o run f) = each_more IsThere fs (strange_entry n r o) (there fs y run) (λ by t v is got. absurd (no_shell by))
+
+pub commit_answers : CommitAnswers
+commit_answers = record {
+  refused = λ g j k opening is_opening es x run c d before e later why is. (answers g k opening j is_opening es x run c d).1 before e later is why;
+  there = λ g j k opening is_opening es x run before e later t r is by. there g k opening j is_opening es x run before e later is by t r;
+}

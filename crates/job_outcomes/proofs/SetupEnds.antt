@@ -1,0 +1,302 @@
+-- How the driver's set-up ends, by its entries alone.
+use Rattle.std.proofs.Common.{◌≡◌, ℕ, inl, inr, nat_lt, Bool, true, false, cond, List, [], ◌∷◌, ◌++◌, take, length, Option, Some, None, IsSome, refl, sym, ap, subst, ◌∙◌, codes}
+use Rattle.std.specs.FinMap as fin
+use Rattle.std.specs.Option.{is_some, option_map}
+use Rattle.std.specs.Ordering.{is_lt}
+use Rattle.std.proofs.lemmas.Bool.{false≢true}
+use Rattle.proof_base.specs.Order.{text_cmp, text_total}
+use Rattle.proof_base.proofs.Less.{lt_not, le_lt}
+use Rattle.s3_types.specs.Store.{BucketContent, Content, Scene}
+use Rattle.s3_types.specs.Pages.{begins, listed}
+use Rattle.s3_types.specs.Answer.{answer, answer_at, apply, head}
+use Rattle.s3_types.specs.Moment.{after_all, AreHonest}
+use Rattle.s3_types.specs.declared.object.Object.{Object}
+use Rattle.s3_types.specs.declared.request.Actor.{Actor}
+use Rattle.s3_types.specs.declared.request.Committer.{Committer}
+use Rattle.s3_types.specs.declared.request.Committer.TheVariants.{Magic}
+use Rattle.s3_types.specs.declared.request.Request.{Request}
+use Rattle.s3_types.specs.declared.request.Request.TheVariants.{HeadObject, DeleteObject}
+use Rattle.s3_types.specs.declared.reply.Reply.{Reply}
+use Rattle.s3_types.specs.declared.reply.Reply.TheVariants.{Page, Deleted, Refused}
+use Rattle.s3_types.specs.declared.reply.Refusal.TheVariants.{TooManyKeys}
+use Rattle.s3_types.specs.declared.reply.PageEntry.{PageEntry}
+use Rattle.s3_types.specs.declared.journal.Entry.{Entry}
+use Rattle.s3_types.specs.declared.journal.Outcome.TheVariants.{Answered, ReplyLost}
+use Rattle.s3_types.specs.declared.limits.TheConstants.{MOST_ENTRIES}
+use Rattle.path_keys.specs.Paths.{below}
+use Rattle.magic_paths.specs.Layout.{magic_prefix, success_key}
+use Rattle.retries.specs.Operation.{run, Follows}
+use Rattle.retries.specs.Retries.{fresh, step, wants_of, worn_in}
+use Rattle.retries.specs.Worn.{WornFirst}
+use Rattle.retries.proofs.First.{counted_first}
+use Rattle.job_model.specs.Legal.{IsLegal}
+use Rattle.job_model.specs.JobScript.{Script}
+use Rattle.job_model.specs.Known.{Known}
+use Rattle.job_model.specs.declared.ends.OpEnd.TheVariants as op_ends
+use Rattle.job_model.specs.declared.ends.SetupEnd.{SetupEnd}
+use Rattle.job_model.specs.declared.ends.SetupEnd.TheVariants as setups
+use Rattle.job_protocol.specs.View.{view, is_file_path}
+use Rattle.job_protocol.specs.Conflicts.{checks_all}
+use Rattle.list_walk.specs.Walks.{Sweep, Listing, Deleting, sweep_asks, walked_by, keys_on, last_of, page_after, sweep_hears, all_go}
+use Rattle.job_protocol.specs.Setup.{Setup, Heading, Checking, Clearing, Sweeping, SetupOver, dest_prefix, lacks_bucket, if_bucket, headed, checked, checked_on, checked_by, first_shown, cleared, sweeping, setup_start, setup_asks, setup_hears, setup_after, setup_over}
+use Rattle.job_protocol.specs.Operations.{Setting, wants, advance, over}
+use Rattle.job_spec.specs.OperationEnds.{IsLeastShown, IsFree, SetupIs}
+use Rattle.proof_base.specs.Members.{last_from}
+use Rattle.store_frame.specs.Held.{HasBucket}
+use Rattle.proof_base.proofs.Members.{some_is, none_some, in_front, in_back}
+use Rattle.store_frame.proofs.Flat.{page_rises, page_begins, page_covers, page_all, last_append}
+use Rattle.store_frame.proofs.Reading.{reads_nothing}
+use Rattle.job_facts.specs.Stores.{at_key}
+use Rattle.job_facts.specs.Emptying.{ThoseOrBehind}
+use Rattle.job_facts.proofs.Emptying.{last_so, still_there}
+use Rattle.job_facts.proofs.Shapes.{key_before, answer_is}
+use Rattle.job_facts.proofs.JobCommitting.{dest_below}
+use Rattle.job_outcomes.specs.SetupEnds.{setting_up, SetupEnds}
+use Rattle.job_outcomes.proofs.Alone.{setup_follows, setup_run}
+use Rattle.job_outcomes.proofs.Went.{Went, went}
+use Rattle.job_outcomes.proofs.SetupListed.{setup_listed}
+use Rattle.job_outcomes.proofs.Least.{last_of_all, seen_below, shown_at, below_cmp, unseen_in, unseen_more, first_of}
+
+some_text : (p k : List ℕ) → begins (p ++ codes "/") k ≡ true → is_lt (text_cmp [] k) ≡ true
+some_text [] [] h = absurd (false≢true h)
+some_text (x ∷ p) [] h = absurd (false≢true h)
+some_text p (x ∷ k) h = refl
+
+some_of : {X : Type 0} (o : Option X) → IsSome o → (x : X) × (o ≡ Some x)
+some_of None h = absurd (false≢true h)
+some_of (Some x) h = (x, refl)
+
+module _ (w : Script) (j : IsLegal w) (first : Scene) where
+  abbrev c : Content
+  c = first.content
+
+  abbrev lt : List ℕ → List ℕ → Bool
+  lt a b = is_lt (text_cmp a b)
+
+  -- ---- what is shown
+
+  record HasFile (q : List ℕ) : Type 0 where
+    pub file : is_file_path q ≡ true
+    pub object : Object
+    pub stands : at_key w c (below w.dest.key q) ≡ Some object
+
+  file_of : (q : List ℕ) → IsSome (view w.dest c q) → HasFile q
+  file_of q h = by (is_file_path q) (at_key w c (below w.dest.key q)) refl refl h
+    where
+      by : (b : Bool) (o : Option Object) → is_file_path q ≡ b → at_key w c (below w.dest.key q) ≡ o → IsSome (cond b (option_map (λ (x : Object). x.bytes) o) None) → HasFile q
+      by true (Some x) f e i = record { file = f; object = x; stands = e }
+      by true None f e i = absurd (false≢true i)
+      by false o f e i = absurd (false≢true i)
+
+  shows_file : (q : List ℕ) (x : Object) → is_file_path q ≡ true → at_key w c (below w.dest.key q) ≡ Some x → IsSome (view w.dest c q)
+  shows_file q x f e = ap (λ b. is_some (cond b (option_map (λ (y : Object). y.bytes) (at_key w c (below w.dest.key q))) None)) f ∙ ap (λ o. is_some (option_map (λ (y : Object). y.bytes) o)) e
+
+  nothing_shown : ((q : List ℕ) → IsSome (view w.dest c q) → ⊥) → (q : List ℕ) → view w.dest c q ≡ None
+  nothing_shown none q = by (view w.dest c q) refl
+    where
+      by : (o : Option (List ℕ)) → view w.dest c q ≡ o → o ≡ None
+      by None e = refl
+      by (Some b) e = absurd (none q (ap is_some e))
+
+  -- ---- how far it has come
+
+  -- it may go on to delete
+  abbrev Passed : Type 0
+  Passed = IsFree w c × (checks_all w.committer w.mode ≡ true → (p : List ℕ) → view w.dest c p ≡ None)
+
+  -- no file is shown at the keys so far, and all others are behind them
+  record Looked (keys : List (List ℕ)) : Type 0 where
+    pub cover : ThoseOrBehind w (dest_prefix w) all_go c keys
+    pub unseen : first_shown w keys ≡ None
+
+  abbrev Holds : Scene → Setup → Type 0
+  Holds s Heading = s ≡ first
+  Holds s (Checking keys) = (s ≡ first) × (checks_all w.committer w.mode ≡ true) × IsFree w c × Looked keys
+  Holds s (SetupOver end) = SetupIs w c None end
+  Holds s _ = Passed × HasBucket s.content w.dest.bucket
+
+  -- ---- the destination's own key
+
+  nothing_yet : Looked []
+  nothing_yet = record { cover = λ k x b go e. inr (some_text w.dest.key k b); unseen = refl }
+
+  has_bucket : (s : Scene) → s ≡ first → IsFree w c → HasBucket s.content w.dest.bucket
+  has_bucket s is free = subst (λ (u : Scene). HasBucket u.content w.dest.bucket) (sym is) (some_of (fin.get c.buckets w.dest.bucket) free.0)
+
+  from_here : (s : Scene) → s ≡ first → IsFree w c → (b : Bool) → checks_all w.committer w.mode ≡ b → Holds s (cond b (Checking []) Clearing)
+  from_here s is free true e = (is, e, free, nothing_yet)
+  from_here s is free false e = ((free, λ h. absurd (false≢true (sym e ∙ h))), has_bucket s is free)
+
+  abbrev head_request : Request
+  head_request = HeadObject w.dest.bucket w.dest.key
+
+  headed_by : (s : Scene) → s ≡ first → (o : Option BucketContent) → fin.get c.buckets w.dest.bucket ≡ o → let x = answer_at o c.next c.minimum head_request in Holds s (if_bucket x (headed w x))
+  headed_by s is None e = e
+  headed_by s is (Some b) e = by (fin.get b.objects w.dest.key) refl
+    where
+      at : at_key w c w.dest.key ≡ fin.get b.objects w.dest.key
+      at = key_before w first b e w.dest.key
+
+      by : (x : Option Object) → fin.get b.objects w.dest.key ≡ x → Holds s (if_bucket (head x) (headed w (head x)))
+      by None f = from_here s is (ap is_some e, at ∙ f) (checks_all w.committer w.mode) refl
+      by (Some x) f = ap is_some (at ∙ f)
+
+  headed_now : (s : Scene) → s ≡ first → (x : Reply) → x ≡ answer first head_request → Holds s (if_bucket x (headed w x))
+  headed_now s is x e = subst (λ y. Holds s (if_bucket y (headed w y))) (sym e) (headed_by s is (fin.get c.buckets w.dest.bucket) refl)
+
+  -- ---- a page
+
+  module _ (s : Scene) (same : s ≡ first) (checks : checks_all w.committer w.mode ≡ true) (free : IsFree w c) (keys : List (List ℕ)) (looked : Looked keys) where
+    abbrev there : HasBucket c w.dest.bucket
+    there = some_of (fin.get c.buckets w.dest.bucket) free.0
+
+    abbrev rest : List PageEntry
+    rest = listed (dest_prefix w) false (last_of keys) there.0.objects
+
+    abbrev new : List (List ℕ)
+    new = keys_on (take 1000 rest)
+
+    here : (k : List ℕ) (x : Object) → at_key w c k ≡ Some x → fin.get there.0.objects k ≡ Some x
+    here k x e = sym (key_before w first there.0 there.1 k) ∙ e
+
+    last_more : last_of (keys ++ new) ≡ last_from (last_of keys) new
+    last_more = last_so (keys ++ new) ∙ last_append [] keys new ∙ ap (λ t. last_from t new) (sym (last_so keys))
+
+    cover_more : ThoseOrBehind w (dest_prefix w) all_go c (keys ++ new)
+    cover_more k x b go e = elim (looked.cover k x b go e) [
+      | inl i ↦ inl (in_front k keys new i)
+      | inr l ↦ elim (page_covers 1000 (dest_prefix w) (last_of keys) k there.0.objects x (here k x e) b l) [
+        | inl i ↦ inl (in_back k keys new i)
+        | inr f ↦ inr (ap (λ t. lt t k) last_more ∙ f)
+      ]
+    ]
+
+    -- each file that is shown is at a key behind those so far
+    shown_behind : (q : List ℕ) → (f : HasFile q) → lt (last_of keys) (below w.dest.key q) ≡ true
+    shown_behind q f = elim (looked.cover (below w.dest.key q) f.object (dest_below j q) refl f.stands) [
+      | inl i ↦ absurd (none_some (unseen_in w j keys looked.unseen (below w.dest.key q) i) (seen_below w j q f.file))
+      | inr l ↦ l
+    ]
+
+    least_shown : (p : List ℕ) → first_shown w new ≡ Some p → IsLeastShown w c p
+    least_shown p e =
+        let rises = page_rises 1000 (dest_prefix w) (last_of keys) there.0.objects in
+        let o = first_of w j (last_of keys) new rises p e in
+        let stands = page_begins 1000 (dest_prefix w) (last_of keys) o.key there.0.objects o.one in
+        let at = shown_at w j o.key p stands.0 o.shown in
+        record {
+          shown = shows_file p stands.1.0 at.file (ap (at_key w c) (sym at.is) ∙ key_before w first there.0 there.1 o.key ∙ stands.1.1);
+          least = λ q h.
+              let f = file_of q h in
+              let before : lt (below w.dest.key q) o.key ≡ false = elim (page_covers 1000 (dest_prefix w) (last_of keys) (below w.dest.key q) there.0.objects f.object (here (below w.dest.key q) f.object f.stands) (dest_below j q) (shown_behind q f)) [
+                | inl i ↦ o.least (below w.dest.key q) q i (seen_below w j q f.file)
+                | inr b ↦ lt_not text_total o.key (below w.dest.key q) (le_lt text_total o.key (last_from (last_of keys) new) (below w.dest.key q) (last_of_all (last_of keys) new rises o.key o.one) b)
+              ] in
+              sym (ap is_lt (ap (text_cmp (below w.dest.key q)) at.is ∙ below_cmp w j q p)) ∙ before;
+        }
+
+    all_looked : nat_lt 1000 (length rest) ≡ false → first_shown w new ≡ None → (q : List ℕ) → IsSome (view w.dest c q) → ⊥
+    all_looked few none q h =
+        let f = file_of q h in
+        let i = page_all 1000 (dest_prefix w) (last_of keys) (below w.dest.key q) there.0.objects f.object few (here (below w.dest.key q) f.object f.stands) (dest_below j q) (shown_behind q f) in
+        none_some (unseen_in w j new none (below w.dest.key q) i) (seen_below w j q f.file)
+
+    on_by : first_shown w new ≡ None → (more : Bool) → nat_lt 1000 (length rest) ≡ more → Holds s (checked_on (walked_by more (keys ++ new)))
+    on_by none true e = (same, checks, free, record { cover = cover_more; unseen = unseen_more w j keys new looked.unseen none })
+    on_by none false e = ((free, λ h. nothing_shown (all_looked e none)), has_bucket s same free)
+
+    checked_so : (o : Option (List ℕ)) → first_shown w new ≡ o → (more : Bool) → nat_lt 1000 (length rest) ≡ more → Holds s (checked_by o (walked_by more (keys ++ new)))
+    checked_so (Some p) e more f = (free, checks, least_shown p e)
+    checked_so None e more f = on_by e more f
+
+    checked_now : (x : Reply) → x ≡ answer first (page_after w.dest.bucket (dest_prefix w) keys) → Holds s (if_bucket x (checked w keys x))
+    checked_now x e =
+        let q = page_after w.dest.bucket (dest_prefix w) keys in
+        let due : answer first q ≡ Page (take 1000 rest) (nat_lt 1000 (length rest)) = answer_is w first there.0 there.1 q refl in
+        subst (λ y. Holds s (if_bucket y (checked w keys y))) (sym (e ∙ due)) (checked_so (first_shown w new) refl (nat_lt 1000 (length rest)) refl)
+
+  -- ---- every answer
+
+  cleared_so : (s : Scene) (k : Committer) → Passed × HasBucket s.content w.dest.bucket → Holds s (cleared k)
+  cleared_so s Magic h = h
+  cleared_so s _ h = h.0
+
+  swept_so : (s : Scene) (t : Option Sweep) → Passed × HasBucket s.content w.dest.bucket → Holds s (sweeping t)
+  swept_so s (Some t) h = h
+  swept_so s None h = h.0
+
+  -- where the bucket is there no answer says that it is not
+  found_bucket : (s : Scene) (q r : Request) → q ≡ r → lacks_bucket (answer s q) ≡ false → (x : Reply) → x ≡ answer s r → (next : Setup) → Holds (apply s r) next → Holds (apply s r) (if_bucket x next)
+  found_bucket s q r is has x e next h = subst (λ b. Holds (apply s r) (cond b (SetupOver setups.NoSuchBucket) next)) (sym (ap lacks_bucket (e ∙ ap (answer s) (sym is)) ∙ has)) h
+
+  abbrev sweep_request : Sweep → Request
+  sweep_request t = sweep_asks w.dest.bucket (magic_prefix w.dest.key w.job) t
+
+  sweep_has : (s : Scene) → HasBucket s.content w.dest.bucket → (t : Sweep) → lacks_bucket (answer s (sweep_request t)) ≡ false
+  sweep_has s b (Listing keys) = ap lacks_bucket (answer_is w s b.0 b.1 (sweep_request (Listing keys)) refl)
+  sweep_has s b (Deleting k ks) = ap lacks_bucket (answer_is w s b.0 b.1 (sweep_request (Deleting k ks)) refl) ∙ by (nat_lt MOST_ENTRIES (length (take 1000 (k ∷ ks))))
+    where
+      by : (many : Bool) → lacks_bucket (cond many (Refused TooManyKeys) Deleted) ≡ false
+      by true = refl
+      by false = refl
+
+  heard : (s : Scene) (m : Setup) → Holds s m → (r : Request) → setup_asks w m ≡ Some r → (x : Reply) (repeated : Bool) → x ≡ answer s r → Holds (apply s r) (setup_hears w m x)
+  heard s Heading h r asked x repeated e =
+      let is : head_request ≡ r = some_is asked in
+      headed_now (apply s r) (ap (apply s) (sym is) ∙ reads_nothing s head_request refl ∙ h) x (e ∙ ap (answer s) (sym is) ∙ ap (λ v. answer v head_request) h)
+  heard s (Checking keys) h r asked x repeated e =
+      let q = page_after w.dest.bucket (dest_prefix w) keys in
+      let is : q ≡ r = some_is asked in
+      checked_now (apply s r) (ap (apply s) (sym is) ∙ reads_nothing s q refl ∙ h.0) h.1 h.2 keys h.3 x (e ∙ ap (answer s) (sym is) ∙ ap (λ v. answer v q) h.0)
+  heard s Clearing h r asked x repeated e =
+      let q = DeleteObject w.dest.bucket (success_key w.dest.key) in
+      found_bucket s q r (some_is asked) (ap lacks_bucket (answer_is w s h.1.0 h.1.1 q refl)) x e (cleared w.committer) (cleared_so (apply s r) w.committer (h.0, still_there w s r (Answered x) h.1))
+  heard s (Sweeping t) h r asked x repeated e =
+      found_bucket s (sweep_request t) r (some_is asked) (sweep_has s h.1 t) x e (sweeping (sweep_hears all_go t x)) (swept_so (apply s r) (sweep_hears all_go t x) (h.0, still_there w s r (Answered x) h.1))
+  heard s (SetupOver end) h r asked x repeated e = absurd (none_some refl asked)
+
+  still : (s : Scene) (m : Setup) → Holds s m → (r : Request) → setup_asks w m ≡ Some r → Holds (apply s r) m
+  still s Heading h r asked = ap (apply s) (sym (some_is asked)) ∙ reads_nothing s head_request refl ∙ h
+  still s (Checking keys) h r asked = (ap (apply s) (sym (some_is asked)) ∙ reads_nothing s (page_after w.dest.bucket (dest_prefix w) keys) refl ∙ h.0, h.1, h.2, h.3)
+  still s (SetupOver end) h r asked = h
+  still s _ h r asked = (h.0, still_there w s r ReplyLost h.1)
+
+  over_so : (s : Scene) (m : Setup) → Holds s m → (e : SetupEnd) → setup_over m ≡ Some e → SetupIs w c None e
+  over_so s (SetupOver end) h e is = subst (SetupIs w c None) (some_is is) h
+  over_so s _ h e is = absurd (none_some refl is)
+
+  pub setup_ends : (es : List Entry) → Follows (wants_of (setup_asks w)) (step w.retries (setup_after w)) (fresh w.retries setup_start) es → AreHonest first es
+      → (e : SetupEnd) → setup_over (run (step w.retries (setup_after w)) (fresh w.retries setup_start) es).operation ≡ Some e → (worn : Option Request) × WornFirst w.retries es worn × SetupIs w c worn e
+  setup_ends es f honest e is =
+      let t = fresh w.retries setup_start in
+      let worn = worn_in w.retries (setup_after w) t es in (
+        worn,
+        counted_first w.retries (setup_asks w) (setup_after w) setup_start es f,
+        by (went w.retries (setup_asks w) (setup_after w) Holds heard still (λ m. refl) es first t refl f honest),
+      )
+    where
+      by : Went w.retries (setup_asks w) (setup_after w) Holds heard still (λ m. refl) (fresh w.retries setup_start) first es → SetupIs w c (worn_in w.retries (setup_after w) (fresh w.retries setup_start) es) e
+      by (inl h) = subst (λ o. SetupIs w c o e) (sym h.0) (over_so (after_all first es) (run (step w.retries (setup_after w)) (fresh w.retries setup_start) es).operation h.1 e is)
+      by (inr h) = subst (λ o. SetupIs w c o e) (sym h.2) (sym (some_is (ap setup_over (sym h.3) ∙ is)))
+
+over_setup : (t : Setup) (e : SetupEnd) → option_map op_ends.Setup (setup_over t) ≡ Some (op_ends.Setup e) → setup_over t ≡ Some e
+over_setup t e h = by (setup_over t) h
+  where
+    by : (o : Option SetupEnd) → option_map op_ends.Setup o ≡ Some (op_ends.Setup e) → o ≡ Some e
+    by None h = absurd (none_some refl h)
+    by (Some d) h = cc
+
+running_ends : (g : Setting) → IsLegal g.script → (a : Actor) (k : Known) (s : Scene) (es : List Entry) → Follows (wants g a) (advance g a) (setting_up g k) es → AreHonest s es → (e : SetupEnd) → over (run (advance g a) (setting_up g k) es).operation ≡ Some (op_ends.Setup e)
+    → (worn : Option Request) × WornFirst g.script.retries es worn × SetupIs g.script s.content worn e
+running_ends g j a k s es f honest e is =
+    let t = fresh g.script.retries setup_start in
+    setup_ends g.script j s es (setup_follows g a k t es f) honest e (over_setup (run (step g.script.retries (setup_after g.script)) t es).operation e (sym (ap over (setup_run g a k t es)) ∙ is))
+
+pub setups_end : SetupEnds
+setups_end = record {
+  ends = λ w j s es f honest e is. setup_ends w j s es f honest e is;
+  running = running_ends;
+  listed = λ g a k es f e is.
+      let t = fresh g.script.retries setup_start in
+      setup_listed g.script es (setup_follows g a k t es f) e (over_setup (run (step g.script.retries (setup_after g.script)) t es).operation e (sym (ap over (setup_run g a k t es)) ∙ is));
+}

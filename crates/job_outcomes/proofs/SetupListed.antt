@@ -1,0 +1,148 @@
+-- How the driver's set-up ends by what its pages listed, whoever else sends.
+use Rattle.std.proofs.Common.{◌≡◌, ℕ, zero, suc, Bool, true, false, cond, List, [], ◌∷◌, ◌++◌, append-nil, append_assoc, Option, Some, None, refl, sym, ap, subst, ◌∙◌}
+use Rattle.std.proofs.lemmas.Bool.{false≢true}
+use Rattle.s3_types.specs.declared.request.Committer.{Committer}
+use Rattle.s3_types.specs.declared.request.Committer.TheVariants.{Magic}
+use Rattle.s3_types.specs.declared.request.Request.{Request}
+use Rattle.s3_types.specs.declared.reply.Reply.{Reply}
+use Rattle.s3_types.specs.declared.reply.Reply.TheVariants.{Head, Page, Refused}
+use Rattle.s3_types.specs.declared.reply.Refusal.TheVariants.{NoSuchBucket}
+use Rattle.s3_types.specs.declared.journal.Outcome.{Outcome}
+use Rattle.s3_types.specs.declared.journal.Outcome.TheVariants.{Answered, Slow}
+use Rattle.s3_types.specs.declared.journal.Entry.{Entry}
+use Rattle.path_keys.specs.Paths.{relative_in}
+use Rattle.retries.specs.Operation.{run, Follows}
+use Rattle.retries.specs.Retries.{Retried, fresh, step, unanswered_by, wants_of, is_zero, worn_in}
+use Rattle.retries.specs.Worn.{WornFirst}
+use Rattle.retries.proofs.First.{counted_first}
+use Rattle.proof_base.proofs.Members.{some_is, none_some}
+use Rattle.job_model.specs.JobScript.{Script}
+use Rattle.job_model.specs.declared.ends.SetupEnd.{SetupEnd}
+use Rattle.job_model.specs.declared.ends.SetupEnd.TheVariants as setups
+use Rattle.job_protocol.specs.Conflicts.{checks_all}
+use Rattle.list_walk.specs.Walks.{Sweep, keys_on, page_after, walked_by, sweep_hears, all_go}
+use Rattle.job_protocol.proofs.Faults.{if_bucket_so}
+use Rattle.job_protocol.specs.Setup.{Setup, Heading, Checking, Clearing, Sweeping, SetupOver, dest_prefix, headed, checked_on, checked_by, shown_path, or_next, first_shown, cleared, sweeping, setup_start, setup_asks, setup_hears, setup_after, setup_over}
+use Rattle.job_outcomes.specs.SetupEnds.{keys_told, keys_listed, SetupListed}
+
+module _ (w : Script) where
+  abbrev checks : Bool
+  checks = checks_all w.committer w.mode
+
+  -- the first one shown is among the later ones, where none of the earlier is
+  shown_later : (ks more : List (List ℕ)) → first_shown w ks ≡ None → first_shown w (ks ++ more) ≡ first_shown w more
+  shown_later [] more h = refl
+  shown_later (k ∷ ks) more h = by (shown_path (relative_in w.dest.key k)) h (λ g. shown_later ks more g)
+    where
+      by : (o : Option (List ℕ)) → or_next o (first_shown w ks) ≡ None → (first_shown w ks ≡ None → first_shown w (ks ++ more) ≡ first_shown w more) → or_next o (first_shown w (ks ++ more)) ≡ first_shown w more
+      by (Some p) h old = absurd (none_some h refl)
+      by None h old = old h
+
+  -- ---- what its pages have listed as it goes on
+
+  abbrev Listed : List (List ℕ) → Setup → Type 0
+  Listed keys Heading = keys ≡ []
+  Listed keys (Checking found) = (checks ≡ true) × (first_shown w keys ≡ None)
+  Listed keys Clearing = checks ≡ true → first_shown w keys ≡ None
+  Listed keys (Sweeping t) = checks ≡ true → ⊥
+  Listed keys (SetupOver end) = SetupListed w keys None end
+
+  none_yet : {keys : List (List ℕ)} → keys ≡ [] → first_shown w keys ≡ None
+  none_yet e = ap (first_shown w) e
+
+  from_here : (keys : List (List ℕ)) → keys ≡ [] → (b : Bool) → checks ≡ b → Listed keys (cond b (Checking []) Clearing)
+  from_here keys e true is = (is, none_yet e)
+  from_here keys e false is = λ h. none_yet e
+
+  headed_so : (keys : List (List ℕ)) → keys ≡ [] → (x : Reply) → Listed keys (headed w x)
+  headed_so keys e (Head len header) = e
+  headed_so keys e _ = from_here keys e checks refl
+
+  checked_so : (keys : List (List ℕ)) → (checks ≡ true) × (first_shown w keys ≡ None) → (found : List (List ℕ)) (x : Reply) (r : Request) → setup_asks w (Checking found) ≡ Some r → Listed (keys ++ keys_told r (Answered x)) (setup_hears w (Checking found) x)
+  checked_so keys h found x r asked = subst (λ q. Listed (keys ++ keys_told q (Answered x)) (setup_hears w (Checking found) x)) (some_is asked) (by x)
+    where
+      same : Listed (keys ++ []) (Checking found)
+      same = (h.0, ap (first_shown w) (append-nil keys) ∙ h.1)
+
+      on : (new : List (List ℕ)) → first_shown w new ≡ None → (more : Bool) → Listed (keys ++ new) (checked_on (walked_by more (found ++ new)))
+      on new e true = (h.0, shown_later keys new h.1 ∙ e)
+      on new e false = λ c. shown_later keys new h.1 ∙ e
+
+      page : (new : List (List ℕ)) (o : Option (List ℕ)) → first_shown w new ≡ o → (more : Bool) → Listed (keys ++ new) (checked_by o (walked_by more (found ++ new)))
+      page new (Some p) e more = (h.0, shown_later keys new h.1 ∙ e)
+      page new None e more = on new e more
+
+      by : (x : Reply) → Listed (keys ++ keys_told (page_after w.dest.bucket (dest_prefix w) found) (Answered x)) (setup_hears w (Checking found) x)
+      by (Page entries more) = page (keys_on entries) (first_shown w (keys_on entries)) refl more
+      by (Refused NoSuchBucket) = λ c. same.1
+      by _ = same
+
+  more_keys : (keys : List (List ℕ)) → Listed keys Clearing → checks ≡ true → first_shown w (keys ++ []) ≡ None
+  more_keys keys h c = ap (first_shown w) (append-nil keys) ∙ h c
+
+  cleared_so : (keys : List (List ℕ)) → Listed keys Clearing → (k : Committer) → w.committer ≡ k → Listed (keys ++ []) (cleared k)
+  cleared_so keys h Magic is = λ c. absurd (false≢true (sym (ap (λ v. checks_all v w.mode) is) ∙ c))
+  cleared_so keys h _ is = more_keys keys h
+
+  swept_so : (keys : List (List ℕ)) → (checks ≡ true → ⊥) → (t : Option Sweep) → Listed keys (sweeping t)
+  swept_so keys h (Some t) = h
+  swept_so keys h None = λ c. absurd (h c)
+
+  heard : (keys : List (List ℕ)) (m : Setup) → Listed keys m → (r : Request) → setup_asks w m ≡ Some r → (x : Reply) → Listed (keys ++ keys_told r (Answered x)) (setup_hears w m x)
+  heard keys Heading h r asked x =
+      let none = append-nil keys ∙ h in
+      subst (λ q. Listed (keys ++ keys_told q (Answered x)) (setup_hears w Heading x)) (some_is asked) (if_bucket_so (Listed (keys ++ [])) x (headed w x) (λ c. none_yet none) (headed_so (keys ++ []) none x))
+  heard keys (Checking found) h r asked x = checked_so keys h found x r asked
+  heard keys Clearing h r asked x =
+      subst (λ q. Listed (keys ++ keys_told q (Answered x)) (setup_hears w Clearing x)) (some_is asked) (if_bucket_so (Listed (keys ++ [])) x (cleared w.committer) (more_keys keys h) (cleared_so keys h w.committer refl))
+  heard keys (Sweeping t) h r asked x =
+      let more = keys ++ keys_told r (Answered x) in
+      if_bucket_so (Listed more) x (sweeping (sweep_hears all_go t x)) (λ c. absurd (h c)) (swept_so more h (sweep_hears all_go t x))
+  heard keys (SetupOver end) h r asked x = absurd (none_some refl asked)
+
+  over_so : (keys : List (List ℕ)) (m : Setup) → Listed keys m → (e : SetupEnd) → setup_over m ≡ Some e → SetupListed w keys None e
+  over_so keys (SetupOver end) h e is = subst (SetupListed w keys None) (some_is is) h
+  over_so keys _ h e is = absurd (none_some refl is)
+
+  -- ---- its entries
+
+  abbrev after : Retried Setup → Outcome → Retried Setup
+  after = step w.retries (setup_after w)
+
+  -- nothing is sent behind a request that wore out
+  worn_over : (es : List Entry) → Follows (wants_of (setup_asks w)) after (fresh w.retries (SetupOver setups.StoreFault)) es → (e : SetupEnd) → setup_over (run after (fresh w.retries (SetupOver setups.StoreFault)) es).operation ≡ Some e → e ≡ setups.StoreFault
+  worn_over [] f e is = sym (some_is is)
+  worn_over (x ∷ es) f e is = absurd (none_some refl f.0)
+
+  -- one that got no answer
+  missed : (keys : List (List ℕ)) (m : Setup) (r : Request) (repeated : Bool) (es : List Entry) (e : SetupEnd)
+      → ((t : Retried Setup) → Listed keys t.operation → Follows (wants_of (setup_asks w)) after t es → setup_over (run after t es).operation ≡ Some e → SetupListed w (keys ++ keys_listed es) (worn_in w.retries (setup_after w) t es) e)
+      → Listed keys m → (n : ℕ) → Follows (wants_of (setup_asks w)) after (unanswered_by w.retries (setup_after w) m repeated n) es → setup_over (run after (unanswered_by w.retries (setup_after w) m repeated n) es).operation ≡ Some e
+      → SetupListed w (keys ++ keys_listed es) (cond (is_zero n) (Some r) (worn_in w.retries (setup_after w) (unanswered_by w.retries (setup_after w) m repeated n) es)) e
+  missed keys m r repeated es e rest h zero f is = worn_over es f e is
+  missed keys m r repeated es e rest h (suc n) f is = rest (record { operation = m; spare = n; repeated = repeated }) h f is
+
+  abbrev Rest : List Entry → Type 0
+  Rest es = (keys : List (List ℕ)) (t : Retried Setup) → Listed keys t.operation → Follows (wants_of (setup_asks w)) after t es → (e : SetupEnd) → setup_over (run after t es).operation ≡ Some e
+      → SetupListed w (keys ++ keys_listed es) (worn_in w.retries (setup_after w) t es) e
+
+  goes : (es : List Entry) → Rest es
+  goes [] keys t h f e is = subst (λ l. SetupListed w l None e) (sym (append-nil keys)) (over_so keys t.operation h e is)
+  goes (x ∷ es) keys t h f e is = by x.outcome f.1 is (λ l u. goes es l u)
+    where
+      by : (o : Outcome) → Follows (wants_of (setup_asks w)) after (after t o) es → setup_over (run after (after t o) es).operation ≡ Some e → Rest es
+          → SetupListed w (keys ++ (keys_told x.request o ++ keys_listed es)) (worn_in w.retries (setup_after w) t (record { event = x.event; actor = x.actor; request = x.request; outcome = o } ∷ es)) e
+      by (Answered y) g is rest =
+          subst (λ l. SetupListed w l (worn_in w.retries (setup_after w) (after t (Answered y)) es) e) (append_assoc keys (keys_told x.request (Answered y)) (keys_listed es))
+          (rest (keys ++ keys_told x.request (Answered y)) (after t (Answered y)) (heard keys t.operation h x.request f.0 y) g e is)
+      by Slow g is rest = missed keys t.operation x.request t.repeated es e (λ u k v. rest keys u k v e) h t.spare g is
+      by _ g is rest = missed keys t.operation x.request true es e (λ u k v. rest keys u k v e) h t.spare g is
+
+  pub setup_listed : (es : List Entry) → Follows (wants_of (setup_asks w)) after (fresh w.retries setup_start) es → (e : SetupEnd) → setup_over (run after (fresh w.retries setup_start) es).operation ≡ Some e
+      → (worn : Option Request) × WornFirst w.retries es worn × SetupListed w (keys_listed es) worn e
+  setup_listed es f e is =
+      let t = fresh w.retries setup_start in (
+        worn_in w.retries (setup_after w) t es,
+        counted_first w.retries (setup_asks w) (setup_after w) setup_start es f,
+        goes es [] t refl f e is,
+      )

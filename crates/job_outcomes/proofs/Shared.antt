@@ -1,0 +1,31 @@
+-- Picks that are the same of all tasks share the same path.
+use Rattle.std.proofs.Common.{◌≡◌, ℕ, zero, suc, ◌+◌, ◌-◌, ◌<◌, ◌≤◌, Bool, cond, List, [], ◌∷◌, Option, Some, None, refl, ap, ◌∙◌, arith}
+use Rattle.std.specs.Option.{option_map}
+use Rattle.job_model.specs.JobScript.{Script}
+use Rattle.job_protocol.specs.Outputs.{Picks, files_picked, paths_of, wanted_paths, writes, first_where, second_where, two_where, shared_by, first_shared, same_path}
+use Rattle.job_model.specs.Files.{has_path}
+use Rattle.job_facts.proofs.Wanted.{same_wanted}
+
+first_same : (a b : ℕ → Bool) (t n : ℕ) → ((u : ℕ) → t ≤ u → u < t + n → a u ≡ b u) → first_where a t n ≡ first_where b t n
+first_same a b t zero h = refl
+first_same a b t (suc n) h =
+    ap (λ x. cond x (Some t) (first_where a (t + 1) n)) (h t (omega arith) (omega arith))
+    ∙ ap (λ x. cond (b t) (Some t) x) (first_same a b (t + 1) n (λ u l k. h u (omega arith) (omega arith)))
+
+second_same : (a b : ℕ → Bool) (n : ℕ) (o : Option ℕ) → ((u : ℕ) → u < n → a u ≡ b u) → second_where a n o ≡ second_where b n o
+second_same a b n None h = refl
+second_same a b n (Some t) h = ap (λ o. option_map (λ u. (t, u)) o) (first_same a b (t + 1) (n - (t + 1)) (λ u l k. h u (omega arith)))
+
+two_same : (a b : ℕ → Bool) (n : ℕ) → ((u : ℕ) → u < n → a u ≡ b u) → two_where a n ≡ two_where b n
+two_same a b n h = ap (λ o. second_where a n o) (first_same a b 0 n (λ u l k. h u (omega arith))) ∙ second_same a b n (first_where b 0 n) h
+
+module _ (w : Script) (picks more : Picks) (agree : (t : ℕ) → t < w.tasks → more t ≡ picks t) where
+  writes_same : (p : List ℕ) (t : ℕ) → t < w.tasks → writes w more p t ≡ writes w picks p t
+  writes_same p t l = ap (λ o. has_path (files_picked w t o) p) (agree t l)
+
+  first_so : (ps : List (List ℕ)) → first_shared w more ps ≡ first_shared w picks ps
+  first_so [] = refl
+  first_so (p ∷ ps) = ap (λ o. shared_by p o (first_shared w more ps)) (two_same (writes w more p) (writes w picks p) w.tasks (writes_same p)) ∙ ap (shared_by p (two_where (writes w picks p) w.tasks)) (first_so ps)
+
+  pub same_shared : same_path w more ≡ same_path w picks
+  same_shared = first_so (wanted_paths w more) ∙ ap (λ fs. first_shared w picks (paths_of fs)) (same_wanted w picks more agree)

@@ -1,0 +1,347 @@
+-- How an attempt's operations end, by its own entries alone.
+use Rattle.std.proofs.Common.{◌≡◌, ℕ, ◌⊎◌, inl, inr, Bool, true, false, cond, List, [], ◌∷◌, ◌++◌, map, Option, Some, None, refl, sym, ap, subst, ◌∙◌, append_assoc}
+use Rattle.std.specs.List.{All, Contains}
+use Rattle.std.specs.Option.{option_map}
+use Rattle.std.specs.Option.{is_some}
+use Rattle.std.proofs.lemmas.List.Elements.{All-nil, All-push, Contains-append_left, Contains-append_right, Contains-push}
+use Rattle.s3_types.specs.declared.request.Actor.{Actor}
+use Rattle.s3_types.specs.declared.request.Actor.TheVariants.{Attempt}
+use Rattle.s3_types.specs.declared.request.Committer.{Committer}
+use Rattle.s3_types.specs.declared.request.Committer.TheVariants.{Magic}
+use Rattle.s3_types.specs.declared.request.Request.{Request}
+use Rattle.s3_types.specs.declared.request.Request.TheVariants.{ListPage}
+use Rattle.s3_types.specs.declared.reply.PageEntry.{PageEntry}
+use Rattle.s3_types.specs.declared.reply.Reply.{Reply}
+use Rattle.s3_types.specs.declared.reply.Reply.TheVariants.{Page, Refused}
+use Rattle.s3_types.specs.declared.reply.Refusal.TheVariants.{NoSuchKey, NoSuchFile}
+use Rattle.s3_types.specs.declared.journal.Outcome.TheVariants.{Answered}
+use Rattle.s3_types.specs.declared.journal.Entry.{Entry}
+use Rattle.retries.specs.Operation.{run, Follows}
+use Rattle.retries.specs.Retries.{spent_in}
+use Rattle.retries.specs.Worn.{WornFirst}
+use Rattle.job_model.specs.Files.{File}
+use Rattle.job_model.specs.Attempts.{Who}
+use Rattle.job_model.specs.JobScript.{Script}
+use Rattle.job_model.specs.Known.{Drawn, Known}
+use Rattle.job_model.specs.declared.events.Op.{Op}
+use Rattle.job_model.specs.declared.events.Op.TheVariants as ops
+use Rattle.job_model.specs.declared.ends.TaskEnd.{TaskEnd}
+use Rattle.job_model.specs.declared.ends.TaskEnd.TheVariants as tasks
+use Rattle.job_model.specs.declared.ends.OpEnd.TheVariants as ends
+use Rattle.job_protocol.specs.Outputs.{files, paths_of}
+use Rattle.job_protocol.specs.Conflicts.{partitions, checks_partitions}
+use Rattle.job_protocol.specs.Knowledge.{as_made}
+use Rattle.job_protocol.specs.Records.{record_key}
+use Rattle.list_walk.specs.Walks.{Walked, More, Whole, walked, Sweep, sweep_hears, all_go}
+use Rattle.job_protocol.specs.Uploading.{Uploaded, GoesOn, AllSent, IsGone, upload_hears}
+use Rattle.job_protocol.specs.Writes as writes
+use Rattle.job_protocol.specs.TaskCommits as commits
+use Rattle.job_protocol.specs.TaskAborts as aborts
+use Rattle.job_protocol.specs.Operations.{Setting, Operation, TheWrite, TheTaskCommit, TheTaskAbort, Running, who, asks, wants, advance, tells, start_of, over}
+use Rattle.job_protocol.specs.Laws.{is_serial, spare_of, is_fault}
+use Rattle.job_protocol.proofs.Wearing.{first_spent}
+use Rattle.job_protocol.proofs.Faults.{faults}
+use Rattle.job_spec.specs.OperationEnds.{WasListed, TaskMay, TaskIs}
+use Rattle.proof_base.proofs.Members.{some_is, none_some, false_true}
+use Rattle.job_facts.proofs.Going.{step_so}
+
+-- a fault, or an end that may be
+abbrev Ends : Op → Script → Who → List Entry → Bool → TaskEnd → Type 0
+Ends op w a all sent e = (e ≡ tasks.StoreFault) ⊎ TaskMay op w a all sent true e
+
+-- of an attempt, with all entries of its operation, and whether it has sent its publishing request
+module _ (w : Script) (a : Who) (all : List Entry) (sent : Bool) where
+  -- ---- a write
+
+  abbrev Write : writes.Write → Type 0
+  Write (writes.WriteOver end) = Ends ops.Write w a all sent end
+  Write _ = Unit {0}
+
+  writing_so : (fs : List File) → Write (writes.writing fs)
+  writing_so [] = inr tt
+  writing_so (f ∷ fs) = tt
+
+  uploaded_so : (f : File) (fs : List File) (u : Uploaded) → Write (writes.uploaded w f fs u)
+  uploaded_so f fs IsGone = inr refl
+  uploaded_so f fs _ = tt
+
+  write_so : (minimum : ℕ) (t : writes.Write) (r : Reply) → Write t → Write (writes.write_hears w minimum t r)
+  write_so minimum (writes.Uploads f fs u) r h = uploaded_so f fs (upload_hears w minimum f u r)
+  write_so minimum (writes.Marking f fs) r h = tt
+  write_so minimum (writes.Recording f fs) r h = writing_so fs
+  write_so minimum (writes.WriteOver end) r h = h
+
+  write_begun : (c : Committer) (fs : List File) → Write (writes.write_start_by c fs)
+  write_begun Magic fs = writing_so fs
+  write_begun _ fs = inr tt
+
+  -- ---- a commit
+
+  -- it is to check, and has found no key below the partitions before these
+  record Checked (ds : List (List ℕ)) : Type 0 where
+    pub checks : checks_partitions w.committer w.mode ≡ true
+    pub before : List (List ℕ)
+    pub parts : before ++ ds ≡ partitions (paths_of (files w a))
+    pub free : All (λ b. WasListed w all b []) before
+
+  abbrev Commit : commits.TaskCommit → Type 0
+  Commit (commits.Checking d ds) = Checked (d ∷ ds)
+  Commit (commits.TaskCommitOver end) = Ends ops.Commit w a all sent end
+  Commit _ = Unit {0}
+
+  reading_so : (cs fs : List File) → Commit (commits.reading cs fs)
+  reading_so cs [] = tt
+  reading_so cs (f ∷ fs) = tt
+
+  looked_at_so : (o : Option (List ℕ)) (cs : List File) → Commit (commits.looked_at o cs)
+  looked_at_so (Some k) cs = inr refl
+  looked_at_so None cs = reading_so cs cs
+
+  looked_so : (x : Walked (List ℕ)) → Commit (commits.looked w a x)
+  looked_so (More keys) = tt
+  looked_so (Whole keys) = looked_at_so (commits.least_missing keys (map (record_key w a) (files w a))) (commits.in_order w a keys)
+
+  record_so : (cs : List File) (f : File) (fs : List File) (r : Reply) → Commit (commits.read_record w a cs f fs r)
+  record_so cs f fs (Refused NoSuchKey) = inr refl
+  record_so cs f fs _ = reading_so cs fs
+
+  storing_so : (fs : List File) → Commit (commits.storing fs)
+  storing_so [] = tt
+  storing_so (f ∷ fs) = tt
+
+  checking_so : (ds : List (List ℕ)) → Checked ds → Commit (commits.checking w a ds)
+  checking_so [] h = storing_so (files w a)
+  checking_so (d ∷ ds) h = h
+
+  -- by the entry that tells the page
+  module _ (d : List ℕ) (ds : List (List ℕ)) (e : Entry) (is_entry : Contains all e) (asked : e.request ≡ ListPage w.dest.bucket (commits.partition_prefix w d) false [] 1) (h : Checked (d ∷ ds)) where
+    listed_so : (page : List PageEntry) (more : Bool) → e.outcome ≡ Answered (Page page more) → WasListed w all d page
+    listed_so page more o = record { entry = e; is_entry = is_entry; asks = asked; more = more; answered = o }
+
+    checked_so : (r : Reply) → e.outcome ≡ Answered r → Commit (commits.checked w a d ds r)
+    checked_so (Page [] more) o = checking_so ds (record {
+      checks = h.checks;
+      before = h.before ++ d ∷ [];
+      parts = append_assoc h.before (d ∷ []) ds ∙ h.parts;
+      free = All-push (λ b. WasListed w all b []) h.before d h.free (listed_so [] more o);
+    })
+    checked_so (Page (x ∷ xs) more) o = inr (h.checks, record { before = h.before; rest = ds; parts = h.parts; free = h.free; key = x; others = xs; listed = listed_so (x ∷ xs) more o })
+    checked_so _ o = h
+
+  sent_so : (f : File) (fs : List File) (u : Uploaded) → Commit (commits.uploaded w f fs u)
+  sent_so f fs (GoesOn u) = tt
+  sent_so f fs AllSent = storing_so fs
+  sent_so f fs IsGone = inr refl
+
+  renamed_so : (r : Reply) (b : Bool) → Commit (commits.renamed w a r b)
+  renamed_so (Refused NoSuchFile) true = inr tt
+  renamed_so (Refused NoSuchFile) false = inr refl
+  renamed_so _ b = inr tt
+
+  commit_so : (minimum : ℕ) (k : Known) (t : commits.TaskCommit) (e : Entry) → Contains all e → commits.task_commit_asks w a k t ≡ Some e.request → (r : Reply) (b : Bool) → e.outcome ≡ Answered r → Commit t → Commit (commits.task_commit_hears w minimum a t r b)
+  commit_so minimum k (commits.Looking keys) e i asked r b o h = looked_so (walked keys r)
+  commit_so minimum k (commits.Reading cs f fs) e i asked r b o h = record_so cs f fs r
+  commit_so minimum k (commits.Publishing cs) e i asked r b o h = inr tt
+  commit_so minimum k (commits.Checking d ds) e i asked r b o h = checked_so d ds e i (sym (some_is asked)) h r o
+  commit_so minimum k (commits.Uploads f fs u) e i asked r b o h = sent_so f fs (upload_hears w minimum f u r)
+  commit_so minimum k commits.Storing e i asked r b o h = tt
+  commit_so minimum k commits.Renaming e i asked r b o h = renamed_so r b
+  commit_so minimum k (commits.TaskCommitOver end) e i asked r b o h = h
+
+  to_check_so : (b : Bool) → checks_partitions w.committer w.mode ≡ b → Commit (commits.checking w a (cond b (partitions (paths_of (files w a))) []))
+  to_check_so true e = checking_so (partitions (paths_of (files w a))) (record { checks = e; before = []; parts = refl; free = All-nil (λ b. WasListed w all b []) })
+  to_check_so false e = storing_so (files w a)
+
+  commit_begun : (c : Committer) → Commit (commits.task_commit_start_by c w a)
+  commit_begun Magic = tt
+  commit_begun _ = to_check_so (checks_partitions w.committer w.mode) refl
+
+  -- ---- an abort
+
+  abbrev Abort : aborts.TaskAbort → Type 0
+  Abort (aborts.TaskAbortOver end) = Ends ops.Abort w a all sent end
+  Abort _ = sent ≡ false
+
+  removing_so : (b : Bool) → sent ≡ false → Abort (aborts.removing b)
+  removing_so true h = h
+  removing_so false h = inr h
+
+  dropped_so : (c : Committer) (b : Bool) → sent ≡ false → Abort (aborts.dropped c b)
+  dropped_so Magic b h = h
+  dropped_so _ b h = removing_so b h
+
+  dropping_so : (c : Committer) (b : Bool) (ds : List Drawn) → sent ≡ false → Abort (aborts.dropping c b ds)
+  dropping_so c b [] h = dropped_so c b h
+  dropping_so c b (d ∷ ds) h = h
+
+  sweeping_so : (s : Option Sweep) → sent ≡ false → Abort (aborts.sweeping s)
+  sweeping_so (Some s) h = h
+  sweeping_so None h = inr h
+
+  abort_so : (t : aborts.TaskAbort) (r : Reply) → Abort t → Abort (aborts.task_abort_hears w t r)
+  abort_so (aborts.Dropping d ds b) r h = dropping_so w.committer b ds h
+  abort_so (aborts.Sweeping s) r h = sweeping_so (sweep_hears all_go s r) h
+  abort_so aborts.Removing r h = inr h
+  abort_so (aborts.TaskAbortOver end) r h = h
+
+abort_begun : (w : Script) (a : Who) (all : List Entry) (sent : Bool) (k : Known) → Abort w a all sent (aborts.task_abort_by sent w.committer k)
+abort_begun w a all true k = inr refl
+abort_begun w a all false k = dropping_so w a all false w.committer k.put_sent (as_made k.drawn) refl
+
+-- ---- an attempt's operation
+
+abbrev Op_is : Op → Script → Who → List Entry → Bool → Operation → Type 0
+Op_is ops.Write w a all sent (TheWrite t) = Write w a all sent t.operation
+Op_is ops.Commit w a all sent (TheTaskCommit t) = Commit w a all sent t.operation
+Op_is ops.Abort w a all sent (TheTaskAbort t) = Abort w a all sent t.operation
+Op_is _ w a all sent _ = ⊥
+
+task_is : {d e : TaskEnd} → Some (ends.Task d) ≡ Some (ends.Task e) → d ≡ e
+task_is e = cc
+
+module _ (g : Setting) (a : Who) (all : List Entry) (sent : Bool) where
+  goes : (op : Op) (m : Operation) (k : Known) (e : Entry) → Contains all e → asks g a k m ≡ Some e.request → Op_is op g.script a all sent m → Op_is op g.script a all sent (tells g a m e.outcome)
+  goes ops.Write (TheWrite t) k e i asked h =
+      step_so g.script.retries (writes.write_after g.script g.minimum) t e.outcome (Write g.script a all sent) (λ x o. write_so g.script a all sent g.minimum t.operation x h) (λ n. h) (λ n. inl refl)
+  goes ops.Commit (TheTaskCommit t) k e i asked h =
+      step_so g.script.retries (commits.task_commit_after g.script g.minimum a) t e.outcome (Commit g.script a all sent) (λ x o. commit_so g.script a all sent g.minimum k t.operation e i asked x t.repeated o h) (λ n. h) (λ n. inl refl)
+  goes ops.Abort (TheTaskAbort t) k e i asked h =
+      step_so g.script.retries (aborts.task_abort_after g.script) t e.outcome (Abort g.script a all sent) (λ x o. abort_so g.script a all sent t.operation x h) (λ n. h) (λ n. inl refl)
+  goes _ _ k e i asked h = absurd h
+
+  -- where it is over, its end is one of these
+  write_over : (t : writes.Write) → Write g.script a all sent t → (e : TaskEnd) → option_map ends.Task (writes.write_over t) ≡ Some (ends.Task e) → Ends ops.Write g.script a all sent e
+  write_over (writes.WriteOver end) h e is = subst (Ends ops.Write g.script a all sent) (task_is is) h
+  write_over _ h e is = absurd (none_some refl is)
+
+  commit_over : (t : commits.TaskCommit) → Commit g.script a all sent t → (e : TaskEnd) → option_map ends.Task (commits.task_commit_over t) ≡ Some (ends.Task e) → Ends ops.Commit g.script a all sent e
+  commit_over (commits.TaskCommitOver end) h e is = subst (Ends ops.Commit g.script a all sent) (task_is is) h
+  commit_over _ h e is = absurd (none_some refl is)
+
+  abort_over : (t : aborts.TaskAbort) → Abort g.script a all sent t → (e : TaskEnd) → option_map ends.Task (aborts.task_abort_over t) ≡ Some (ends.Task e) → Ends ops.Abort g.script a all sent e
+  abort_over (aborts.TaskAbortOver end) h e is = subst (Ends ops.Abort g.script a all sent) (task_is is) h
+  abort_over _ h e is = absurd (none_some refl is)
+
+  over_so : (op : Op) (m : Operation) → Op_is op g.script a all sent m → (e : TaskEnd) → over m ≡ Some (ends.Task e) → Ends op g.script a all sent e
+  over_so ops.Write (TheWrite t) h e is = write_over t.operation h e is
+  over_so ops.Commit (TheTaskCommit t) h e is = commit_over t.operation h e is
+  over_so ops.Abort (TheTaskAbort t) h e is = abort_over t.operation h e is
+  over_so _ _ h e is = absurd h
+
+-- ---- as it begins it is not at fault
+
+writing_calm : (fs : List File) → is_fault (option_map ends.Task (writes.write_over (writes.writing fs))) ≡ false
+writing_calm [] = refl
+writing_calm (f ∷ fs) = refl
+
+write_calm : (c : Committer) (fs : List File) → is_fault (option_map ends.Task (writes.write_over (writes.write_start_by c fs))) ≡ false
+write_calm Magic fs = writing_calm fs
+write_calm _ fs = refl
+
+storing_calm : (fs : List File) → is_fault (option_map ends.Task (commits.task_commit_over (commits.storing fs))) ≡ false
+storing_calm [] = refl
+storing_calm (f ∷ fs) = refl
+
+checking_calm : (w : Script) (a : Who) (ds : List (List ℕ)) → is_fault (option_map ends.Task (commits.task_commit_over (commits.checking w a ds))) ≡ false
+checking_calm w a [] = storing_calm (files w a)
+checking_calm w a (d ∷ ds) = refl
+
+commit_calm : (c : Committer) (w : Script) (a : Who) → is_fault (option_map ends.Task (commits.task_commit_over (commits.task_commit_start_by c w a))) ≡ false
+commit_calm Magic w a = refl
+commit_calm _ w a = checking_calm w a (commits.to_check w a)
+
+removing_calm : (b : Bool) → is_fault (option_map ends.Task (aborts.task_abort_over (aborts.removing b))) ≡ false
+removing_calm true = refl
+removing_calm false = refl
+
+dropped_calm : (c : Committer) (b : Bool) → is_fault (option_map ends.Task (aborts.task_abort_over (aborts.dropped c b))) ≡ false
+dropped_calm Magic b = refl
+dropped_calm _ b = removing_calm b
+
+dropping_calm : (c : Committer) (b : Bool) (ds : List Drawn) → is_fault (option_map ends.Task (aborts.task_abort_over (aborts.dropping c b ds))) ≡ false
+dropping_calm c b [] = dropped_calm c b
+dropping_calm c b (d ∷ ds) = refl
+
+abort_calm : (sent : Bool) (c : Committer) (k : Known) → is_fault (option_map ends.Task (aborts.task_abort_over (aborts.task_abort_by sent c k))) ≡ false
+abort_calm true c k = refl
+abort_calm false c k = dropping_calm c k.put_sent (as_made k.drawn)
+
+-- ---- by its entries
+
+record Begun (g : Setting) (a : Who) (all : List Entry) (op : Op) (k : Known) (m : Operation) : Type 0 where
+  pub serial : is_serial m ≡ true
+  pub spare : spare_of m ≡ g.script.retries
+  pub calm : is_fault (over m) ≡ false
+  pub is : Op_is op g.script a all k.publish_sent m
+
+begun : (g : Setting) (t a : ℕ) (all : List Entry) (op : Op) (missing : Option ℕ) (k : Known) (m : Operation) → start_of g (Attempt t a) op missing k ≡ Some m → Begun g (who (Attempt t a)) all op k m
+begun g t a all ops.Write missing k m e =
+    let one : Who = who (Attempt t a) in
+    subst (Begun g one all ops.Write k) (some_is e) (record { serial = refl; spare = refl; calm = write_calm g.script.committer (files g.script one); is = write_begun g.script one all k.publish_sent g.script.committer (files g.script one) })
+begun g t a all ops.Commit missing k m e =
+    let one : Who = who (Attempt t a) in
+    subst (Begun g one all ops.Commit k) (some_is e) (record { serial = refl; spare = refl; calm = commit_calm g.script.committer g.script one; is = commit_begun g.script one all k.publish_sent g.script.committer })
+begun g t a all ops.Abort missing k m e =
+    let one : Who = who (Attempt t a) in
+    subst (Begun g one all ops.Abort k) (some_is e) (record { serial = refl; spare = refl; calm = abort_calm k.publish_sent g.script.committer k; is = abort_begun g.script one all k.publish_sent k })
+begun g t a all ops.Setup missing k m e = absurd (none_some refl e)
+begun g t a all ops.Clean missing k m e = absurd (none_some refl e)
+
+run_so : (g : Setting) (a : Actor) (all : List Entry) (sent : Bool) (op : Op) (m : Running) (es : List Entry) → ((e : Entry) → Contains es e → Contains all e) → Follows (wants g a) (advance g a) m es → Op_is op g.script (who a) all sent m.operation
+    → Op_is op g.script (who a) all sent (run (advance g a) m es).operation
+run_so g a all sent op m [] among f h = h
+run_so g a all sent op m (e ∷ es) among f h =
+    run_so g a all sent op (advance g a m e.outcome) es (λ x i. among x (Contains-append_right (e ∷ []) es x i)) f.1
+    (goes g (who a) all sent op m.operation m.known e (among e (Contains-append_left (e ∷ []) es e (Contains-push [] e))) f.0 h)
+
+fault_end : (e : TaskEnd) → is_fault (Some (ends.Task e)) ≡ true → e ≡ tasks.StoreFault
+fault_end tasks.StoreFault h = refl
+fault_end _ h = absurd (false_true refl h)
+
+not_fault : (op : Op) (w : Script) (a : Who) (all : List Entry) (sent : Bool) (e : TaskEnd) → is_fault (Some (ends.Task e)) ≡ false → Ends op w a all sent e → TaskMay op w a all sent true e
+not_fault op w a all sent e h (inl is) = absurd (false_true h (ap (λ v. is_fault (Some (ends.Task v))) is))
+not_fault op w a all sent e h (inr may) = may
+
+pub task_ends : (g : Setting) (t a : ℕ) (op : Op) (missing : Option ℕ) (k : Known) (m : Operation) → start_of g (Attempt t a) op missing k ≡ Some m → (es : List Entry) → Follows (wants g (Attempt t a)) (advance g (Attempt t a)) (record { operation = m; known = k }) es
+    → (e : TaskEnd) → over (run (advance g (Attempt t a)) (record { operation = m; known = k }) es).operation ≡ Some (ends.Task e) → (worn : Option Request) × WornFirst g.script.retries es worn × TaskIs op g.script (who (Attempt t a)) es k.publish_sent true worn e
+task_ends g t a op missing k m start es f e is =
+    let one : Who = who (Attempt t a) in
+    let x : Running = record { operation = m; known = k } in
+    let b = begun g t a es op missing k m start in
+    let worn = spent_in (advance g (Attempt t a)) (λ y. spare_of y.operation) x es in (
+      worn,
+      first_spent g (Attempt t a) x b.serial b.spare es f,
+      by worn (sym (ap is_fault is) ∙ faults g (Attempt t a) x b.serial b.calm es f) (over_so g one es k.publish_sent op (run (advance g (Attempt t a)) x es).operation (run_so g (Attempt t a) es k.publish_sent op x es (λ e i. i) f b.is) e is),
+    )
+  where
+    by : (worn : Option Request) → is_fault (Some (ends.Task e)) ≡ is_some worn → Ends op g.script (who (Attempt t a)) es k.publish_sent e → TaskIs op g.script (who (Attempt t a)) es k.publish_sent true worn e
+    by (Some r) h d = fault_end e h
+    by None h d = not_fault op g.script (who (Attempt t a)) es k.publish_sent e h d
+
+-- ---- with what a run says of what is gone
+
+pub task_joined : (op : Op) (w : Script) (a : Who) (es : List Entry) (sent cleaned : Bool) (worn : Option Request) (e : TaskEnd) → TaskIs op w a es sent true worn e → ((op ≡ ops.Abort → ⊥) → (name : List ℕ) → e ≡ tasks.Gone name → cleaned ≡ true) → TaskIs op w a es sent cleaned worn e
+task_joined op w a es sent cleaned (Some r) e h gone = h
+task_joined op w a es sent cleaned None e h gone = may op e h gone
+  where
+    may : (op : Op) (e : TaskEnd) → TaskMay op w a es sent true e → ((op ≡ ops.Abort → ⊥) → (name : List ℕ) → e ≡ tasks.Gone name → cleaned ≡ true) → TaskMay op w a es sent cleaned e
+    may ops.Write tasks.Done h gone = tt
+    may ops.Write (tasks.Gone name) h gone = gone (λ e. absurd cc) name refl
+    may ops.Write tasks.Kept h gone = absurd h
+    may ops.Write (tasks.Conflict d) h gone = absurd h
+    may ops.Write tasks.StoreFault h gone = absurd h
+    may ops.Write tasks.NoMemory h gone = absurd h
+    may ops.Commit tasks.Done h gone = tt
+    may ops.Commit (tasks.Conflict d) h gone = h
+    may ops.Commit (tasks.Gone name) h gone = gone (λ e. absurd cc) name refl
+    may ops.Commit tasks.Kept h gone = absurd h
+    may ops.Commit tasks.StoreFault h gone = absurd h
+    may ops.Commit tasks.NoMemory h gone = absurd h
+    may ops.Abort tasks.Kept h gone = h
+    may ops.Abort tasks.Done h gone = h
+    may ops.Abort (tasks.Gone name) h gone = absurd h
+    may ops.Abort (tasks.Conflict d) h gone = absurd h
+    may ops.Abort tasks.StoreFault h gone = absurd h
+    may ops.Abort tasks.NoMemory h gone = absurd h
+    may ops.Setup e h gone = absurd h
+    may ops.Clean e h gone = absurd h

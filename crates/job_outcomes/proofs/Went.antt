@@ -1,0 +1,51 @@
+-- An operation of replies, by entries in a row: what holds as it begins holds at its end, or a request of it wore out.
+use Rattle.std.proofs.Common.{◌≡◌, ℕ, zero, suc, ◌⊎◌, inl, inr, Bool, true, cond, List, [], ◌∷◌, Option, Some, None, refl, ap, ◌∙◌}
+use Rattle.s3_types.specs.Store.{Scene}
+use Rattle.s3_types.specs.Answer.{answer, apply}
+use Rattle.s3_types.specs.Moment.{effect, after_all, IsHonestOutcome, AreHonest}
+use Rattle.s3_types.specs.declared.request.Request.{Request}
+use Rattle.s3_types.specs.declared.reply.Reply.{Reply}
+use Rattle.s3_types.specs.declared.journal.Outcome.{Outcome}
+use Rattle.s3_types.specs.declared.journal.Outcome.TheVariants.{Answered, Slow, RequestLost, ReplyLost}
+use Rattle.s3_types.specs.declared.journal.Entry.{Entry}
+use Rattle.retries.specs.Operation.{run, Follows}
+use Rattle.retries.specs.Retries.{Item, Got, WornOut, Retried, step, unanswered_by, wants_of, wears, is_zero, worn_in}
+use Rattle.proof_base.proofs.Members.{none_some}
+
+module _ {M : Type 0} (retries : ℕ) (asks : M → Option Request) (after : M → Item → M) (holds : Scene → M → Type 0)
+    (heard : (s : Scene) (m : M) → holds s m → (r : Request) → asks m ≡ Some r → (x : Reply) (repeated : Bool) → x ≡ answer s r → holds (apply s r) (after m (Got x repeated)))
+    (still : (s : Scene) (m : M) → holds s m → (r : Request) → asks m ≡ Some r → holds (apply s r) m)
+    (stops : (m : M) → asks (after m WornOut) ≡ None) where
+  -- it holds then, or a request wore out and nothing followed
+  abbrev pub Went : Retried M → Scene → List Entry → Type 0
+  Went t s es = ((worn_in retries after t es ≡ None) × holds (after_all s es) (run (step retries after) t es).operation)
+      ⊎ ((r : Request) × (m : M) × (worn_in retries after t es ≡ Some r) × ((run (step retries after) t es).operation ≡ after m WornOut))
+
+  -- after a request that wore out nothing is asked
+  nothing_more : (t : Retried M) (m : M) → t.operation ≡ after m WornOut → (es : List Entry) → Follows (wants_of asks) (step retries after) t es → es ≡ []
+  nothing_more t m e [] f = refl
+  nothing_more t m e (x ∷ es) f = absurd (none_some (ap asks e ∙ stops m) f.0)
+
+  abbrev On : Retried M → Scene → List Entry → Type 0
+  On t s es = holds s t.operation → Follows (wants_of asks) (step retries after) t es → AreHonest s es → Went t s es
+
+  -- a sending without an answer
+  missed : (m : M) (spare : ℕ) (repeated : Bool) (s : Scene) (r : Request) (es : List Entry) → ((t : Retried M) → On t s es) → holds s m → Follows (wants_of asks) (step retries after) (unanswered_by retries after m repeated spare) es → AreHonest s es
+      → ((cond (is_zero spare) (Some r) (worn_in retries after (unanswered_by retries after m repeated spare) es) ≡ None) × holds (after_all s es) (run (step retries after) (unanswered_by retries after m repeated spare) es).operation)
+      ⊎ ((q : Request) × (n : M) × (cond (is_zero spare) (Some r) (worn_in retries after (unanswered_by retries after m repeated spare) es) ≡ Some q) × ((run (step retries after) (unanswered_by retries after m repeated spare) es).operation ≡ after n WornOut))
+  missed m zero repeated s r es later h f honest =
+      let t : Retried M = unanswered_by retries after m repeated zero in
+      inr (r, m, refl, ap (λ l. (run (step retries after) t l).operation) (nothing_more t m refl es f))
+  missed m (suc n) repeated s r es later h f honest = later (unanswered_by retries after m repeated (suc n)) h f honest
+
+  one : (t : Retried M) (s : Scene) (r : Request) (o : Outcome) (es : List Entry) → ((u : Scene) (v : Retried M) → On v u es) → holds s t.operation → asks t.operation ≡ Some r → Follows (wants_of asks) (step retries after) (step retries after t o) es → IsHonestOutcome o (answer s r) → AreHonest (effect s r o) es
+      → ((cond (wears t o) (Some r) (worn_in retries after (step retries after t o) es) ≡ None) × holds (after_all (effect s r o) es) (run (step retries after) (step retries after t o) es).operation)
+      ⊎ ((q : Request) × (n : M) × (cond (wears t o) (Some r) (worn_in retries after (step retries after t o) es) ≡ Some q) × ((run (step retries after) (step retries after t o) es).operation ≡ after n WornOut))
+  one t s r (Answered x) es later h asked f honest all = later (apply s r) (step retries after t (Answered x)) (heard s t.operation h r asked x t.repeated honest) f all
+  one t s r Slow es later h asked f honest all = missed t.operation t.spare t.repeated s r es (later s) h f all
+  one t s r RequestLost es later h asked f honest all = missed t.operation t.spare true s r es (later s) h f all
+  one t s r ReplyLost es later h asked f honest all = missed t.operation t.spare true (apply s r) r es (later (apply s r)) (still s t.operation h r asked) f all
+
+  pub went : (es : List Entry) (s : Scene) (t : Retried M) → On t s es
+  went [] s t h f honest = inl (refl, h)
+  went (e ∷ es) s t h f honest = one t s e.request e.outcome es (λ u v. went es u v) h f.0 f.1 honest.0 honest.1

@@ -1,0 +1,65 @@
+-- How the driver's set-up ends, by its entries alone: by what its pages listed, and, where nobody else sends between them, by what stood as it began.
+use Rattle.std.specs.Prelude.{◌≡◌, ℕ, true, List, [], ◌∷◌, ◌++◌, Option, Some, None}
+use Rattle.s3_types.specs.Store.{Scene}
+use Rattle.s3_types.specs.Moment.{AreHonest}
+use Rattle.s3_types.specs.declared.request.Actor.{Actor}
+use Rattle.s3_types.specs.declared.request.Request.{Request}
+use Rattle.s3_types.specs.declared.request.Request.TheVariants.{ListPage}
+use Rattle.s3_types.specs.declared.reply.Reply.{Reply}
+use Rattle.s3_types.specs.declared.reply.Reply.TheVariants.{Page}
+use Rattle.s3_types.specs.declared.journal.Outcome.{Outcome}
+use Rattle.s3_types.specs.declared.journal.Outcome.TheVariants.{Answered}
+use Rattle.s3_types.specs.declared.journal.Entry.{Entry}
+use Rattle.retries.specs.Operation.{run, Follows}
+use Rattle.retries.specs.Retries.{fresh, step, wants_of}
+use Rattle.retries.specs.Worn.{WornFirst}
+use Rattle.job_model.specs.Legal.{IsLegal}
+use Rattle.job_model.specs.JobScript.{Script}
+use Rattle.job_model.specs.Known.{Known}
+use Rattle.job_model.specs.declared.ends.OpEnd.TheVariants as op_ends
+use Rattle.job_model.specs.declared.ends.SetupEnd.{SetupEnd}
+use Rattle.job_model.specs.declared.ends.SetupEnd.TheVariants as setups
+use Rattle.job_protocol.specs.Conflicts.{checks_all}
+use Rattle.list_walk.specs.Walks.{keys_on}
+use Rattle.job_protocol.specs.Setup.{first_shown, setup_start, setup_asks, setup_after, setup_over}
+use Rattle.job_protocol.specs.Operations.{Setting, Running, TheSetup, wants, advance, over}
+use Rattle.job_spec.specs.OperationEnds.{SetupIs}
+
+-- a set-up as it begins
+abbrev pub setting_up : Setting → Known → Running
+setting_up g k = record { operation = TheSetup (fresh g.script.retries setup_start); known = k }
+
+-- the keys on a page, where that answers a request for one
+abbrev pub keys_answered : Request → Reply → List (List ℕ)
+keys_answered (ListPage bucket prefix delimited after limit) (Page entries more) = keys_on entries
+keys_answered _ _ = []
+
+-- where it got an answer
+abbrev pub keys_told : Request → Outcome → List (List ℕ)
+keys_told r (Answered x) = keys_answered r x
+keys_told r _ = []
+
+-- all keys on the pages of these entries, in order
+abbrev pub keys_listed : List Entry → List (List ℕ)
+keys_listed [] = []
+keys_listed (e ∷ es) = keys_told e.request e.outcome ++ keys_listed es
+
+-- the end of a set-up whose pages listed these keys, by whether a request of it wore out: a conflict is with the first path of the view among them, and where it has another end none is
+abbrev pub SetupListed : Script → List (List ℕ) → Option Request → SetupEnd → Type 0
+SetupListed w keys (Some r) e = e ≡ setups.StoreFault
+SetupListed w keys None setups.NoSuchBucket = checks_all w.committer w.mode ≡ true → first_shown w keys ≡ None
+SetupListed w keys None setups.DestIsFile = keys ≡ []
+SetupListed w keys None (setups.Conflict p) = (checks_all w.committer w.mode ≡ true) × (first_shown w keys ≡ Some p)
+SetupListed w keys None setups.Done = checks_all w.committer w.mode ≡ true → first_shown w keys ≡ None
+SetupListed w keys None _ = ⊥
+
+-- how a set-up ends, for every committer and mode, over every store, whatever became of its sendings
+pub record SetupEnds : Type 0 where
+  pub ends : (w : Script) → IsLegal w → (s : Scene) (es : List Entry) → Follows (wants_of (setup_asks w)) (step w.retries (setup_after w)) (fresh w.retries setup_start) es → AreHonest s es
+      → (e : SetupEnd) → setup_over (run (step w.retries (setup_after w)) (fresh w.retries setup_start) es).operation ≡ Some e → (worn : Option Request) × WornFirst w.retries es worn × SetupIs w s.content worn e
+  -- the same of an actor's operation
+  pub running : (g : Setting) → IsLegal g.script → (a : Actor) (k : Known) (s : Scene) (es : List Entry) → Follows (wants g a) (advance g a) (setting_up g k) es → AreHonest s es → (e : SetupEnd) → over (run (advance g a) (setting_up g k) es).operation ≡ Some (op_ends.Setup e)
+      → (worn : Option Request) × WornFirst g.script.retries es worn × SetupIs g.script s.content worn e
+  -- by its own entries alone, whatever was answered and whoever sent between them
+  pub listed : (g : Setting) (a : Actor) (k : Known) (es : List Entry) → Follows (wants g a) (advance g a) (setting_up g k) es → (e : SetupEnd) → over (run (advance g a) (setting_up g k) es).operation ≡ Some (op_ends.Setup e)
+      → (worn : Option Request) × WornFirst g.script.retries es worn × SetupListed g.script (keys_listed es) worn e

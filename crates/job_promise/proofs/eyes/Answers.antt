@@ -1,5 +1,0 @@
-use Rattle.job_promise.proofs.Told.{alone, eyes_moment, eyes_honest, eyes_rising}
-use Rattle.job_promise.proofs.eyes.Goals as goal
-
-pub returns : goal.returns
-returns c = record { faithful = record { alone = alone; scene = eyes_moment; honest = eyes_honest; rising = eyes_rising } }

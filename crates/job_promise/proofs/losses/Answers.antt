@@ -1,5 +1,0 @@
-use Rattle.job_promise.proofs.Answered.{none_worn}
-use Rattle.job_promise.proofs.losses.Goals as goal
-
-pub returns : goal.returns
-returns c = record { none = record { none = none_worn } }

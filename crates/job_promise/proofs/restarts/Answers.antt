@@ -1,5 +1,0 @@
-use Rattle.job_promise.proofs.Restarted.{idle_after, failed_after, stays_after, forgets_after, misses_after, attempts_after}
-use Rattle.job_promise.proofs.restarts.Goals as goal
-
-pub returns : goal.returns
-returns c = record { anew = record { idle = idle_after; failed = failed_after; stays = stays_after; forgets = forgets_after; misses = misses_after; attempts = attempts_after } }

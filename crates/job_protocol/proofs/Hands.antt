@@ -1,0 +1,126 @@
+-- one more sending, and what is in hand
+use Rattle.std.proofs.Common.{◌≡◌, ℕ, ◌+◌, ◌<◌, ◌≤◌, refl, ap, sym, subst, ◌∙◌, inl, inr, true, false, cond, arith, List, [], ◌∷◌, ◌++◌, append_assoc}
+use Rattle.s3_types.specs.declared.request.Request.{Request}
+use Rattle.s3_types.specs.declared.journal.Entry.{Entry}
+use Rattle.retries.specs.Same.{same_request}
+use Rattle.retries.specs.Worn.{was_answered, streak, IsWorn, IsFirstWorn}
+use Rattle.retries.proofs.SameRequest.{same_is}
+use Rattle.retries.proofs.Misses.{streak_same, streak_other, worn_now, worn_grows}
+use Rattle.job_protocol.specs.LaneTable.{In}
+use Rattle.job_protocol.proofs.Members.{true_or_false, none_some, false_true, in_append, in_left, in_push, in_last}
+
+-- a request that is in hand, and how many of its last sendings got no answer
+pub record Held : Type 0 where
+  pub request : Request
+  pub missed : ℕ
+
+-- the counts are what the entries say, and none is worn yet
+pub record Counted (retries : ℕ) (es : List Entry) (hs : List Held) : Type 0 where
+  pub counts : (h : Held) → In h hs → streak h.request es ≡ h.missed
+  pub few : (h : Held) → In h hs → h.missed ≤ retries
+  pub others : (q : Request) → ((h : Held) → In h hs → h.request ≡ q → ⊥) → streak q es ≡ 0
+  pub none : (q : Request) → IsWorn retries q es → ⊥
+
+-- ---- sendings of what is first in hand
+
+pub hand_heard : {r : ℕ} {es : List Entry} {rest : List Held} (new : List Held) (h : Held) (e : Entry) → Counted r es (h ∷ rest) → e.request ≡ h.request → same_request h.request h.request ≡ true → was_answered e.outcome ≡ true
+    → ((k : Held) → In k rest → same_request k.request h.request ≡ false)
+    → ((k : Held) → In k new → (k.missed ≡ 0) × ((l : Held) → In l rest → l.request ≡ k.request → ⊥))
+    → Counted r (es ++ e ∷ []) (rest ++ new)
+hand_heard {r = r} {es = es} {rest = rest} new h e c is self told apart fresh =
+    let S : Request → Type 0 = λ q. same_request h.request q ≡ true in
+    let zero_at : (q : Request) → same_request q e.request ≡ true → streak q (es ++ e ∷ []) ≡ 0 = λ q s. streak_same q es e s ∙ ap (λ b. cond b 0 (streak q es + 1)) told in
+    let not_head : (q : Request) → same_request q e.request ≡ false → h.request ≡ q → ⊥ = λ q s i. false_true (ap (λ p. same_request p e.request) i ∙ s) (subst S (sym is) self) in
+    let away : (q : Request) → ((k : Held) → In k rest → k.request ≡ q → ⊥) → streak q (es ++ e ∷ []) ≡ 0 = λ q none. elim (true_or_false (same_request q e.request)) [
+      | inl s ↦ zero_at q s
+      | inr s ↦ streak_other q es e s ∙ c.others q (λ k i eq. elim i [ inl f ↦ not_head q s (ap (λ (v : Held). v.request) f ∙ eq) | inr j ↦ none k j eq ])
+    ] in
+    record {
+      counts = λ k i. elim (in_append k rest new i) [
+        | inl j ↦ streak_other k.request es e (ap (same_request k.request) is ∙ apart k j) ∙ c.counts k (inr j)
+        | inr j ↦ away k.request (fresh k j).1 ∙ sym (fresh k j).0
+      ];
+      few = λ k i. elim (in_append k rest new i) [ inl j ↦ c.few k (inr j) | inr j ↦ let z : k.missed ≡ 0 = (fresh k j).0 in omega arith ];
+      others = λ q none. away q (λ k j eq. none k (in_left k rest new j) eq);
+      none = λ q w. elim (worn_grows r q es e w) [ inl v ↦ c.none q v | inr v ↦ let z : streak q (es ++ e ∷ []) ≡ 0 = zero_at q v.0 in let b : r < streak q (es ++ e ∷ []) = v.1 in absurd (omega arith) ];
+    }
+
+pub hand_missed : {r : ℕ} {es : List Entry} {rest : List Held} (h : Held) (e : Entry) → Counted r es (h ∷ rest) → e.request ≡ h.request → same_request h.request h.request ≡ true → was_answered e.outcome ≡ false → h.missed < r
+    → ((k : Held) → In k rest → same_request k.request h.request ≡ false)
+    → Counted r (es ++ e ∷ []) (rest ++ record { request = h.request; missed = h.missed + 1 } ∷ [])
+hand_missed {r = r} {es = es} {rest = rest} h e c is self missed low apart =
+    let more : Held = record { request = h.request; missed = h.missed + 1 } in
+    let S : Request → Type 0 = λ q. same_request h.request q ≡ true in
+    let here : streak h.request (es ++ e ∷ []) ≡ h.missed + 1 =
+    streak_same h.request es e (subst S (sym is) self) ∙ ap (λ b. cond b 0 (streak h.request es + 1)) missed ∙ ap (λ n. n + 1) (c.counts h (inl refl)) in
+    let C : Held → Type 0 = λ k. streak k.request (es ++ e ∷ []) ≡ k.missed in
+    let F : Held → Type 0 = λ k. k.missed ≤ r in
+    record {
+      counts = λ k i. elim (in_push k rest more i) [
+        | inl j ↦ streak_other k.request es e (ap (same_request k.request) is ∙ apart k j) ∙ c.counts k (inr j)
+        | inr f ↦ subst C f here
+      ];
+      few = λ k i. elim (in_push k rest more i) [ inl j ↦ c.few k (inr j) | inr f ↦ subst F f (omega arith) ];
+      others = λ q none. elim (true_or_false (same_request q e.request)) [
+        | inl s ↦ absurd (none more (in_last rest more) (sym is ∙ sym (same_is q e.request s)))
+        | inr s ↦ streak_other q es e s ∙ c.others q (λ k i eq. elim i [
+          | inl f ↦ none more (in_last rest more) (ap (λ (v : Held). v.request) f ∙ eq)
+          | inr j ↦ none k (in_left k rest (more ∷ []) j) eq
+        ])
+      ];
+      none = λ q w. elim (worn_grows r q es e w) [
+        | inl v ↦ c.none q v
+        | inr v ↦ let i : q ≡ h.request = same_is q e.request v.0 ∙ is in
+            let z : streak q (es ++ e ∷ []) ≡ h.missed + 1 = ap (λ p. streak p (es ++ e ∷ [])) i ∙ here in
+            let b : r < streak q (es ++ e ∷ []) = v.1 in absurd (omega arith)
+      ];
+    }
+
+pub hand_worn : {r : ℕ} {es : List Entry} {rest : List Held} (h : Held) (e : Entry) → Counted r es (h ∷ rest) → e.request ≡ h.request → same_request h.request h.request ≡ true → was_answered e.outcome ≡ false → r ≤ h.missed
+    → IsFirstWorn r (es ++ e ∷ []) h.request
+hand_worn {r = r} {es = es} h e c is self missed high =
+    let S : Request → Type 0 = λ q. same_request h.request q ≡ true in
+    let here : streak h.request (es ++ e ∷ []) ≡ h.missed + 1 =
+    streak_same h.request es e (subst S (sym is) self) ∙ ap (λ b. cond b 0 (streak h.request es + 1)) missed ∙ ap (λ n. n + 1) (c.counts h (inl refl)) in
+    record { before = es; last = e; later = []; parts = refl; is_of = is; worn = worn_now r h.request (es ++ e ∷ []) (omega arith); first = c.none }
+
+-- and no other request is worn then
+pub hand_only : {r : ℕ} {es : List Entry} {hs : List Held} (e : Entry) (p : Request) → Counted r es hs → IsWorn r p (es ++ e ∷ []) → p ≡ e.request
+hand_only {r = r} {es = es} e p c w = elim (worn_grows r p es e w) [ inl v ↦ absurd (c.none p v) | inr v ↦ same_is p e.request v.0 ]
+
+-- ---- nothing in hand was missed
+
+pub record Quiet (r : ℕ) (es : List Entry) : Type 0 where
+  pub zeros : (q : Request) → streak q es ≡ 0
+  pub none : (q : Request) → IsWorn r q es → ⊥
+
+pub quiet_at_first : (r : ℕ) → Quiet r []
+quiet_at_first r = record { zeros = λ q. refl; none = λ q w. none_some refl (w.1 0 (omega arith)) }
+
+pub quiet_heard : {r : ℕ} {es : List Entry} (h : Held) (e : Entry) → Counted r es (h ∷ []) → e.request ≡ h.request → same_request h.request h.request ≡ true → was_answered e.outcome ≡ true → Quiet r (es ++ e ∷ [])
+quiet_heard {r = r} {es = es} h e c is self told =
+    let d : Counted r (es ++ e ∷ []) [] = hand_heard {rest = []} [] h e c is self told (λ k i. absurd i) (λ k i. absurd i) in
+    record { zeros = λ q. d.others q (λ k i eq. i); none = d.none }
+
+pub quiet_counted : {r : ℕ} {es : List Entry} (hs : List Held) → Quiet r es → ((k : Held) → In k hs → k.missed ≡ 0) → Counted r es hs
+quiet_counted hs y zeros =
+    record {
+      counts = λ k i. y.zeros k.request ∙ sym (zeros k i);
+      few = λ k i. let z : k.missed ≡ 0 = zeros k i in omega arith;
+      others = λ q n. y.zeros q;
+      none = y.none;
+    }
+
+-- ---- what was worn first stays so
+
+pub worn_first_still : {r : ℕ} {es : List Entry} {q : Request} (e : Entry) → IsFirstWorn r es q → IsFirstWorn r (es ++ e ∷ []) q
+worn_first_still {es = es} e f =
+    record {
+      before = f.before;
+      last = f.last;
+      later = f.later ++ e ∷ [];
+      parts = ap (λ v. v ++ e ∷ []) f.parts ∙ append_assoc f.before (f.last ∷ f.later) (e ∷ []);
+      is_of = f.is_of;
+      worn = f.worn;
+      first = f.first;
+    }

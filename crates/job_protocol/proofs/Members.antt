@@ -1,0 +1,57 @@
+-- members, places and appended lists
+use Rattle.std.proofs.Common.{◌≡◌, ℕ, ◌<◌, zero, suc, Option, Some, None, refl, ap, ◌⊎◌, inl, inr, Bool, true, false, arith, List, [], ◌∷◌, ◌++◌, length, slice_get, map}
+use Rattle.job_protocol.specs.LaneTable.{In}
+
+pub in_append : {X : Type 0} (x : X) (xs ys : List X) → In x (xs ++ ys) → In x xs ⊎ In x ys
+in_append x [] ys h = inr h
+in_append x (z ∷ xs) ys h = elim h [ inl e ↦ inl (inl e) | inr i ↦ elim (in_append x xs ys i) [ inl j ↦ inl (inr j) | inr j ↦ inr j ] ]
+
+pub in_left : {X : Type 0} (x : X) (xs ys : List X) → In x xs → In x (xs ++ ys)
+in_left x [] ys h = absurd h
+in_left x (z ∷ xs) ys h = elim h [ inl e ↦ inl e | inr i ↦ inr (in_left x xs ys i) ]
+
+pub in_right : {X : Type 0} (x : X) (xs ys : List X) → In x ys → In x (xs ++ ys)
+in_right x [] ys h = h
+in_right x (z ∷ xs) ys h = inr (in_right x xs ys h)
+
+-- a member of xs ++ y ∷ [] is in xs or is y
+pub in_push : {X : Type 0} (x : X) (xs : List X) (y : X) → In x (xs ++ y ∷ []) → In x xs ⊎ (y ≡ x)
+in_push x xs y h = elim (in_append x xs (y ∷ []) h) [ inl i ↦ inl i | inr i ↦ elim i [ inl e ↦ inr e | inr n ↦ absurd n ] ]
+
+pub in_last : {X : Type 0} (xs : List X) (y : X) → In y (xs ++ y ∷ [])
+in_last xs y = in_right y xs (y ∷ []) (inl refl)
+
+pub in_map : {X Y : Type 0} (f : X → Y) (xs : List X) (y : Y) → In y (map f xs) → (x : X) × In x xs × (f x ≡ y)
+in_map f [] y h = absurd h
+in_map f (x ∷ xs) y h = elim h [ inl e ↦ (x, inl refl, e) | inr i ↦ let r = in_map f xs y i in (r.0, inr r.1, r.2) ]
+
+pub map_in : {X Y : Type 0} (f : X → Y) (xs : List X) (x : X) → In x xs → In (f x) (map f xs)
+map_in f [] x h = absurd h
+map_in f (z ∷ xs) x h = elim h [ inl e ↦ inl (ap f e) | inr i ↦ inr (map_in f xs x i) ]
+
+pub map_append : {X Y : Type 0} (f : X → Y) (xs ys : List X) → map f (xs ++ ys) ≡ map f xs ++ map f ys
+map_append f [] ys = refl
+map_append f (x ∷ xs) ys = ap (λ zs. f x ∷ zs) (map_append f xs ys)
+
+pub get_left : {X : Type 0} (xs ys : List X) (n : ℕ) (x : X) → slice_get xs n ≡ Some x → slice_get (xs ++ ys) n ≡ Some x
+get_left [] ys n x e = absurd (cc)
+get_left (z ∷ xs) ys zero x e = e
+get_left (z ∷ xs) ys (suc n) x e = get_left xs ys n x e
+
+pub get_before : {X : Type 0} (xs ys : List X) (n : ℕ) (x : X) → n < length xs → slice_get (xs ++ ys) n ≡ Some x → slice_get xs n ≡ Some x
+get_before [] ys n x h e = absurd (omega arith)
+get_before (z ∷ xs) ys zero x h e = e
+get_before (z ∷ xs) ys (suc n) x h e = get_before xs ys n x (omega arith) e
+
+pub true_or_false : (b : Bool) → (b ≡ true) ⊎ (b ≡ false)
+true_or_false true = inl refl
+true_or_false false = inr refl
+
+pub some_is : {X : Type 0} {x y : X} → Some x ≡ Some y → x ≡ y
+some_is e = cc
+
+pub none_some : {X : Type 0} {x : X} {o : Option X} → o ≡ None → o ≡ Some x → ⊥
+none_some e f = cc
+
+pub false_true : {b : Bool} → b ≡ false → b ≡ true → ⊥
+false_true e f = cc

@@ -1,0 +1,91 @@
+-- an operation asks a request exactly until it is over, and each actor has its operations
+use Rattle.std.proofs.Common.{◌≡◌, ℕ, refl, Option, Some, None, is_some}
+use Rattle.std.specs.Option.{option_map}
+use Rattle.s3_types.specs.declared.request.Actor.{Actor}
+use Rattle.s3_types.specs.declared.request.Actor.TheVariants.{Driver, Attempt, Shell}
+use Rattle.s3_types.specs.declared.request.Request.{Request}
+use Rattle.job_model.specs.Attempts.{Who}
+use Rattle.job_model.specs.JobScript.{Script}
+use Rattle.job_model.specs.declared.events.Op.{Op}
+use Rattle.job_model.specs.declared.events.Op.TheVariants as ops
+use Rattle.job_model.specs.Known.{Known}
+use Rattle.job_protocol.specs.Setup as setup
+use Rattle.job_protocol.specs.Writes as writes
+use Rattle.job_protocol.specs.TaskCommits as tasks
+use Rattle.job_protocol.specs.TaskAborts as aborts
+use Rattle.job_protocol.specs.JobCommits as commits
+use Rattle.job_protocol.specs.Cleanups as cleans
+use Rattle.job_protocol.specs.Operations.{Setting, Operation, TheSetup, TheWrite, TheTaskCommit, TheTaskAbort, TheCommit, TheClean, asks, over, start_of}
+use Rattle.job_protocol.specs.Laws.{OneOf, has_op}
+
+mapped : {X Y : Type 0} (f : X → Y) (o : Option Request) (p : Option X) → OneOf o p → OneOf o (option_map f p)
+mapped f (Some r) (Some x) h = h
+mapped f (Some r) None h = h
+mapped f None (Some x) h = h
+mapped f None None h = h
+
+of_setup : (w : Script) (s : setup.Setup) → OneOf (setup.setup_asks w s) (setup.setup_over s)
+of_setup w setup.Heading = tt
+of_setup w (setup.Checking keys) = tt
+of_setup w setup.Clearing = tt
+of_setup w (setup.Sweeping s) = tt
+of_setup w (setup.SetupOver end) = tt
+
+of_write : (w : Script) (a : Who) (k : Known) (s : writes.Write) → OneOf (writes.write_asks w a k s) (writes.write_over s)
+of_write w a k (writes.Uploads f fs u) = tt
+of_write w a k (writes.Marking f fs) = tt
+of_write w a k (writes.Recording f fs) = tt
+of_write w a k (writes.WriteOver end) = tt
+
+of_task : (w : Script) (a : Who) (k : Known) (s : tasks.TaskCommit) → OneOf (tasks.task_commit_asks w a k s) (tasks.task_commit_over s)
+of_task w a k (tasks.Looking keys) = tt
+of_task w a k (tasks.Reading cs f fs) = tt
+of_task w a k (tasks.Publishing cs) = tt
+of_task w a k (tasks.Checking d ds) = tt
+of_task w a k (tasks.Uploads f fs u) = tt
+of_task w a k tasks.Storing = tt
+of_task w a k tasks.Renaming = tt
+of_task w a k (tasks.TaskCommitOver end) = tt
+
+of_abort : (w : Script) (a : Who) (s : aborts.TaskAbort) → OneOf (aborts.task_abort_asks w a s) (aborts.task_abort_over s)
+of_abort w a (aborts.Dropping d ds sent) = tt
+of_abort w a (aborts.Sweeping s) = tt
+of_abort w a aborts.Removing = tt
+of_abort w a (aborts.TaskAbortOver end) = tt
+
+of_commit : (w : Script) (s : commits.Commit) → OneOf (commits.commit_asks w s) (commits.commit_over s)
+of_commit w (commits.Fetching sets m) = tt
+of_commit w (commits.Replacing sets p ps s m) = tt
+of_commit w (commits.Completing sets x xs finished) = tt
+of_commit w (commits.Marking sets m) = tt
+of_commit w (commits.Reverting r rs m) = tt
+of_commit w (commits.CommitOver end) = tt
+
+of_clean : (w : Script) (s : cleans.Clean) → OneOf (cleans.clean_asks w s) (cleans.clean_over s)
+of_clean w (cleans.Walking found) = tt
+of_clean w (cleans.Aborting u us) = tt
+of_clean w (cleans.Sweeping s) = tt
+of_clean w cleans.Naming = tt
+of_clean w (cleans.Removing p ps) = tt
+of_clean w (cleans.CleanOver end) = tt
+
+pub goes_on : (g : Setting) (a : Who) (k : Known) (op : Operation) → OneOf (asks g a k op) (over op)
+goes_on g a k (TheSetup t) = mapped _ _ _ (of_setup g.script t.operation)
+goes_on g a k (TheWrite t) = mapped _ _ _ (of_write g.script a k t.operation)
+goes_on g a k (TheTaskCommit t) = mapped _ _ _ (of_task g.script a k t.operation)
+goes_on g a k (TheTaskAbort t) = mapped _ _ _ (of_abort g.script a t.operation)
+goes_on g a k (TheCommit c) = mapped _ _ _ (of_commit g.script c)
+goes_on g a k (TheClean t) = mapped _ _ _ (of_clean g.script t.operation)
+
+pub starts : (g : Setting) (a : Actor) (op : Op) (missing : Option ℕ) (k : Known) → is_some (start_of g a op missing k) ≡ has_op a op
+starts g Driver ops.Setup missing k = refl
+starts g Driver ops.Write missing k = refl
+starts g Driver ops.Commit missing k = refl
+starts g Driver ops.Abort missing k = refl
+starts g Driver ops.Clean missing k = refl
+starts g (Attempt t a) ops.Setup missing k = refl
+starts g (Attempt t a) ops.Write missing k = refl
+starts g (Attempt t a) ops.Commit missing k = refl
+starts g (Attempt t a) ops.Abort missing k = refl
+starts g (Attempt t a) ops.Clean missing k = refl
+starts g Shell op missing k = refl

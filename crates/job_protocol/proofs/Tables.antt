@@ -1,0 +1,229 @@
+-- the table of lanes as it is dealt, and after each outcome
+use Rattle.std.proofs.Common.{◌≡◌, ℕ, ◌+◌, ◌-◌, ◌<◌, ◌≤◌, zero, suc, min, refl, ap, sym, subst, ◌∙◌, ◌⊎◌, inl, inr, Bool, true, false, cond, nat_lt, arith, List, [], ◌∷◌, ◌++◌, append-nil}
+use Rattle.std.proofs.lemmas.Bool.Decides.{nat_tests}
+use Rattle.job_protocol.specs.Lanes.{Turn, fresh_turn, again, follow, first_turns, dealt}
+use Rattle.job_protocol.specs.LaneTable.{In, ahead, After, Apart, Table}
+use Rattle.job_protocol.proofs.Members.{in_left, in_right, in_push, in_last}
+
+pub lt_or_not : (a b : ℕ) → ((nat_lt a b ≡ true) × (a < b)) ⊎ ((nat_lt a b ≡ false) × (b ≤ a))
+lt_or_not a b = grind (arith, nat_tests)
+
+pub less_or_not : (a b : ℕ) → (a < b) ⊎ (b ≤ a)
+less_or_not a b = grind arith
+
+-- ---- lanes
+
+ahead_next : (lanes a k : ℕ) → ahead lanes (a + lanes) k ≡ ahead lanes a k + lanes
+ahead_next lanes a zero = refl
+ahead_next lanes a (suc k) = ap (λ n. n + lanes) (ahead_next lanes a k)
+
+ahead_far : (lanes a k : ℕ) → a ≤ ahead lanes a k
+ahead_far lanes a zero = omega arith
+ahead_far lanes a (suc k) = let i : a ≤ ahead lanes a k = ahead_far lanes a k in omega arith
+
+pub after_self : (lanes a : ℕ) → After lanes a a
+after_self lanes a = (0, refl)
+
+pub after_next : (lanes a n : ℕ) → After lanes (a + lanes) n → After lanes a n
+after_next lanes a n h = (suc h.0, sym (ahead_next lanes a h.0) ∙ h.1)
+
+-- a commit that is ahead is the turn's or ahead of the lane's next
+after_cases : (lanes a n : ℕ) → After lanes a n → (a ≡ n) ⊎ After lanes (a + lanes) n
+after_cases lanes a n h = by h.0 h.1
+  where
+    by : (k : ℕ) → ahead lanes a k ≡ n → (a ≡ n) ⊎ After lanes (a + lanes) n
+    by zero e = inl e
+    by (suc k) e = inr (k, ahead_next lanes a k ∙ e)
+
+after_low : (lanes a n : ℕ) → After lanes a n → a ≤ n
+after_low lanes a n h = let i : a ≤ ahead lanes a h.0 = ahead_far lanes a h.0 in let e : ahead lanes a h.0 ≡ n = h.1 in omega arith
+
+-- two lanes don't meet
+meet : (lanes a b k l : ℕ) → a < lanes → b < lanes → ahead lanes a k ≡ ahead lanes b l → a ≡ b
+meet lanes a b zero zero low high e = e
+meet lanes a b zero (suc l) low high e = let i : b ≤ ahead lanes b l = ahead_far lanes b l in absurd (omega arith)
+meet lanes a b (suc k) zero low high e = let i : a ≤ ahead lanes a k = ahead_far lanes a k in absurd (omega arith)
+meet lanes a b (suc k) (suc l) low high e = meet lanes a b k l low high (omega arith)
+
+-- each number is in some lane
+lane_of : (lanes n top : ℕ) → n < top → 0 < lanes → (a : ℕ) × (a < lanes) × (a ≤ n) × After lanes a n
+lane_of lanes n zero h some = absurd (omega arith)
+lane_of lanes n (suc top) h some = elim (less_or_not n lanes) [
+  | inl low ↦ (n, low, omega arith, after_self lanes n)
+  | inr high ↦
+      let r = lane_of lanes (n - lanes) top (omega arith) some in
+      let low : r.0 ≤ n - lanes = r.2 in
+      let e : ahead lanes r.0 r.3.0 ≡ n - lanes = r.3.1 in
+      let f : ahead lanes r.0 r.3.0 + lanes ≡ n = omega arith in
+      (r.0, r.1, omega arith, (suc r.3.0, f))
+]
+
+-- ---- as it is dealt
+
+in_first : (m : ℕ) (x : Turn) → In x (first_turns m) → (x.number < m) × (x.missed ≡ 0) × (x.lost ≡ false)
+in_first zero x h = absurd h
+in_first (suc m) x h = elim (in_push x (first_turns m) (fresh_turn m) h) [
+  | inl i ↦ let r = in_first m x i in let b : x.number < m = r.0 in (omega arith, r.1, r.2)
+  | inr e ↦ let n : m ≡ x.number = ap (λ (v : Turn). v.number) e in (omega arith, sym (ap (λ (v : Turn). v.missed) e), sym (ap (λ (v : Turn). v.lost) e))
+]
+
+first_in : (m a : ℕ) → a < m → In (fresh_turn a) (first_turns m)
+first_in zero a h = absurd (omega arith)
+first_in (suc m) a h = elim (less_or_not a m) [
+  | inl low ↦ in_left (fresh_turn a) (first_turns m) (fresh_turn m ∷ []) (first_in m a low)
+  | inr high ↦ let e : m ≡ a = omega arith in in_right (fresh_turn a) (first_turns m) (fresh_turn m ∷ []) (inl (ap fresh_turn e))
+]
+
+-- one more turn, ahead of none
+pub apart_push : (lanes : ℕ) (xs : List Turn) (y : Turn) → Apart lanes xs → ((x : Turn) (n : ℕ) → In x xs → After lanes x.number n → After lanes y.number n → ⊥) → Apart lanes (xs ++ y ∷ [])
+apart_push lanes [] y ok new = (λ x n i a b. i, tt)
+apart_push lanes (x ∷ xs) y ok new = (
+  λ z n i a b. elim (in_push z xs y i) [ inl j ↦ ok.0 z n j a b | inr e ↦ let Q : Turn → Type 0 = λ v. After lanes v.number n in new x n (inl refl) a (subst Q (sym e) b) ],
+  apart_push lanes xs y ok.1 (λ z n i a b. new z n (inr i) a b),
+)
+
+apart_first : (lanes m : ℕ) → m ≤ lanes → Apart lanes (first_turns m)
+apart_first lanes zero h = tt
+apart_first lanes (suc m) h = apart_push lanes (first_turns m) (fresh_turn m) (apart_first lanes m (omega arith)) (λ x n i a b.
+    let low : x.number < m = (in_first m x i).0 in
+    let e : x.number ≡ m = meet lanes x.number m a.0 b.0 (omega arith) (omega arith) (a.1 ∙ sym b.1) in
+    absurd (omega arith))
+
+pub table_dealt : (lanes retries total : ℕ) → 0 < lanes → Table lanes retries total (dealt lanes total) []
+table_dealt lanes retries total some =
+    record {
+      within = λ x i. let r = in_first (min lanes total) x i in let b : x.number < min lanes total = r.0 in omega arith;
+      unsent = λ x i e. (in_first (min lanes total) x i).2;
+      few = λ x i. let b : x.missed ≡ 0 = (in_first (min lanes total) x i).1 in omega arith;
+      apart = apart_first lanes (min lanes total) (omega arith);
+      undone = λ x n i none a. none;
+      cover = λ n low.
+          let r = lane_of lanes n (n + 1) (omega arith) some in
+          let b : r.0 < lanes = r.1 in
+          let c : r.0 ≤ n = r.2 in
+          inr (fresh_turn r.0, first_in (min lanes total) r.0 (omega arith), r.3);
+      done_within = λ n none. absurd none;
+    }
+
+pub dealt_fresh : (lanes total : ℕ) (x : Turn) → In x (dealt lanes total) → (x.missed ≡ 0) × (x.lost ≡ false)
+dealt_fresh lanes total x i = let r = in_first (min lanes total) x i in (r.1, r.2)
+
+-- ---- after an answer
+
+-- the lane's next, or that it has none
+pub follow_cases : (lanes total n : ℕ) → ((n + lanes < total) × (follow lanes total n ≡ fresh_turn (n + lanes) ∷ [])) ⊎ ((total ≤ n + lanes) × (follow lanes total n ≡ []))
+follow_cases lanes total n = elim (lt_or_not (n + lanes) total) [
+  | inl h ↦ inl (h.1, ap (λ b. cond b (fresh_turn (n + lanes) ∷ []) []) h.0)
+  | inr h ↦ inr (h.1, ap (λ b. cond b (fresh_turn (n + lanes) ∷ []) []) h.0)
+]
+
+table_next : {lanes retries total : ℕ} {xs : List Turn} {done : List ℕ} (x : Turn) → 0 < lanes → x.number + lanes < total → Table lanes retries total (x ∷ xs) done → Table lanes retries total (xs ++ fresh_turn (x.number + lanes) ∷ []) (x.number ∷ done)
+table_next {lanes = lanes} {retries = retries} {total = total} {xs = xs} {done = done} x some low t =
+    let new = fresh_turn (x.number + lanes) in
+    let L : Turn → Type 0 = λ v. v.number < total in
+    let F : Turn → Type 0 = λ v. v.missed ≤ retries in
+    record {
+      within = λ y i. elim (in_push y xs new i) [ inl j ↦ t.within y (inr j) | inr e ↦ subst L e low ];
+      unsent = λ y i m. elim (in_push y xs new i) [ inl j ↦ t.unsent y (inr j) m | inr e ↦ sym (ap (λ (v : Turn). v.lost) e) ];
+      few = λ y i. elim (in_push y xs new i) [ inl j ↦ t.few y (inr j) | inr e ↦ subst F e (omega arith) ];
+      apart = apart_push lanes xs new t.apart.1 (λ y n i a b. t.apart.0 y n i (after_next lanes x.number n b) a);
+      undone = λ y n i d a. elim (in_push y xs new i) [
+        | inl j ↦ elim d [
+          | inl e ↦ let A : ℕ → Type 0 = λ v. After lanes y.number v in t.apart.0 y x.number j (after_self lanes x.number) (subst A (sym e) a)
+          | inr k ↦ t.undone y n (inr j) k a
+        ]
+        | inr e ↦ let A : Turn → Type 0 = λ v. After lanes v.number n in
+            let b : After lanes (x.number + lanes) n = subst A (sym e) a in
+            elim d [
+              | inl f ↦ let far : x.number + lanes ≤ n = after_low lanes (x.number + lanes) n b in absurd (omega arith)
+              | inr k ↦ t.undone x n (inl refl) k (after_next lanes x.number n b)
+            ]
+      ];
+      cover = λ n below. elim (t.cover n below) [
+        | inl d ↦ inl (inr d)
+        | inr r ↦ elim r.1 [
+          | inl e ↦ let A : Turn → Type 0 = λ v. After lanes v.number n in elim (after_cases lanes x.number n (subst A (sym e) r.2)) [
+            | inl f ↦ inl (inl f)
+            | inr a ↦ inr (new, in_last xs new, a)
+          ]
+          | inr j ↦ inr (r.0, in_left r.0 xs (new ∷ []) j, r.2)
+        ]
+      ];
+      done_within = λ n d. elim d [ inl e ↦ let b : x.number < total = t.within x (inl refl) in omega arith | inr k ↦ t.done_within n k ];
+    }
+
+table_over : {lanes retries total : ℕ} {xs : List Turn} {done : List ℕ} (x : Turn) → total ≤ x.number + lanes → Table lanes retries total (x ∷ xs) done → Table lanes retries total xs (x.number ∷ done)
+table_over {lanes = lanes} {retries = retries} {total = total} {xs = xs} {done = done} x high t =
+    record {
+      within = λ y i. t.within y (inr i);
+      unsent = λ y i. t.unsent y (inr i);
+      few = λ y i. t.few y (inr i);
+      apart = t.apart.1;
+      undone = λ y n i d a. elim d [
+        | inl e ↦ let A : ℕ → Type 0 = λ v. After lanes y.number v in t.apart.0 y x.number i (after_self lanes x.number) (subst A (sym e) a)
+        | inr k ↦ t.undone y n (inr i) k a
+      ];
+      cover = λ n below. elim (t.cover n below) [
+        | inl d ↦ inl (inr d)
+        | inr r ↦ elim r.1 [
+          | inl e ↦ let A : Turn → Type 0 = λ v. After lanes v.number n in elim (after_cases lanes x.number n (subst A (sym e) r.2)) [
+            | inl f ↦ inl (inl f)
+            | inr a ↦ let far : x.number + lanes ≤ n = after_low lanes (x.number + lanes) n a in absurd (omega arith)
+          ]
+          | inr j ↦ inr (r.0, j, r.2)
+        ]
+      ];
+      done_within = λ n d. elim d [ inl e ↦ let b : x.number < total = t.within x (inl refl) in omega arith | inr k ↦ t.done_within n k ];
+    }
+
+pub table_answered : {lanes retries total : ℕ} {xs : List Turn} {done : List ℕ} (x : Turn) → 0 < lanes → Table lanes retries total (x ∷ xs) done → Table lanes retries total (xs ++ follow lanes total x.number) (x.number ∷ done)
+table_answered {lanes = lanes} {retries = retries} {total = total} {xs = xs} {done = done} x some t =
+    let T : List Turn → Type 0 = λ v. Table lanes retries total (xs ++ v) (x.number ∷ done) in
+    let U : List Turn → Type 0 = λ v. Table lanes retries total v (x.number ∷ done) in
+    elim (follow_cases lanes total x.number) [
+      | inl h ↦ subst T (sym h.1) (table_next x some h.0 t)
+      | inr h ↦ subst T (sym h.1) (subst U (sym (append-nil xs)) (table_over x h.0 t))
+    ]
+
+-- ---- after a sending with no answer
+
+pub table_again : {lanes retries total : ℕ} {xs : List Turn} {done : List ℕ} (x : Turn) (lost : Bool) → x.missed < retries → Table lanes retries total (x ∷ xs) done → Table lanes retries total (xs ++ again x lost ∷ []) done
+table_again {lanes = lanes} {retries = retries} {total = total} {xs = xs} {done = done} x lost low t =
+    let new = again x lost in
+    let L : Turn → Type 0 = λ v. v.number < total in
+    let F : Turn → Type 0 = λ v. v.missed ≤ retries in
+    record {
+      within = λ y i. elim (in_push y xs new i) [ inl j ↦ t.within y (inr j) | inr e ↦ subst L e (t.within x (inl refl)) ];
+      unsent = λ y i m. elim (in_push y xs new i) [ inl j ↦ t.unsent y (inr j) m | inr e ↦ let f : x.missed + 1 ≡ y.missed = ap (λ (v : Turn). v.missed) e in absurd (omega arith) ];
+      few = λ y i. elim (in_push y xs new i) [ inl j ↦ t.few y (inr j) | inr e ↦ subst F e (omega arith) ];
+      apart = apart_push lanes xs new t.apart.1 (λ y n i a b. t.apart.0 y n i b a);
+      undone = λ y n i d a. elim (in_push y xs new i) [
+        | inl j ↦ t.undone y n (inr j) d a
+        | inr e ↦ let A : Turn → Type 0 = λ v. After lanes v.number n in t.undone x n (inl refl) d (subst A (sym e) a)
+      ];
+      cover = λ n below. elim (t.cover n below) [
+        | inl d ↦ inl d
+        | inr r ↦ elim r.1 [
+          | inl e ↦ let A : Turn → Type 0 = λ v. After lanes v.number n in inr (new, in_last xs new, subst A (sym e) r.2)
+          | inr j ↦ inr (r.0, in_left r.0 xs (new ∷ []) j, r.2)
+        ]
+      ];
+      done_within = t.done_within;
+    }
+
+-- ---- what follows
+
+-- two turns have two numbers
+pub numbers_apart : {lanes retries total : ℕ} {xs : List Turn} {done : List ℕ} (x y : Turn) → Table lanes retries total (x ∷ xs) done → In y xs → x.number ≡ y.number → ⊥
+numbers_apart {lanes = lanes} x y t i e = let A : ℕ → Type 0 = λ v. After lanes v x.number in t.apart.0 y x.number i (after_self lanes x.number) (subst A e (after_self lanes x.number))
+
+-- the next turn's commit is none that is in hand
+pub next_apart : {lanes retries total : ℕ} {xs : List Turn} {done : List ℕ} (x y : Turn) → Table lanes retries total (x ∷ xs) done → In y xs → x.number + lanes ≡ y.number → ⊥
+next_apart {lanes = lanes} x y t i e = let A : ℕ → Type 0 = λ v. After lanes y.number v in t.apart.0 y (x.number + lanes) i (1, refl) (subst A (sym e) (after_self lanes y.number))
+
+pub not_done : {lanes retries total : ℕ} {xs : List Turn} {done : List ℕ} (x : Turn) → Table lanes retries total xs done → In x xs → In x.number done → ⊥
+not_done {lanes = lanes} x t i d = t.undone x x.number i d (after_self lanes x.number)
+
+-- where no lane is left each commit is done
+pub all_done : {lanes retries total : ℕ} {done : List ℕ} (n : ℕ) → n < total → Table lanes retries total [] done → In n done
+all_done n low t = elim (t.cover n low) [ inl d ↦ d | inr r ↦ absurd r.1 ]

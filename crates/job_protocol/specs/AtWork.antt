@@ -1,0 +1,186 @@
+-- Operations beside the plans that they are made from: what an actor knows of the job, in place of the job's whole script.
+use Rattle.std.specs.Prelude.{ℕ, false, List, [], ◌∷◌, ◌++◌, map, Option, Some, None}
+use Rattle.std.specs.FinMap as fin
+use Rattle.std.specs.Option.{unwrap_or}
+use Rattle.s3_types.specs.declared.request.Request.{Request}
+use Rattle.s3_types.specs.declared.journal.Outcome.{Outcome}
+use Rattle.s3_types.specs.declared.journal.Outcome.TheVariants.{Answered, RequestLost}
+use Rattle.path_keys.specs.Paths.{Path, relative_in}
+use Rattle.pending_json.specs.declared.records.PendingSet.{PendingSet}
+use Rattle.retries.specs.Retries.{Item, Got, WornOut, OutOfMemory}
+use Rattle.job_model.specs.Attempts.{Who, Declared}
+use Rattle.job_model.specs.Known.{Known}
+use Rattle.job_model.specs.Jobs.{Job, Task}
+use Rattle.job_model.specs.JobScript.{Script}
+use Rattle.job_protocol.specs.Knowledge.{learn}
+use Rattle.job_protocol.specs.Outputs.{files}
+use Rattle.job_protocol.specs.Setup.{Setup, setup_asks, setup_after}
+use Rattle.job_protocol.specs.Writes.{Write, write_asks, write_after}
+use Rattle.job_protocol.specs.TaskCommits.{TaskCommit, task_commit_asks, task_commit_after}
+use Rattle.job_protocol.specs.TaskAborts.{TaskAbort, task_abort_asks, task_abort_after}
+use Rattle.job_protocol.specs.Cleanups.{Clean, clean_asks, clean_after}
+use Rattle.job_protocol.specs.JobCommits.{Sets, set_read, Commit, Fetching, Replacing, Completing, Marking, Reverting, CommitOver, commit_asks, commit_tells}
+
+-- ---- a script as far as a plan tells it
+
+-- a script with this head, this block and these attempts
+abbrev pub script_of : Job → ℕ → List Declared → Script
+script_of j block attempts = record {
+  job = j.job;
+  dest = j.dest;
+  committer = j.committer;
+  mode = j.mode;
+  unique = false;
+  tasks = j.tasks;
+  retries = j.retries;
+  block = block;
+  lanes = j.lanes;
+  stamp = j.stamp;
+  fates = fin.empty;
+  attempts = attempts;
+  events = [];
+}
+
+-- the attempt that a plan is of
+abbrev pub who_of : Task → Who
+who_of t = record { task = t.task; attempt = t.attempt }
+
+-- the script that an attempt's plan stands for: it alone is declared, with its files at the paths where they go
+abbrev pub task_script : Task → Script
+task_script t = script_of t.job t.block ((who_of t, t.files) ∷ [])
+
+-- the script that the driver's plan stands for, which knows no attempt before it has read their sets
+abbrev pub job_script : Job → Script
+job_script j = script_of j 0 []
+
+-- the attempt that a set is of, with the paths of its uploads below the destination; what the files hold is not told
+abbrev pub declared_of : Path → PendingSet → Declared
+declared_of dest s = (record { task = s.task; attempt = s.attempt }, map (λ c. (unwrap_or (relative_in dest.key c.destination) [], [])) s.commits)
+
+-- the script that the driver's plan stands for once it has read these sets
+abbrev pub read_script : Job → Sets → Script
+read_script j sets = script_of j 0 (map (declared_of j.dest) sets)
+
+-- ---- an attempt's operation
+
+-- an operation and the attempt's plan
+pub record Attempting (O : Type 0) : Type 0 where
+  pub plan : Task
+  pub operation : O
+
+-- what is known once the request was answered, or wore out
+abbrev pub learned : Script → Who → Known → Option Request → Item → Known
+learned w a k (Some r) (Got reply repeated) = learn w a k r (Answered reply)
+learned w a k (Some r) WornOut = learn w a k r RequestLost
+learned w a k (Some r) OutOfMemory = k
+learned w a k None i = k
+
+-- the attempt's plan with what it knows now
+abbrev pub with_known : Task → Known → Task
+with_known t k = record { job = t.job; task = t.task; attempt = t.attempt; files = t.files; block = t.block; minimum = t.minimum; known = k }
+
+-- the operation and its plan, once its request was answered or wore out
+abbrev pub told : {O : Type 0} → Attempting O → Option Request → Item → O → Attempting O
+told m r i next = record { plan = with_known m.plan (learned (task_script m.plan) (who_of m.plan) m.plan.known r i); operation = next }
+
+-- what a write asks next, by the attempt's plan
+abbrev pub write_wants : Attempting Write → Option Request
+write_wants m = write_asks (task_script m.plan) (who_of m.plan) m.plan.known m.operation
+
+-- the write once its request was answered or wore out
+abbrev pub write_told : Attempting Write → Item → Attempting Write
+write_told m i = told m (write_wants m) i (write_after (task_script m.plan) m.plan.minimum m.operation i)
+
+-- what a task's commit asks next, by the attempt's plan
+abbrev pub task_commit_wants : Attempting TaskCommit → Option Request
+task_commit_wants m = task_commit_asks (task_script m.plan) (who_of m.plan) m.plan.known m.operation
+
+-- the task's commit once its request was answered or wore out
+abbrev pub task_commit_told : Attempting TaskCommit → Item → Attempting TaskCommit
+task_commit_told m i = told m (task_commit_wants m) i (task_commit_after (task_script m.plan) m.plan.minimum (who_of m.plan) m.operation i)
+
+-- what a task's abort asks next, by the attempt's plan
+abbrev pub task_abort_wants : Attempting TaskAbort → Option Request
+task_abort_wants m = task_abort_asks (task_script m.plan) (who_of m.plan) m.operation
+
+-- the task's abort once its request was answered or wore out
+abbrev pub task_abort_told : Attempting TaskAbort → Item → Attempting TaskAbort
+task_abort_told m i = told m (task_abort_wants m) i (task_abort_after (task_script m.plan) m.operation i)
+
+-- ---- the driver's operations
+
+-- an operation and the job's plan
+pub record Driving (O : Type 0) : Type 0 where
+  pub plan : Job
+  pub operation : O
+
+-- what a set-up asks next, by the job's plan
+abbrev pub setup_wants : Driving Setup → Option Request
+setup_wants m = setup_asks (job_script m.plan) m.operation
+
+-- the set-up once its request was answered or wore out
+abbrev pub setup_told : Driving Setup → Item → Driving Setup
+setup_told m i = record { plan = m.plan; operation = setup_after (job_script m.plan) m.operation i }
+
+-- what an abort or clean of the job asks next, by its plan
+abbrev pub clean_wants : Driving Clean → Option Request
+clean_wants m = clean_asks (job_script m.plan) m.operation
+
+-- the abort or clean once its request was answered or wore out
+abbrev pub clean_told : Driving Clean → Item → Driving Clean
+clean_told m i = record { plan = m.plan; operation = clean_after (job_script m.plan) m.operation i }
+
+-- ---- the driver's commit
+
+-- the sets that a commit holds
+abbrev pub sets_in : Commit → Sets
+sets_in (Fetching sets m) = sets
+sets_in (Replacing sets p ps s m) = sets
+sets_in (Completing sets x xs finished) = sets
+sets_in (Marking sets m) = sets
+sets_in (Reverting r rs m) = []
+sets_in (CommitOver end) = []
+
+-- the sets that were read, with one more where it was one
+abbrev pub with_set : Sets → Option PendingSet → Sets
+with_set sets (Some s) = sets ++ s ∷ []
+with_set sets None = sets
+
+-- the sets with the one that an outcome brings
+abbrev pub sets_after : Commit → Outcome → Sets
+sets_after (Fetching sets m) (Answered r) = with_set sets (set_read r)
+sets_after c o = sets_in c
+
+-- a commit, the job's plan, and the attempts whose sets were read, by task from 0 on
+pub record Committing : Type 0 where
+  pub plan : Job
+  pub picked : List ℕ
+  pub operation : Commit
+
+-- the attempts of the sets that were read, with one more where it was one
+abbrev pub with_pick : List ℕ → Option PendingSet → List ℕ
+with_pick picked (Some s) = picked ++ s.attempt ∷ []
+with_pick picked None = picked
+
+-- the attempts whose sets were read, after one more sending
+abbrev pub picked_after : List ℕ → Commit → Outcome → List ℕ
+picked_after picked (Fetching sets m) (Answered r) = with_pick picked (set_read r)
+picked_after picked c o = picked
+
+-- what a job's commit asks next, by the job's plan and the sets that it holds
+abbrev pub commit_wants : Committing → Option Request
+commit_wants m = commit_asks (read_script m.plan (sets_in m.operation)) m.operation
+
+-- the job's commit after one more sending
+abbrev pub commit_told : Committing → Outcome → Committing
+commit_told m o = record { plan = m.plan; picked = picked_after m.picked m.operation o; operation = commit_tells (read_script m.plan (sets_after m.operation o)) m.operation o }
+
+-- ---- the plans that a script gives
+
+-- the plan of the job's driver
+abbrev pub job_of : Script → Job
+job_of w = record { job = w.job; dest = w.dest; committer = w.committer; mode = w.mode; tasks = w.tasks; retries = w.retries; lanes = w.lanes; stamp = w.stamp }
+
+-- the plan of an attempt that knows this, over a store of this least size of a part
+abbrev pub task_of : Script → ℕ → Who → Known → Task
+task_of w minimum a k = record { job = job_of w; task = a.task; attempt = a.attempt; files = files w a; block = w.block; minimum = minimum; known = k }

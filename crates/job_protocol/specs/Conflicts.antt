@@ -1,0 +1,58 @@
+-- What a conflict mode checks and keeps (Hadoop, S3A committers: fs.s3a.committer.staging.conflict-mode).
+use Rattle.std.specs.Prelude.{ℕ, nat_eq, not, Bool, true, false, cond, List, [], ◌∷◌, ◌++◌, Option, Some, None}
+use Rattle.std.specs.List.{list_any}
+use Rattle.s3_types.specs.Pages.{begins}
+use Rattle.s3_types.specs.declared.request.Committer.{Committer}
+use Rattle.s3_types.specs.declared.request.Committer.TheVariants.{Directory, Partitioned}
+use Rattle.s3_types.specs.declared.request.Mode.{Mode}
+use Rattle.s3_types.specs.declared.request.Mode.TheVariants.{Fail, Replace}
+use Rattle.job_model.specs.JobScript.{Script}
+use Rattle.job_protocol.specs.Outputs.{Picks, ordered, wanted_paths}
+
+-- the directory of a path with one more byte in front
+abbrev pub dir_from : ℕ → List ℕ → Option (List ℕ) → Option (List ℕ)
+dir_from x p (Some d) = Some (x ∷ d)
+dir_from x p None = cond (nat_eq x 47) (Some []) None
+
+-- the directory that a path is in: what stands before its last `/`
+abbrev pub dir_of : List ℕ → Option (List ℕ)
+dir_of [] = None
+dir_of (x ∷ p) = dir_from x p (dir_of p)
+
+-- the directories with one more, where a path has one
+abbrev pub with_dir : Option (List ℕ) → List (List ℕ) → List (List ℕ)
+with_dir (Some d) ds = d ∷ ds
+with_dir None ds = ds
+
+-- the directories that these paths are in
+abbrev pub dirs_of : List (List ℕ) → List (List ℕ)
+dirs_of [] = []
+dirs_of (p ∷ ps) = with_dir (dir_of p) (dirs_of ps)
+
+-- the parent directories of the paths, each once, in the order of their bytes; a path without a `/` has none
+abbrev pub partitions : List (List ℕ) → List (List ℕ)
+partitions paths = ordered (dirs_of paths)
+
+-- a path is below one of these directories
+abbrev pub is_below_any : List (List ℕ) → List ℕ → Bool
+is_below_any dirs p = list_any (λ d. begins (d ++ 47 ∷ []) p) dirs
+
+-- a path that stood before the job stays, where these partitions are written
+abbrev pub keeps : Committer → Mode → List (List ℕ) → List ℕ → Bool
+keeps Directory Replace dirs p = false
+keeps Partitioned Replace dirs p = not (is_below_any dirs p)
+keeps _ _ dirs p = true
+
+-- a path that stood before the job stays, where these picks are written
+abbrev pub keeps_of : Script → Picks → List ℕ → Bool
+keeps_of w picks p = keeps w.committer w.mode (partitions (wanted_paths w picks)) p
+
+-- the set-up looks for files of the destination
+abbrev pub checks_all : Committer → Mode → Bool
+checks_all Directory Fail = true
+checks_all _ _ = false
+
+-- a task's commit looks for files of the partitions that it writes
+abbrev pub checks_partitions : Committer → Mode → Bool
+checks_partitions Partitioned Fail = true
+checks_partitions _ _ = false

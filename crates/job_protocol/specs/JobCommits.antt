@@ -1,0 +1,191 @@
+-- The driver's commit of a job (Hadoop, S3A committer architecture: job commit; fs.s3a.committer.staging.conflict-mode).
+use Rattle.std.specs.Prelude.{◌≡◌, ℕ, ◌+◌, not, nat_lt, Bool, true, false, cond, List, [], ◌∷◌, ◌++◌, map, length, codes, slice_get, Option, Some, None, Result, Ok, Err}
+use Rattle.std.specs.List.{flat_map}
+use Rattle.std.specs.Option.{option_map}
+use Rattle.s3_types.specs.Pages.{begins}
+use Rattle.s3_types.specs.declared.request.Request.{Request}
+use Rattle.s3_types.specs.declared.request.Request.TheVariants.{PutObject, GetObject, ClusterGet, ListPage, DeleteObjects, CompleteUpload}
+use Rattle.s3_types.specs.declared.request.Committer.{Committer}
+use Rattle.s3_types.specs.declared.request.Committer.TheVariants.{Magic, Directory, Partitioned}
+use Rattle.s3_types.specs.declared.request.Mode.{Mode}
+use Rattle.s3_types.specs.declared.request.Mode.TheVariants.{Replace}
+use Rattle.s3_types.specs.declared.reply.Reply.{Reply}
+use Rattle.s3_types.specs.declared.reply.Reply.TheVariants.{Object, ClusterBytes, Completed, Refused}
+use Rattle.s3_types.specs.declared.reply.Refusal.TheVariants.{NoSuchUpload}
+use Rattle.s3_types.specs.declared.journal.Outcome.{Outcome}
+use Rattle.s3_types.specs.declared.journal.Outcome.TheVariants.{Answered, Slow, RequestLost, ReplyLost}
+use Rattle.magic_paths.specs.Layout as layout
+use Rattle.pending_json.specs.Pending.{Pending}
+use Rattle.pending_json.specs.Reading as reading
+use Rattle.pending_json.specs.declared.fault.RecordFault.{RecordFault}
+use Rattle.pending_json.specs.declared.records.PendingSet.{PendingSet}
+use Rattle.job_model.specs.JobScript.{Script}
+use Rattle.job_model.specs.declared.ends.CommitEnd.{CommitEnd}
+use Rattle.job_model.specs.declared.ends.CommitEnd.TheVariants as ends
+use Rattle.job_model.specs.declared.ends.Stage.{Stage}
+use Rattle.job_model.specs.declared.ends.Stage.TheVariants as stages
+use Rattle.job_protocol.specs.Outputs.{Picks, wanted_paths, same_path}
+use Rattle.job_protocol.specs.Conflicts.{partitions}
+use Rattle.list_walk.specs.Walks.{Sweep, sweep_start, sweep_asks, sweep_hears}
+use Rattle.job_protocol.specs.Records.{mark_text}
+use Rattle.job_protocol.specs.Setup.{dest_prefix}
+use Rattle.job_protocol.specs.TaskCommits.{partition_prefix}
+use Rattle.job_protocol.specs.Lanes.{Turn, again, follow, dealt, nth, completion, revert}
+
+-- ---- what the driver read
+
+-- the sets that were read, by task from 0 on
+abbrev pub Sets : Type 0
+Sets = List PendingSet
+
+-- the attempts of the sets
+abbrev pub picks_of : Sets → Picks
+picks_of sets t = option_map (λ s. s.attempt) (slice_get sets t)
+
+-- the uploads of all sets, by task and then in the set's order: commits are numbered so
+abbrev pub all_commits : Sets → List Pending
+all_commits sets = flat_map (λ s. s.commits) sets
+
+-- a set that was read without a fault
+abbrev pub ok_set : Result PendingSet RecordFault → Option PendingSet
+ok_set (Ok s) = Some s
+ok_set (Err f) = None
+
+-- the set that the bytes of an answer spell
+abbrev pub set_read : Reply → Option PendingSet
+set_read (Object bytes header) = ok_set (reading.set_of bytes)
+set_read (ClusterBytes bytes) = ok_set (reading.set_of bytes)
+set_read _ = None
+
+-- ---- the operation
+
+-- how far a job's commit has come
+pub data Commit : Type 0 where
+  -- reads the next task's set behind these
+  Fetching : (sets : Sets) (missed : ℕ) → Commit
+  -- a replace mode: deletes below this prefix what the mode does not keep; the others follow
+  Replacing : (sets : Sets) (prefix : List ℕ) (others : List (List ℕ)) (sweep : Sweep) (missed : ℕ) → Commit
+  -- completes: this lane's turn is next, then those of the others that have uploads; the numbers of what is done, the last one first
+  Completing : (sets : Sets) (turn : Turn) (waiting : List Turn) (finished : List ℕ) → Commit
+  -- puts the marker of a committed job
+  Marking : (sets : Sets) (missed : ℕ) → Commit
+  -- a completion wore out: these requests are left, each of which is passed over where it wears out
+  Reverting : (request : Request) (others : List Request) (missed : ℕ) → Commit
+  CommitOver : (end : CommitEnd) → Commit
+
+-- the read of a task's set
+abbrev pub set_request : Committer → Script → ℕ → Request
+set_request Magic w t = GetObject w.dest.bucket (layout.set_key w.dest.key w.job t)
+set_request Directory w t = ClusterGet (layout.staged_set_path w.job t)
+set_request Partitioned w t = ClusterGet (layout.staged_set_path w.job t)
+
+-- what a job's commit asks next, or nothing where it is over
+abbrev pub commit_asks : Script → Commit → Option Request
+commit_asks w (Fetching sets m) = Some (set_request w.committer w (length sets))
+commit_asks w (Replacing sets p ps s m) = Some (sweep_asks w.dest.bucket p s)
+commit_asks w (Completing sets x xs finished) = Some (completion (nth (all_commits sets) x.number))
+commit_asks w (Marking sets m) = Some (PutObject w.dest.bucket (layout.success_key w.dest.key) (mark_text w (picks_of sets)) None)
+commit_asks w (Reverting r rs m) = Some r
+commit_asks w (CommitOver end) = None
+
+-- ---- where answers lead
+
+-- the next completion of these lanes, or, where none has one, the put of the marker
+abbrev pub completing : Sets → List Turn → List ℕ → Commit
+completing sets [] finished = Marking sets 0
+completing sets (x ∷ xs) finished = Completing sets x xs finished
+
+-- what stands below the magic directory is no file of the destination, and stays
+abbrev pub is_no_magic : Script → List ℕ → Bool
+is_no_magic w key = not (begins (dest_prefix w ++ codes "__magic/") key)
+
+-- below which prefixes a replace mode deletes
+abbrev pub replaced : Committer → Mode → Script → Picks → List (List ℕ)
+replaced Directory Replace w picks = dest_prefix w ∷ []
+replaced Partitioned Replace w picks = map (partition_prefix w) (partitions (wanted_paths w picks))
+replaced _ _ w picks = []
+
+-- the next prefix is emptied; behind the last one the uploads are completed
+abbrev pub replacing : Script → Sets → List (List ℕ) → Commit
+replacing w sets [] = completing sets (dealt w.lanes (length (all_commits sets))) []
+replacing w sets (p ∷ ps) = Replacing sets p ps sweep_start 0
+
+-- after the last read: two of the picks write one path, or what is not kept is deleted
+abbrev pub decided : Script → Sets → Option CommitEnd → Commit
+decided w sets (Some end) = CommitOver end
+decided w sets None = replacing w sets (replaced w.committer w.mode w (picks_of sets))
+
+-- the next task's set is read; behind the last one the picks are decided
+abbrev pub fetching : Script → Sets → Commit
+fetching w sets = cond (nat_lt (length sets) w.tasks) (Fetching sets 0) (decided w sets (same_path w (picks_of sets)))
+
+-- an answer that spells no set leaves it as it was
+abbrev pub fetched : Script → Sets → Option PendingSet → Commit
+fetched w sets (Some s) = fetching w (sets ++ s ∷ [])
+fetched w sets None = Fetching sets 0
+
+-- where a reply to a sweep below a prefix leads
+abbrev pub swept : Script → Sets → List ℕ → List (List ℕ) → Option Sweep → Commit
+swept w sets p ps (Some s) = Replacing sets p ps s 0
+swept w sets p ps None = replacing w sets ps
+
+-- the next request of the revert; behind the last one the commit ends with StoreFault of Complete
+abbrev pub reverting : List Request → Commit
+reverting [] = CommitOver (ends.StoreFault stages.Complete)
+reverting (r ∷ rs) = Reverting r rs 0
+
+-- where an answer leads
+abbrev pub commit_hears : Script → Commit → Reply → Commit
+commit_hears w (Fetching sets m) r = fetched w sets (set_read r)
+commit_hears w (Replacing sets p ps s m) r = swept w sets p ps (sweep_hears (is_no_magic w) s r)
+commit_hears w (Completing sets x xs finished) r = completing sets (xs ++ follow w.lanes (length (all_commits sets)) x.number) (x.number ∷ finished)
+commit_hears w (Marking sets m) r = CommitOver ends.Committed
+commit_hears w (Reverting q qs m) r = reverting qs
+commit_hears w (CommitOver end) r = CommitOver end
+
+-- ---- where sendings without an answer lead
+
+-- a completion that wore out leads to the revert
+abbrev pub worn_completion : Sets → Turn → List Turn → List ℕ → Commit
+worn_completion sets x xs finished = reverting (revert (all_commits sets) x.number xs finished)
+
+-- a request is sent again until it wears out
+abbrev pub commit_misses : Script → Commit → Bool → Commit
+commit_misses w (Fetching sets m) lost = cond (nat_lt m w.retries) (Fetching sets (m + 1)) (CommitOver (ends.StoreFault stages.Read))
+commit_misses w (Replacing sets p ps s m) lost = cond (nat_lt m w.retries) (Replacing sets p ps s (m + 1)) (CommitOver (ends.StoreFault stages.Delete))
+commit_misses w (Completing sets x xs finished) lost = cond (nat_lt x.missed w.retries) (completing sets (xs ++ again x lost ∷ []) finished) (worn_completion sets x xs finished)
+commit_misses w (Marking sets m) lost = cond (nat_lt m w.retries) (Marking sets (m + 1)) (CommitOver (ends.StoreFault stages.Success))
+commit_misses w (Reverting q qs m) lost = cond (nat_lt m w.retries) (Reverting q qs (m + 1)) (reverting qs)
+commit_misses w (CommitOver end) lost = CommitOver end
+
+-- where a sending's outcome leads; SlowDown is no answer, and no loss
+abbrev pub commit_tells : Script → Commit → Outcome → Commit
+commit_tells w c (Answered r) = commit_hears w c r
+commit_tells w c Slow = commit_misses w c false
+commit_tells w c RequestLost = commit_misses w c true
+commit_tells w c ReplyLost = commit_misses w c true
+
+-- an answer to a completion: that there is no such upload only where a sending of it was lost
+abbrev pub FitsCompletion : Turn → Reply → Type 0
+FitsCompletion x (Completed tag) = Unit {0}
+FitsCompletion x (Refused NoSuchUpload) = x.lost ≡ true
+FitsCompletion x _ = ⊥
+
+-- a task of which none reported its commit ends it before any request
+abbrev pub commit_start : Script → Option ℕ → Commit
+commit_start w (Some t) = CommitOver (ends.Missing t)
+commit_start w None = fetching w []
+
+-- how a job's commit ended, if it has
+abbrev pub commit_over : Commit → Option CommitEnd
+commit_over (CommitOver end) = Some end
+commit_over _ = None
+
+-- the part of a commit that a request belongs to
+abbrev pub stage_of : Request → Stage
+stage_of (GetObject bucket key) = stages.Read
+stage_of (ClusterGet path) = stages.Read
+stage_of (ListPage bucket prefix delimited after limit) = stages.Delete
+stage_of (DeleteObjects bucket keys) = stages.Delete
+stage_of (CompleteUpload bucket key id parts) = stages.Complete
+stage_of _ = stages.Success

@@ -1,0 +1,76 @@
+-- The records that a job's actors write (Hadoop, S3A committer architecture: SinglePendingCommit, PendingSet, SuccessData).
+use Rattle.std.specs.Prelude.{ℕ, List, ◌++◌, map, length, codes, Option, Some, None}
+use Rattle.serde_json.specs.Written.{compact_text}
+use Rattle.s3_types.specs.declared.request.Committer.{Committer}
+use Rattle.s3_types.specs.declared.request.Committer.TheVariants.{Magic, Directory, Partitioned}
+use Rattle.path_keys.specs.Paths.{below}
+use Rattle.magic_paths.specs.Layout as layout
+use Rattle.pending_json.specs.Pending.{Pending}
+use Rattle.pending_json.specs.Trees.{pending_tree, set_tree, success_tree}
+use Rattle.pending_json.specs.declared.records.PendingSet.{PendingSet}
+use Rattle.pending_json.specs.declared.records.SuccessMark.{SuccessMark}
+use Rattle.job_model.specs.Files.{File}
+use Rattle.job_model.specs.Attempts.{Who}
+use Rattle.job_model.specs.JobScript.{Script}
+use Rattle.job_protocol.specs.Outputs.{Picks, wanted_paths}
+use Rattle.job_model.specs.Known.{Drawn, Known}
+use Rattle.job_protocol.specs.Knowledge.{drawn_for}
+
+-- ---- the keys of a file: its own, that of its marker and that of its record
+
+-- the key of a file below the destination
+abbrev pub file_key : Script → File → List ℕ
+file_key w f = below w.dest.key f.0
+
+-- the directory that an attempt of the magic committer writes below
+abbrev pub attempt_dir : Script → Who → List ℕ
+attempt_dir w a = layout.attempt_key w.dest.key w.job a.task a.attempt
+
+-- the key of a file's marker in the attempt's magic directory
+abbrev pub marker_key : Script → Who → File → List ℕ
+marker_key w a f = below (attempt_dir w a) f.0
+
+-- the key of a file's record (SinglePendingCommit) in the attempt's magic directory
+abbrev pub record_key : Script → Who → File → List ℕ
+record_key w a f = below (attempt_dir w a) (f.0 ++ codes ".pending")
+
+-- ---- what they hold
+
+-- the sizes that a record tells: magic attempts write version 2 of it, staging ones version 1, which has none
+abbrev pub sizes_by : Committer → List ℕ → Option (List ℕ)
+sizes_by Magic sizes = Some sizes
+sizes_by Directory sizes = None
+sizes_by Partitioned sizes = None
+
+-- the record of a file's upload
+abbrev pub file_record : Script → Who → File → Drawn → Pending
+file_record w a f d = record {
+  task = a.task;
+  attempt = a.attempt;
+  bucket = w.dest.bucket;
+  destination = file_key w f;
+  upload = d.upload;
+  length = length f.1;
+  tags = d.tags;
+  sizes = sizes_by w.committer d.sizes;
+}
+
+-- the text of the record of a file's upload
+abbrev pub record_text : Script → Who → File → Drawn → List ℕ
+record_text w a f d = compact_text (pending_tree (file_record w a f d))
+
+-- the set that publishes these files
+abbrev pub files_set : Script → Who → List File → Known → PendingSet
+files_set w a commits k = record { job = w.job; task = a.task; attempt = a.attempt; commits = map (λ f. file_record w a f (drawn_for k (file_key w f))) commits }
+
+-- the text of the set (PendingSet) that publishes these files
+abbrev pub set_text : Script → Who → List File → Known → List ℕ
+set_text w a commits k = compact_text (set_tree (files_set w a commits k))
+
+-- the marker of a committed job says what was wanted
+abbrev pub mark_of : Script → Picks → SuccessMark
+mark_of w picks = record { job = w.job; committer = w.committer; files = wanted_paths w picks; stamp = w.stamp }
+
+-- the text of `_SUCCESS`
+abbrev pub mark_text : Script → Picks → List ℕ
+mark_text w picks = compact_text (success_tree (mark_of w picks))

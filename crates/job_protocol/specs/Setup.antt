@@ -1,0 +1,120 @@
+-- The driver's set-up of a job (Hadoop, S3A committers: job setup; fs.s3a.committer.staging.conflict-mode).
+use Rattle.std.specs.Prelude.{ℕ, Bool, true, false, cond, List, [], ◌∷◌, ◌++◌, codes, Option, Some, None}
+use Rattle.s3_types.specs.declared.request.Request.{Request}
+use Rattle.s3_types.specs.declared.request.Request.TheVariants.{HeadObject, DeleteObject}
+use Rattle.s3_types.specs.declared.request.Committer.{Committer}
+use Rattle.s3_types.specs.declared.request.Committer.TheVariants.{Magic, Directory, Partitioned}
+use Rattle.s3_types.specs.declared.reply.Reply.{Reply}
+use Rattle.s3_types.specs.declared.reply.Reply.TheVariants.{Head, Page, Refused}
+use Rattle.s3_types.specs.declared.reply.Refusal.TheVariants.{NoSuchBucket}
+use Rattle.path_keys.specs.Paths.{relative_in}
+use Rattle.magic_paths.specs.Layout as layout
+use Rattle.retries.specs.Retries.{Item, Got, WornOut, OutOfMemory}
+use Rattle.job_model.specs.JobScript.{Script}
+use Rattle.job_model.specs.declared.ends.SetupEnd.{SetupEnd}
+use Rattle.job_model.specs.declared.ends.SetupEnd.TheVariants as ends
+use Rattle.job_protocol.specs.View.{is_file_path}
+use Rattle.job_protocol.specs.Conflicts.{checks_all}
+use Rattle.list_walk.specs.Walks.{Walked, More, Whole, keys_on, page_after, walked, Sweep, sweep_start, sweep_asks, sweep_hears, all_go}
+
+-- how far a job's set-up has come
+pub data Setup : Type 0 where
+  -- looks at the destination's own key
+  Heading : Setup
+  -- lists what is below the destination until a file of its view is found, with the keys so far
+  Checking : (keys : List (List ℕ)) → Setup
+  -- deletes the marker of an earlier job
+  Clearing : Setup
+  -- empties the job's magic directory
+  Sweeping : (sweep : Sweep) → Setup
+  SetupOver : (end : SetupEnd) → Setup
+
+-- what the keys below the destination begin with
+abbrev pub dest_prefix : Script → List ℕ
+dest_prefix w = w.dest.key ++ codes "/"
+
+-- a set-up begins with a look at the destination's own key
+abbrev pub setup_start : Setup
+setup_start = Heading
+
+-- what a set-up asks next, or nothing where it is over
+abbrev pub setup_asks : Script → Setup → Option Request
+setup_asks w Heading = Some (HeadObject w.dest.bucket w.dest.key)
+setup_asks w (Checking keys) = Some (page_after w.dest.bucket (dest_prefix w) keys)
+setup_asks w Clearing = Some (DeleteObject w.dest.bucket (layout.success_key w.dest.key))
+setup_asks w (Sweeping s) = Some (sweep_asks w.dest.bucket (layout.magic_prefix w.dest.key w.job) s)
+setup_asks w (SetupOver end) = None
+
+-- an object at the destination's key ends it
+abbrev pub headed : Script → Reply → Setup
+headed w (Head len header) = SetupOver ends.DestIsFile
+headed w _ = cond (checks_all w.committer w.mode) (Checking []) Clearing
+
+-- the path of a key, where a reader is shown a file there
+abbrev pub shown_path : Option (List ℕ) → Option (List ℕ)
+shown_path None = None
+shown_path (Some p) = cond (is_file_path p) (Some p) None
+
+-- a path, where there is one, and else the next
+abbrev pub or_next : Option (List ℕ) → Option (List ℕ) → Option (List ℕ)
+or_next (Some p) next = Some p
+or_next None next = next
+
+-- the first path among these keys at which a reader is shown a file
+abbrev pub first_shown : Script → List (List ℕ) → Option (List ℕ)
+first_shown w [] = None
+first_shown w (k ∷ ks) = or_next (shown_path (relative_in w.dest.key k)) (first_shown w ks)
+
+-- where a page without a file of the view leads
+abbrev pub checked_on : Walked (List ℕ) → Setup
+checked_on (More keys) = Checking keys
+checked_on (Whole keys) = Clearing
+
+-- a file of the view is a conflict, and else the listing goes on
+abbrev pub checked_by : Option (List ℕ) → Walked (List ℕ) → Setup
+checked_by (Some p) next = SetupOver (ends.Conflict p)
+checked_by None next = checked_on next
+
+-- where a page of the destination's keys leads
+abbrev pub checked : Script → List (List ℕ) → Reply → Setup
+checked w keys (Page entries more) = checked_by (first_shown w (keys_on entries)) (walked keys (Page entries more))
+checked w keys _ = Checking keys
+
+-- what follows once the old marker is gone: the magic committer sweeps its directory, the others are Done
+abbrev pub cleared : Committer → Setup
+cleared Magic = Sweeping sweep_start
+cleared Directory = SetupOver ends.Done
+cleared Partitioned = SetupOver ends.Done
+
+-- where a reply to the sweep leads; behind the last one it is Done
+abbrev pub sweeping : Option Sweep → Setup
+sweeping (Some s) = Sweeping s
+sweeping None = SetupOver ends.Done
+
+-- the reply is NoSuchBucket
+abbrev pub lacks_bucket : Reply → Bool
+lacks_bucket (Refused NoSuchBucket) = true
+lacks_bucket _ = false
+
+-- a bucket that is not there ends it, whatever was asked
+abbrev pub if_bucket : Reply → Setup → Setup
+if_bucket r next = cond (lacks_bucket r) (SetupOver ends.NoSuchBucket) next
+
+-- where an answer leads
+abbrev pub setup_hears : Script → Setup → Reply → Setup
+setup_hears w Heading r = if_bucket r (headed w r)
+setup_hears w (Checking keys) r = if_bucket r (checked w keys r)
+setup_hears w Clearing r = if_bucket r (cleared w.committer)
+setup_hears w (Sweeping s) r = if_bucket r (sweeping (sweep_hears all_go s r))
+setup_hears w (SetupOver end) r = SetupOver end
+
+-- how a set-up ended, if it has
+abbrev pub setup_over : Setup → Option SetupEnd
+setup_over (SetupOver end) = Some end
+setup_over _ = None
+
+-- where it stands after an answer, after a request that wore out, or after want of memory
+abbrev pub setup_after : Script → Setup → Item → Setup
+setup_after w s (Got r repeated) = setup_hears w s r
+setup_after w s WornOut = SetupOver ends.StoreFault
+setup_after w s OutOfMemory = SetupOver ends.NoMemory

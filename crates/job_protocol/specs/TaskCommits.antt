@@ -1,0 +1,170 @@
+-- An attempt's commit of its task, which publishes a set of its uploads (Hadoop, S3A committer architecture: task commit).
+use Rattle.std.specs.Prelude.{ℕ, Bool, false, cond, List, [], ◌∷◌, ◌++◌, map, codes, Option, Some, None}
+use Rattle.std.specs.List.{filter, list_any, flat_map}
+use Rattle.std.specs.Ordering.{is_lt}
+use Rattle.proof_base.specs.Order.{text_cmp, text_eq}
+use Rattle.s3_types.specs.declared.request.Request.{Request}
+use Rattle.s3_types.specs.declared.request.Request.TheVariants.{PutObject, GetObject, ListPage, ClusterPut, ClusterRename}
+use Rattle.s3_types.specs.declared.request.Committer.{Committer}
+use Rattle.s3_types.specs.declared.request.Committer.TheVariants.{Magic, Directory, Partitioned}
+use Rattle.s3_types.specs.declared.reply.Reply.{Reply}
+use Rattle.s3_types.specs.declared.reply.Reply.TheVariants.{Page, Refused}
+use Rattle.s3_types.specs.declared.reply.Refusal.TheVariants.{NoSuchKey, NoSuchFile}
+use Rattle.path_keys.specs.Paths.{below}
+use Rattle.magic_paths.specs.Layout as layout
+use Rattle.retries.specs.Retries.{Item, Got, WornOut, OutOfMemory}
+use Rattle.job_model.specs.Files.{File}
+use Rattle.job_model.specs.Attempts.{Who}
+use Rattle.job_model.specs.JobScript.{Script}
+use Rattle.job_model.specs.declared.ends.TaskEnd.{TaskEnd}
+use Rattle.job_model.specs.declared.ends.TaskEnd.TheVariants as ends
+use Rattle.job_protocol.specs.Outputs.{files, paths_of}
+use Rattle.job_protocol.specs.Conflicts.{partitions, checks_partitions}
+use Rattle.list_walk.specs.Walks.{Walked, More, Whole, page_after, walked}
+use Rattle.job_model.specs.Known.{Known}
+use Rattle.job_protocol.specs.Records.{file_key, attempt_dir, record_key, set_text}
+use Rattle.job_protocol.specs.Uploading.{Uploading, Creating, Uploaded, GoesOn, AllSent, IsGone, upload_asks, upload_hears}
+
+-- how far a task's commit has come
+pub data TaskCommit : Type 0 where
+  -- magic: lists the attempt's own directory, with the keys so far
+  Looking : (keys : List (List ℕ)) → TaskCommit
+  -- reads the records of the files that it commits, from this one on
+  Reading : (commits : List File) (file : File) (others : List File) → TaskCommit
+  -- puts the set of these files' uploads, which publishes them
+  Publishing : (commits : List File) → TaskCommit
+  -- staging: looks for a key below this partition; the others follow
+  Checking : (partition : List ℕ) (others : List (List ℕ)) → TaskCommit
+  -- uploads this file; the others follow
+  Uploads : (file : File) (others : List File) (uploading : Uploading) → TaskCommit
+  -- puts the set into the attempt's temporary file
+  Storing : TaskCommit
+  -- renames that to the task's set, which publishes it
+  Renaming : TaskCommit
+  TaskCommitOver : (end : TaskEnd) → TaskCommit
+
+-- what an attempt's keys begin with
+abbrev pub attempt_prefix : Script → Who → List ℕ
+attempt_prefix w a = attempt_dir w a ++ codes "/"
+
+-- the cluster path of an attempt's temporary file
+abbrev pub temporary_path : Script → Who → List ℕ
+temporary_path w a = layout.temporary_path w.job a.task a.attempt
+
+-- what the keys below a partition begin with
+abbrev pub partition_prefix : Script → List ℕ → List ℕ
+partition_prefix w d = below w.dest.key (d ++ codes "/")
+
+-- what a task's commit asks next, or nothing where it is over
+abbrev pub task_commit_asks : Script → Who → Known → TaskCommit → Option Request
+task_commit_asks w a k (Looking keys) = Some (page_after w.dest.bucket (attempt_prefix w a) keys)
+task_commit_asks w a k (Reading cs f fs) = Some (GetObject w.dest.bucket (record_key w a f))
+task_commit_asks w a k (Publishing cs) = Some (PutObject w.dest.bucket (layout.set_key w.dest.key w.job a.task) (set_text w a cs k) None)
+task_commit_asks w a k (Checking d ds) = Some (ListPage w.dest.bucket (partition_prefix w d) false [] 1)
+task_commit_asks w a k (Uploads f fs u) = Some (upload_asks w k f u)
+task_commit_asks w a k Storing = Some (ClusterPut (temporary_path w a) (set_text w a (files w a) k))
+task_commit_asks w a k Renaming = Some (ClusterRename (temporary_path w a) (layout.staged_set_path w.job a.task))
+task_commit_asks w a k (TaskCommitOver end) = None
+
+-- ---- magic
+
+-- the lesser of two keys
+abbrev pub least_of : Option (List ℕ) → List ℕ → List ℕ
+least_of None k = k
+least_of (Some l) k = cond (is_lt (text_cmp l k)) l k
+
+-- the least of the keys that is not among those listed
+abbrev pub least_missing : List (List ℕ) → List (List ℕ) → Option (List ℕ)
+least_missing listed [] = None
+least_missing listed (k ∷ ks) = cond (list_any (text_eq k) listed) (least_missing listed ks) (Some (least_of (least_missing listed ks) k))
+
+-- the files whose records are listed, in the order of the listing
+abbrev pub in_order : Script → Who → List (List ℕ) → List File
+in_order w a keys = flat_map (λ k. filter (λ f. text_eq (record_key w a f) k) (files w a)) keys
+
+-- the next record is read; behind the last one the set is put
+abbrev pub reading : List File → List File → TaskCommit
+reading cs [] = Publishing cs
+reading cs (f ∷ fs) = Reading cs f fs
+
+-- the least record that is missing in the listing is gone
+abbrev pub looked_at : Option (List ℕ) → List File → TaskCommit
+looked_at (Some k) cs = TaskCommitOver (ends.Gone k)
+looked_at None cs = reading cs cs
+
+-- where a page of the attempt's own directory leads
+abbrev pub looked : Script → Who → Walked (List ℕ) → TaskCommit
+looked w a (More keys) = Looking keys
+looked w a (Whole keys) = looked_at (least_missing keys (map (record_key w a) (files w a))) (in_order w a keys)
+
+-- where the read of a record leads; one that is not there is Gone
+abbrev pub read_record : Script → Who → List File → File → List File → Reply → TaskCommit
+read_record w a cs f fs (Refused NoSuchKey) = TaskCommitOver (ends.Gone (record_key w a f))
+read_record w a cs f fs _ = reading cs fs
+
+-- ---- staging
+
+-- the next file is uploaded; behind the last one the set is put into the temporary file
+abbrev pub storing : List File → TaskCommit
+storing [] = Storing
+storing (f ∷ fs) = Uploads f fs Creating
+
+-- the next partition is looked at; behind the last one the files are uploaded
+abbrev pub checking : Script → Who → List (List ℕ) → TaskCommit
+checking w a [] = storing (files w a)
+checking w a (d ∷ ds) = Checking d ds
+
+-- a key below the partition is a conflict
+abbrev pub checked : Script → Who → List ℕ → List (List ℕ) → Reply → TaskCommit
+checked w a d ds (Page [] more) = checking w a ds
+checked w a d ds (Page (x ∷ xs) more) = TaskCommitOver (ends.Conflict d)
+checked w a d ds _ = Checking d ds
+
+-- where a reply to a file's upload leads
+abbrev pub uploaded : Script → File → List File → Uploaded → TaskCommit
+uploaded w f fs (GoesOn u) = Uploads f fs u
+uploaded w f fs AllSent = storing fs
+uploaded w f fs IsGone = TaskCommitOver (ends.Gone (file_key w f))
+
+-- a rename that finds nothing counts as done where it is a repeated one
+abbrev pub renamed : Script → Who → Reply → Bool → TaskCommit
+renamed w a (Refused NoSuchFile) repeated = TaskCommitOver (cond repeated ends.Done (ends.Gone (temporary_path w a)))
+renamed w a _ repeated = TaskCommitOver ends.Done
+
+-- the partitions that the attempt writes, where its commit is to check them
+abbrev pub to_check : Script → Who → List (List ℕ)
+to_check w a = cond (checks_partitions w.committer w.mode) (partitions (paths_of (files w a))) []
+
+-- ---- the operation
+
+-- how each committer's task commit begins
+abbrev pub task_commit_start_by : Committer → Script → Who → TaskCommit
+task_commit_start_by Magic w a = Looking []
+task_commit_start_by Directory w a = checking w a (to_check w a)
+task_commit_start_by Partitioned w a = checking w a (to_check w a)
+
+-- where a task's commit begins
+abbrev pub task_commit_start : Script → Who → TaskCommit
+task_commit_start w a = task_commit_start_by w.committer w a
+
+-- where an answer leads; `repeated` says whether an earlier sending of the request was lost
+abbrev pub task_commit_hears : Script → ℕ → Who → TaskCommit → Reply → Bool → TaskCommit
+task_commit_hears w minimum a (Looking keys) r repeated = looked w a (walked keys r)
+task_commit_hears w minimum a (Reading cs f fs) r repeated = read_record w a cs f fs r
+task_commit_hears w minimum a (Publishing cs) r repeated = TaskCommitOver ends.Done
+task_commit_hears w minimum a (Checking d ds) r repeated = checked w a d ds r
+task_commit_hears w minimum a (Uploads f fs u) r repeated = uploaded w f fs (upload_hears w minimum f u r)
+task_commit_hears w minimum a Storing r repeated = Renaming
+task_commit_hears w minimum a Renaming r repeated = renamed w a r repeated
+task_commit_hears w minimum a (TaskCommitOver end) r repeated = TaskCommitOver end
+
+-- how a task's commit ended, if it has
+abbrev pub task_commit_over : TaskCommit → Option TaskEnd
+task_commit_over (TaskCommitOver end) = Some end
+task_commit_over _ = None
+
+-- where it stands after an answer, after a request that wore out, or after want of memory
+abbrev pub task_commit_after : Script → ℕ → Who → TaskCommit → Item → TaskCommit
+task_commit_after w minimum a t (Got r repeated) = task_commit_hears w minimum a t r repeated
+task_commit_after w minimum a t WornOut = TaskCommitOver ends.StoreFault
+task_commit_after w minimum a t OutOfMemory = TaskCommitOver ends.NoMemory

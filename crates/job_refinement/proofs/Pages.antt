@@ -1,0 +1,38 @@
+-- The answers to requests for pages, where their bucket is there.
+use Rattle.std.proofs.Common.{ℕ, zero, suc, Bool, true, false, cond, List, [], ◌∷◌, map, take, Option, Some, None, refl, sym, subst}
+use Rattle.std.specs.FinMap as fin
+use Rattle.std.specs.List.{filter}
+use Rattle.std.specs.Ordering.{is_lt}
+use Rattle.proof_base.specs.Order.{text_cmp}
+use Rattle.s3_types.specs.Store.{Objects, Scene}
+use Rattle.s3_types.specs.Pages.{begins, entry_of, text_in, is_again, folded_from, listed}
+use Rattle.s3_types.specs.Answer.{answer}
+use Rattle.s3_types.specs.declared.object.Object.{Object}
+use Rattle.s3_types.specs.declared.request.UploadRef.{UploadRef}
+use Rattle.s3_types.specs.declared.reply.PageEntry.{PageEntry}
+use Rattle.store_frame.specs.Held.{HasBucket}
+use Rattle.job_model.specs.JobScript.{Script}
+use Rattle.list_walk.specs.Walks.{Sweep, Listing, Deleting, last_of, page_after, uploads_after, sweep_asks}
+use Rattle.job_facts.proofs.Shapes.{answer_is}
+use Rattle.list_walk.specs.Fitting.{AreKeys, FitsPage, FitsSweep, FitsUploads}
+use Rattle.list_walk.proofs.Keys.{page_keys}
+
+pub listed_keys : (p l : List ℕ) (m : Objects) → AreKeys (take 1000 (listed p false l m))
+listed_keys = page_keys 1000
+
+-- a page of one entry at the most, from the beginning
+pub listed_look : (p : List ℕ) (m : Objects) → AreKeys (take 1 (listed p false [] m))
+listed_look p m = page_keys 1 p [] m
+
+-- ---- answers
+
+module _ (w : Script) (s : Scene) (there : HasBucket s.content w.dest.bucket) where
+  pub page_fits : (p : List ℕ) (keys : List (List ℕ)) → FitsPage (answer s (page_after w.dest.bucket p keys))
+  page_fits p keys = subst FitsPage (sym (answer_is w s there.0 there.1 (page_after w.dest.bucket p keys) refl)) (listed_keys p (last_of keys) there.0.objects)
+
+  pub sweep_fits : (p : List ℕ) (v : Sweep) → FitsSweep v (answer s (sweep_asks w.dest.bucket p v))
+  sweep_fits p (Listing keys) = page_fits p keys
+  sweep_fits p (Deleting k ks) = tt
+
+  pub uploads_fit : (p : List ℕ) (found : List UploadRef) → FitsUploads (answer s (uploads_after w.dest.bucket p found))
+  uploads_fit p found = subst FitsUploads (sym (answer_is w s there.0 there.1 (uploads_after w.dest.bucket p found) refl)) tt

@@ -1,0 +1,52 @@
+-- Where the machines of a job's actors stand, by the script that their plans are of.
+use Rattle.std.specs.Prelude.{ℕ, Bool, true, false, List, Option, Some, None}
+use Rattle.s3_types.specs.declared.request.Request.{Request}
+use Rattle.s3_types.specs.declared.journal.Outcome.{Outcome}
+use Rattle.s3_types.specs.declared.journal.Outcome.TheVariants.{Answered, Slow, RequestLost, ReplyLost}
+use Rattle.retries.specs.Retries.{Item, Got, WornOut, Retried, is_zero}
+use Rattle.job_model.specs.Attempts.{Who}
+use Rattle.job_model.specs.Known.{Known}
+use Rattle.job_model.specs.JobScript.{Script}
+use Rattle.job_protocol.specs.JobCommits.{Commit}
+use Rattle.job_protocol.specs.AtWork.{Attempting, Driving, Committing, job_of, task_of, learned}
+
+-- ---- operations with the plans that the script gives
+
+-- an operation with the plan of an attempt that knows this
+abbrev pub at_work : {O : Type 0} → Script → ℕ → Who → Known → O → Attempting O
+at_work w minimum a k op = record { plan = task_of w minimum a k; operation = op }
+
+-- an attempt's operation under retries, with the plan that the script gives
+abbrev pub planned : {O : Type 0} → Script → ℕ → Who → Known → Retried O → Retried (Attempting O)
+planned w minimum a k t = record { operation = at_work w minimum a k t.operation; spare = t.spare; repeated = t.repeated }
+
+-- an operation with the driver's plan
+abbrev pub driving : {O : Type 0} → Script → O → Driving O
+driving w op = record { plan = job_of w; operation = op }
+
+-- a driver's operation under retries, with the plan that the script gives
+abbrev pub driven : {O : Type 0} → Script → Retried O → Retried (Driving O)
+driven w t = record { operation = driving w t.operation; spare = t.spare; repeated = t.repeated }
+
+-- the driver's commit, with the attempts whose sets it has read
+abbrev pub committing : Script → List ℕ → Commit → Committing
+committing w picked c = record { plan = job_of w; picked = picked; operation = c }
+
+-- ---- what a machine is told of a sending, and knows then
+
+-- the request wore out, or nothing is told
+abbrev pub worn_if : Bool → Option Item
+worn_if true = Some WornOut
+worn_if false = None
+
+-- the reply, or that the request wore out; nothing where the request is sent again
+abbrev pub heard : {O : Type 0} → Retried O → Outcome → Option Item
+heard t (Answered r) = Some (Got r t.repeated)
+heard t Slow = worn_if (is_zero t.spare)
+heard t RequestLost = worn_if (is_zero t.spare)
+heard t ReplyLost = worn_if (is_zero t.spare)
+
+-- what the plan of an attempt's machine knows then
+abbrev pub known_then : Script → Who → Known → Option Request → Option Item → Known
+known_then w a k r (Some i) = learned w a k r i
+known_then w a k r None = k

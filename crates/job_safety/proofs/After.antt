@@ -1,0 +1,143 @@
+-- Once the job's commit is over, its driver does no more than abort and clean, and reads no set.
+use Rattle.std.proofs.Common.{◌≡◌, ℕ, inl, inr, true, false, List, [], ◌∷◌, ◌++◌, length, append_assoc, append-nil, Option, Some, None, refl, sym, ap, subst, ◌∙◌}
+use Rattle.s3_types.specs.Store.{Content}
+use Rattle.s3_types.specs.declared.request.Actor.TheVariants.{Driver, Shell}
+use Rattle.s3_types.specs.declared.request.Request.{Request}
+use Rattle.s3_types.specs.declared.journal.Entry.{Entry}
+use Rattle.job_model.specs.Legal.{IsLegal}
+use Rattle.job_model.specs.JobScript.{Script}
+use Rattle.job_model.specs.declared.events.Op.{Op}
+use Rattle.job_model.specs.declared.events.Op.TheVariants as ops
+use Rattle.job_model.specs.declared.events.Event.{Event}
+use Rattle.job_model.specs.declared.events.Event.TheVariants.{Do, Start}
+use Rattle.job_protocol.specs.JobCommits.{Commit, Reverting, CommitOver}
+use Rattle.job_protocol.specs.Operations.{Setting, Operation, TheCommit, TheClean, Running, who, asks, tells, wants}
+use Rattle.job_spec.specs.Seen.{is_reading}
+use Rattle.job_spec.specs.States.{Past, put}
+use Rattle.proof_base.proofs.Members.{none_some, false_true}
+use Rattle.job_facts.specs.Told.{strange_entry}
+use Rattle.job_traces.specs.Runs.{IsOpening, is_just_set}
+use Rattle.job_steps.specs.Transitions.{Play, Transition, Refuses, Opens, Sends, Finishes, Closes, Strays, open_running, hear, happen, MayOpen, MaySend, Reachable}
+use Rattle.job_steps.specs.Running.{operation_of}
+use Rattle.job_steps.proofs.Actors.{same_or_not, put_here, put_other}
+use Rattle.job_steps.proofs.Told.{told_all}
+use Rattle.job_steps.proofs.RunningStages.{DriverAt, IsSettingUp, Begins, begins_so, may_setup, may_commit_job}
+use Rattle.job_outcomes.specs.CommitMoments.{NoneRead}
+use Rattle.job_outcomes.proofs.CommitRuns.{clean_reads}
+use Rattle.job_safety.proofs.History.{Later, at_once, later}
+use Rattle.job_safety.proofs.Early.{driver_now}
+
+-- the driver's commit is over, or it aborts or cleans
+abbrev pub IsOver : Commit → Type 0
+IsOver (CommitOver end) = Unit {0}
+IsOver _ = ⊥
+
+abbrev pub IsAfter : Option Operation → Type 0
+IsAfter (Some (TheCommit c)) = IsOver c
+IsAfter (Some (TheClean t)) = Unit {0}
+IsAfter _ = ⊥
+
+no_setup : (d : Option Operation) → IsAfter d → IsSettingUp d → ⊥
+no_setup (Some (TheCommit c)) h s = s
+no_setup (Some (TheClean t)) h s = s
+no_setup _ h s = h
+
+no_commit : (d : Option Operation) → IsAfter d → is_just_set d ≡ true → ⊥
+no_commit (Some (TheCommit c)) h s = false_true refl s
+no_commit (Some (TheClean t)) h s = false_true refl s
+no_commit _ h s = h
+
+-- it reads no set then
+driver_reads : (g : Setting) (r : Request) (m : Running) → IsAfter (Some m.operation) → wants g Driver m ≡ Some r → (t : ℕ) → is_reading g.script t r ≡ false
+driver_reads g r m h e t = by m.operation h e
+  where
+    over : (c : Commit) → IsOver c → asks g (who Driver) m.known (TheCommit c) ≡ Some r → ⊥
+    over (CommitOver end) h e = none_some refl e
+    over _ h e = h
+
+    by : (op : Operation) → IsAfter (Some op) → asks g (who Driver) m.known op ≡ Some r → is_reading g.script t r ≡ false
+    by (TheClean c) h e = clean_reads g.script c.operation r e t
+    by (TheCommit c) h e = absurd (over c h e)
+    by _ h e = absurd h
+
+none_last : (w : Script) (es : List Entry) (e : Entry) → NoneRead w es → (e.actor ≡ Driver → (t : ℕ) → is_reading w t e.request ≡ false) → NoneRead w (es ++ e ∷ [])
+none_last w [] e h one = (one, tt)
+none_last w (x ∷ es) e h one = (h.0, none_last w es e h.1 one)
+
+heard_after : (g : Setting) (m : Running) (e : Entry) → IsAfter (Some m.operation) → wants g Driver m ≡ Some e.request → IsAfter (operation_of (hear g Driver (Some m) e))
+heard_after g m e h asked = by m.operation h asked
+  where
+    over : (c : Commit) → IsOver c → asks g (who Driver) m.known (TheCommit c) ≡ Some e.request → ⊥
+    over (CommitOver end) h q = none_some refl q
+    over (Reverting q qs i) h p = h
+    over _ h q = h
+
+    by : (op : Operation) → IsAfter (Some op) → asks g (who Driver) m.known op ≡ Some e.request → IsAfter (Some (tells g (who Driver) op e.outcome))
+    by (TheClean c) h q = tt
+    by (TheCommit c) h q = absurd (over c h q)
+    by _ h q = absurd h
+
+module _ (g : Setting) (opening : Content) (j : IsLegal g.script) (is_opening : IsOpening g opening) where
+  -- the driver is at the operation that it is at between events, and at its stage
+  pub driver_past : (y : Play) → Reachable g opening y → y.now ≡ None → DriverAt (y.past.state Driver).stage (y.past.state Driver).life (operation_of (y.running Driver))
+  driver_past y past idle = subst (λ (p : Past). DriverAt (p.state Driver).stage (p.state Driver).life (operation_of (y.running Driver))) ((told_all g opening y past).closed idle).0 (driver_now g opening j is_opening y past)
+
+  begun_after : (y : Play) → Reachable g opening y → (op : Op) → IsAfter (operation_of (y.running Driver)) → y.now ≡ None → Begins (y.past.state Driver).stage Driver op (y.past.state Driver).life (y.past.state Driver).stage
+      → IsAfter (operation_of (open_running g y (Do Driver op) Driver))
+  begun_after y past ops.Setup h idle b = absurd (no_setup (operation_of (y.running Driver)) h (may_setup (y.past.state Driver).stage (y.past.state Driver).life (operation_of (y.running Driver)) (driver_past y past idle) b.may_begin).1)
+  begun_after y past ops.Write h idle b = absurd (false_true refl b.may_begin)
+  begun_after y past ops.Commit h idle b = absurd (no_commit (operation_of (y.running Driver)) h (may_commit_job (y.past.state Driver).stage (y.past.state Driver).life (operation_of (y.running Driver)) (driver_past y past idle) b.may_begin))
+  begun_after y past _ h idle b = tt
+
+  opened_after : (y : Play) → Reachable g opening y → (ev : Event) → MayOpen g y ev None → IsAfter (operation_of (y.running Driver)) → IsAfter (operation_of (open_running g y ev Driver))
+  opened_after y past (Do Driver op) may h = begun_after y past op h may.idle (begins_so (y.past.state Driver).stage Driver op (y.past.state Driver).life (y.past.state Driver).stage may.refusal_is)
+  opened_after y past (Start Driver op) may h = begun_after y past op h may.idle (begins_so (y.past.state Driver).stage Driver op (y.past.state Driver).life (y.past.state Driver).stage may.refusal_is)
+  opened_after y past _ may h = h
+
+  -- of one more sending
+  module _ (y : Play) (e : Entry) (may : MaySend g opening y e) (h : IsAfter (operation_of (y.running Driver))) where
+    by_driver : Driver ≡ e.actor → IsAfter (Some may.at.operation) × (wants g Driver may.at ≡ Some e.request)
+    by_driver s = (subst IsAfter (ap operation_of (ap y.running s ∙ may.is_at)) h, subst (λ a. wants g a may.at ≡ Some e.request) (sym s) may.asked)
+
+    abbrev then : Option Running
+    then = put y.running e.actor (hear g e.actor (y.running e.actor) e) Driver
+
+    sent_after : IsAfter (operation_of then)
+    sent_after = elim (same_or_not Driver e.actor) [
+      | inl s ↦
+          let d = by_driver s in
+          let heard : then ≡ hear g Driver (Some may.at) e =
+          put_here y.running e.actor (hear g e.actor (y.running e.actor) e) Driver s ∙ ap (λ m. hear g e.actor m e) may.is_at ∙ ap (λ a. hear g a (Some may.at) e) (sym s) in
+          subst (λ v. IsAfter (operation_of v)) (sym heard) (heard_after g may.at e d.0 d.1)
+      | inr ne ↦ subst (λ v. IsAfter (operation_of v)) (sym (put_other y.running e.actor (hear g e.actor (y.running e.actor) e) Driver ne)) h
+    ]
+
+    sent_reads : e.actor ≡ Driver → (t : ℕ) → is_reading g.script t e.request ≡ false
+    sent_reads s = let d = by_driver (sym s) in driver_reads g e.request may.at d.0 d.1
+
+  -- what was sent since then, with no set read for the driver
+  pub record After (y x : Play) : Type 0 where
+    pub more : List Entry
+    pub all : x.journal ≡ y.journal ++ more
+    pub none : NoneRead g.script more
+    pub at : IsAfter (operation_of (x.running Driver))
+
+  still_after : (y z : Play) (h : Transition) → (happen g z h).journal ≡ z.journal → After y z → IsAfter (operation_of ((happen g z h).running Driver)) → After y (happen g z h)
+  still_after y z h same old at = record { more = old.more; all = same ∙ old.all; none = old.none; at = at }
+
+  pub after_commit : (y x : Play) → Later g opening y x → IsAfter (operation_of (y.running Driver)) → After y x
+  after_commit y x (at_once) h = record { more = []; all = sym (append-nil y.journal); none = tt; at = h }
+  after_commit y x (later z (Refuses f) past l may) h = let old = after_commit y z l h in still_after y z (Refuses f) refl old old.at
+  after_commit y x (later z (Opens ev) past l may) h = let old = after_commit y z l h in still_after y z (Opens ev) refl old (opened_after z past ev may old.at)
+  after_commit y x (later z (Sends e) past l may) h =
+      let old = after_commit y z l h in
+      record { more = old.more ++ e ∷ []; all = ap (λ v. v ++ e ∷ []) old.all ∙ append_assoc y.journal old.more (e ∷ []); none = none_last g.script old.more e old.none (sent_reads z e may old.at); at = sent_after z e may old.at }
+  after_commit y x (later z (Finishes v) past l may) h = let old = after_commit y z l h in still_after y z (Finishes v) refl old old.at
+  after_commit y x (later z (Closes end) past l may) h = let old = after_commit y z l h in still_after y z (Closes end) refl old old.at
+  after_commit y x (later z (Strays r o) past l may) h =
+      let old = after_commit y z l h in
+      let e = strange_entry (length z.ends) r o in
+      record { more = old.more ++ e ∷ []; all = ap (λ v. v ++ e ∷ []) old.all ∙ append_assoc y.journal old.more (e ∷ []); none = none_last g.script old.more e old.none (λ s. absurd (not_driver s)); at = old.at }
+    where
+      not_driver : Shell ≡ Driver → ⊥
+      not_driver s = cc

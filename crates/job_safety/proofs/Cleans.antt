@@ -1,0 +1,85 @@
+-- How the driver's abort or clean of the job ends in a run.
+use Rattle.std.proofs.Common.{◌≡◌, ℕ, ◌+◌, inl, inr, nat_le, List, [], ◌++◌, length, append-nil, Option, Some, None, refl, sym, ap, subst, ◌∙◌}
+use Rattle.std.proofs.lemmas.List.Elements.{filter-append}
+use Rattle.s3_types.specs.Store.{Content, Scene}
+use Rattle.s3_types.specs.Store as store
+use Rattle.s3_types.specs.Moment.{moment, after_all, AreHonest}
+use Rattle.s3_types.specs.declared.request.Actor.TheVariants.{Driver}
+use Rattle.s3_types.specs.declared.request.Request.{Request}
+use Rattle.s3_types.specs.declared.journal.Entry.{Entry}
+use Rattle.retries.specs.Operation.{run, Follows}
+use Rattle.retries.specs.Retries.{fresh}
+use Rattle.retries.specs.Worn.{WornFirst}
+use Rattle.job_model.specs.Legal.{IsLegal}
+use Rattle.job_model.specs.Known.{Known}
+use Rattle.job_model.specs.declared.ends.CleanEnd.{CleanEnd}
+use Rattle.job_model.specs.declared.ends.CleanEnd.TheVariants as cleans
+use Rattle.job_model.specs.declared.ends.OpEnd.TheVariants as ends
+use Rattle.job_protocol.specs.Cleanups.{clean_start}
+use Rattle.job_protocol.specs.Operations.{Setting, Operation, TheClean, wants, advance, over}
+use Rattle.job_spec.specs.States.{Doing}
+use Rattle.job_spec.specs.Turns.{until, before, since, by_actor, is_memory, AllBy}
+use Rattle.job_spec.specs.Follows.{known_then}
+use Rattle.job_spec.specs.OperationEnds.{CleanIs, Cleaned}
+use Rattle.job_spec.specs.Promise.{CleansEnd}
+use Rattle.proof_base.proofs.Members.{false_true}
+use Rattle.job_steps.specs.Transitions.{Play, Reachable}
+use Rattle.job_steps.proofs.Parts.{from_part}
+use Rattle.job_outcomes.proofs.CleanEnds.{cleans_end}
+use Rattle.job_safety.proofs.Cuts.{by_all, moment_cut, all_by_back, since_later}
+use Rattle.job_safety.proofs.Strange.{driver_none}
+use Rattle.job_safety.proofs.Sorts.{over_kind, kind_run, driver_clean, memory_clean}
+use Rattle.job_safety.proofs.Ending.{Ending, ending, journal_until, until_strange}
+use Rattle.job_safety.proofs.Spans.{start, late, scene_is, since_is, mine, honest, after_is}
+
+module _ (g : Setting) (opening : Content) (j : IsLegal g.script) (x : Play) (run_x : Reachable g opening x) (idle : x.now ≡ None) where
+  module _ (i : ℕ) (d : Doing) (e : CleanEnd) (es : List Entry) (n : Ending g opening x i Driver d (ends.Clean e) es) where
+    abbrev k : Known
+    k = known_then g Driver d (by_actor Driver n.closed.at.journal)
+
+    abbrev first : Operation
+    first = TheClean (fresh g.script.retries clean_start)
+
+    abbrev EndsSo : Operation → Type 0
+    EndsSo v = over (run (advance g Driver) (record { operation = v; known = k }) es).operation ≡ Some (ends.Clean e)
+
+    begun : EndsSo n.op → n.op ≡ first
+    begun o = driver_clean g d.op d.missing k n.op n.begun_is (sym (kind_run g Driver (record { operation = n.op; known = k }) es) ∙ over_kind _ (ends.Clean e) o)
+
+    follows_so : n.op ≡ first → Follows (wants g Driver) (advance g Driver) (record { operation = first; known = k }) es
+    follows_so is = subst (λ v. Follows (wants g Driver) (advance g Driver) (record { operation = v; known = k }) es) is n.follows
+
+    clean_so : EndsSo n.op → (worn : Option Request) × WornFirst g.script.retries es worn × CleanIs worn e
+    clean_so o = let b = begun o in cleans_end.ends g Driver k es (follows_so b) e (subst EndsSo b o)
+
+    ended_done : e ≡ cleans.Done → EndsSo n.op
+    ended_done is = elim n.ended [ inl memory ↦ absurd (false_true (ap (λ v. is_memory (ends.Clean v)) is) memory) | inr o ↦ o ]
+
+    -- where nobody else has sent since it began
+    cleaned_so : e ≡ cleans.Done → AllBy Driver (since d.since (until (i + 1) x.journal)) → Cleaned g.script (moment opening x.journal (length (before d.since x.journal))) (moment opening x.journal (length (until (i + 1) x.journal)))
+    cleaned_so is only =
+        let s = start g opening x i Driver d (ends.Clean e) es n in
+        let o = ended_done is in
+        let b = begun o in
+        let strays = until (i + 1) n.closed.entries in
+        let parts : since d.since (until (i + 1) x.journal) ≡ since d.since n.closed.at.journal ++ since d.since strays = ap (since d.since) (journal_until g opening x run_x idle i n.event_end n.closed) ∙ filter-append (λ e. nat_le d.since e.event) n.closed.at.journal strays in
+        let back : AllBy Driver strays = subst (AllBy Driver) (since_later d.since strays (from_part d.since (λ e. nat_le e.event (i + 1)) n.closed.entries (late g opening x i Driver d (ends.Clean e) es n)))
+        (all_by_back Driver (since d.since n.closed.at.journal) (since d.since strays) (subst (AllBy Driver) parts only)) in
+        let none : strays ≡ [] = driver_none strays back (until_strange g opening x run_x idle i n.event_end n.closed) in
+        let until_is : until (i + 1) x.journal ≡ n.closed.at.journal = journal_until g opening x run_x idle i n.event_end n.closed ∙ ap (λ l. n.closed.at.journal ++ l) none ∙ append-nil n.closed.at.journal in
+        let all : AllBy Driver s.entries = subst (AllBy Driver) (ap (since d.since) until_is ∙ since_is g opening x i Driver d (ends.Clean e) es n) only in
+        let own : es ≡ s.entries = mine g opening x i Driver d (ends.Clean e) es n ∙ by_all Driver s.entries all in
+        let scene : Scene = after_all (store.opening opening) s.at.journal in
+        let true_so : AreHonest scene es = subst (AreHonest scene) (sym own) (honest g opening x i Driver d (ends.Clean e) es n) in
+        let done : over (run (advance g Driver) (record { operation = first; known = k }) es).operation ≡ Some (ends.Clean cleans.Done) =
+        subst (λ v. over (run (advance g Driver) (record { operation = first; known = k }) es).operation ≡ Some (ends.Clean v)) is (subst EndsSo b o) in
+        let r : Cleaned g.script scene (after_all scene es) = cleans_end.cleaned g j Driver k scene es (follows_so b) true_so done in
+        let last : moment opening x.journal (length (until (i + 1) x.journal)) ≡ after_all scene es =
+        ap (λ l. moment opening x.journal (length l)) until_is ∙ ap (λ l. moment opening l (length n.closed.at.journal)) n.closed.all ∙ moment_cut opening n.closed.at.journal n.closed.entries
+        ∙ after_is g opening x i Driver d (ends.Clean e) es n ∙ ap (after_all scene) (sym own) in
+        subst (λ v. Cleaned g.script v (moment opening x.journal (length (until (i + 1) x.journal)))) (sym (scene_is g opening x i Driver d (ends.Clean e) es n)) (subst (Cleaned g.script scene) (sym last) r)
+
+  pub cleans_kept : CleansEnd g.script opening x.journal x.ends
+  cleans_kept i d e es h =
+      let n = ending g opening x run_x idle i Driver refl d (ends.Clean e) es h in
+      (elim n.ended [ inl memory ↦ inl (memory_clean e memory) | inr o ↦ inr (clean_so i d e es n o) ], cleaned_so i d e es n)

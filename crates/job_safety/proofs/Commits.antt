@@ -1,0 +1,399 @@
+-- How the driver's commit ends in a run, and what it leaves.
+use Rattle.std.proofs.Common.{◌≡◌, ℕ, zero, suc, ◌+◌, ◌<◌, ◌≤◌, ◌⊎◌, inl, inr, Bool, true, false, cond, List, [], ◌∷◌, ◌++◌, filter, length, take, Option, Some, None, IsSome, append_assoc, refl, sym, ap, subst, ◌∙◌, arith}
+use Rattle.std.specs.Option.{option_map}
+use Rattle.s3_types.specs.Store.{Content, Scene}
+use Rattle.s3_types.specs.Store as store
+use Rattle.s3_types.specs.Moment.{moment, after_all}
+use Rattle.s3_types.specs.declared.request.Actor.TheVariants.{Driver}
+use Rattle.s3_types.specs.declared.reply.Reply.{Reply}
+use Rattle.s3_types.specs.declared.journal.Outcome.TheVariants.{Answered}
+use Rattle.s3_types.specs.declared.journal.Entry.{Entry}
+use Rattle.retries.specs.Operation.{run, Follows}
+use Rattle.retries.specs.Worn.{first_worn}
+use Rattle.retries.proofs.First.{computed, none_sent}
+use Rattle.proof_base.proofs.Numbers.{at_most_is, at_most_not}
+use Rattle.job_model.specs.Legal.{IsLegal}
+use Rattle.job_model.specs.JobScript.{Script}
+use Rattle.job_model.specs.Known.{Known}
+use Rattle.job_model.specs.declared.events.Event.{Event}
+use Rattle.job_model.specs.declared.events.Event.TheVariants.{Do, Start}
+use Rattle.job_model.specs.declared.events.Op.{Op}
+use Rattle.job_model.specs.declared.events.Op.TheVariants as ops
+use Rattle.job_model.specs.declared.ends.CommitEnd.{CommitEnd}
+use Rattle.job_model.specs.declared.ends.CommitEnd.TheVariants as commits
+use Rattle.job_model.specs.declared.ends.Stage.TheVariants as stages
+use Rattle.job_model.specs.declared.ends.OpEnd.TheVariants as ends
+use Rattle.job_protocol.specs.View.{view}
+use Rattle.job_protocol.specs.JobCommits.{Commit, CommitOver, commit_start, commit_asks, commit_tells, commit_over, set_request, set_read}
+use Rattle.job_protocol.specs.Operations.{Setting, Operation, Running, start_of, TheSetup, TheCommit, advance, over}
+use Rattle.job_spec.specs.Headline.{Same, Always}
+use Rattle.job_spec.specs.Seen.{see_all, nothing_seen, is_begun, is_marked, Seen}
+use Rattle.job_spec.specs.States.{same_actor, refusal, Doing, missing, first_not, driver_may, commit_event, clean_event}
+use Rattle.job_spec.specs.Turns.{until, by_actor, is_wanting, since}
+use Rattle.job_spec.specs.Follows.{known_then}
+use Rattle.job_spec.specs.Ends.{EndedIn, CommitEnded, commit_due}
+use Rattle.job_spec.specs.OperationEnds.{is_untouched, NoDeletionWorn, OnlyOpening, CommitServed}
+use Rattle.job_spec.specs.Entries.{AreOwn}
+use Rattle.job_spec.specs.Promise.{seen_until, CommitEnds, CommitsEnd}
+use Rattle.proof_base.specs.Members.{IsIn}
+use Rattle.proof_base.proofs.Members.{some_is, none_some, false_true, in_back, in_filter}
+use Rattle.job_facts.specs.Told.{Told, tell_all, nothing_told}
+use Rattle.job_facts.specs.Standing.{HasPublished}
+use Rattle.job_traces.specs.Runs.{IsOpening, is_just_set}
+use Rattle.job_traces.proofs.Entries.{take_all, sees, tells_so, always, reverted_now}
+use Rattle.job_traces.proofs.Changes.{moment_scene}
+use Rattle.job_steps.specs.Transitions.{Play, MayOpen, Opens, Closes, open_running, happen, Reachable, happens}
+use Rattle.job_steps.specs.Running.{Ahead, IsRun, operation_of, times}
+use Rattle.job_steps.proofs.RunningStages.{Begins, begins_so, IsSettingUp, IsTimed, timed_setting, may_commit_job, Begun}
+use Rattle.job_steps.proofs.Actors.{same_is}
+use Rattle.job_steps.proofs.Told.{told_all}
+use Rattle.job_steps.proofs.Reported.{last_more, none_left, reported}
+use Rattle.job_steps.proofs.RunningNumbers.{begun_at}
+use Rattle.job_steps.proofs.Running.{number, is_run, carried, opened_ahead, closed_ahead, not_refused}
+use Rattle.job_outcomes.specs.CommitRuns.{IsDue, CommitStands}
+use Rattle.job_outcomes.proofs.Alone.{go_alone}
+use Rattle.job_outcomes.proofs.CommitRuns.{no_entry, commit_runs}
+use Rattle.job_outcomes.proofs.CommitMoments.{see_parts, commit_moments}
+use Rattle.job_outcomes.proofs.Served.{in_commit, commit_answers}
+use Rattle.job_outcomes.proofs.RunEntries.{run_entries}
+use Rattle.job_outcomes.proofs.EventRows.{event_rows}
+use Rattle.job_traces.proofs.EveryRun.{own_front}
+use Rattle.job_safety.specs.Laws.{CommitsEndAmong}
+use Rattle.job_safety.proofs.Cuts.{take_cut, moment_cut}
+use Rattle.job_safety.proofs.Sorts.{end_of, over_kind, kind_run, driver_commit, memory_commit}
+use Rattle.job_safety.proofs.History.{Began, IsBegin}
+use Rattle.job_safety.proofs.Ending.{Ending, ahead_none, ending, journal_until, until_strange, until_own}
+use Rattle.job_safety.proofs.Spans.{start, mine}
+use Rattle.job_safety.proofs.Strange.{strange_picks}
+use Rattle.job_safety.proofs.After.{IsAfter, After, after_commit, driver_past}
+
+-- ---- plain facts
+
+commit_is : {d e : CommitEnd} → ends.Commit d ≡ ends.Commit e → d ≡ e
+commit_is e = cc
+
+over_is : (c : Commit) (e : CommitEnd) → commit_over c ≡ Some e → c ≡ CommitOver e
+over_is (CommitOver d) e o = ap CommitOver (some_is o)
+over_is _ e o = absurd (none_some refl o)
+
+-- a commit that is over, by its end
+commit_back : (c : Commit) (e : CommitEnd) → option_map ends.Commit (commit_over c) ≡ Some (ends.Commit e) → c ≡ CommitOver e
+commit_back c e o = let m = end_of ends.Commit (commit_over c) (ends.Commit e) o in over_is c e (m.1 ∙ ap (λ v. Some v) (commit_is m.2))
+
+just_setting : (d : Option Operation) → is_just_set d ≡ true → IsSettingUp d
+just_setting None e = tt
+just_setting (Some (TheSetup t)) e = tt
+just_setting _ e = absurd (false_true refl e)
+
+-- a task that is missing is one of the job's
+missing_below : (w : Script) (reported : ℕ → Bool) (t : ℕ) → missing w reported ≡ Some t → t < w.tasks
+missing_below w reported t e = let l : t < 0 + w.tasks = by 0 w.tasks e in omega arith
+  where
+    by : (a n : ℕ) → first_not reported a n ≡ Some t → t < a + n
+    by a zero e = absurd (none_some refl e)
+    by a (suc n) e = one (reported a) e (λ f. by (a + 1) n f)
+      where
+        one : (b : Bool) → cond b (first_not reported (a + 1) n) (Some a) ≡ Some t → (first_not reported (a + 1) n ≡ Some t → t < a + 1 + n) → t < a + suc n
+        one true e old = let l : t < a + 1 + n = old e in omega arith
+        one false e old = let s : a ≡ t = some_is e in omega (arith, s)
+
+-- the commit's event is the next one where it has begun then and not before
+commit_number : (k : Option ℕ) (n : ℕ) → is_begun k n ≡ false → is_begun k (n + 1) ≡ true → k ≡ Some (n + 1)
+commit_number None n before now = absurd (false_true refl now)
+commit_number (Some m) n before now =
+    let above : n < m = at_most_not m n before in
+    let below : m ≤ n + 1 = at_most_is m (n + 1) now in
+    let same : m ≡ n + 1 = omega arith in
+    ap (λ v. Some v) same
+
+-- a commit alone is told of want of memory so
+wanting_commit : (op : Op) (e : CommitEnd) → is_wanting Driver op (ends.Commit e) ≡ true → op ≡ ops.Commit
+wanting_commit ops.Commit e h = refl
+wanting_commit _ e h = absurd (false_true refl h)
+
+-- where a member stands in its list
+parted_at : {X : Type 0} (x : X) (xs : List X) → IsIn x xs → (before : List X) × (later : List X) × (xs ≡ before ++ x ∷ later)
+parted_at x [] i = absurd i
+parted_at x (y ∷ ys) (inl e) = ([], ys, ap (λ v. v ∷ ys) (sym e))
+parted_at x (y ∷ ys) (inr i) = let r = parted_at x ys i in (y ∷ r.0, r.1, ap (λ v. y ∷ v) r.2)
+
+-- what a driver begins it may begin
+begins_at : (g : Setting) (y : Play) (ev : Event) (op : Op) → MayOpen g y ev None → IsBegin ev Driver op → Begins (y.past.state Driver).stage Driver op (y.past.state Driver).life (y.past.state Driver).stage
+begins_at g y ev op may (inl is) = begins_so (y.past.state Driver).stage Driver op (y.past.state Driver).life (y.past.state Driver).stage (ap (refusal y.past.state) (sym is) ∙ may.refusal_is)
+begins_at g y ev op may (inr is) = begins_so (y.past.state Driver).stage Driver op (y.past.state Driver).life (y.past.state Driver).stage (ap (refusal y.past.state) (sym is) ∙ may.refusal_is)
+
+module _ (g : Setting) (opening : Content) (j : IsLegal g.script) (is_opening : IsOpening g opening) (x : Play) (run_x : Reachable g opening x) (idle : x.now ≡ None) where
+  abbrev w : Script
+  w = g.script
+
+  -- the event of the commit, if it is any
+  abbrev k : Option ℕ
+  k = commit_event w x.ends
+
+  -- the scene after a whole journal is its last moment
+  whole : (es : List Entry) → moment opening es (length es) ≡ after_all (store.opening opening) es
+  whole es = ap (after_all (store.opening opening)) (take_all es (length es) (omega arith))
+
+  -- ---- a commit that ended
+
+  module _ (i : ℕ) (d : Doing) (e : CommitEnd) (es : List Entry) (n : Ending g opening x i Driver d (ends.Commit e) es) where
+    abbrev z : Play
+    z = n.closed.at
+
+    abbrev known : Known
+    known = known_then g Driver d (by_actor Driver z.journal)
+
+    abbrev IsCommit : Type 0
+    IsCommit = (d.op ≡ ops.Commit) × (n.op ≡ TheCommit (commit_start w d.missing))
+
+    begun_over : over (run (advance g Driver) (record { operation = n.op; known = known }) es).operation ≡ Some (ends.Commit e) → IsCommit
+    begun_over o = driver_commit g d.op d.missing known n.op n.begun_is (sym (kind_run g Driver (record { operation = n.op; known = known }) es) ∙ over_kind _ (ends.Commit e) o)
+
+    begun_wanting : is_wanting Driver d.op (ends.Commit e) ≡ true → IsCommit
+    begun_wanting h = let is = wanting_commit d.op e h in (is, sym (some_is (sym (ap (λ v. start_of g Driver v d.missing known) is) ∙ n.begun_is)))
+
+    begun : IsCommit
+    begun =
+        let f = (told_all g opening z n.closed.happened).finish n.place (record { actor = Driver; end = ends.Commit e }) n.finished in
+        let same : f.doing ≡ d = some_is (sym f.does ∙ n.doing) in
+        elim f.end [
+          | inl h ↦ begun_wanting (subst (λ (v : Doing). is_wanting Driver v.op (ends.Commit e) ≡ true) same h)
+          | inr q ↦ begun_over (ap (λ (m : Running). over m.operation) (some_is (sym n.running ∙ q.1)) ∙ q.2)
+        ]
+
+    -- where its own entries lead
+    abbrev led : Commit
+    led = run (commit_tells w) (commit_start w d.missing) es
+
+    leads_alone : (run (advance g Driver) (record { operation = n.op; known = known }) es).operation ≡ TheCommit led
+    leads_alone = ap (λ v. (run (advance g Driver) (record { operation = v; known = known }) es).operation) begun.1 ∙ go_alone.commit_run g Driver known (commit_start w d.missing) es
+
+    driver_is : operation_of (z.running Driver) ≡ Some (TheCommit led)
+    driver_is = ap operation_of n.running ∙ ap (λ v. Some v) leads_alone
+
+    -- the run at the end of the event
+    ahead : Ahead (happen g z (Closes n.event_end)) x.ends
+    ahead = n.closed.ahead x.ends (ahead_none x idle)
+
+    then : IsRun g opening (happen g z (Closes n.event_end)) (times w x.ends)
+    then = is_run g opening j is_opening (happen g z (Closes n.event_end)) (happens z (Closes n.event_end) n.closed.happened n.closed.may) x.ends ahead
+
+    at_led : then.stand.driver ≡ Some (TheCommit led)
+    at_led = then.driver ∙ driver_is
+
+    -- ---- its event
+
+    ahead_z : Ahead z x.ends
+    ahead_z = closed_ahead g z n.event_end x.ends (not_refused w z.past.state n.closed.may.event n.event_end _ n.closed.may.turns) ahead
+
+    abbrev s : Began g opening z Driver d
+    s = start g opening x i Driver d (ends.Commit e) es n
+
+    ahead_opened : Ahead (happen g s.at (Opens s.event)) x.ends
+    ahead_opened = s.ahead x.ends ahead_z
+
+    timed_before : is_begun k (length s.at.ends) ≡ false
+    timed_before =
+        let h = (carried g opening j is_opening s.at s.happened x.ends (opened_ahead g s.at s.event x.ends s.may.idle ahead_opened)).along in
+        let b = begins_at g s.at s.event d.op s.may s.begins in
+        let op = operation_of (s.at.running Driver) in
+        let may : driver_may ops.Commit (s.at.past.state Driver).stage ≡ true = ap (λ v. driver_may v (s.at.past.state Driver).stage) (sym begun.0) ∙ b.may_begin in
+        let just = may_commit_job (s.at.past.state Driver).stage (s.at.past.state Driver).life op (driver_past g opening j is_opening s.at s.happened s.may.idle) may in
+        let timed : IsTimed (begun_at (times w x.ends) (length s.at.ends)) op = subst (λ v. IsTimed (begun_at (times w x.ends) (number v (length s.at.ends))) op) s.may.idle h.timed in
+        (timed_setting (begun_at (times w x.ends) (length s.at.ends)) op timed (just_setting op just)).0
+
+    -- where the event begins the commit it has begun
+    begun_timed : (ev : Event) (b : Begun) → ((ev ≡ Do Driver ops.Commit) ⊎ (ev ≡ Start Driver ops.Commit)) → IsTimed b (operation_of (open_running g s.at ev Driver)) → b.commit ≡ true
+    begun_timed ev b (inl is) h = (subst (λ v. IsTimed b (operation_of (open_running g s.at v Driver))) is h).0
+    begun_timed ev b (inr is) h = (subst (λ v. IsTimed b (operation_of (open_running g s.at v Driver))) is h).0
+
+    timed_now : is_begun k (length s.at.ends + 1) ≡ true
+    timed_now =
+        let h = (carried g opening j is_opening (happen g s.at (Opens s.event)) (happens s.at (Opens s.event) s.happened s.may) x.ends ahead_opened).along in
+        begun_timed s.event (begun_at (times w x.ends) (length s.at.ends + 1)) (subst (λ v. IsBegin s.event Driver v) begun.0 s.begins) h.timed
+
+    number_is : k ≡ Some d.since
+    number_is = commit_number k (length s.at.ends) timed_before timed_now ∙ ap (λ v. Some v) (sym s.since_is)
+
+    -- ---- its entries and its missing task
+
+    commit_is_es : then.stand.commit ≡ es
+    commit_is_es = run_entries.commit g k opening z.journal then.stand then.runs led at_led ∙ ap (λ v. filter (λ (u : Entry). is_begun v u.event) (by_actor Driver z.journal)) number_is ∙ sym n.entries_are
+
+    commit_leads : (missing : Option ℕ) → run (commit_tells w) (commit_start w missing) then.stand.commit ≡ run (commit_tells w) (commit_start w missing) es
+    commit_leads missing = ap (run (commit_tells w) (commit_start w missing)) commit_is_es
+
+    missing_is : (c : Commit) (h : CommitStands g then.stand c) → c ≡ led → h.missing ≡ d.missing
+    missing_is c h is = commit_runs.one_start w h.missing d.missing es (sym (commit_leads h.missing) ∙ h.leads ∙ is)
+
+    -- ---- what it was answered
+
+    opened_commit : (ev : Event) → IsBegin ev Driver ops.Commit → operation_of (open_running g s.at ev Driver) ≡ Some (TheCommit (commit_start w (missing w s.at.past.reported)))
+    opened_commit ev (inl is) = ap (λ v. operation_of (open_running g s.at v Driver)) is
+    opened_commit ev (inr is) = ap (λ v. operation_of (open_running g s.at v Driver)) is
+
+    -- the driver has not cleaned up as it began
+    unclean : (tell_all w (nothing_told (clean_event w x.ends)) s.at.journal).cleaned ≡ false
+    unclean =
+        let r = is_run g opening j is_opening (happen g s.at (Opens s.event)) (happens s.at (Opens s.event) s.happened s.may) x.ends ahead_opened in
+        let at : r.stand.driver ≡ Some (TheCommit (commit_start w (missing w s.at.past.reported))) = r.driver ∙ opened_commit s.event (subst (λ v. IsBegin s.event Driver v) begun.0 s.begins) in
+        sym (ap (λ (m : Told). m.cleaned) (tells_so g k opening j is_opening s.at.journal r.stand r.runs) ∙ ap (λ c. (tell_all w (nothing_told c) s.at.journal).cleaned) r.cleans) ∙ (in_commit g k opening j is_opening s.at.journal r.stand r.runs (commit_start w (missing w s.at.past.reported)) at).2.uncleaned
+
+    -- where it has sent a request no task was missing, and each has a last publisher from then on
+    none_missing : (u : Entry) → IsIn u es → d.missing ≡ None
+    none_missing u i = by d.missing refl
+      where
+        by : (o : Option ℕ) → d.missing ≡ o → d.missing ≡ None
+        by None is = is
+        by (Some t) is =
+            let h = commit_runs.stands g j k opening is_opening z.journal then.stand then.runs led at_led in
+            let f = subst (λ l. Follows (commit_asks w) (commit_tells w) (CommitOver (commits.Missing t)) l) commit_is_es (subst (λ o. Follows (commit_asks w) (commit_tells w) (commit_start w o) then.stand.commit) (missing_is led h refl ∙ is) h.follows) in
+            absurd (subst (IsIn u) (no_entry w (commits.Missing t) es f) i)
+
+    published : (u : Entry) → IsIn u es → (b : List Entry) (t : ℕ) → t < w.tasks → HasPublished (see_all w k (nothing_seen opening) (s.at.journal ++ b)) t
+    published u i b t low =
+        let none : missing w s.at.past.reported ≡ None = sym s.missing_is ∙ none_missing u i in
+        let told = (reported g opening j is_opening x.ends s.at s.happened (opened_ahead g s.at s.event x.ends s.may.idle ahead_opened) unclean).past t (none_left s.at.past.reported 0 w.tasks none t (omega arith) (omega (arith, low))) in
+        subst (λ v. HasPublished v t) (sym (see_parts w k (nothing_seen opening) s.at.journal b)) (last_more w k (see_all w k (nothing_seen opening) s.at.journal) b t told)
+
+    read_there : (before : List Entry) (u : Entry) (later : List Entry) (t : ℕ) (r : Reply) → es ≡ before ++ u ∷ later → u.request ≡ set_request w.committer w t → u.outcome ≡ Answered r → IsSome (set_read r)
+    read_there before u later t r is asks got =
+        let one : IsIn u es = subst (IsIn u) (sym is) (in_back u before (u ∷ later) (inl refl)) in
+        let own = in_filter (λ (v : Entry). same_actor v.actor Driver) u s.entries (subst (IsIn u) (mine g opening x i Driver d (ends.Commit e) es n) one) in
+        let at = parted_at u s.entries own.0 in
+        let all : z.journal ≡ (s.at.journal ++ at.0) ++ u ∷ at.1 = s.all ∙ ap (λ l. s.at.journal ++ l) at.2 ∙ sym (append_assoc s.at.journal at.0 (u ∷ at.1)) in
+        elim (commit_answers.there g j k opening is_opening z.journal then.stand then.runs (s.at.journal ++ at.0) u at.1 t r all (same_is u.actor Driver own.1) asks got) [
+          | inl some ↦ some
+          | inr none ↦ absurd (none_some none.2 (published u one at.0 none.0 none.1).1)
+        ]
+
+    served_so : CommitServed w es
+    served_so = record {
+      sets = read_there;
+      completions = λ before u later why is stage got. commit_answers.refused g j k opening is_opening z.journal then.stand then.runs led at_led before u later why (commit_is_es ∙ is) stage got;
+    }
+
+    -- ---- one that ended otherwise than for want of memory
+
+    module _ (o : over (run (advance g Driver) (record { operation = n.op; known = known }) es).operation ≡ Some (ends.Commit e)) where
+      leads : led ≡ CommitOver e
+      leads = commit_back led e (sym (ap over leads_alone) ∙ o)
+
+      at_end : then.stand.driver ≡ Some (TheCommit (CommitOver e))
+      at_end = at_led ∙ ap (λ c. Some (TheCommit c)) leads
+
+      stands : CommitStands g then.stand (CommitOver e)
+      stands = commit_runs.stands g j k opening is_opening z.journal then.stand then.runs (CommitOver e) at_end
+
+      -- ---- what is seen then
+
+      -- up to the end of the event strangers may have sent behind it
+      abbrev strays : List Entry
+      strays = until (i + 1) n.closed.entries
+
+      until_is : until (i + 1) x.journal ≡ z.journal ++ strays
+      until_is = journal_until g opening x run_x idle i n.event_end n.closed
+
+      taken : take (length (until (i + 1) x.journal)) x.journal ≡ until (i + 1) x.journal
+      taken =
+          let parts = event_rows.front (i + 1) x.journal (told_all g opening x run_x).rising in
+          ap (take (length (until (i + 1) x.journal))) (sym parts) ∙ take_cut (until (i + 1) x.journal) (since (i + 1 + 1) x.journal)
+
+      picks_then : then.stand.seen.picks ≡ (seen_until w opening x.journal x.ends (i + 1)).picks
+      picks_then =
+          ap (λ (v : Seen). v.picks) (sees g k opening j is_opening z.journal then.stand then.runs)
+          ∙ sym (strange_picks w k (see_all w k (nothing_seen opening) z.journal) strays (until_strange g opening x run_x idle i n.event_end n.closed))
+          ∙ ap (λ (v : Seen). v.picks) (sym (see_parts w k (nothing_seen opening) z.journal strays))
+          ∙ ap (λ l. (see_all w k (nothing_seen opening) l).picks) (sym (taken ∙ until_is))
+
+      due_so : CommitEnded w (seen_until w opening x.journal x.ends (i + 1)) d.missing es e
+      due_so =
+          let o : CommitEnded w then.stand.seen d.missing es e = subst (λ l. CommitEnded w then.stand.seen d.missing l e) commit_is_es (commit_runs.ended g j k opening is_opening z.journal then.stand then.runs e at_end d.missing (commit_leads d.missing ∙ leads)) in
+          record {
+            worn = o.worn;
+            first = o.first;
+            due = elim o.due [ inl memory ↦ inl memory | inr is ↦ inr (is ∙ ap (λ p. commit_due w p d.missing o.worn) picks_then) ];
+            answered = o.answered;
+          }
+
+      -- ---- where no stranger sends
+
+      module _ (alone : AreOwn x.journal) where
+        alone_then : AreOwn z.journal
+        alone_then = own_front z.journal n.closed.entries (subst AreOwn n.closed.all alone)
+
+        own_until : until (i + 1) x.journal ≡ z.journal
+        own_until = until_own g opening x run_x idle alone i n.event_end n.closed
+
+        seen_then : then.stand.seen ≡ seen_until w opening x.journal x.ends (i + 1)
+        seen_then = sees g k opening j is_opening z.journal then.stand then.runs ∙ ap (see_all w k (nothing_seen opening)) (sym (taken ∙ own_until))
+
+        marked_so : e ≡ commits.Committed → is_marked w (seen_until w opening x.journal x.ends (i + 1)) ≡ true
+        marked_so is = ap (is_marked w) (sym seen_then) ∙ commit_runs.marked g j k opening is_opening z.journal then.stand then.runs alone_then (at_end ∙ ap (λ v. Some (TheCommit (CommitOver v))) is)
+
+        scene_then : moment opening x.journal (length (until (i + 1) x.journal)) ≡ then.stand.seen.scene
+        scene_then =
+            ap (λ l. moment opening x.journal (length l)) own_until ∙ ap (λ l. moment opening l (length z.journal)) n.closed.all ∙ moment_cut opening z.journal n.closed.entries
+            ∙ sym (whole z.journal) ∙ moment_scene g k opening j is_opening z.journal then.stand then.runs
+
+        reverted_so : e ≡ commits.StoreFault stages.Complete → NoDeletionWorn w.retries es → OnlyOpening w opening (moment opening x.journal (length (until (i + 1) x.journal))).content
+        reverted_so is none =
+            let d : then.stand.driver ≡ Some (TheCommit (CommitOver (commits.StoreFault stages.Complete))) = at_end ∙ ap (λ v. Some (TheCommit (CommitOver v))) is in
+            subst (λ (v : Scene). OnlyOpening w opening v.content) (sym scene_then) (reverted_now g k opening j is_opening z.journal then.stand then.runs alone_then d (subst (NoDeletionWorn w.retries) (sym commit_is_es) none))
+
+      -- ---- where it ended before its first completion
+
+      missed_below : (t : ℕ) → e ≡ commits.Missing t → t < w.tasks
+      missed_below t is =
+          let at : IsDue w stands.missing stands.sets (commits.Missing t) = subst (IsDue w stands.missing stands.sets) is stands.at in
+          missing_below w s.at.past.reported t (sym s.missing_is ∙ sym (missing_is (CommitOver e) stands (sym leads)) ∙ at.0)
+
+      -- what came behind it
+      behind : After g opening j is_opening (happen g z (Closes n.event_end)) x
+      behind = after_commit g opening j is_opening (happen g z (Closes n.event_end)) x n.closed.since_then (subst IsAfter (sym (driver_is ∙ ap (λ c. Some (TheCommit c)) leads)) tt)
+
+      untouched_so : AreOwn x.journal → is_untouched e ≡ true → (m : ℕ) → m ≤ length x.journal → Same (view w.dest (moment opening x.journal m).content) (view w.dest opening)
+      untouched_so alone u m l =
+          let now = is_run g opening j is_opening x run_x x.ends (ahead_none x idle) in
+          let all : Always w k opening (z.journal ++ behind.more) = subst (Always w k opening) behind.all (always g k opening j is_opening x.journal now.stand now.runs alone) in
+          subst (λ v. m ≤ length v → Same (view w.dest (moment opening v m).content) (view w.dest opening)) (sym behind.all)
+          (commit_moments.untouched g j k opening is_opening z.journal then.stand then.runs e at_end u missed_below behind.more behind.none all m) l
+
+  -- ---- any end
+
+  -- for want of memory
+  memory_due : (i : ℕ) (d : Doing) (e : CommitEnd) (es : List Entry) → e ≡ commits.NoMemory → CommitEnded w (seen_until w opening x.journal x.ends (i + 1)) d.missing es e
+  memory_due i d e es is = record {
+    worn = first_worn w.retries es;
+    first = computed w.retries [] es (none_sent w.retries);
+    due = inl is;
+    answered = λ c. let no : commits.NoMemory ≡ commits.Committed = sym is ∙ c in absurd cc;
+  }
+
+  pub commits_among : CommitsEndAmong w opening x.journal x.ends
+  commits_among i d e es h =
+      let n = ending g opening x run_x idle i Driver refl d (ends.Commit e) es h in
+      (elim n.ended [ inl memory ↦ memory_due i d e es (memory_commit e memory) | inr o ↦ due_so i d e es n o ], served_so i d e es n)
+
+  memory_ends : (i : ℕ) (d : Doing) (e : CommitEnd) (es : List Entry) → EndedIn w x.ends x.journal i Driver d (ends.Commit e) es → e ≡ commits.NoMemory → CommitEnds w opening x.journal x.ends i d e es
+  memory_ends i d e es h is = record {
+    due = λ own. (commits_among i d e es h).0;
+    marked = λ c own. let no : commits.NoMemory ≡ commits.Committed = sym is ∙ c in absurd cc;
+    untouched = λ u own. absurd (false_true (ap is_untouched is) u);
+    reverted = λ c none own. let no : commits.NoMemory ≡ commits.StoreFault stages.Complete = sym is ∙ c in absurd cc;
+    served = λ own. (commits_among i d e es h).1;
+  }
+
+  pub commits_kept : CommitsEnd w opening x.journal x.ends
+  commits_kept i d e es h =
+      let n = ending g opening x run_x idle i Driver refl d (ends.Commit e) es h in
+      elim n.ended [
+        | inl memory ↦ memory_ends i d e es h (memory_commit e memory)
+        | inr o ↦ record {
+          due = λ own. (commits_among i d e es h).0;
+          marked = λ is own. marked_so i d e es n o own is;
+          untouched = λ u own. untouched_so i d e es n o own u;
+          reverted = λ is none own. reverted_so i d e es n o own is none;
+          served = λ own. (commits_among i d e es h).1;
+        }
+      ]

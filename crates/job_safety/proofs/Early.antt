@@ -1,0 +1,182 @@
+-- Until the driver's set-up is over all of the job's entries are the driver's: no attempt has begun before.
+use Rattle.std.proofs.Common.{◌≡◌, ℕ, ◌⊎◌, inl, inr, ◌&&◌, true, false, cond, List, [], ◌∷◌, ◌++◌, length, slice_get, Option, Some, None, refl, sym, ap, subst, ◌∙◌}
+use Rattle.std.proofs.lemmas.List.Elements.{filter-append}
+use Rattle.s3_types.specs.Store.{Content}
+use Rattle.s3_types.specs.declared.request.Actor.{Actor}
+use Rattle.s3_types.specs.declared.request.Actor.TheVariants.{Driver, Attempt, Shell}
+use Rattle.s3_types.specs.declared.journal.Entry.{Entry}
+use Rattle.job_model.specs.Legal.{IsLegal}
+use Rattle.job_model.specs.JobScript.{Script}
+use Rattle.job_model.specs.declared.events.Op.{Op}
+use Rattle.job_model.specs.declared.events.Op.TheVariants as ops
+use Rattle.job_model.specs.declared.events.Event.{Event}
+use Rattle.job_model.specs.declared.events.Event.TheVariants.{Do, Start, Kill, Restart}
+use Rattle.job_model.specs.declared.ends.SetupEnd.{SetupEnd}
+use Rattle.job_model.specs.declared.ends.ActorEnd.{ActorEnd}
+use Rattle.job_model.specs.declared.ends.OpEnd.{OpEnd}
+use Rattle.job_model.specs.declared.ends.OpEnd.TheVariants as ends
+use Rattle.job_model.specs.declared.ends.EventEnd.TheVariants.{Done}
+use Rattle.job_model.specs.declared.states.Life.TheVariants.{Busy}
+use Rattle.job_model.specs.declared.states.ActorStage.{ActorStage}
+use Rattle.job_model.specs.declared.states.ActorStage.TheVariants as stage
+use Rattle.job_model.specs.declared.states.ActorState.{ActorState}
+use Rattle.job_protocol.specs.Operations.{Setting, Operation, TheCommit, TheClean, Running, over}
+use Rattle.job_spec.specs.States.{Past, put, ended, is_new, needs_set, stage_begun, refusal, open_event}
+use Rattle.job_spec.specs.Turns.{is_own, own, is_memory, AllBy}
+use Rattle.proof_base.proofs.Members.{none_some, false_true}
+use Rattle.job_traces.specs.Runs.{IsOpening}
+use Rattle.job_steps.specs.Transitions.{Play, Refuses, Opens, Sends, Finishes, Closes, Strays, open_running, happen, MayOpen, MaySend, MayFinish, Reachable, nothing_happened, happens}
+use Rattle.job_steps.specs.Running.{Ahead, operation_of}
+use Rattle.job_steps.proofs.Parts.{get_last, own_own}
+use Rattle.job_steps.proofs.Actors.{same_or_not, put_here, put_other}
+use Rattle.job_steps.proofs.RunningStages.{DriverAt, IsBehind, begins_so, memory_dies, may_end, restarted_new, driver_ends}
+use Rattle.job_steps.proofs.Running.{carried}
+use Rattle.job_safety.proofs.Cuts.{all_by_last}
+use Rattle.job_safety.proofs.Sorts.{kind, OfSetup, OfCommit, OfClean, over_kind}
+
+-- ---- stages
+
+behind_none : (op : Operation) → IsBehind (Some op) → kind op ≡ OfSetup → ⊥
+behind_none (TheCommit c) b e = let no : OfCommit ≡ OfSetup = e in absurd cc
+behind_none (TheClean t) b e = let no : OfClean ≡ OfSetup = e in absurd cc
+behind_none _ b e = b
+
+-- a busy driver at its set-up is at its first stage
+new_of : (s : ActorStage) (op : Operation) → DriverAt s Busy (Some op) → kind op ≡ OfSetup → is_new s ≡ true
+new_of stage.New op h e = refl
+new_of stage.Set op h e = absurd (false_true h.0 refl)
+new_of _ op h e = absurd (behind_none op h e)
+
+begin_new : (op : Op) (s : ActorStage) → is_new (stage_begun Driver op s) ≡ true → is_new s ≡ true
+begin_new ops.Setup s n = n
+begin_new ops.Clean s n = n
+begin_new _ s n = absurd (false_true refl n)
+
+open_new : (w : Script) (p : Past) (ev : Event) → is_new ((open_event w p ev).state Driver).stage ≡ true → is_new (p.state Driver).stage ≡ true
+open_new w p (Do Driver op) n = begin_new op (p.state Driver).stage n
+open_new w p (Start Driver op) n = begin_new op (p.state Driver).stage n
+open_new w p (Kill Driver) n = n
+open_new w p Restart n = restarted_new (p.state Driver).stage n
+open_new w p _ n = n
+
+needs_other : (a : Actor) (op : Op) → (a ≡ Driver → ⊥) → needs_set a op ≡ true
+needs_other Driver op ne = absurd (ne refl)
+needs_other (Attempt t n) ops.Setup ne = refl
+needs_other (Attempt t n) ops.Write ne = refl
+needs_other (Attempt t n) ops.Commit ne = refl
+needs_other (Attempt t n) ops.Abort ne = refl
+needs_other (Attempt t n) ops.Clean ne = refl
+needs_other Shell ops.Setup ne = refl
+needs_other Shell ops.Write ne = refl
+needs_other Shell ops.Commit ne = refl
+needs_other Shell ops.Abort ne = refl
+needs_other Shell ops.Clean ne = refl
+
+-- one more of the driver's
+own_by_driver : (es : List Entry) (e : Entry) → AllBy Driver (own es) → e.actor ≡ Driver → AllBy Driver (own (es ++ e ∷ []))
+own_by_driver es e h is = subst (AllBy Driver) (sym (filter-append (λ x. is_own x.actor) es (e ∷ []) ∙ ap (λ b. own es ++ cond b (e ∷ []) []) (ap is_own is))) (all_by_last Driver (own es) e h is)
+
+-- ---- what is kept
+
+pub record Early (x : Play) : Type 0 where
+  -- the first stage is never come back to
+  pub kept : is_new (x.live.state Driver).stage ≡ true → is_new (x.past.state Driver).stage ≡ true
+  -- in an event that began at it all is the driver's
+  pub alone : is_new (x.past.state Driver).stage ≡ true → AllBy Driver (own x.journal)
+  pub nobody : is_new (x.past.state Driver).stage ≡ true → (a : Actor) → (a ≡ Driver → ⊥) → x.running a ≡ None
+  -- and in such an event alone a set-up ends
+  pub set : (i : ℕ) (e : SetupEnd) → slice_get x.finished i ≡ Some (record { actor = Driver; end = ends.Setup e }) → (is_memory (ends.Setup e) ≡ true) ⊎ (is_new (x.past.state Driver).stage ≡ true)
+
+module _ (g : Setting) (opening : Content) (j : IsLegal g.script) (is_opening : IsOpening g opening) where
+  -- the run may go on so
+  pub ahead_on : (x : Play) → Ahead x (x.ends ++ Done ∷ [])
+  ahead_on x = record { rest = Done ∷ []; is = refl; going = λ ev e. (Done, [], refl, refl) }
+
+  pub driver_now : (x : Play) → Reachable g opening x → DriverAt (x.live.state Driver).stage (x.live.state Driver).life (operation_of (x.running Driver))
+  driver_now x past = (carried g opening j is_opening x past (x.ends ++ Done ∷ []) (ahead_on x)).along.driver_at
+
+  -- a busy driver at this operation
+  pub driver_busy : (x : Play) → Reachable g opening x → (m : Running) → (x.live.state Driver).life ≡ Busy → x.running Driver ≡ Some m → DriverAt (x.live.state Driver).stage Busy (Some m.operation)
+  driver_busy x past m busy is = subst (λ l. DriverAt (x.live.state Driver).stage l (Some m.operation)) busy (subst (DriverAt (x.live.state Driver).stage (x.live.state Driver).life) (ap operation_of is) (driver_now x past))
+
+  -- ---- an event begins
+
+  begun_nobody : (y : Play) (b : Actor) (op : Op) → Early y → (needs_set b op && is_new (y.past.state Driver).stage) ≡ false → is_new (y.past.state Driver).stage ≡ true → (v : Option Running) → (a : Actor) → (a ≡ Driver → ⊥) → put y.running b v a ≡ None
+  begun_nobody y b op old set new v a ne = elim (same_or_not a b) [
+    | inl s ↦ absurd (false_true set (ap (λ c. c && is_new (y.past.state Driver).stage) (needs_other b op (λ d. ne (s ∙ d))) ∙ new))
+    | inr other ↦ put_other y.running b v a other ∙ old.nobody new a ne
+  ]
+
+  opened_nobody : (y : Play) (ev : Event) → Early y → refusal y.past.state ev ≡ None → is_new (y.past.state Driver).stage ≡ true → (a : Actor) → (a ≡ Driver → ⊥) → open_running g y ev a ≡ None
+  opened_nobody y (Do b op) old fine new a ne = begun_nobody y b op old (begins_so (y.past.state Driver).stage b op (y.past.state b).life (y.past.state b).stage fine).set new _ a ne
+  opened_nobody y (Start b op) old fine new a ne = begun_nobody y b op old (begins_so (y.past.state Driver).stage b op (y.past.state b).life (y.past.state b).stage fine).set new _ a ne
+  opened_nobody y _ old fine new a ne = old.nobody new a ne
+
+  opens : (y : Play) (ev : Event) → Early y → MayOpen g y ev None → Early (happen g y (Opens ev))
+  opens y ev old may = record {
+    kept = open_new g.script y.past ev;
+    alone = old.alone;
+    nobody = opened_nobody y ev old may.refusal_is;
+    set = λ i e h. absurd (none_some refl h);
+  }
+
+  -- ---- a request is sent
+
+  sender : (y : Play) (e : Entry) → Early y → MaySend g opening y e → is_new (y.past.state Driver).stage ≡ true → e.actor ≡ Driver
+  sender y e old may new = elim (same_or_not e.actor Driver) [
+    | inl s ↦ s
+    | inr ne ↦ absurd (none_some (old.nobody new e.actor ne) may.is_at)
+  ]
+
+  sends : (y : Play) (e : Entry) → Early y → MaySend g opening y e → Early (happen g y (Sends e))
+  sends y e old may = record {
+    kept = old.kept;
+    alone = λ n. own_by_driver y.journal e (old.alone n) (sender y e old may n);
+    nobody = λ n a ne. put_other y.running e.actor _ a (λ s. ne (s ∙ sender y e old may n)) ∙ old.nobody n a ne;
+    set = old.set;
+  }
+
+  -- ---- an operation ends
+
+  -- the driver's
+  ended_new : (y : Play) → Reachable g opening y → (e : OpEnd) → (y.live.state Driver).life ≡ Busy → (is_memory e ≡ true) ⊎ ((m : Running) × (y.running Driver ≡ Some m) × (over m.operation ≡ Some e))
+      → is_new (ended e (y.live.state Driver).stage).stage ≡ true → is_new (y.live.state Driver).stage ≡ true
+  ended_new y past e busy (inl memory) new = ap (λ (s : ActorState). is_new s.stage) (sym (memory_dies e (y.live.state Driver).stage memory)) ∙ new
+  ended_new y past e busy (inr q) new = (driver_ends (y.live.state Driver).stage q.0.operation e (driver_busy y past q.0 busy q.1) q.2).1 new
+
+  finished_new : (y : Play) → Reachable g opening y → (v : ActorEnd) → MayFinish y v → is_new (put y.live.state v.actor (ended v.end (y.live.state v.actor).stage) Driver).stage ≡ true → is_new (y.live.state Driver).stage ≡ true
+  finished_new y past v may new = elim (same_or_not Driver v.actor) [
+    | inl s ↦
+        subst (λ a. (y.live.state a).life ≡ Busy → ((is_memory v.end ≡ true) ⊎ ((m : Running) × (y.running a ≡ Some m) × (over m.operation ≡ Some v.end))) → is_new (ended v.end (y.live.state a).stage).stage ≡ true → is_new (y.live.state Driver).stage ≡ true) s
+        (ended_new y past v.end) may.busy (may_end y v may) (ap (λ (t : ActorState). is_new t.stage) (sym (put_here y.live.state v.actor _ Driver s)) ∙ new)
+    | inr ne ↦ ap (λ (t : ActorState). is_new t.stage) (sym (put_other y.live.state v.actor _ Driver ne)) ∙ new
+  ]
+
+  setup_new : (y : Play) → Reachable g opening y → (e : SetupEnd) → (y.live.state Driver).life ≡ Busy → (is_memory (ends.Setup e) ≡ true) ⊎ ((m : Running) × (y.running Driver ≡ Some m) × (over m.operation ≡ Some (ends.Setup e)))
+      → (is_memory (ends.Setup e) ≡ true) ⊎ (is_new (y.live.state Driver).stage ≡ true)
+  setup_new y past e busy (inl memory) = inl memory
+  setup_new y past e busy (inr q) = inr (new_of (y.live.state Driver).stage q.0.operation (driver_busy y past q.0 busy q.1) (over_kind q.0.operation (ends.Setup e) q.2))
+
+  finished_set : (y : Play) → Reachable g opening y → Early y → (v : ActorEnd) → MayFinish y v → (e : SetupEnd) → v ≡ record { actor = Driver; end = ends.Setup e } → (is_memory (ends.Setup e) ≡ true) ⊎ (is_new (y.past.state Driver).stage ≡ true)
+  finished_set y past old v may e is =
+      let so = subst (MayFinish y) is may in
+      elim (setup_new y past e so.busy (may_end y _ so)) [ inl memory ↦ inl memory | inr new ↦ inr (old.kept new) ]
+
+  finishes : (y : Play) → Reachable g opening y → (v : ActorEnd) → Early y → MayFinish y v → Early (happen g y (Finishes v))
+  finishes y past v old may = record {
+    kept = λ n. old.kept (finished_new y past v may n);
+    alone = old.alone;
+    nobody = old.nobody;
+    set = λ i e h. elim (get_last y.finished v i _ h) [ inl k ↦ old.set i e k | inr q ↦ finished_set y past old v may e q.1 ];
+  }
+
+  -- ---- whatever happens
+
+  pub early : (x : Play) → Reachable g opening x → Early x
+  early x (nothing_happened) = record { kept = λ n. n; alone = λ n. tt; nobody = λ n a ne. refl; set = λ i e h. absurd (none_some refl h) }
+  early x (happens y (Refuses f) past may) = let old = early y past in record { kept = λ n. n; alone = old.alone; nobody = old.nobody; set = λ i e h. absurd (none_some refl h) }
+  early x (happens y (Opens ev) past may) = opens y ev (early y past) may
+  early x (happens y (Sends e) past may) = sends y e (early y past) may
+  early x (happens y (Finishes v) past may) = finishes y past v (early y past) may
+  early x (happens y (Closes end) past may) = let old = early y past in record { kept = λ n. n; alone = λ n. old.alone (old.kept n); nobody = λ n. old.nobody (old.kept n); set = λ i e h. absurd (none_some refl h) }
+  early x (happens y (Strays r o) past may) = let old = early y past in record { kept = old.kept; alone = λ n. subst (AllBy Driver) (sym (own_own y.journal (length y.ends) r o)) (old.alone n); nobody = old.nobody; set = old.set }

@@ -1,0 +1,242 @@
+-- What happened, looked back at: how an event came to its end, how an operation began, and what came later.
+use Rattle.std.proofs.Common.{◌≡◌, ℕ, ◌+◌, ◌<◌, ◌≤◌, ◌⊎◌, inl, inr, false, List, [], ◌∷◌, ◌++◌, length, slice_get, append_assoc, append-nil, Some, None, refl, sym, ap, subst, ◌∙◌, arith}
+use Rattle.std.proofs.lemmas.Option.{slice_get_within}
+use Rattle.s3_types.specs.Store.{Content}
+use Rattle.s3_types.specs.declared.request.Actor.{Actor}
+use Rattle.s3_types.specs.declared.request.Request.{Request}
+use Rattle.s3_types.specs.declared.journal.Outcome.{Outcome}
+use Rattle.s3_types.specs.declared.journal.Entry.{Entry}
+use Rattle.proof_base.proofs.Members.{some_is, none_some, false_true}
+use Rattle.job_model.specs.declared.events.Op.{Op}
+use Rattle.job_model.specs.declared.events.Event.{Event}
+use Rattle.job_model.specs.declared.events.Event.TheVariants.{Do, Start}
+use Rattle.job_model.specs.declared.ends.EventEnd.{EventEnd}
+use Rattle.job_model.specs.declared.ends.EventEnd.TheVariants.{Refused}
+use Rattle.job_protocol.specs.Operations.{Setting}
+use Rattle.job_spec.specs.States.{Past, Doing, put, missing, is_refused, open_event}
+use Rattle.job_spec.specs.Turns.{own, AllFrom}
+use Rattle.job_facts.specs.Told.{strange_entry}
+use Rattle.job_steps.specs.Transitions.{Play, Transition, Refuses, Opens, Sends, Finishes, Closes, Strays, happen, MayOpen, MaySend, MayClose, MayStray, Enabled, Reachable, nothing_happened, happens}
+use Rattle.job_steps.specs.Running.{Ahead}
+use Rattle.job_steps.proofs.Parts.{get_last, from_last, from_own, own_own}
+use Rattle.job_steps.proofs.Actors.{same_or_not, put_here, put_other}
+use Rattle.job_steps.proofs.Told.{told_all}
+use Rattle.job_steps.proofs.Running.{sent_ahead, finished_ahead, opened_ahead, refused_ahead, not_refused, closed_ahead, strayed_ahead}
+
+-- what happened since then
+pub data Later (g : Setting) (opening : Content) (y : Play) : Play → Type 0 where
+  at_once : Later g opening y y
+  later : (x : Play) (h : Transition) → Reachable g opening x → Later g opening y x → Enabled g opening x h → Later g opening y (happen g x h)
+
+-- event j + 1 came to this end, and went on here until then
+pub record Closed (g : Setting) (opening : Content) (x : Play) (j : ℕ) (end : EventEnd) : Type 0 where
+  pub at : Play
+  pub happened : Reachable g opening at
+  pub may : MayClose g at end
+  pub count : length at.ends ≡ j
+  pub since_then : Later g opening (happen g at (Closes end)) x
+  -- the entries since then: the job's own are of later events
+  pub entries : List Entry
+  pub all : x.journal ≡ at.journal ++ entries
+  pub after : AllFrom (j + 1) entries
+  pub own_after : AllFrom (j + 2) (own entries)
+  pub ahead : (ends : List EventEnd) → Ahead x ends → Ahead (happen g at (Closes end)) ends
+
+-- the event begins this
+abbrev pub IsBegin : Event → Actor → Op → Type 0
+IsBegin ev a op = (ev ≡ Do a op) ⊎ (ev ≡ Start a op)
+
+-- an actor began this last, here
+pub record Began (g : Setting) (opening : Content) (x : Play) (a : Actor) (d : Doing) : Type 0 where
+  pub at : Play
+  pub happened : Reachable g opening at
+  pub event : Event
+  pub may : MayOpen g at event None
+  pub begins : IsBegin event a d.op
+  pub since_is : d.since ≡ length at.ends + 1
+  pub missing_is : d.missing ≡ missing g.script at.past.reported
+  pub entries : List Entry
+  pub all : x.journal ≡ at.journal ++ entries
+  pub after : AllFrom d.since entries
+  pub ahead : (ends : List EventEnd) → Ahead x ends → Ahead (happen g at (Opens event)) ends
+
+module _ (g : Setting) (opening : Content) where
+  -- ---- an event that is over
+
+  module _ (j : ℕ) (end : EventEnd) where
+    still_closed : (y : Play) (h : Transition) → Reachable g opening y → Enabled g opening y h → (happen g y h).journal ≡ y.journal → ((ends : List EventEnd) → Ahead (happen g y h) ends → Ahead y ends) → Closed g opening y j end → Closed g opening (happen g y h) j end
+    still_closed y h past may same back c = record {
+      at = c.at;
+      happened = c.happened;
+      may = c.may;
+      count = c.count;
+      since_then = later y h past c.since_then may;
+      entries = c.entries;
+      all = same ∙ c.all;
+      after = c.after;
+      own_after = c.own_after;
+      ahead = λ ends a. c.ahead ends (back ends a);
+    }
+
+    sent_closed : (y : Play) (e : Entry) → Reachable g opening y → MaySend g opening y e → slice_get y.ends j ≡ Some end → Closed g opening y j end → Closed g opening (happen g y (Sends e)) j end
+    sent_closed y e past may is c =
+        let below : j < length y.ends = slice_get_within y.ends j end is in
+        let late : j + 2 ≤ e.event = omega (arith, may.number) in
+        let behind : j + 1 ≤ e.event = omega arith in
+        record {
+          at = c.at;
+          happened = c.happened;
+          may = c.may;
+          count = c.count;
+          since_then = later y (Sends e) past c.since_then may;
+          entries = c.entries ++ e ∷ [];
+          all = ap (λ l. l ++ e ∷ []) c.all ∙ append_assoc c.at.journal c.entries (e ∷ []);
+          after = from_last (j + 1) c.entries e c.after behind;
+          own_after = from_own (j + 2) c.entries e c.own_after late;
+          ahead = λ ends a. c.ahead ends (sent_ahead g y e ends a);
+        }
+
+    strayed_closed : (y : Play) (r : Request) (o : Outcome) → Reachable g opening y → MayStray g opening y r o → slice_get y.ends j ≡ Some end → Closed g opening y j end → Closed g opening (happen g y (Strays r o)) j end
+    strayed_closed y r o past may is c =
+        let below : j < length y.ends = slice_get_within y.ends j end is in
+        let e = strange_entry (length y.ends) r o in
+        let behind : j + 1 ≤ e.event = omega arith in
+        record {
+          at = c.at;
+          happened = c.happened;
+          may = c.may;
+          count = c.count;
+          since_then = later y (Strays r o) past c.since_then may;
+          entries = c.entries ++ e ∷ [];
+          all = ap (λ l. l ++ e ∷ []) c.all ∙ append_assoc c.at.journal c.entries (e ∷ []);
+          after = from_last (j + 1) c.entries e c.after behind;
+          own_after = subst (AllFrom (j + 2)) (sym (own_own c.entries (length y.ends) r o)) c.own_after;
+          ahead = λ ends a. c.ahead ends (strayed_ahead g y r o ends a);
+        }
+
+  closed_now : (y : Play) (end : EventEnd) (j : ℕ) → Reachable g opening y → MayClose g y end → j ≡ length y.ends → Closed g opening (happen g y (Closes end)) j end
+  closed_now y end j past may e = record {
+    at = y;
+    happened = past;
+    may = may;
+    count = sym e;
+    since_then = at_once;
+    entries = [];
+    all = sym (append-nil y.journal);
+    after = tt;
+    own_after = tt;
+    ahead = λ ends a. a;
+  }
+
+  pub closed_at : (x : Play) → Reachable g opening x → (j : ℕ) (end : EventEnd) → slice_get x.ends j ≡ Some end → is_refused end ≡ false → Closed g opening x j end
+  closed_at x (nothing_happened) j end e fine = absurd (none_some refl e)
+  closed_at x (happens y (Refuses f) past may) j end e fine = elim (get_last y.ends (Refused f) j end e) [
+    | inl h ↦ still_closed j end y (Refuses f) past may refl (λ ends a. refused_ahead g y f ends may.1.idle a) (closed_at y past j end h fine)
+    | inr q ↦ absurd (false_true fine (sym (ap is_refused q.1)))
+  ]
+  closed_at x (happens y (Opens ev) past may) j end e fine = still_closed j end y (Opens ev) past may refl (λ ends a. opened_ahead g y ev ends may.idle a) (closed_at y past j end e fine)
+  closed_at x (happens y (Sends v) past may) j end e fine = sent_closed j end y v past may e (closed_at y past j end e fine)
+  closed_at x (happens y (Finishes z) past may) j end e fine = still_closed j end y (Finishes z) past may refl (λ ends a. finished_ahead g y z ends a) (closed_at y past j end e fine)
+  closed_at x (happens y (Closes v) past may) j end e fine = elim (get_last y.ends v j end e) [
+    | inl h ↦ still_closed j end y (Closes v) past may refl (λ ends a. closed_ahead g y v ends (not_refused g.script y.past.state may.event v _ may.turns) a) (closed_at y past j end h fine)
+    | inr q ↦ subst (λ u. Closed g opening (happen g y (Closes v)) j u) q.1 (closed_now y v j past may q.0)
+  ]
+  closed_at x (happens y (Strays r o) past may) j end e fine = strayed_closed j end y r o past may e (closed_at y past j end e fine)
+
+  -- ---- an operation that began
+
+  still_began : (y : Play) (h : Transition) (a : Actor) (d : Doing) → (happen g y h).journal ≡ y.journal → ((ends : List EventEnd) → Ahead (happen g y h) ends → Ahead y ends) → Began g opening y a d → Began g opening (happen g y h) a d
+  still_began y h a d same back b = record {
+    at = b.at;
+    happened = b.happened;
+    event = b.event;
+    may = b.may;
+    begins = b.begins;
+    since_is = b.since_is;
+    missing_is = b.missing_is;
+    entries = b.entries;
+    all = same ∙ b.all;
+    after = b.after;
+    ahead = λ ends v. b.ahead ends (back ends v);
+  }
+
+  sent_began : (y : Play) (e : Entry) (a : Actor) (d : Doing) → MaySend g opening y e → d.since ≤ length y.ends + 1 → Began g opening y a d → Began g opening (happen g y (Sends e)) a d
+  sent_began y e a d may then b =
+      let late : d.since ≤ e.event = omega (arith, may.number) in
+      record {
+        at = b.at;
+        happened = b.happened;
+        event = b.event;
+        may = b.may;
+        begins = b.begins;
+        since_is = b.since_is;
+        missing_is = b.missing_is;
+        entries = b.entries ++ e ∷ [];
+        all = ap (λ l. l ++ e ∷ []) b.all ∙ append_assoc b.at.journal b.entries (e ∷ []);
+        after = from_last d.since b.entries e b.after late;
+        ahead = λ ends v. b.ahead ends (sent_ahead g y e ends v);
+      }
+
+  strayed_began : (y : Play) (r : Request) (o : Outcome) (a : Actor) (d : Doing) → d.since ≤ length y.ends → Began g opening y a d → Began g opening (happen g y (Strays r o)) a d
+  strayed_began y r o a d then b =
+      let e = strange_entry (length y.ends) r o in
+      record {
+        at = b.at;
+        happened = b.happened;
+        event = b.event;
+        may = b.may;
+        begins = b.begins;
+        since_is = b.since_is;
+        missing_is = b.missing_is;
+        entries = b.entries ++ e ∷ [];
+        all = ap (λ l. l ++ e ∷ []) b.all ∙ append_assoc b.at.journal b.entries (e ∷ []);
+        after = from_last d.since b.entries e b.after then;
+        ahead = λ ends v. b.ahead ends (strayed_ahead g y r o ends v);
+      }
+
+  abbrev doing_now : Play → Op → Doing
+  doing_now y op = record { op = op; since = y.past.events + 1; missing = missing g.script y.past.reported }
+
+  began_now : (y : Play) (ev : Event) (a : Actor) (op : Op) → Reachable g opening y → MayOpen g y ev None → IsBegin ev a op → Began g opening (happen g y (Opens ev)) a (doing_now y op)
+  began_now y ev a op past may is = record {
+    at = y;
+    happened = past;
+    event = ev;
+    may = may;
+    begins = is;
+    since_is = ap (λ n. n + 1) (told_all g opening y past).counts;
+    missing_is = refl;
+    entries = [];
+    all = sym (append-nil y.journal);
+    after = tt;
+    ahead = λ ends v. v;
+  }
+
+  began_one : (y : Play) (ev : Event) (b : Actor) (op : Op) → Reachable g opening y → MayOpen g y ev None → IsBegin ev b op
+      → ((a : Actor) (d : Doing) → y.past.doing a ≡ Some d → Began g opening (happen g y (Opens ev)) a d)
+      → (a : Actor) (d : Doing) → put y.past.doing b (Some (doing_now y op)) a ≡ Some d → Began g opening (happen g y (Opens ev)) a d
+  began_one y ev b op past may is old a d e = elim (same_or_not a b) [
+    | inl s ↦
+        subst (λ v. Began g opening (happen g y (Opens ev)) a v) (some_is (sym (put_here y.past.doing b (Some (doing_now y op)) a s) ∙ e))
+        (subst (λ c. Began g opening (happen g y (Opens ev)) c (doing_now y op)) (sym s) (began_now y ev b op past may is))
+    | inr ne ↦ old a d (sym (put_other y.past.doing b (Some (doing_now y op)) a ne) ∙ e)
+  ]
+
+  opened_began : (y : Play) (ev : Event) → Reachable g opening y → MayOpen g y ev None → ((a : Actor) (d : Doing) → y.past.doing a ≡ Some d → Began g opening (happen g y (Opens ev)) a d)
+      → (a : Actor) (d : Doing) → (open_event g.script y.past ev).doing a ≡ Some d → Began g opening (happen g y (Opens ev)) a d
+  opened_began y (Do b op) past may old a d e = began_one y (Do b op) b op past may (inl refl) old a d e
+  opened_began y (Start b op) past may old a d e = began_one y (Start b op) b op past may (inr refl) old a d e
+  opened_began y _ past may old a d e = old a d e
+
+  -- between events what is past is how it stands
+  lived : (y : Play) → Reachable g opening y → y.now ≡ None → (a : Actor) (d : Doing) → y.past.doing a ≡ Some d → y.live.doing a ≡ Some d
+  lived y past idle a d e = ap (λ (p : Past). p.doing a) ((told_all g opening y past).closed idle).0 ∙ e
+
+  pub began : (x : Play) → Reachable g opening x → (a : Actor) (d : Doing) → x.live.doing a ≡ Some d → Began g opening x a d
+  began x (nothing_happened) a d e = absurd (none_some refl e)
+  began x (happens y (Refuses f) past may) a d e = still_began y (Refuses f) a d refl (λ ends v. refused_ahead g y f ends may.1.idle v) (began y past a d (lived y past may.1.idle a d e))
+  began x (happens y (Opens ev) past may) a d e = opened_began y ev past may (λ c v i. still_began y (Opens ev) c v refl (λ ends z. opened_ahead g y ev ends may.idle z) (began y past c v (lived y past may.idle c v i))) a d e
+  began x (happens y (Sends v) past may) a d e = sent_began y v a d may ((told_all g opening y past).runs a d e).from_then (began y past a d e)
+  began x (happens y (Finishes z) past may) a d e = still_began y (Finishes z) a d refl (λ ends v. finished_ahead g y z ends v) (began y past a d e)
+  began x (happens y (Closes end) past may) a d e = still_began y (Closes end) a d refl (λ ends v. closed_ahead g y end ends (not_refused g.script y.past.state may.event end _ may.turns) v) (began y past a d e)
+  began x (happens y (Strays r o) past may) a d e = strayed_began y r o a d ((told_all g opening y past).over may.idle a d e) (began y past a d e)

@@ -1,0 +1,57 @@
+-- That all that is promised of a job holds of what happened in its run.
+use Rattle.std.proofs.Common.{◌≡◌, ℕ, sym, ap, subst}
+use Rattle.job_model.specs.JobScript.{Script}
+use Rattle.s3_types.specs.Store.{Content}
+use Rattle.job_protocol.specs.Operations.{Setting}
+use Rattle.job_spec.specs.States.{commit_event}
+use Rattle.job_spec.specs.Follows.{Plays}
+use Rattle.job_spec.specs.Promise.{setting}
+use Rattle.job_traces.specs.Runs.{IsOpening}
+use Rattle.job_traces.proofs.Entries.{always}
+use Rattle.job_traces.proofs.Changes.{runs_rename, runs_outside}
+use Rattle.job_steps.proofs.Played.{happenings_play}
+use Rattle.job_steps.proofs.Running.{is_run}
+use Rattle.job_safety.specs.Laws.{RunsAreKept, RunsAreKeptAmong}
+use Rattle.job_safety.proofs.Ending.{ahead_none}
+use Rattle.job_safety.proofs.Setups.{setups_kept, setups_among}
+use Rattle.job_safety.proofs.Tasks.{tasks_kept, publishes_kept}
+use Rattle.job_safety.proofs.Cleans.{cleans_kept}
+use Rattle.job_safety.proofs.Commits.{commits_kept, commits_among}
+
+-- a setting with this least size of a part
+abbrev with_least : Script → ℕ → Setting
+with_least w n = record { script = w; minimum = n }
+
+setting_is : (g : Setting) (opening : Content) → IsOpening g opening → setting g.script opening ≡ g
+setting_is g opening is = ap (with_least g.script) is.least
+
+pub kept_among : RunsAreKeptAmong
+kept_among g opening x j is_opening run idle ps are =
+    let r = is_run g opening j is_opening x run x.ends (ahead_none x idle) in
+    record {
+      plays = subst (λ s. Plays s x.ends x.journal) (sym (setting_is g opening is_opening)) (happenings_play g opening x j run idle).plays;
+      picks = are;
+      zero_rename = runs_rename g (commit_event g.script x.ends) opening j is_opening x.journal r.stand r.runs;
+      setups = setups_among g opening j is_opening x run idle;
+      tasks = tasks_kept g opening j is_opening x run idle;
+      publishes = publishes_kept g opening j is_opening x run idle;
+      cleans = cleans_kept g opening j x run idle;
+      commits = commits_among g opening j is_opening x run idle;
+    }
+
+pub runs_are_kept : RunsAreKept
+runs_are_kept g opening x j is_opening run idle ps are =
+    let r = is_run g opening j is_opening x run x.ends (ahead_none x idle) in
+    let among = kept_among g opening x j is_opening run idle ps are in
+    record {
+      always = always g (commit_event g.script x.ends) opening j is_opening x.journal r.stand r.runs;
+      plays = among.plays;
+      picks = among.picks;
+      zero_rename = among.zero_rename;
+      outside = runs_outside g (commit_event g.script x.ends) opening j is_opening x.journal r.stand r.runs;
+      setups = setups_kept g opening j is_opening x run idle;
+      tasks = λ own. among.tasks;
+      publishes = λ own. among.publishes;
+      cleans = among.cleans;
+      commits = commits_kept g opening j is_opening x run idle;
+    }

@@ -1,0 +1,85 @@
+-- How the driver's set-up ends in a run.
+use Rattle.std.proofs.Common.{◌≡◌, ℕ, inl, inr, true, List, length, Option, Some, None, refl, sym, subst, ◌∙◌}
+use Rattle.s3_types.specs.Store.{Content, Scene}
+use Rattle.s3_types.specs.Store as store
+use Rattle.s3_types.specs.Moment.{moment, after_all, AreHonest}
+use Rattle.s3_types.specs.declared.request.Actor.TheVariants.{Driver}
+use Rattle.s3_types.specs.declared.request.Request.{Request}
+use Rattle.s3_types.specs.declared.journal.Entry.{Entry}
+use Rattle.retries.specs.Operation.{run, Follows}
+use Rattle.retries.specs.Retries.{Retried, fresh}
+use Rattle.retries.specs.Worn.{WornFirst}
+use Rattle.job_model.specs.Legal.{IsLegal}
+use Rattle.job_model.specs.Known.{Known}
+use Rattle.job_model.specs.declared.ends.SetupEnd.{SetupEnd}
+use Rattle.job_model.specs.declared.ends.OpEnd.TheVariants as ends
+use Rattle.job_protocol.specs.Setup.{Setup, setup_start}
+use Rattle.job_protocol.specs.Operations.{Setting, Operation, TheSetup, wants, advance, over}
+use Rattle.job_spec.specs.States.{Doing, is_new}
+use Rattle.job_spec.specs.Turns.{before, by_actor, AllBy}
+use Rattle.job_spec.specs.Follows.{known_then}
+use Rattle.job_spec.specs.OperationEnds.{SetupIs}
+use Rattle.job_spec.specs.Entries.{AreOwn}
+use Rattle.job_spec.specs.Promise.{SetupsEnd}
+use Rattle.job_outcomes.specs.SetupEnds.{keys_listed, SetupListed}
+use Rattle.job_safety.specs.Laws.{SetupsEndAmong}
+use Rattle.job_traces.proofs.EveryRun.{own_front}
+use Rattle.job_traces.specs.Runs.{IsOpening}
+use Rattle.job_steps.specs.Transitions.{Play, Reachable}
+use Rattle.job_outcomes.proofs.SetupEnds.{setups_end}
+use Rattle.job_safety.proofs.Cuts.{all_by_back, by_all}
+use Rattle.job_safety.proofs.Strange.{own_all}
+use Rattle.job_safety.proofs.Sorts.{over_kind, kind_run, driver_setup, memory_setup}
+use Rattle.job_safety.proofs.Ending.{Ending, ending}
+use Rattle.job_safety.proofs.Early.{early}
+use Rattle.job_safety.proofs.Spans.{start, scene_is, mine, honest}
+
+module _ (g : Setting) (opening : Content) (j : IsLegal g.script) (is_opening : IsOpening g opening) (x : Play) (run_x : Reachable g opening x) (idle : x.now ≡ None) where
+  module _ (i : ℕ) (d : Doing) (e : SetupEnd) (es : List Entry) (n : Ending g opening x i Driver d (ends.Setup e) es) where
+    abbrev k : Known
+    k = known_then g Driver d (by_actor Driver n.closed.at.journal)
+
+    abbrev first : Retried Setup
+    first = fresh g.script.retries setup_start
+
+    abbrev EndsSo : Operation → Type 0
+    EndsSo v = over (run (advance g Driver) (record { operation = v; known = k }) es).operation ≡ Some (ends.Setup e)
+
+    begun : EndsSo n.op → n.op ≡ TheSetup first
+    begun o = driver_setup g d.op d.missing k n.op n.begun_is (sym (kind_run g Driver (record { operation = n.op; known = k }) es) ∙ over_kind _ (ends.Setup e) o)
+
+    follows_so : n.op ≡ TheSetup first → Follows (wants g Driver) (advance g Driver) (record { operation = TheSetup first; known = k }) es
+    follows_so is = subst (λ v. Follows (wants g Driver) (advance g Driver) (record { operation = v; known = k }) es) is n.follows
+
+    -- by its own entries, whoever sends between them
+    listed_so : EndsSo n.op → (worn : Option Request) × WornFirst g.script.retries es worn × SetupListed g.script (keys_listed es) worn e
+    listed_so o = let b = begun o in setups_end.listed g Driver k es (follows_so b) e (subst EndsSo b o)
+
+    -- and by what stood as it began, where these are all there are since then
+    setup_so : AreOwn x.journal → EndsSo n.op → is_new (n.closed.at.past.state Driver).stage ≡ true
+        → (worn : Option Request) × WornFirst g.script.retries es worn × SetupIs g.script (moment opening x.journal (length (before d.since x.journal))).content worn e
+    setup_so alone o new =
+        let s = start g opening x i Driver d (ends.Setup e) es n in
+        let b = begun o in
+        let all : AllBy Driver s.entries = all_by_back Driver s.at.journal s.entries (subst (AllBy Driver) s.all (subst (AllBy Driver) (own_all n.closed.at.journal (own_front n.closed.at.journal n.closed.entries (subst AreOwn n.closed.all alone))) ((early g opening j is_opening n.closed.at n.closed.happened).alone new))) in
+        let own : es ≡ s.entries = mine g opening x i Driver d (ends.Setup e) es n ∙ by_all Driver s.entries all in
+        let scene : Scene = after_all (store.opening opening) s.at.journal in
+        let true_so : AreHonest scene es = subst (AreHonest scene) (sym own) (honest g opening x i Driver d (ends.Setup e) es n) in
+        let r = setups_end.running g j Driver k scene es (follows_so b) true_so e (subst EndsSo b o) in
+        (r.0, r.1, subst (λ (v : Scene). SetupIs g.script v.content r.0 e) (sym (scene_is g opening x i Driver d (ends.Setup e) es n)) r.2)
+
+  pub setups_among : SetupsEndAmong g.script x.journal x.ends
+  setups_among i d e es h =
+      let n = ending g opening x run_x idle i Driver refl d (ends.Setup e) es h in
+      elim n.ended [ inl memory ↦ inl (memory_setup e memory) | inr o ↦ inr (listed_so i d e es n o) ]
+
+  pub setups_kept : SetupsEnd g.script opening x.journal x.ends
+  setups_kept alone i d e es h =
+      let n = ending g opening x run_x idle i Driver refl d (ends.Setup e) es h in
+      elim n.ended [
+        | inl memory ↦ inl (memory_setup e memory)
+        | inr o ↦ elim ((early g opening j is_opening n.closed.at n.closed.happened).set n.place e n.finished) [
+          | inl memory ↦ inl (memory_setup e memory)
+          | inr new ↦ inr (setup_so i d e es n alone o new)
+        ]
+      ]

@@ -1,0 +1,111 @@
+-- Of which kind an operation is, from its beginning to its end.
+use Rattle.std.proofs.Common.{◌≡◌, ℕ, true, List, [], ◌∷◌, Option, Some, None, refl, sym, ap, ◌∙◌}
+use Rattle.std.specs.Option.{option_map}
+use Rattle.s3_types.specs.declared.request.Actor.{Actor}
+use Rattle.s3_types.specs.declared.request.Actor.TheVariants.{Driver}
+use Rattle.s3_types.specs.declared.journal.Outcome.{Outcome}
+use Rattle.s3_types.specs.declared.journal.Entry.{Entry}
+use Rattle.retries.specs.Operation.{run}
+use Rattle.retries.specs.Retries.{fresh}
+use Rattle.job_model.specs.Attempts.{Who}
+use Rattle.job_model.specs.Known.{Known}
+use Rattle.job_model.specs.declared.events.Op.{Op}
+use Rattle.job_model.specs.declared.events.Op.TheVariants as ops
+use Rattle.job_model.specs.declared.ends.SetupEnd.{SetupEnd}
+use Rattle.job_model.specs.declared.ends.SetupEnd.TheVariants as setups
+use Rattle.job_model.specs.declared.ends.TaskEnd.{TaskEnd}
+use Rattle.job_model.specs.declared.ends.TaskEnd.TheVariants as tasks
+use Rattle.job_model.specs.declared.ends.CommitEnd.{CommitEnd}
+use Rattle.job_model.specs.declared.ends.CommitEnd.TheVariants as commits
+use Rattle.job_model.specs.declared.ends.CleanEnd.{CleanEnd}
+use Rattle.job_model.specs.declared.ends.CleanEnd.TheVariants as cleans
+use Rattle.job_model.specs.declared.ends.OpEnd.{OpEnd}
+use Rattle.job_model.specs.declared.ends.OpEnd.TheVariants as ends
+use Rattle.job_protocol.specs.Setup.{setup_start, setup_over}
+use Rattle.job_protocol.specs.Writes.{write_over}
+use Rattle.job_protocol.specs.TaskCommits.{task_commit_over}
+use Rattle.job_protocol.specs.TaskAborts.{task_abort_over}
+use Rattle.job_protocol.specs.JobCommits.{commit_start, commit_over}
+use Rattle.job_protocol.specs.Cleanups.{clean_start, clean_over}
+use Rattle.job_protocol.specs.Operations.{Setting, Operation, TheSetup, TheWrite, TheTaskCommit, TheTaskAbort, TheCommit, TheClean, Running, who, tells, advance, start_of, over}
+use Rattle.job_spec.specs.Turns.{is_memory}
+use Rattle.proof_base.proofs.Members.{some_is, none_some, false_true}
+
+pub data Kind : Type 0 where
+  OfSetup : Kind
+  OfTask : Kind
+  OfCommit : Kind
+  OfClean : Kind
+  OfNone : Kind
+
+abbrev pub kind : Operation → Kind
+kind (TheSetup t) = OfSetup
+kind (TheCommit c) = OfCommit
+kind (TheClean t) = OfClean
+kind _ = OfTask
+
+abbrev pub end_kind : OpEnd → Kind
+end_kind (ends.Setup e) = OfSetup
+end_kind (ends.Commit e) = OfCommit
+end_kind (ends.Clean e) = OfClean
+end_kind (ends.Task e) = OfTask
+end_kind ends.NoMemory = OfNone
+
+-- what an end is of
+pub end_of : {X Y : Type 0} (f : X → Y) (o : Option X) (y : Y) → option_map f o ≡ Some y → (x : X) × (o ≡ Some x) × (f x ≡ y)
+end_of f None y e = absurd (none_some refl e)
+end_of f (Some x) y e = (x, refl, some_is e)
+
+pub over_kind : (op : Operation) (e : OpEnd) → over op ≡ Some e → kind op ≡ end_kind e
+over_kind (TheSetup t) e o = ap end_kind (end_of ends.Setup (setup_over t.operation) e o).2
+over_kind (TheWrite t) e o = ap end_kind (end_of ends.Task (write_over t.operation) e o).2
+over_kind (TheTaskCommit t) e o = ap end_kind (end_of ends.Task (task_commit_over t.operation) e o).2
+over_kind (TheTaskAbort t) e o = ap end_kind (end_of ends.Task (task_abort_over t.operation) e o).2
+over_kind (TheCommit c) e o = ap end_kind (end_of ends.Commit (commit_over c) e o).2
+over_kind (TheClean t) e o = ap end_kind (end_of ends.Clean (clean_over t.operation) e o).2
+
+kind_tells : (g : Setting) (a : Who) (op : Operation) (o : Outcome) → kind (tells g a op o) ≡ kind op
+kind_tells g a (TheSetup t) o = refl
+kind_tells g a _ o = refl
+
+pub kind_run : (g : Setting) (a : Actor) (m : Running) (es : List Entry) → kind (run (advance g a) m es).operation ≡ kind m.operation
+kind_run g a m [] = refl
+kind_run g a m (e ∷ es) = kind_run g a (advance g a m e.outcome) es ∙ kind_tells g (who a) m.operation e.outcome
+
+-- ---- the driver's, by its kind
+
+pub driver_setup : (g : Setting) (op : Op) (missing : Option ℕ) (k : Known) (m : Operation) → start_of g Driver op missing k ≡ Some m → kind m ≡ OfSetup → m ≡ TheSetup (fresh g.script.retries setup_start)
+driver_setup g ops.Setup missing k m b e = sym (some_is b)
+driver_setup g ops.Write missing k m b e = absurd (none_some refl b)
+driver_setup g ops.Commit missing k m b e = let no : OfCommit ≡ OfSetup = ap kind (some_is b) ∙ e in absurd cc
+driver_setup g _ missing k m b e = let no : OfClean ≡ OfSetup = ap kind (some_is b) ∙ e in absurd cc
+
+pub driver_commit : (g : Setting) (op : Op) (missing : Option ℕ) (k : Known) (m : Operation) → start_of g Driver op missing k ≡ Some m → kind m ≡ OfCommit → (op ≡ ops.Commit) × (m ≡ TheCommit (commit_start g.script missing))
+driver_commit g ops.Setup missing k m b e = let no : OfSetup ≡ OfCommit = ap kind (some_is b) ∙ e in absurd cc
+driver_commit g ops.Write missing k m b e = absurd (none_some refl b)
+driver_commit g ops.Commit missing k m b e = (refl, sym (some_is b))
+driver_commit g _ missing k m b e = let no : OfClean ≡ OfCommit = ap kind (some_is b) ∙ e in absurd cc
+
+pub driver_clean : (g : Setting) (op : Op) (missing : Option ℕ) (k : Known) (m : Operation) → start_of g Driver op missing k ≡ Some m → kind m ≡ OfClean → m ≡ TheClean (fresh g.script.retries clean_start)
+driver_clean g ops.Setup missing k m b e = let no : OfSetup ≡ OfClean = ap kind (some_is b) ∙ e in absurd cc
+driver_clean g ops.Write missing k m b e = absurd (none_some refl b)
+driver_clean g ops.Commit missing k m b e = let no : OfCommit ≡ OfClean = ap kind (some_is b) ∙ e in absurd cc
+driver_clean g _ missing k m b e = sym (some_is b)
+
+-- ---- ends for want of memory
+
+pub memory_setup : (e : SetupEnd) → is_memory (ends.Setup e) ≡ true → e ≡ setups.NoMemory
+memory_setup setups.NoMemory h = refl
+memory_setup _ h = absurd (false_true refl h)
+
+pub memory_commit : (e : CommitEnd) → is_memory (ends.Commit e) ≡ true → e ≡ commits.NoMemory
+memory_commit commits.NoMemory h = refl
+memory_commit _ h = absurd (false_true refl h)
+
+pub memory_clean : (e : CleanEnd) → is_memory (ends.Clean e) ≡ true → e ≡ cleans.NoMemory
+memory_clean cleans.NoMemory h = refl
+memory_clean _ h = absurd (false_true refl h)
+
+pub memory_task : (e : TaskEnd) → is_memory (ends.Task e) ≡ true → e ≡ tasks.NoMemory
+memory_task tasks.NoMemory h = refl
+memory_task _ h = absurd (false_true refl h)

@@ -1,0 +1,66 @@
+-- The journal of a run where an operation began and ended: what was before, what was between, and what the actor itself sent.
+use Rattle.std.proofs.Common.{◌≡◌, ℕ, ◌+◌, ◌≤◌, List, ◌++◌, length, append_assoc, sym, ap, subst, ◌∙◌}
+use Rattle.s3_types.specs.Store.{Content}
+use Rattle.s3_types.specs.Store as store
+use Rattle.s3_types.specs.Moment.{moment, after_all, AreHonest}
+use Rattle.s3_types.specs.declared.request.Actor.{Actor}
+use Rattle.s3_types.specs.declared.journal.Entry.{Entry}
+use Rattle.job_model.specs.declared.ends.OpEnd.{OpEnd}
+use Rattle.job_protocol.specs.Operations.{Setting}
+use Rattle.job_spec.specs.States.{Doing}
+use Rattle.job_spec.specs.Turns.{before, since, by_actor, AllFrom, AllUpTo}
+use Rattle.job_steps.specs.Transitions.{Play}
+use Rattle.job_steps.proofs.Told.{told_all}
+use Rattle.job_safety.proofs.Cuts.{from_more, before_front, before_cut, since_cut, before_by_front, since_by_cut, moment_cut, after_cut, honest_back}
+use Rattle.job_safety.proofs.History.{Began, began}
+use Rattle.job_safety.proofs.Ending.{Ending}
+
+module _ (g : Setting) (opening : Content) (x : Play) (j : ℕ) (a : Actor) (d : Doing) (end : OpEnd) (es : List Entry) (n : Ending g opening x j a d end es) where
+  abbrev z : Play
+  z = n.closed.at
+
+  -- where it began
+  abbrev pub start : Began g opening z a d
+  start = began g opening z n.closed.happened a d n.doing
+
+  abbrev s : Play
+  s = start.at
+
+  early : AllUpTo (length s.ends) s.journal
+  early = ((told_all g opening s start.happened).closed start.may.idle).1
+
+  -- all that came after the event it ended in is of later events than that it began in
+  pub late : AllFrom d.since n.closed.entries
+  late = let then : d.since ≤ j + 1 = n.from_then in from_more (j + 1) d.since n.closed.entries then n.closed.after
+
+  whole : x.journal ≡ s.journal ++ (start.entries ++ n.closed.entries)
+  whole = n.closed.all ∙ ap (λ l. l ++ n.closed.entries) start.all ∙ append_assoc s.journal start.entries n.closed.entries
+
+  pub before_is : before d.since x.journal ≡ s.journal
+  before_is =
+      let here : before d.since (s.journal ++ start.entries) ≡ s.journal =
+      subst (λ k. AllFrom k start.entries → before k (s.journal ++ start.entries) ≡ s.journal) (sym start.since_is) (before_cut (length s.ends) s.journal start.entries early) start.after in
+      ap (before d.since) n.closed.all ∙ before_front d.since z.journal n.closed.entries late ∙ ap (before d.since) start.all ∙ here
+
+  -- the scene that it began in
+  pub scene_is : moment opening x.journal (length (before d.since x.journal)) ≡ after_all (store.opening opening) s.journal
+  scene_is = ap (λ l. moment opening x.journal (length l)) before_is ∙ ap (λ l. moment opening l (length s.journal)) whole ∙ moment_cut opening s.journal (start.entries ++ n.closed.entries)
+
+  pub since_is : since d.since z.journal ≡ start.entries
+  since_is = ap (since d.since) start.all ∙ subst (λ k. AllFrom k start.entries → since k (s.journal ++ start.entries) ≡ start.entries) (sym start.since_is) (since_cut (length s.ends) s.journal start.entries early) start.after
+
+  -- its own entries
+  pub mine : es ≡ by_actor a start.entries
+  mine =
+      n.entries_are ∙ ap (λ l. since d.since (by_actor a l)) start.all
+      ∙ subst (λ k. AllFrom k start.entries → since k (by_actor a (s.journal ++ start.entries)) ≡ by_actor a start.entries) (sym start.since_is) (since_by_cut (length s.ends) a s.journal start.entries early) start.after
+
+  pub honest : AreHonest (after_all (store.opening opening) s.journal) start.entries
+  honest = honest_back (store.opening opening) s.journal start.entries (subst (AreHonest (store.opening opening)) start.all (told_all g opening z n.closed.happened).honest)
+
+  pub after_is : after_all (store.opening opening) z.journal ≡ after_all (after_all (store.opening opening) s.journal) start.entries
+  after_is = ap (after_all (store.opening opening)) start.all ∙ after_cut (store.opening opening) s.journal start.entries
+
+  -- what its actor had sent before
+  pub known_is : before d.since (by_actor a x.journal) ≡ before d.since (by_actor a z.journal)
+  known_is = ap (λ l. before d.since (by_actor a l)) n.closed.all ∙ before_by_front d.since a z.journal n.closed.entries late

@@ -1,0 +1,81 @@
+-- Entries of strangers between the events of a run: no actor of the job sent them, and nothing is told of them.
+use Rattle.std.proofs.Common.{◌≡◌, ℕ, ◌+◌, ◌<◌, ◌≤◌, nat_le, ◌||◌, Bool, true, false, cond, List, [], ◌∷◌, ◌++◌, Option, refl, ap, ◌∙◌, arith}
+use Rattle.std.specs.List.{filter, list_any}
+use Rattle.std.proofs.lemmas.List.Folds.{list_any-append}
+use Rattle.proof_base.proofs.Numbers.{above_so}
+use Rattle.s3_types.specs.declared.request.Actor.{Actor}
+use Rattle.s3_types.specs.declared.request.Actor.TheVariants.{Driver, Shell}
+use Rattle.s3_types.specs.declared.journal.Entry.{Entry}
+use Rattle.proof_base.proofs.Members.{false_true}
+use Rattle.job_model.specs.JobScript.{Script}
+use Rattle.job_spec.specs.States.{same_actor}
+use Rattle.job_spec.specs.Entries.{AreOwn}
+use Rattle.job_spec.specs.Seen.{Seen, see, see_by, see_all}
+use Rattle.job_spec.specs.Turns.{is_own, own, until, by_actor, until_last, AllBy, AllFrom}
+use Rattle.job_facts.proofs.Whose.{or_false}
+use Rattle.job_steps.proofs.Actors.{same_false}
+
+abbrev pub AreStrange : List Entry → Type 0
+AreStrange [] = Unit {0}
+AreStrange (e ∷ es) = (is_own e.actor ≡ false) × AreStrange es
+
+-- what is not of a later event is a stranger's, where all own entries are
+pub strange_until : (n : ℕ) (es : List Entry) → AllFrom (n + 1) (own es) → AreStrange (until n es)
+strange_until n [] h = tt
+strange_until n (e ∷ es) h = by (is_own e.actor) refl (nat_le e.event n) refl h (λ g. strange_until n es g)
+  where
+    by : (b : Bool) → is_own e.actor ≡ b → (c : Bool) → nat_le e.event n ≡ c → AllFrom (n + 1) (cond b (e ∷ own es) (own es)) → (AllFrom (n + 1) (own es) → AreStrange (until n es)) → AreStrange (cond c (e ∷ until n es) (until n es))
+    by true is false low h rest = rest h.1
+    by false is false low h rest = rest h
+    by false is true low h rest = (is, rest h)
+    by true is true low h rest = let one : n + 1 ≤ e.event = h.0 in let late : n < e.event = omega arith in absurd (false_true (above_so e.event n late) low)
+
+pub strange_by : (a : Actor) → is_own a ≡ true → (es : List Entry) → AreStrange es → by_actor a es ≡ []
+strange_by a own [] h = refl
+strange_by a own (e ∷ es) h = ap (λ b. cond b (e ∷ by_actor a es) (by_actor a es)) (same_false e.actor a (λ s. false_true h.0 (ap is_own s ∙ own))) ∙ strange_by a own es h.1
+
+pub strange_none : (es : List Entry) → AreOwn es → AreStrange es → es ≡ []
+strange_none [] own h = refl
+strange_none (e ∷ es) own h = absurd (false_true h.0 own.0)
+
+pub driver_none : (es : List Entry) → AllBy Driver es → AreStrange es → es ≡ []
+driver_none [] all h = refl
+driver_none (e ∷ es) all h = absurd (false_true h.0 (ap is_own all.0))
+
+pub own_back : (es fs : List Entry) → AreOwn (es ++ fs) → AreOwn fs
+own_back [] fs h = h
+own_back (e ∷ es) fs h = own_back es fs h.1
+
+pub own_part : (p : Entry → Bool) (es : List Entry) → AreOwn es → AreOwn (filter p es)
+own_part p [] h = tt
+own_part p (e ∷ es) h = by (p e) (own_part p es h.1)
+  where
+    by : (b : Bool) → AreOwn (filter p es) → AreOwn (cond b (e ∷ filter p es) (filter p es))
+    by true rest = (h.0, rest)
+    by false rest = rest
+
+pub own_all : (es : List Entry) → AreOwn es → own es ≡ es
+own_all [] h = refl
+own_all (e ∷ es) h = ap (λ b. cond b (e ∷ own es) (own es)) h.0 ∙ ap (λ l. e ∷ l) (own_all es h.1)
+
+-- none is behind an actor's last entry
+strange_any : (a : Actor) → is_own a ≡ true → (es : List Entry) → AreStrange es → list_any (λ x. same_actor x.actor a) es ≡ false
+strange_any a own [] h = refl
+strange_any a own (e ∷ es) h = ap (λ b. b || list_any (λ x. same_actor x.actor a) es) (same_false e.actor a (λ s. false_true h.0 (ap is_own s ∙ own))) ∙ strange_any a own es h.1
+
+pub strange_last : (a : Actor) → is_own a ≡ true → (es fs : List Entry) → AreStrange fs → until_last a (es ++ fs) ≡ until_last a es
+strange_last a own [] [] h = refl
+strange_last a own [] (f ∷ fs) h = ap (λ b. cond b (f ∷ until_last a fs) []) (strange_any a own (f ∷ fs) h)
+strange_last a own (e ∷ es) fs h =
+    let any : list_any (λ x. same_actor x.actor a) (e ∷ es ++ fs) ≡ list_any (λ x. same_actor x.actor a) (e ∷ es) =
+    list_any-append (λ x. same_actor x.actor a) (e ∷ es) fs ∙ ap (λ b. list_any (λ x. same_actor x.actor a) (e ∷ es) || b) (strange_any a own fs h) ∙ or_false _ in
+    ap (λ b. cond b (e ∷ until_last a (es ++ fs)) []) any ∙ ap (λ l. cond (list_any (λ x. same_actor x.actor a) (e ∷ es)) (e ∷ l) []) (strange_last a own es fs h)
+
+-- and nothing is picked
+pub strange_picks : (w : Script) (k : Option ℕ) (s : Seen) (es : List Entry) → AreStrange es → (see_all w k s es).picks ≡ s.picks
+strange_picks w k s [] h = refl
+strange_picks w k s (e ∷ es) h = strange_picks w k (see w k s e) es h.1 ∙ by e.actor h.0
+  where
+    by : (a : Actor) → is_own a ≡ false → (see_by w k s e.event e.request e.outcome a).picks ≡ s.picks
+    by Shell q = refl
+    by _ q = absurd (false_true q refl)

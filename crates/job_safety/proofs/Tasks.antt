@@ -1,0 +1,153 @@
+-- How attempts' operations end in a run, and that a commit that is done has published.
+use Rattle.std.proofs.Common.{◌≡◌, ℕ, ◌+◌, inl, inr, Bool, true, false, List, [], ◌∷◌, Option, Some, None, refl, sym, ap, subst, ◌∙◌}
+use Rattle.std.specs.Option.{option_map}
+use Rattle.s3_types.specs.Store.{Content}
+use Rattle.s3_types.specs.declared.request.Actor.TheVariants.{Attempt}
+use Rattle.s3_types.specs.declared.request.Request.{Request}
+use Rattle.s3_types.specs.declared.journal.Outcome.{Outcome}
+use Rattle.s3_types.specs.declared.journal.Entry.{Entry}
+use Rattle.retries.specs.Operation.{run}
+use Rattle.retries.specs.Worn.{WornFirst}
+use Rattle.job_model.specs.Attempts.{Who}
+use Rattle.job_model.specs.Legal.{IsLegal}
+use Rattle.job_model.specs.Known.{Known}
+use Rattle.job_model.specs.declared.events.Op.{Op}
+use Rattle.job_model.specs.declared.events.Op.TheVariants as ops
+use Rattle.job_model.specs.declared.ends.TaskEnd.{TaskEnd}
+use Rattle.job_model.specs.declared.ends.TaskEnd.TheVariants as tasks
+use Rattle.job_model.specs.declared.ends.OpEnd.TheVariants as ends
+use Rattle.job_protocol.specs.TaskCommits.{TaskCommit, TaskCommitOver, task_commit_over}
+use Rattle.job_protocol.specs.Knowledge.{knows}
+use Rattle.job_protocol.specs.Operations.{Setting, Operation, TheSetup, TheTaskCommit, Running, tells, advance, start_of, over}
+use Rattle.job_spec.specs.Ends.{has_cleaned}
+use Rattle.job_spec.specs.States.{Doing, commit_event, clean_event}
+use Rattle.job_spec.specs.Turns.{until, by_actor, until_last}
+use Rattle.job_spec.specs.Follows.{known_then}
+use Rattle.job_spec.specs.OperationEnds.{TaskIs, WasPublished}
+use Rattle.job_spec.specs.Promise.{setting}
+use Rattle.job_safety.specs.Laws.{TasksEndAmong, PublishesAmong}
+use Rattle.proof_base.proofs.Members.{some_is, none_some, false_true}
+use Rattle.job_traces.specs.Runs.{IsOpening}
+use Rattle.job_facts.proofs.Whose.{attempt}
+use Rattle.job_steps.specs.Transitions.{Play, Closes, happen, Reachable, happens}
+use Rattle.job_steps.specs.Running.{times, IsRun, operation_of}
+use Rattle.job_steps.proofs.Running.{is_run}
+use Rattle.job_outcomes.specs.TaskEnds.{is_abort}
+use Rattle.job_outcomes.proofs.TaskEnds.{task_ends, task_joined}
+use Rattle.job_outcomes.proofs.Gone.{gone_cleaned, done_published}
+use Rattle.job_outcomes.proofs.RunEntries.{run_entries}
+use Rattle.job_safety.proofs.Sorts.{memory_task}
+use Rattle.job_safety.proofs.Ending.{Ending, ahead_none, ending, journal_until, until_strange}
+use Rattle.job_safety.proofs.Strange.{strange_last}
+use Rattle.job_safety.proofs.Spans.{known_is}
+
+-- ---- of which operation
+
+abort_tells : (g : Setting) (a : Who) (op : Operation) (o : Outcome) → is_abort (tells g a op o) ≡ is_abort op
+abort_tells g a (TheSetup t) o = refl
+abort_tells g a _ o = refl
+
+abort_run : (g : Setting) (t n : ℕ) (m : Running) (es : List Entry) → is_abort (run (advance g (Attempt t n)) m es).operation ≡ is_abort m.operation
+abort_run g t n m [] = refl
+abort_run g t n m (e ∷ es) = abort_run g t n (advance g (Attempt t n) m e.outcome) es ∙ abort_tells g (attempt t n) m.operation e.outcome
+
+no_abort : (g : Setting) (t n : ℕ) (op : Op) (missing : Option ℕ) (k : Known) (m : Operation) → start_of g (Attempt t n) op missing k ≡ Some m → (op ≡ ops.Abort → ⊥) → is_abort m ≡ false
+no_abort g t n ops.Write missing k m e ne = ap is_abort (sym (some_is e))
+no_abort g t n ops.Commit missing k m e ne = ap is_abort (sym (some_is e))
+no_abort g t n ops.Abort missing k m e ne = absurd (ne refl)
+no_abort g t n _ missing k m e ne = absurd (none_some refl e)
+
+abbrev IsTaskCommit : Operation → Type 0
+IsTaskCommit (TheTaskCommit t) = Unit {0}
+IsTaskCommit _ = ⊥
+
+commit_tells : (g : Setting) (a : Who) (op : Operation) (o : Outcome) → IsTaskCommit op → IsTaskCommit (tells g a op o)
+commit_tells g a (TheTaskCommit t) o h = tt
+commit_tells g a _ o h = absurd h
+
+commit_run : (g : Setting) (t n : ℕ) (m : Running) (es : List Entry) → IsTaskCommit m.operation → IsTaskCommit (run (advance g (Attempt t n)) m es).operation
+commit_run g t n m [] h = h
+commit_run g t n m (e ∷ es) h = commit_run g t n (advance g (Attempt t n) m e.outcome) es (commit_tells g (attempt t n) m.operation e.outcome h)
+
+task_is : {d e : TaskEnd} → Some (ends.Task d) ≡ Some (ends.Task e) → d ≡ e
+task_is e = cc
+
+-- a commit that is done
+abbrev IsDoneCommit : Operation → Type 0
+IsDoneCommit op = (spare : ℕ) × (repeated : Bool) × (op ≡ TheTaskCommit (record { operation = TaskCommitOver tasks.Done; spare = spare; repeated = repeated }))
+
+done_state : (spare : ℕ) (repeated : Bool) (t : TaskCommit) → option_map ends.Task (task_commit_over t) ≡ Some (ends.Task tasks.Done) → IsDoneCommit (TheTaskCommit (record { operation = t; spare = spare; repeated = repeated }))
+done_state spare repeated (TaskCommitOver end) e = (spare, repeated, ap (λ v. TheTaskCommit (record { operation = TaskCommitOver v; spare = spare; repeated = repeated })) (task_is e))
+done_state spare repeated _ e = absurd (none_some refl e)
+
+done_commit : (op : Operation) → IsTaskCommit op → over op ≡ Some (ends.Task tasks.Done) → IsDoneCommit op
+done_commit (TheTaskCommit t) h e = done_state t.spare t.repeated t.operation e
+done_commit _ h e = absurd h
+
+module _ (g : Setting) (opening : Content) (j : IsLegal g.script) (is_opening : IsOpening g opening) (x : Play) (run_x : Reachable g opening x) (idle : x.now ≡ None) where
+  module _ (i t a : ℕ) (d : Doing) (e : TaskEnd) (es : List Entry) (n : Ending g opening x i (Attempt t a) d (ends.Task e) es) where
+    abbrev z : Play
+    z = n.closed.at
+
+    abbrev k : Known
+    k = known_then g (Attempt t a) d (by_actor (Attempt t a) z.journal)
+
+    abbrev at : Operation
+    at = (run (advance g (Attempt t a)) (record { operation = n.op; known = k }) es).operation
+
+    -- the run at the end of the event
+    then : IsRun g opening (happen g z (Closes n.event_end)) (times g.script x.ends)
+    then = is_run g opening j is_opening (happen g z (Closes n.event_end)) (happens z (Closes n.event_end) n.closed.happened n.closed.may) x.ends (n.closed.ahead x.ends (ahead_none x idle))
+
+    is_at : then.stand.attempts (attempt t a) ≡ Some at
+    is_at = then.attempts (attempt t a) ∙ ap operation_of n.running
+
+    -- whether the driver's abort or clean had begun at its last entry
+    abbrev cleaned : Bool
+    cleaned = has_cleaned (clean_event g.script x.ends) (until_last (Attempt t a) (until (i + 1) x.journal))
+
+    cleaned_then : cleaned ≡ has_cleaned then.stand.told.cleans_at (until_last (Attempt t a) z.journal)
+    cleaned_then =
+        ap (λ l. has_cleaned (clean_event g.script x.ends) (until_last (Attempt t a) l)) (journal_until g opening x run_x idle i n.event_end n.closed)
+        ∙ ap (has_cleaned (clean_event g.script x.ends)) (strange_last (Attempt t a) refl z.journal (until (i + 1) n.closed.entries) (until_strange g opening x run_x idle i n.event_end n.closed))
+        ∙ ap (λ c. has_cleaned c (until_last (Attempt t a) z.journal)) (sym then.cleans)
+
+    gone_so : over at ≡ Some (ends.Task e) → (d.op ≡ ops.Abort → ⊥) → (name : List ℕ) → e ≡ tasks.Gone name → cleaned ≡ true
+    gone_so o not_abort name is =
+        cleaned_then
+        ∙ gone_cleaned g (commit_event g.script x.ends) opening j is_opening z.journal then.stand then.runs (attempt t a) at name is_at (abort_run g t a (record { operation = n.op; known = k }) es ∙ no_abort g t a d.op d.missing k n.op n.begun_is not_abort) (o ∙ ap (λ v. Some (ends.Task v)) is)
+
+    known_so : k ≡ known_then (setting g.script opening) (Attempt t a) d (by_actor (Attempt t a) x.journal)
+    known_so = ap (knows g.script (attempt t a)) (sym (known_is g opening x i (Attempt t a) d (ends.Task e) es n))
+
+    task_so : over at ≡ Some (ends.Task e) → (worn : Option Request) × WornFirst g.script.retries es worn
+        × TaskIs d.op g.script (attempt t a) es (known_then (setting g.script opening) (Attempt t a) d (by_actor (Attempt t a) x.journal)).publish_sent cleaned worn e
+    task_so o =
+        let r = task_ends g t a d.op d.missing k n.op n.begun_is es n.follows e o in
+        (r.0, r.1, subst (λ (v : Known). TaskIs d.op g.script (attempt t a) es v.publish_sent cleaned r.0 e) known_so (task_joined d.op g.script (attempt t a) es k.publish_sent cleaned r.0 e r.2 (gone_so o)))
+
+  pub tasks_kept : TasksEndAmong g.script opening x.journal x.ends
+  tasks_kept i t a d e es h =
+      let n = ending g opening x run_x idle i (Attempt t a) refl d (ends.Task e) es h in
+      elim n.ended [ inl memory ↦ inl (memory_task e memory) | inr o ↦ inr (task_so i t a d e es n o) ]
+
+  -- ---- a commit that is done
+
+  module _ (i t a : ℕ) (d : Doing) (es : List Entry) (n : Ending g opening x i (Attempt t a) d (ends.Task tasks.Done) es) where
+    abbrev u : Play
+    u = n.closed.at
+
+    commit_begun : d.op ≡ ops.Commit → IsTaskCommit n.op
+    commit_begun is = subst IsTaskCommit (some_is (sym (ap (λ v. start_of g (Attempt t a) v d.missing (k i t a d tasks.Done es n)) is) ∙ n.begun_is)) tt
+
+    publishes_so : d.op ≡ ops.Commit → cleaned i t a d tasks.Done es n ≡ false → over (at i t a d tasks.Done es n) ≡ Some (ends.Task tasks.Done) → WasPublished g.script opening x.journal t a (i + 1)
+    publishes_so is clean o =
+        let r = then i t a d tasks.Done es n in
+        let c = done_commit (at i t a d tasks.Done es n) (commit_run g t a (record { operation = n.op; known = k i t a d tasks.Done es n }) es (commit_begun is)) o in
+        let p = done_published g (commit_event g.script x.ends) opening j is_opening u.journal r.stand r.runs (attempt t a) c.0 c.1 (is_at i t a d tasks.Done es n ∙ ap (λ v. Some v) c.2) (sym (cleaned_then i t a d tasks.Done es n) ∙ clean) in
+        subst (λ l. WasPublished g.script opening l t a (i + 1)) (sym n.closed.all) (run_entries.published g.script opening u.journal n.closed.entries t a p.0 (i + 1) p.1 n.up_to)
+
+  pub publishes_kept : PublishesAmong g.script opening x.journal x.ends
+  publishes_kept i t a d es h is clean =
+      let n = ending g opening x run_x idle i (Attempt t a) refl d (ends.Task tasks.Done) es h in
+      elim n.ended [ inl memory ↦ absurd (false_true refl memory) | inr o ↦ publishes_so i t a d es n is clean o ]

@@ -1,0 +1,90 @@
+-- That every run keeps what is promised of its job.
+use Rattle.std.specs.Prelude.{◌≡◌, not, true, Bool, None, List, ℕ, ◌+◌, ◌⊎◌, false, Option}
+use Rattle.s3_types.specs.Store.{Content}
+use Rattle.s3_types.specs.declared.request.Actor.TheVariants.{Driver, Attempt}
+use Rattle.s3_types.specs.declared.journal.Entry.{Entry}
+use Rattle.job_model.specs.JobScript.{Script}
+use Rattle.s3_types.specs.declared.request.Request.{Request}
+use Rattle.retries.specs.Worn.{WornFirst}
+use Rattle.job_model.specs.Legal.{IsLegal}
+use Rattle.job_model.specs.declared.events.Op.TheVariants as ops
+use Rattle.job_model.specs.declared.ends.Pick.{Pick}
+use Rattle.job_model.specs.declared.ends.SetupEnd.{SetupEnd}
+use Rattle.job_model.specs.declared.ends.SetupEnd.TheVariants as setups
+use Rattle.job_model.specs.declared.ends.TaskEnd.{TaskEnd}
+use Rattle.job_model.specs.declared.ends.TaskEnd.TheVariants as tasks
+use Rattle.job_model.specs.declared.ends.CommitEnd.{CommitEnd}
+use Rattle.job_model.specs.declared.ends.EventEnd.{EventEnd}
+use Rattle.job_model.specs.declared.ends.OpEnd.TheVariants as ends
+use Rattle.job_protocol.specs.Operations.{Setting}
+use Rattle.job_spec.specs.Entries.{ZeroRename}
+use Rattle.job_spec.specs.Promise.{Promised, ArePicked, all_picks, setting, seen_until, CleansEnd}
+use Rattle.job_spec.specs.Seen.{nothing_seen, see_all}
+use Rattle.job_spec.specs.States.{is_new, past, commit_event, Doing, clean_event}
+use Rattle.job_facts.specs.Facts.{Hold}
+use Rattle.job_spec.specs.Turns.{until, until_last, by_actor}
+use Rattle.job_spec.specs.Follows.{Plays, known_then}
+use Rattle.job_spec.specs.Ends.{EndedIn, CommitEnded, has_cleaned}
+use Rattle.job_spec.specs.OperationEnds.{TaskIs, WasPublished, CommitServed}
+use Rattle.job_traces.specs.Runs.{IsOpening}
+use Rattle.job_facts.specs.Told.{nothing_told, tell_all}
+use Rattle.job_steps.specs.Transitions.{Play, Reachable}
+use Rattle.job_outcomes.specs.SetupEnds.{keys_listed, SetupListed}
+
+-- ---- among strangers that leave the job's own alone
+
+-- the driver's set-up ends by what its own pages listed
+abbrev pub SetupsEndAmong : Script → List Entry → List EventEnd → Type 0
+SetupsEndAmong w journal xs = (j : ℕ) (d : Doing) (e : SetupEnd) (es : List Entry) → EndedIn w xs journal j Driver d (ends.Setup e) es
+    → (e ≡ setups.NoMemory) ⊎ ((worn : Option Request) × WornFirst w.retries es worn × SetupListed w (keys_listed es) worn e)
+
+-- an attempt's operation as is promised of it where nobody else sends
+abbrev pub TasksEndAmong : Script → Content → List Entry → List EventEnd → Type 0
+TasksEndAmong w opening journal xs = (j t a : ℕ) (d : Doing) (e : TaskEnd) (es : List Entry) → EndedIn w xs journal j (Attempt t a) d (ends.Task e) es
+    → (e ≡ tasks.NoMemory) ⊎ ((worn : Option Request) × WornFirst w.retries es worn
+    × TaskIs d.op w (record { task = t; attempt = a }) es (known_then (setting w opening) (Attempt t a) d (by_actor (Attempt t a) journal)).publish_sent (has_cleaned (clean_event w xs) (until_last (Attempt t a) (until (j + 1) journal))) worn e)
+
+-- among strangers too, a task's commit that ended Done has published
+abbrev pub PublishesAmong : Script → Content → List Entry → List EventEnd → Type 0
+PublishesAmong w opening journal xs = (j t a : ℕ) (d : Doing) (es : List Entry) → EndedIn w xs journal j (Attempt t a) d (ends.Task tasks.Done) es → d.op ≡ ops.Commit
+    → has_cleaned (clean_event w xs) (until_last (Attempt t a) (until (j + 1) journal)) ≡ false → WasPublished w opening journal t a (j + 1)
+
+-- the driver's commit has the end that is due, and is served
+abbrev pub CommitsEndAmong : Script → Content → List Entry → List EventEnd → Type 0
+CommitsEndAmong w opening journal xs = (j : ℕ) (d : Doing) (e : CommitEnd) (es : List Entry) → EndedIn w xs journal j Driver d (ends.Commit e) es
+    → CommitEnded w (seen_until w opening journal xs (j + 1)) d.missing es e × CommitServed w es
+
+-- what no stranger can break
+pub record KeptAmong (w : Script) (opening : Content) (journal : List Entry) (ps : List Pick) (xs : List EventEnd) : Type 0 where
+  pub plays : Plays (setting w opening) xs journal
+  pub picks : ArePicked ps (all_picks w opening journal xs)
+  pub zero_rename : ZeroRename w opening journal
+  pub setups : SetupsEndAmong w journal xs
+  pub tasks : TasksEndAmong w opening journal xs
+  pub publishes : PublishesAmong w opening journal xs
+  pub cleans : CleansEnd w opening journal xs
+  pub commits : CommitsEndAmong w opening journal xs
+
+-- ---- the laws
+
+-- between events all that no stranger can break holds of what has happened
+abbrev pub RunsAreKeptAmong : Type 0
+RunsAreKeptAmong = (g : Setting) (opening : Content) (x : Play) → IsLegal g.script → IsOpening g opening → Reachable g opening x → x.now ≡ None
+    → (ps : List Pick) → ArePicked ps (all_picks g.script opening x.journal x.ends) → KeptAmong g.script opening x.journal ps x.ends
+
+-- between events all that is promised holds of what has happened
+abbrev pub RunsAreKept : Type 0
+RunsAreKept = (g : Setting) (opening : Content) (x : Play) → IsLegal g.script → IsOpening g opening → Reachable g opening x → x.now ≡ None
+    → (ps : List Pick) → ArePicked ps (all_picks g.script opening x.journal x.ends) → Promised g.script opening x.journal ps x.ends
+
+-- the set-up of the job has ended Done
+abbrev pub is_set_up : Script → List EventEnd → Bool
+is_set_up w xs = not (is_new ((past w xs).state Driver).stage)
+
+-- from then on what holds of one job between any two requests holds of what its journal leaves and tells
+abbrev pub FactsHold : Script → Content → List Entry → List EventEnd → Type 0
+FactsHold w opening journal xs = is_set_up w xs ≡ true → Hold w opening.minimum (see_all w (commit_event w xs) (nothing_seen opening) journal) (tell_all w (nothing_told (clean_event w xs)) journal)
+
+-- between events the facts hold of what has happened, from the end of a set-up on
+abbrev pub RunsHoldFacts : Type 0
+RunsHoldFacts = (g : Setting) (opening : Content) (x : Play) → IsLegal g.script → IsOpening g opening → Reachable g opening x → x.now ≡ None → FactsHold g.script opening x.journal x.ends

@@ -1,0 +1,14 @@
+-- a commit that nothing hinders is due to end Committed
+use Rattle.std.proofs.Common.{◌≡◌, refl, Option, Some, None, false, is_some}
+use Rattle.job_model.specs.JobScript.{Script}
+use Rattle.job_model.specs.declared.ends.CommitEnd.{CommitEnd}
+use Rattle.job_model.specs.declared.ends.CommitEnd.TheVariants as commits
+use Rattle.job_protocol.specs.Outputs.{Picks, same_path, is_clash}
+use Rattle.job_spec.specs.Ends.{end_or, commit_due}
+
+by_path : (o : Option CommitEnd) → is_some o ≡ false → end_or o commits.Committed ≡ commits.Committed
+by_path None h = refl
+by_path (Some e) h = absurd (cc)
+
+pub complete : (w : Script) (picks : Picks) → is_clash w picks ≡ false → commit_due w picks None None ≡ commits.Committed
+complete w picks h = by_path (same_path w picks) h

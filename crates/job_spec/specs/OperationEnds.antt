@@ -1,0 +1,159 @@
+-- The causes of the ends of operations, and what holds at them.
+use Rattle.std.specs.Prelude.{◌≡◌, ℕ, ◌≤◌, ◌&&◌, Bool, true, false, List, [], ◌∷◌, ◌++◌, slice_get, Option, Some, None, IsSome}
+use Rattle.std.specs.FinMap as fin
+use Rattle.std.specs.List.{All, Contains, list_any}
+use Rattle.std.specs.Ordering.{is_lt}
+use Rattle.proof_base.specs.Order.{text_cmp}
+use Rattle.s3_types.specs.Store.{Content, Scene}
+use Rattle.s3_types.specs.Moment.{moment, is_effective}
+use Rattle.s3_types.specs.declared.request.Actor.TheVariants.{Attempt}
+use Rattle.s3_types.specs.declared.request.Request.{Request}
+use Rattle.s3_types.specs.declared.request.Request.TheVariants.{DeleteObject, ListPage}
+use Rattle.s3_types.specs.declared.reply.PageEntry.{PageEntry}
+use Rattle.s3_types.specs.declared.reply.Refusal.{Refusal}
+use Rattle.s3_types.specs.declared.reply.Refusal.TheVariants.{NoSuchUpload}
+use Rattle.s3_types.specs.declared.reply.Reply.{Reply}
+use Rattle.s3_types.specs.declared.reply.Reply.TheVariants.{Page, Refused}
+use Rattle.s3_types.specs.declared.journal.Outcome.{Outcome}
+use Rattle.s3_types.specs.declared.journal.Outcome.TheVariants.{Answered, RequestLost, ReplyLost}
+use Rattle.s3_types.specs.declared.journal.Entry.{Entry}
+use Rattle.retries.specs.Same.{same_request}
+use Rattle.retries.specs.Worn.{IsWorn}
+use Rattle.job_model.specs.Attempts.{Who}
+use Rattle.job_model.specs.JobScript.{Script}
+use Rattle.job_model.specs.declared.events.Op.{Op}
+use Rattle.job_model.specs.declared.events.Op.TheVariants as ops
+use Rattle.job_model.specs.declared.ends.SetupEnd.{SetupEnd}
+use Rattle.job_model.specs.declared.ends.SetupEnd.TheVariants as setups
+use Rattle.job_model.specs.declared.ends.TaskEnd.{TaskEnd}
+use Rattle.job_model.specs.declared.ends.TaskEnd.TheVariants as tasks
+use Rattle.job_model.specs.declared.ends.CleanEnd.{CleanEnd}
+use Rattle.job_model.specs.declared.ends.CleanEnd.TheVariants as cleans
+use Rattle.job_model.specs.declared.ends.CommitEnd.{CommitEnd}
+use Rattle.job_model.specs.declared.ends.CommitEnd.TheVariants as commits
+use Rattle.job_model.specs.declared.ends.Stage.TheVariants as stages
+use Rattle.job_protocol.specs.View.{view, object_at}
+use Rattle.job_protocol.specs.Outputs.{files, paths_of}
+use Rattle.job_protocol.specs.Conflicts.{partitions, checks_all, checks_partitions}
+use Rattle.job_protocol.specs.TaskCommits.{partition_prefix}
+use Rattle.job_protocol.specs.JobCommits.{set_request, set_read, stage_of}
+use Rattle.job_spec.specs.Headline.{Same}
+use Rattle.job_spec.specs.Seen.{is_publishing}
+use Rattle.job_spec.specs.Scope.{NothingLeft}
+
+-- ---- set-up
+
+-- the least path at which a reader is shown a file
+pub record IsLeastShown (w : Script) (c : Content) (p : List ℕ) : Type 0 where
+  pub shown : IsSome (view w.dest c p)
+  pub least : (q : List ℕ) → IsSome (view w.dest c q) → is_lt (text_cmp q p) ≡ false
+
+-- the destination's bucket is there, and no object stands at the destination's own key
+abbrev pub IsFree : Script → Content → Type 0
+IsFree w c = IsSome (fin.get c.buckets w.dest.bucket) × (object_at c w.dest.bucket w.dest.key ≡ None)
+
+-- the end of a set-up over this content, by whether a request of it wore out
+abbrev pub SetupIs : Script → Content → Option Request → SetupEnd → Type 0
+SetupIs w c (Some r) e = e ≡ setups.StoreFault
+SetupIs w c None setups.NoSuchBucket = fin.get c.buckets w.dest.bucket ≡ None
+SetupIs w c None setups.DestIsFile = IsSome (object_at c w.dest.bucket w.dest.key)
+SetupIs w c None (setups.Conflict p) = IsFree w c × (checks_all w.committer w.mode ≡ true) × IsLeastShown w c p
+SetupIs w c None setups.Done = IsFree w c × (checks_all w.committer w.mode ≡ true → (p : List ℕ) → view w.dest c p ≡ None)
+SetupIs w c None _ = ⊥
+
+-- ---- an attempt's operations
+
+-- the store was asked for one key below this partition, and answered with this page
+pub record WasListed (w : Script) (es : List Entry) (d : List ℕ) (page : List PageEntry) : Type 0 where
+  pub entry : Entry
+  pub is_entry : Contains es entry
+  pub asks : entry.request ≡ ListPage w.dest.bucket (partition_prefix w d) false [] 1
+  pub more : Bool
+  pub answered : entry.outcome ≡ Answered (Page page more)
+
+-- d is the first of the partitions that the attempt writes below which the store listed a key
+pub record IsFirstListed (w : Script) (a : Who) (es : List Entry) (d : List ℕ) : Type 0 where
+  pub before : List (List ℕ)
+  pub rest : List (List ℕ)
+  pub parts : before ++ d ∷ rest ≡ partitions (paths_of (files w a))
+  pub free : All (λ b. WasListed w es b []) before
+  pub key : PageEntry
+  pub others : List PageEntry
+  pub listed : WasListed w es d (key ∷ others)
+
+-- The ends of an attempt's operation of which no request wore out, by its entries, by whether it has sent its publishing
+-- request and whether the driver's abort or clean has begun.
+abbrev pub TaskMay : Op → Script → Who → List Entry → Bool → Bool → TaskEnd → Type 0
+TaskMay ops.Write w a es sent cleaned tasks.Done = Unit {0}
+TaskMay ops.Write w a es sent cleaned (tasks.Gone name) = cleaned ≡ true
+TaskMay ops.Commit w a es sent cleaned tasks.Done = Unit {0}
+TaskMay ops.Commit w a es sent cleaned (tasks.Conflict d) = (checks_partitions w.committer w.mode ≡ true) × IsFirstListed w a es d
+TaskMay ops.Commit w a es sent cleaned (tasks.Gone name) = cleaned ≡ true
+TaskMay ops.Abort w a es sent cleaned tasks.Kept = sent ≡ true
+TaskMay ops.Abort w a es sent cleaned tasks.Done = sent ≡ false
+TaskMay op w a es sent cleaned e = ⊥
+
+-- the end of an attempt's operation: StoreFault where a request of it wore out, and else one that has its cause
+abbrev pub TaskIs : Op → Script → Who → List Entry → Bool → Bool → Option Request → TaskEnd → Type 0
+TaskIs op w a es sent cleaned (Some r) e = e ≡ tasks.StoreFault
+TaskIs op w a es sent cleaned None e = TaskMay op w a es sent cleaned e
+
+-- the attempt has published: one of these entries is its publishing request, and took effect
+pub record WasPublished (w : Script) (opening : Content) (journal : List Entry) (task attempt event : ℕ) : Type 0 where
+  pub m : ℕ
+  pub entry : Entry
+  pub is_entry : slice_get journal m ≡ Some entry
+  pub by : entry.actor ≡ Attempt task attempt
+  pub until : entry.event ≤ event
+  pub effective : is_effective entry.outcome ≡ true
+  pub publishes : is_publishing w (moment opening journal m) task entry.request ≡ true
+
+-- ---- the driver's abort and clean
+
+-- the end of a job's abort or clean: StoreFault where a request of it wore out, and else Done
+abbrev pub CleanIs : Option Request → CleanEnd → Type 0
+CleanIs (Some r) e = e ≡ cleans.StoreFault
+CleanIs None e = e ≡ cleans.Done
+
+-- what it leaves at its end, and that it hides nothing: of the scenes before it and at its end
+pub record Cleaned (w : Script) (s t : Scene) : Type 0 where
+  -- nothing is left of the job
+  pub nothing : NothingLeft w.committer w t
+  -- a reader is shown what he was shown before
+  pub view_stays : Same (view w.dest t.content) (view w.dest s.content)
+
+-- ---- the driver's commit
+
+-- the commit ended before anything was deleted or completed
+abbrev pub is_untouched : CommitEnd → Bool
+is_untouched (commits.Missing t) = true
+is_untouched (commits.SamePath p t u) = true
+is_untouched (commits.StoreFault stages.Read) = true
+is_untouched _ = false
+
+-- no deletion of an object wore out
+abbrev pub NoDeletionWorn : ℕ → List Entry → Type 0
+NoDeletionWorn retries es = (bucket key : List ℕ) → IsWorn retries (DeleteObject bucket key) es → ⊥
+
+-- each path that is shown has its opening bytes
+abbrev pub OnlyOpening : Script → Content → Content → Type 0
+OnlyOpening w opening c = (p b : List ℕ) → view w.dest c p ≡ Some b → view w.dest opening p ≡ Some b
+
+-- the request was lost, or its reply
+abbrev pub is_lost : Outcome → Bool
+is_lost RequestLost = true
+is_lost ReplyLost = true
+is_lost _ = false
+
+-- a sending of this request was lost, before its effect or after it
+abbrev pub was_lost : Request → List Entry → Bool
+was_lost r es = list_any (λ e. same_request r e.request && is_lost e.outcome) es
+
+-- what these entries of it were answered
+pub record CommitServed (w : Script) (es : List Entry) : Type 0 where
+  -- each answered read of a task's set gave a set
+  pub sets : (before : List Entry) (e : Entry) (later : List Entry) (t : ℕ) (r : Reply) → es ≡ before ++ e ∷ later
+      → e.request ≡ set_request w.committer w t → e.outcome ≡ Answered r → IsSome (set_read r)
+  -- a refused completion found no upload, and an earlier sending of it was lost
+  pub completions : (before : List Entry) (e : Entry) (later : List Entry) (why : Refusal) → es ≡ before ++ e ∷ later
+      → stage_of e.request ≡ stages.Complete → e.outcome ≡ Answered (Refused why) → (why ≡ NoSuchUpload) × (was_lost e.request before ≡ true)

@@ -1,0 +1,78 @@
+-- The text of a report: a line per event with its end, per pick and per actor, the number of sendings and the status.
+use Rattle.std.specs.Prelude.{ℕ, nat_lt, cond, List, [], ◌∷◌, ◌++◌, codes}
+use Rattle.std.specs.List.{zip, enumerate_from, flat_map, join_by}
+use Rattle.std.specs.Fmt.{decimal}
+use Rattle.s3_types.specs.Spelling.{actor_text}
+use Rattle.s3_types.specs.declared.request.Actor.{Actor}
+use Rattle.s3_types.specs.declared.request.Actor.TheVariants.{Driver}
+use Rattle.job_model.specs.Attempts.{Who, actor_of}
+use Rattle.job_model.specs.JobScript.{Script}
+use Rattle.job_model.specs.Words.{spaced, event_text, outcome_text, fault_word, life_word, stage_word}
+use Rattle.job_model.specs.declared.events.Event.{Event}
+use Rattle.job_model.specs.declared.ends.ActorEnd.{ActorEnd}
+use Rattle.job_model.specs.declared.ends.EventEnd.{EventEnd}
+use Rattle.job_model.specs.declared.ends.EventEnd.TheVariants.{Done, Ended, Mixed, Refused}
+use Rattle.job_model.specs.declared.ends.Pick.{Pick}
+use Rattle.job_model.specs.declared.states.ActorState.{ActorState}
+use Rattle.job_spec.specs.States.{Past, past}
+
+-- a line of words, ended by LF
+abbrev pub line : List (List ℕ) → List ℕ
+line words = spaced words ++ 10 ∷ []
+
+-- ---- ends of events
+
+-- an actor with the outcome of its operation
+abbrev pub actor_end_text : ActorEnd → List ℕ
+actor_end_text x = spaced (actor_text x.actor ∷ outcome_text x.end ∷ [])
+
+-- the ends of a mix in the order in which they came, with a comma and a blank between each two; `ok` for none
+abbrev pub mixed_text : List ActorEnd → List ℕ
+mixed_text [] = codes "ok"
+mixed_text (x ∷ xs) = join_by actor_end_text (codes ", ") (x ∷ xs)
+
+-- how an event ended
+abbrev pub end_text : EventEnd → List ℕ
+end_text Done = codes "ok"
+end_text (Ended end) = outcome_text end
+end_text (Mixed xs) = mixed_text xs
+end_text (Refused fault) = spaced (codes "refused" ∷ fault_word fault ∷ [])
+
+-- ---- lines
+
+-- a number and an event with its end, as `3 do 0.0 commit: done`
+abbrev pub event_line : ℕ × (Event × EventEnd) → List ℕ
+event_line e = line (decimal e.0 ∷ (event_text e.1.0 ++ codes ":") ∷ end_text e.1.1 ∷ [])
+
+-- a line for each event that has its end, numbered from n on
+abbrev pub event_lines : ℕ → List Event → List EventEnd → List ℕ
+event_lines n events xs = flat_map event_line (enumerate_from n (zip events xs))
+
+-- a picked attempt by its task's number and its own
+abbrev pub pick_line : Pick → List ℕ
+pick_line p = line (codes "pick" ∷ decimal p.task ∷ decimal p.attempt ∷ [])
+
+-- the words of an actor's life and stage
+abbrev pub state_words : (Actor → ActorState) → Actor → List (List ℕ)
+state_words state a = actor_text a ∷ life_word (state a).life ∷ stage_word (state a).stage ∷ []
+
+-- an attempt with its life and stage
+abbrev pub attempt_line : (Actor → ActorState) → Who → List ℕ
+attempt_line state a = line (state_words state (actor_of a))
+
+-- the job attempt's number, from the second on
+abbrev pub number_words : ℕ → List (List ℕ)
+number_words n = cond (nat_lt 1 n) (codes "attempt" ∷ decimal n ∷ []) []
+
+-- the driver with its life and stage, and with the job attempt's number from the second on
+abbrev pub driver_line : Past → List ℕ
+driver_line p = line (state_words p.state Driver ++ number_words p.attempt)
+
+-- the number of sendings and the status
+abbrev pub closing : ℕ → ℕ → List ℕ
+closing sent due = line (codes "sent" ∷ decimal sent ∷ []) ++ line (codes "status" ∷ decimal due ∷ [])
+
+-- the whole report: the status that was due, how many requests were sent, the picks and the events' ends, of a script
+unfoldable pub report_text : ℕ → ℕ → List Pick → List EventEnd → Script → List ℕ
+report_text due sent picks xs w =
+    event_lines 1 w.events xs ++ flat_map pick_line picks ++ driver_line (past w xs) ++ flat_map (λ a. attempt_line (past w xs).state a.0) w.attempts ++ closing sent due

@@ -1,0 +1,121 @@
+-- What a journal says of a job: one fold over its entries, from the first on.
+use Rattle.std.specs.Prelude.{ℕ, ◌&&◌, ◌||◌, nat_eq, nat_le, Bool, true, false, cond, List, [], ◌∷◌, Option, Some, None, is_some, take}
+use Rattle.std.specs.FinMap as fin
+use Rattle.proof_base.specs.Order.{text_eq}
+use Rattle.s3_types.specs.Store.{Content, Scene, opening}
+use Rattle.s3_types.specs.Answer.{apply}
+use Rattle.s3_types.specs.Moment.{effect}
+use Rattle.s3_types.specs.declared.request.Request.{Request}
+use Rattle.s3_types.specs.declared.request.Request.TheVariants.{PutObject, GetObject, ClusterRename, ClusterGet}
+use Rattle.s3_types.specs.declared.request.Actor.{Actor}
+use Rattle.s3_types.specs.declared.request.Actor.TheVariants.{Driver, Attempt, Shell}
+use Rattle.s3_types.specs.declared.request.Committer.{Committer}
+use Rattle.s3_types.specs.declared.request.Committer.TheVariants.{Magic, Directory, Partitioned}
+use Rattle.s3_types.specs.declared.journal.Outcome.{Outcome}
+use Rattle.s3_types.specs.declared.journal.Outcome.TheVariants.{Answered, Slow, RequestLost, ReplyLost}
+use Rattle.s3_types.specs.declared.journal.Entry.{Entry}
+use Rattle.magic_paths.specs.Layout as layout
+use Rattle.job_model.specs.JobScript.{Script}
+use Rattle.job_protocol.specs.View.{object_at}
+use Rattle.job_protocol.specs.Outputs.{Picks}
+use Rattle.job_protocol.specs.Knowledge.{is_set_key, is_set_path}
+
+-- ---- requests that publish, read and mark
+
+-- the magic committer
+abbrev pub is_magic : Committer → Bool
+is_magic Magic = true
+is_magic Directory = false
+is_magic Partitioned = false
+
+-- a staging committer: directory or partitioned
+abbrev pub is_staging : Committer → Bool
+is_staging Magic = false
+is_staging Directory = true
+is_staging Partitioned = true
+
+-- the request publishes a task's set: a put of it, or a rename onto it of a file that stands
+abbrev pub is_publishing : Script → Scene → ℕ → Request → Bool
+is_publishing w s task (PutObject bucket key bytes header) = is_magic w.committer && is_set_key w task bucket key
+is_publishing w s task (ClusterRename source target) = is_staging w.committer && (is_set_path w task target && is_some (fin.get s.files source))
+is_publishing w s task _ = false
+
+-- the request reads a task's set
+abbrev pub is_reading : Script → ℕ → Request → Bool
+is_reading w task (GetObject bucket key) = is_magic w.committer && is_set_key w task bucket key
+is_reading w task (ClusterGet path) = is_staging w.committer && is_set_path w task path
+is_reading w task _ = false
+
+-- the request puts the marker of a committed job
+abbrev pub is_marking : Script → Request → Bool
+is_marking w (PutObject bucket key bytes header) = text_eq bucket w.dest.bucket && text_eq key (layout.success_key w.dest.key)
+is_marking w _ = false
+
+-- ---- the fold
+
+-- what is seen of a job
+pub record Seen : Type 0 where
+  -- the store and the cluster
+  pub scene : Scene
+  -- the job's commit has begun
+  pub begun : Bool
+  -- of each task the attempt that published last
+  pub last : ℕ → Option ℕ
+  -- of each task the attempt whose set the driver's commit read: the last one that had published then
+  pub picks : Picks
+  -- the driver has put the marker of a committed job
+  pub put_mark : Bool
+
+-- the commit has begun with the first entry of the driver in the event of the commit, or in a later one
+abbrev pub is_begun : Option ℕ → ℕ → Bool
+is_begun None n = false
+is_begun (Some k) n = nat_le k n
+
+-- the last publishers after a request of an attempt that took effect
+abbrev pub last_by : Script → Scene → (ℕ → Option ℕ) → ℕ → ℕ → Request → ℕ → Option ℕ
+last_by w s last task attempt r t = cond (nat_eq t task && is_publishing w s task r) (Some attempt) (last t)
+
+-- the picks after an answered request of the driver, where its commit has begun
+abbrev pub picks_by : Script → Bool → (ℕ → Option ℕ) → Picks → Request → ℕ → Option ℕ
+picks_by w begun last picks r t = cond (begun && is_reading w t r) (last t) (picks t)
+
+-- an attempt's request
+abbrev pub see_attempt : Script → Seen → ℕ → ℕ → Request → Outcome → Seen
+see_attempt w s task attempt r (Answered reply) = record { scene = apply s.scene r; begun = s.begun; last = last_by w s.scene s.last task attempt r; picks = s.picks; put_mark = s.put_mark }
+see_attempt w s task attempt r Slow = s
+see_attempt w s task attempt r RequestLost = s
+see_attempt w s task attempt r ReplyLost = record { scene = apply s.scene r; begun = s.begun; last = last_by w s.scene s.last task attempt r; picks = s.picks; put_mark = s.put_mark }
+
+-- the driver's, with whether its commit has begun then
+abbrev pub see_driver : Script → Bool → Seen → Request → Outcome → Seen
+see_driver w begun s r (Answered reply) = record { scene = apply s.scene r; begun = begun; last = s.last; picks = picks_by w begun s.last s.picks r; put_mark = s.put_mark || is_marking w r }
+see_driver w begun s r Slow = record { scene = s.scene; begun = begun; last = s.last; picks = s.picks; put_mark = s.put_mark }
+see_driver w begun s r RequestLost = record { scene = s.scene; begun = begun; last = s.last; picks = s.picks; put_mark = s.put_mark }
+see_driver w begun s r ReplyLost = record { scene = apply s.scene r; begun = begun; last = s.last; picks = s.picks; put_mark = s.put_mark || is_marking w r }
+
+-- what is seen after one more sending, where the commit is event `k` and this one has number `n`; of a stranger's the effect alone
+abbrev pub see_by : Script → Option ℕ → Seen → ℕ → Request → Outcome → Actor → Seen
+see_by w k s n r o Driver = see_driver w (s.begun || is_begun k n) s r o
+see_by w k s n r o (Attempt task attempt) = see_attempt w s task attempt r o
+see_by w k s n r o Shell = record { scene = effect s.scene r o; begun = s.begun; last = s.last; picks = s.picks; put_mark = s.put_mark }
+
+-- what is seen after one more entry of the journal
+abbrev pub see : Script → Option ℕ → Seen → Entry → Seen
+see w k s e = see_by w k s e.event e.request e.outcome e.actor
+
+-- what is seen before the first entry
+abbrev pub nothing_seen : Content → Seen
+nothing_seen content = record { scene = opening content; begun = false; last = λ t. None; picks = λ t. None; put_mark = false }
+
+-- what is seen after these entries
+abbrev pub see_all : Script → Option ℕ → Seen → List Entry → Seen
+see_all w k s [] = s
+see_all w k s (e ∷ es) = see_all w k (see w k s e) es
+
+-- what is seen at moment m of a journal: after its first m entries
+abbrev pub seen : Script → Option ℕ → Content → List Entry → ℕ → Seen
+seen w k content journal m = see_all w k (nothing_seen content) (take m journal)
+
+-- this run's marker of a committed job stands
+abbrev pub is_marked : Script → Seen → Bool
+is_marked w s = s.put_mark && is_some (object_at s.scene.content w.dest.bucket (layout.success_key w.dest.key))

@@ -1,0 +1,39 @@
+-- Actors that are the same or not, and what is put at one of them.
+use Rattle.std.proofs.Common.{◌≡◌, ℕ, ◌⊎◌, inl, inr, nat_eq, true, false, cond, refl, sym, ap, ◌∙◌}
+use Rattle.std.proofs.lemmas.Bool.{and_parts}
+use Rattle.proof_base.proofs.Members.{eq_nat, nat_true, false_true, true_or_false}
+use Rattle.s3_types.specs.declared.request.Actor.{Actor}
+use Rattle.s3_types.specs.declared.request.Actor.TheVariants.{Driver, Attempt, Shell}
+use Rattle.job_spec.specs.States.{same_actor, put}
+
+same_itself : (a : Actor) → same_actor a a ≡ true
+same_itself (Attempt t n) = rw (nat_true t t refl, nat_true n n refl) refl
+same_itself _ = refl
+
+pub same_true : (a b : Actor) → a ≡ b → same_actor a b ≡ true
+same_true a b e = ap (same_actor a) (sym e) ∙ same_itself a
+
+pub same_is : (a b : Actor) → same_actor a b ≡ true → a ≡ b
+same_is Driver Driver h = refl
+same_is Driver (Attempt t n) h = absurd (false_true refl h)
+same_is Driver Shell h = absurd (false_true refl h)
+same_is (Attempt t n) Driver h = absurd (false_true refl h)
+same_is (Attempt t n) (Attempt u k) h =
+    let p = and_parts (nat_eq t u) (nat_eq n k) h in
+    ap (λ (x : ℕ). Attempt x n) (eq_nat t u p.0) ∙ ap (λ (x : ℕ). Attempt u x) (eq_nat n k p.1)
+same_is (Attempt t n) Shell h = absurd (false_true refl h)
+same_is Shell Driver h = absurd (false_true refl h)
+same_is Shell (Attempt t n) h = absurd (false_true refl h)
+same_is Shell Shell h = refl
+
+pub same_or_not : (a b : Actor) → (a ≡ b) ⊎ (a ≡ b → ⊥)
+same_or_not a b = elim (true_or_false (same_actor a b)) [ inl h ↦ inl (same_is a b h) | inr h ↦ inr (λ e. false_true h (same_true a b e)) ]
+
+pub same_false : (a b : Actor) → (a ≡ b → ⊥) → same_actor a b ≡ false
+same_false a b ne = elim (true_or_false (same_actor a b)) [ inl h ↦ absurd (ne (same_is a b h)) | inr h ↦ h ]
+
+pub put_here : {X : Type 0} (f : Actor → X) (k : Actor) (v : X) (q : Actor) → q ≡ k → put f k v q ≡ v
+put_here f k v q e = ap (λ b. cond b v (f q)) (same_true q k e)
+
+pub put_other : {X : Type 0} (f : Actor → X) (k : Actor) (v : X) (q : Actor) → (q ≡ k → ⊥) → put f k v q ≡ f q
+put_other f k v q ne = ap (λ b. cond b v (f q)) (same_false q k ne)

@@ -1,0 +1,165 @@
+-- Parts of a journal to which one entry is added.
+use Rattle.std.proofs.Common.{◌≡◌, ℕ, zero, suc, ◌+◌, ◌<◌, ◌≤◌, ◌⊎◌, inl, inr, ◌&&◌, nat_eq, nat_le, nat_lt, Bool, true, false, cond, List, [], ◌∷◌, ◌++◌, length, take, slice_get, append-nil, Some, refl, sym, ap, subst, ◌∙◌, arith}
+use Rattle.std.specs.List.{filter}
+use Rattle.std.proofs.lemmas.Bool.Decides.{nat_tests}
+use Rattle.std.proofs.lemmas.List.{take-append-le, take_all}
+use Rattle.std.proofs.lemmas.List.Elements.{filter-append}
+use Rattle.proof_base.proofs.Numbers.{below_so, at_most_so, above_so}
+use Rattle.proof_base.proofs.Members.{some_is, none_some, false_true}
+use Rattle.s3_types.specs.Store.{Scene}
+use Rattle.s3_types.specs.Answer.{answer}
+use Rattle.s3_types.specs.Moment.{effect, after_all, AreHonest, IsHonestOutcome}
+use Rattle.s3_types.specs.declared.request.Actor.{Actor}
+use Rattle.s3_types.specs.declared.request.Actor.TheVariants.{Driver, Attempt, Shell}
+use Rattle.s3_types.specs.declared.request.Request.{Request}
+use Rattle.s3_types.specs.declared.journal.Outcome.{Outcome}
+use Rattle.s3_types.specs.declared.journal.Entry.{Entry}
+use Rattle.job_facts.specs.Told.{strange_entry}
+use Rattle.job_spec.specs.States.{same_actor}
+use Rattle.job_spec.specs.Turns.{is_own, own, of_event, until, before, since, by_actor, AllFrom, IsRising, AllUpTo}
+
+-- ---- any lists
+
+pub get_last : {X : Type 0} (xs : List X) (x : X) (i : ℕ) (y : X) → slice_get (xs ++ x ∷ []) i ≡ Some y → (slice_get xs i ≡ Some y) ⊎ ((i ≡ length xs) × (x ≡ y))
+get_last [] x zero y h = inr (refl, some_is h)
+get_last [] x (suc i) y h = absurd (none_some refl h)
+get_last (z ∷ xs) x zero y h = inl h
+get_last (z ∷ xs) x (suc i) y h = elim (get_last xs x i y h) [ inl g ↦ inl g | inr g ↦ inr (ap (λ (n : ℕ). suc n) g.0, g.1) ]
+
+pub take_less : {X : Type 0} (xs : List X) (x : X) (k : ℕ) → k < length xs → take k (xs ++ x ∷ []) ≡ take k xs
+take_less xs x k h = let l : k ≤ length xs = omega arith in take-append-le k xs (x ∷ []) l
+
+pub take_whole : {X : Type 0} (xs : List X) → take (length xs) xs ≡ xs
+take_whole xs = let l : length xs ≤ length xs = omega arith in take_all (length xs) xs l
+
+pub take_but_last : {X : Type 0} (xs : List X) (x : X) → take (length xs) (xs ++ x ∷ []) ≡ xs
+take_but_last xs x = let l : length xs ≤ length xs = omega arith in take-append-le (length xs) xs (x ∷ []) l ∙ take_whole xs
+
+kept : (p : Entry → Bool) (es : List Entry) (e : Entry) → p e ≡ true → filter p (es ++ e ∷ []) ≡ filter p es ++ e ∷ []
+kept p es e h = filter-append p es (e ∷ []) ∙ ap (λ b. filter p es ++ cond b (e ∷ []) []) h
+
+left_out : (p : Entry → Bool) (es : List Entry) (e : Entry) → p e ≡ false → filter p (es ++ e ∷ []) ≡ filter p es
+left_out p es e h = filter-append p es (e ∷ []) ∙ ap (λ b. filter p es ++ cond b (e ∷ []) []) h ∙ append-nil (filter p es)
+
+-- ---- numbers of events
+
+pub up_to_more : (n m : ℕ) (es : List Entry) → n ≤ m → AllUpTo n es → AllUpTo m es
+up_to_more n m [] h all = tt
+up_to_more n m (e ∷ es) h all = let one : e.event ≤ n = all.0 in (omega arith, up_to_more n m es h all.1)
+
+pub up_to_last : (n : ℕ) (es : List Entry) (e : Entry) → AllUpTo n es → e.event ≤ n → AllUpTo n (es ++ e ∷ [])
+up_to_last n [] e all one = (one, tt)
+up_to_last n (x ∷ es) e all one = (all.0, up_to_last n es e all.1 one)
+
+pub up_to_part : (n : ℕ) (p : Entry → Bool) (es : List Entry) → AllUpTo n es → AllUpTo n (filter p es)
+up_to_part n p [] all = tt
+up_to_part n p (e ∷ es) all = by (p e) (up_to_part n p es all.1)
+  where
+    by : (b : Bool) → AllUpTo n (filter p es) → AllUpTo n (cond b (e ∷ filter p es) (filter p es))
+    by true rest = (all.0, rest)
+    by false rest = rest
+
+pub from_last : (n : ℕ) (es : List Entry) (e : Entry) → AllFrom n es → n ≤ e.event → AllFrom n (es ++ e ∷ [])
+from_last n [] e h one = (one, tt)
+from_last n (x ∷ es) e h one = (h.0, from_last n es e h.1 one)
+
+pub from_part : (n : ℕ) (p : Entry → Bool) (es : List Entry) → AllFrom n es → AllFrom n (filter p es)
+from_part n p [] all = tt
+from_part n p (e ∷ es) all = by (p e) (from_part n p es all.1)
+  where
+    by : (b : Bool) → AllFrom n (filter p es) → AllFrom n (cond b (e ∷ filter p es) (filter p es))
+    by true rest = (all.0, rest)
+    by false rest = rest
+
+-- one more of the job's own
+pub from_own : (n : ℕ) (es : List Entry) (e : Entry) → AllFrom n (own es) → n ≤ e.event → AllFrom n (own (es ++ e ∷ []))
+from_own n es e h one = by (is_own e.actor) refl
+  where
+    by : (b : Bool) → is_own e.actor ≡ b → AllFrom n (own (es ++ e ∷ []))
+    by true is = subst (AllFrom n) (sym (kept (λ x. is_own x.actor) es e is)) (from_last n (own es) e h one)
+    by false is = subst (AllFrom n) (sym (left_out (λ x. is_own x.actor) es e is)) h
+
+pub rising_last : (n : ℕ) (es : List Entry) (e : Entry) → AllUpTo n es → n ≤ e.event → IsRising es → IsRising (es ++ e ∷ [])
+rising_last n [] e all late h = (tt, tt)
+rising_last n (x ∷ es) e all late h = let one : x.event ≤ n = all.0 in (from_last x.event es e h.0 (omega arith), rising_last n es e all.1 late h.1)
+
+-- ---- parts by events
+
+below_no : (m n : ℕ) → n ≤ m → nat_lt m n ≡ false
+below_no m n h = grind (arith, nat_tests)
+
+eq_no : (m n : ℕ) → m < n → nat_eq m n ≡ false
+eq_no m n h = grind (arith, nat_tests)
+
+and_false : (b : Bool) → (b && false) ≡ false
+and_false true = refl
+and_false false = refl
+
+pub until_all : (n : ℕ) (es : List Entry) → AllUpTo n es → until n es ≡ es
+until_all n [] all = refl
+until_all n (e ∷ es) all = ap (λ b. cond b (e ∷ until n es) (until n es)) (at_most_so e.event n all.0) ∙ ap (λ z. e ∷ z) (until_all n es all.1)
+
+pub before_all : (n : ℕ) (es : List Entry) → AllUpTo n es → before (n + 1) es ≡ es
+before_all n [] all = refl
+before_all n (e ∷ es) all =
+    let one : e.event ≤ n = all.0 in
+    let l : e.event < n + 1 = omega arith in
+    ap (λ b. cond b (e ∷ before (n + 1) es) (before (n + 1) es)) (below_so e.event (n + 1) l) ∙ ap (λ z. e ∷ z) (before_all n es all.1)
+
+pub since_none : (n : ℕ) (es : List Entry) → AllUpTo n es → since (n + 1) es ≡ []
+since_none n [] all = refl
+since_none n (e ∷ es) all =
+    let one : e.event ≤ n = all.0 in
+    let l : e.event < n + 1 = omega arith in
+    ap (λ b. cond b (e ∷ since (n + 1) es) (since (n + 1) es)) (above_so (n + 1) e.event l) ∙ since_none n es all.1
+
+pub event_none : (n : ℕ) (es : List Entry) → AllUpTo n es → of_event (n + 1) es ≡ []
+event_none n [] all = refl
+event_none n (e ∷ es) all =
+    let one : e.event ≤ n = all.0 in
+    let l : e.event < n + 1 = omega arith in
+    let no : (is_own e.actor && nat_eq e.event (n + 1)) ≡ false = ap (λ b. is_own e.actor && b) (eq_no e.event (n + 1) l) ∙ and_false (is_own e.actor) in
+    ap (λ b. cond b (e ∷ of_event (n + 1) es) (of_event (n + 1) es)) no ∙ event_none n es all.1
+
+pub before_late : (k : ℕ) (es : List Entry) (e : Entry) → k ≤ e.event → before k (es ++ e ∷ []) ≡ before k es
+before_late k es e h = left_out (λ x. nat_lt x.event k) es e (below_no e.event k h)
+
+pub since_late : (k : ℕ) (es : List Entry) (e : Entry) → k ≤ e.event → since k (es ++ e ∷ []) ≡ since k es ++ e ∷ []
+since_late k es e h = kept (λ x. nat_le k x.event) es e (at_most_so k e.event h)
+
+pub until_late : (k : ℕ) (es : List Entry) (e : Entry) → k < e.event → until k (es ++ e ∷ []) ≡ until k es
+until_late k es e h = left_out (λ x. nat_le x.event k) es e (above_so e.event k h)
+
+-- one more is of them or not
+pub until_either : (k : ℕ) (es : List Entry) (e : Entry) → (until k (es ++ e ∷ []) ≡ until k es) ⊎ (until k (es ++ e ∷ []) ≡ until k es ++ e ∷ [])
+until_either k es e = by (nat_le e.event k) refl
+  where
+    by : (b : Bool) → nat_le e.event k ≡ b → (until k (es ++ e ∷ []) ≡ until k es) ⊎ (until k (es ++ e ∷ []) ≡ until k es ++ e ∷ [])
+    by true is = inr (kept (λ x. nat_le x.event k) es e is)
+    by false is = inl (left_out (λ x. nat_le x.event k) es e is)
+
+-- ---- parts by actors
+
+pub by_itself : (a : Actor) (es : List Entry) (e : Entry) → same_actor e.actor a ≡ true → by_actor a (es ++ e ∷ []) ≡ by_actor a es ++ e ∷ []
+by_itself a es e h = kept (λ x. same_actor x.actor a) es e h
+
+pub by_another : (a : Actor) (es : List Entry) (e : Entry) → same_actor e.actor a ≡ false → by_actor a (es ++ e ∷ []) ≡ by_actor a es
+by_another a es e h = left_out (λ x. same_actor x.actor a) es e h
+
+-- an actor of the job, and a stranger's entry
+pub by_own : (a : Actor) → is_own a ≡ true → (es : List Entry) (n : ℕ) (r : Request) (o : Outcome) → by_actor a (es ++ strange_entry n r o ∷ []) ≡ by_actor a es
+by_own Driver own es n r o = by_another Driver es (strange_entry n r o) refl
+by_own (Attempt t i) own es n r o = by_another (Attempt t i) es (strange_entry n r o) refl
+by_own Shell own es n r o = absurd (false_true refl own)
+
+pub event_own : (k : ℕ) (es : List Entry) (n : ℕ) (r : Request) (o : Outcome) → of_event k (es ++ strange_entry n r o ∷ []) ≡ of_event k es
+event_own k es n r o = left_out (λ e. is_own e.actor && nat_eq e.event k) es (strange_entry n r o) refl
+
+pub own_own : (es : List Entry) (n : ℕ) (r : Request) (o : Outcome) → own (es ++ strange_entry n r o ∷ []) ≡ own es
+own_own es n r o = left_out (λ e. is_own e.actor) es (strange_entry n r o) refl
+
+-- ---- answers
+
+pub honest_last : (s : Scene) (es : List Entry) (e : Entry) → AreHonest s es → IsHonestOutcome e.outcome (answer (after_all s es) e.request) → AreHonest s (es ++ e ∷ [])
+honest_last s [] e h one = (one, tt)
+honest_last s (x ∷ es) e h one = (h.0, honest_last (effect s x.request x.outcome) es e h.1 one)

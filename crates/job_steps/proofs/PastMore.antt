@@ -1,0 +1,177 @@
+-- What is past after one more event or end, who is busy then, and which operations events begin.
+use Rattle.std.proofs.Common.{◌≡◌, ℕ, zero, suc, ◌≤◌, Bool, true, false, if◌then◌else◌, List, [], ◌∷◌, ◌++◌, length, slice_get, Option, Some, None, refl, ap, subst, arith}
+use Rattle.proof_base.proofs.Members.{some_is, none_some, false_true}
+use Rattle.s3_types.specs.declared.request.Actor.{Actor}
+use Rattle.s3_types.specs.declared.request.Actor.TheVariants.{Driver, Attempt, Shell}
+use Rattle.s3_types.specs.declared.journal.Entry.{Entry}
+use Rattle.job_model.specs.Attempts.{Declared}
+use Rattle.job_model.specs.JobScript.{Script}
+use Rattle.job_model.specs.Known.{Known}
+use Rattle.job_model.specs.Legal.{HasOp, IsEvent, AreEvents}
+use Rattle.job_model.specs.declared.events.Op.{Op}
+use Rattle.job_model.specs.declared.events.Op.TheVariants as ops
+use Rattle.job_model.specs.declared.events.Event.{Event}
+use Rattle.job_model.specs.declared.events.Event.TheVariants.{Do, Start, Step, Run, Mix}
+use Rattle.job_model.specs.declared.ends.SetupEnd.{SetupEnd}
+use Rattle.job_model.specs.declared.ends.SetupEnd.TheVariants as setups
+use Rattle.job_model.specs.declared.ends.TaskEnd.{TaskEnd}
+use Rattle.job_model.specs.declared.ends.TaskEnd.TheVariants as tasks
+use Rattle.job_model.specs.declared.ends.CommitEnd.{CommitEnd}
+use Rattle.job_model.specs.declared.ends.CommitEnd.TheVariants as commits
+use Rattle.job_model.specs.declared.ends.CleanEnd.{CleanEnd}
+use Rattle.job_model.specs.declared.ends.CleanEnd.TheVariants as cleans
+use Rattle.job_model.specs.declared.ends.OpEnd.{OpEnd}
+use Rattle.job_model.specs.declared.ends.OpEnd.TheVariants as ends
+use Rattle.job_model.specs.declared.ends.ActorEnd.{ActorEnd}
+use Rattle.job_model.specs.declared.ends.EventEnd.{EventEnd}
+use Rattle.job_model.specs.declared.ends.EventEnd.TheVariants.{Refused}
+use Rattle.job_model.specs.declared.ends.EventFault.{EventFault}
+use Rattle.job_model.specs.declared.ends.EventFault.TheVariants as faults
+use Rattle.job_model.specs.declared.states.Life.{Life}
+use Rattle.job_model.specs.declared.states.Life.TheVariants.{Idle, Busy}
+use Rattle.job_model.specs.declared.states.ActorStage.{ActorStage}
+use Rattle.job_model.specs.declared.states.ActorState.{ActorState}
+use Rattle.job_protocol.specs.Operations.{Setting, Operation, start_of}
+use Rattle.job_spec.specs.States.{Past, past_from, after_event, open_event, count, end_op, end_ops, told, ended, setup_ended, commit_ended, clean_ended, task_ended, may, refuse_op, refuse_begin, refusal}
+use Rattle.job_spec.specs.Turns.{is_busy, busy_actors, mix_begins, Turns, OpenTurns}
+
+-- ---- one more
+
+pub past_more : (w : Script) (p : Past) (evs : List Event) (xs : List EventEnd) (ev : Event) (x : EventEnd) → slice_get evs (length xs) ≡ Some ev
+    → past_from w p evs (xs ++ x ∷ []) ≡ after_event w (past_from w p evs xs) ev x
+past_more w p [] [] ev x h = absurd (none_some refl h)
+past_more w p [] (y ∷ ys) ev x h = absurd (none_some refl h)
+past_more w p (e ∷ es) [] ev x h = ap (λ v. after_event w p v x) (some_is h)
+past_more w p (e ∷ es) (y ∷ ys) ev x h = past_more w (after_event w p e y) es ys ev x h
+
+pub after_is : (w : Script) (p : Past) (ev : Event) (end : EventEnd) → ((f : EventFault) → end ≡ Refused f → ⊥) → after_event w p ev end ≡ count (end_ops (open_event w p ev) (told ev end))
+after_is w p ev (Refused f) n = absurd (n f refl)
+after_is w p ev _ n = refl
+
+pub ends_more : (p : Past) (xs : List ActorEnd) (y : ActorEnd) → end_ops p (xs ++ y ∷ []) ≡ end_op (end_ops p xs) y
+ends_more p [] y = refl
+ends_more p (x ∷ xs) y = ends_more (end_op p x) xs y
+
+pub opening_counts : (w : Script) (p : Past) (ev : Event) → (open_event w p ev).events ≡ p.events
+opening_counts w p (Do a op) = refl
+opening_counts w p _ = refl
+
+-- ---- lives
+
+pub busy_so : (l : Life) → l ≡ Busy → is_busy l ≡ true
+busy_so l e = ap is_busy e
+
+pub busy_is : (l : Life) → is_busy l ≡ true → l ≡ Busy
+busy_is Busy h = refl
+busy_is _ h = absurd (false_true refl h)
+
+pub busy_not : (l : Life) → l ≡ Busy → is_busy l ≡ false → ⊥
+busy_not l e h = false_true h (busy_so l e)
+
+setup_idle : (e : SetupEnd) (s : ActorStage) → is_busy (setup_ended e s).life ≡ false
+setup_idle setups.Done s = refl
+setup_idle _ s = refl
+
+commit_idle : (e : CommitEnd) (s : ActorStage) → is_busy (commit_ended e s).life ≡ false
+commit_idle commits.Committed s = refl
+commit_idle _ s = refl
+
+clean_idle : (e : CleanEnd) (s : ActorStage) → is_busy (clean_ended e s).life ≡ false
+clean_idle cleans.Done s = refl
+clean_idle _ s = refl
+
+task_idle : (e : TaskEnd) (s : ActorStage) → is_busy (task_ended e s).life ≡ false
+task_idle tasks.Done s = refl
+task_idle _ s = refl
+
+-- who ended is not busy
+pub ended_idle : (e : OpEnd) (s : ActorStage) → is_busy (ended e s).life ≡ false
+ended_idle (ends.Setup e) s = setup_idle e s
+ended_idle (ends.Commit e) s = commit_idle e s
+ended_idle (ends.Clean e) s = clean_idle e s
+ended_idle (ends.Task e) s = task_idle e s
+ended_idle ends.NoMemory s = refl
+
+-- ---- turns
+
+pub turns_refused : (w : Script) (st : Actor → ActorState) (ev : Event) (end : EventEnd) (es : List Entry) (f : EventFault) → Turns w st ev end es → end ≡ Refused f → ⊥
+turns_refused w st ev end es f t e = never ev (subst (λ v. Turns w st ev v es) e t)
+  where
+    never : (v : Event) → Turns w st v (Refused f) es → ⊥
+    never (Do a op) h = h
+    never _ h = h
+
+-- an event may have no entry yet
+pub turns_open : (w : Script) (st : Actor → ActorState) (ev : Event) → OpenTurns w st ev []
+turns_open w st (Do a op) = tt
+turns_open w st (Step a n) = let l : 0 ≤ n = omega arith in (tt, l)
+turns_open w st (Run a) = tt
+turns_open w st (Mix seed) = ([], busy_actors w st, mix_begins)
+turns_open w st _ = refl
+
+-- ---- operations that begin
+
+-- the actor has such an operation
+abbrev pub Starts : Setting → Actor → Op → Type 0
+Starts g a op = (missing : Option ℕ) (k : Known) → (o : Operation) × (start_of g a op missing k ≡ Some o)
+
+-- an event begins operations that its actor has
+abbrev pub Begins : Setting → Event → Type 0
+Begins g (Do a op) = Starts g a op
+Begins g (Start a op) = Starts g a op
+Begins g _ = Unit {0}
+
+has_starts : (g : Setting) (a : Actor) (op : Op) → HasOp a op → Starts g a op
+has_starts g Driver ops.Setup h m k = (_, refl)
+has_starts g Driver ops.Write h m k = absurd h
+has_starts g Driver ops.Commit h m k = (_, refl)
+has_starts g Driver ops.Abort h m k = (_, refl)
+has_starts g Driver ops.Clean h m k = (_, refl)
+has_starts g (Attempt t n) ops.Setup h m k = absurd h
+has_starts g (Attempt t n) ops.Write h m k = (_, refl)
+has_starts g (Attempt t n) ops.Commit h m k = (_, refl)
+has_starts g (Attempt t n) ops.Abort h m k = (_, refl)
+has_starts g (Attempt t n) ops.Clean h m k = absurd h
+has_starts g Shell op h m k = absurd h
+
+may_has : (a : Actor) (op : Op) (s : ActorStage) → may a op s ≡ true → HasOp a op
+may_has Driver ops.Setup s h = tt
+may_has Driver ops.Write s h = false_true refl h
+may_has Driver ops.Commit s h = tt
+may_has Driver ops.Abort s h = tt
+may_has Driver ops.Clean s h = tt
+may_has (Attempt t n) ops.Setup s h = false_true refl h
+may_has (Attempt t n) ops.Write s h = tt
+may_has (Attempt t n) ops.Commit s h = tt
+may_has (Attempt t n) ops.Abort s h = tt
+may_has (Attempt t n) ops.Clean s h = false_true refl h
+may_has Shell op s h = false_true refl h
+
+op_none : (b c : Bool) → (if b then Some faults.NotSet else (if c then None else Some faults.WrongState)) ≡ None → c ≡ true
+op_none true c h = absurd (none_some h refl)
+op_none false true h = refl
+op_none false false h = absurd (none_some h refl)
+
+begin_none : (l : Life) (r : Option EventFault) → refuse_begin l r ≡ None → r ≡ None
+begin_none Idle r h = h
+begin_none _ r h = absurd (none_some h refl)
+
+fine_starts : (g : Setting) (a : Actor) (op : Op) (st : Actor → ActorState) → refuse_begin (st a).life (refuse_op (st Driver).stage a op (st a).stage) ≡ None → Starts g a op
+fine_starts g a op st h = has_starts g a op (may_has a op (st a).stage (op_none _ (may a op (st a).stage) (begin_none (st a).life _ h)))
+
+-- an event that is not refused does
+pub fine_begins : (g : Setting) (st : Actor → ActorState) (ev : Event) → refusal st ev ≡ None → Begins g ev
+fine_begins g st (Do a op) h = fine_starts g a op st h
+fine_begins g st (Start a op) h = fine_starts g a op st h
+fine_begins g st _ h = tt
+
+-- so does each event of a legal script
+pub legal_begins : (g : Setting) (attempts : List Declared) (ev : Event) → IsEvent attempts ev → Begins g ev
+legal_begins g attempts (Do a op) h = has_starts g a op h.1
+legal_begins g attempts (Start a op) h = has_starts g a op h.1
+legal_begins g attempts _ h = tt
+
+pub event_at : (attempts : List Declared) (evs : List Event) (k : ℕ) (ev : Event) → AreEvents attempts evs → slice_get evs k ≡ Some ev → IsEvent attempts ev
+event_at attempts [] k ev all h = absurd (none_some refl h)
+event_at attempts (e ∷ es) zero ev all h = subst (λ v. IsEvent attempts v) (some_is h) all.0
+event_at attempts (e ∷ es) (suc k) ev all h = event_at attempts es k ev all.1 h

@@ -1,0 +1,59 @@
+-- Between events a run has done what its events say.
+use Rattle.std.proofs.Common.{◌≡◌, ◌+◌, [], length, slice_get, Some, None, sym, ap, subst, ◌∙◌}
+use Rattle.s3_types.specs.Store.{Content}
+use Rattle.s3_types.specs.declared.request.Actor.{Actor}
+use Rattle.job_model.specs.Legal.{IsLegal}
+use Rattle.job_model.specs.declared.events.Event.{Event}
+use Rattle.job_protocol.specs.Operations.{Setting}
+use Rattle.job_spec.specs.States.{Past, Doing, open_event, past}
+use Rattle.job_spec.specs.Turns.{of_event, by_actor, OpenTurns, AllUpTo}
+use Rattle.job_spec.specs.Follows.{OpFollows, IsUnended}
+use Rattle.job_steps.specs.Transitions.{Play, Reachable, open_running}
+use Rattle.job_steps.specs.Laws.{IsPlayed}
+use Rattle.job_steps.proofs.Parts.{event_none}
+use Rattle.job_steps.proofs.PastMore.{turns_open, legal_begins, event_at}
+use Rattle.job_steps.proofs.Told.{Told, AllRun, runs_follow, opened_run, told_all}
+
+module _ (g : Setting) (opening : Content) (x : Play) (legal : IsLegal g.script) (h : Told g opening x) (idle : x.now ≡ None) where
+  live_is : x.live ≡ x.past
+  live_is = (h.closed idle).0
+
+  up_to : AllUpTo (length x.ends) x.journal
+  up_to = (h.closed idle).1
+
+  -- the next event has no entry
+  no_entry : of_event (length x.ends + 1) x.journal ≡ []
+  no_entry = event_none (length x.ends) x.journal up_to
+
+  follow : (ev : Event) → slice_get g.script.events (length x.ends) ≡ Some ev → (a : Actor) (d : Doing) → (open_event g.script (past g.script x.ends) ev).doing a ≡ Some d → OpFollows g a d (by_actor a x.journal)
+  follow ev next a d e =
+      let begins = legal_begins g g.script.attempts ev (event_at g.script.attempts g.script.events (length x.ends) ev legal.events next) in
+      let runs : AllRun g x.past.doing x.journal x.running (length x.ends + 1) = subst (λ (p : Past). AllRun g p.doing x.journal x.running (length x.ends + 1)) live_is h.runs in
+      let doing : (open_event g.script x.past ev).doing a ≡ Some d = ap (λ p. (open_event g.script p ev).doing a) h.past_is ∙ e in
+      runs_follow g a d (by_actor a x.journal) (length x.ends + 1) (open_running g x ev a) (opened_run g opening x h ev begins up_to runs a d doing)
+
+  unended : IsUnended g x.ends x.journal
+  unended ev next = record {
+    follow = follow ev next;
+    turns = λ e. subst (λ es. OpenTurns g.script (past g.script x.ends).state ev es) (sym no_entry) (turns_open g.script (past g.script x.ends).state ev);
+    silent = λ f e. no_entry;
+  }
+
+  played : IsPlayed g opening x
+  played = record {
+    plays = record {
+      obeyed = h.obeyed;
+      unended = unended;
+      numbered = h.numbered;
+      none = λ e. no_entry;
+      rising = h.rising;
+      past = h.up_to;
+      within = h.within;
+    };
+    honest = h.honest;
+    past = h.past_is;
+    live = live_is;
+  }
+
+pub happenings_play : (g : Setting) (opening : Content) (x : Play) → IsLegal g.script → Reachable g opening x → x.now ≡ None → IsPlayed g opening x
+happenings_play g opening x legal run idle = played g opening x legal (told_all g opening x run) idle

@@ -1,0 +1,236 @@
+-- Until the driver cleans up each task that is reported has a last publisher.
+use Rattle.std.proofs.Common.{◌≡◌, ℕ, zero, suc, ◌+◌, ◌<◌, ◌≤◌, ◌⊎◌, inl, inr, nat_eq, ◌&&◌, ◌||◌, Bool, true, false, cond, List, [], ◌∷◌, ◌++◌, Option, Some, None, refl, sym, ap, subst, ◌∙◌, arith, take, slice_get, length}
+use Rattle.std.specs.Option.{option_map}
+use Rattle.std.proofs.lemmas.Bool.{and_parts, or_cases}
+use Rattle.s3_types.specs.Store.{Content}
+use Rattle.s3_types.specs.declared.request.Actor.{Actor}
+use Rattle.s3_types.specs.declared.request.Actor.TheVariants.{Driver, Attempt}
+use Rattle.s3_types.specs.declared.journal.Outcome.{Outcome}
+use Rattle.s3_types.specs.declared.journal.Outcome.TheVariants.{Answered, Slow, RequestLost, ReplyLost}
+use Rattle.s3_types.specs.declared.journal.Entry.{Entry}
+use Rattle.s3_types.specs.declared.request.Request.{Request}
+use Rattle.job_model.specs.Attempts.{Who, actor_of}
+use Rattle.job_model.specs.Legal.{IsLegal}
+use Rattle.job_model.specs.JobScript.{Script}
+use Rattle.job_model.specs.declared.events.Event.{Event}
+use Rattle.job_model.specs.declared.events.Event.TheVariants.{Restart}
+use Rattle.job_model.specs.declared.ends.TaskEnd.{TaskEnd}
+use Rattle.job_model.specs.declared.ends.TaskEnd.TheVariants as tasks
+use Rattle.job_model.specs.declared.ends.OpEnd.{OpEnd}
+use Rattle.job_model.specs.declared.ends.OpEnd.TheVariants as ends
+use Rattle.job_model.specs.declared.ends.ActorEnd.{ActorEnd}
+use Rattle.job_model.specs.declared.ends.EventEnd.{EventEnd}
+use Rattle.job_model.specs.declared.states.Life.TheVariants.{Busy}
+use Rattle.job_model.specs.declared.states.ActorStage.{ActorStage}
+use Rattle.retries.specs.Retries.{Retried}
+use Rattle.job_protocol.specs.TaskCommits.{TaskCommit, TaskCommitOver, task_commit_over}
+use Rattle.job_protocol.specs.Operations.{Setting, Operation, TheSetup, TheTaskCommit, Running, over}
+use Rattle.job_spec.specs.Seen.{Seen, see, see_all, nothing_seen, see_by, seen, is_begun, is_publishing}
+use Rattle.job_spec.specs.States.{first_not, report, is_done, is_committing, open_event, commit_event, clean_event}
+use Rattle.job_spec.specs.Turns.{is_memory}
+use Rattle.proof_base.proofs.Members.{some_is, none_some, false_true, eq_nat, nat_true}
+use Rattle.job_traces.specs.Runs.{IsOpening, Stand, Runs}
+use Rattle.job_facts.specs.Standing.{HasPublished}
+use Rattle.job_facts.specs.Told.{Told, tell, tell_by, tell_all, nothing_told, strange_entry}
+use Rattle.job_traces.proofs.Entries.{see_more, sees, tells_so}
+use Rattle.job_steps.specs.Transitions.{Play, Refuses, Opens, Sends, Finishes, Closes, Strays, happen, MayFinish, Reachable, nothing_happened, happens}
+use Rattle.job_steps.specs.Running.{times, Ahead, IsRun, operation_of}
+use Rattle.job_steps.proofs.RunningStages.{may_end}
+use Rattle.job_steps.proofs.Running.{is_run, sent_ahead, strayed_ahead, finished_ahead, opened_ahead, refused_ahead, not_refused, closed_ahead}
+use Rattle.s3_types.specs.Moment.{is_effective}
+use Rattle.job_spec.proofs.Told.{scene_is, last_still}
+use Rattle.job_traces.proofs.Published.{has_published}
+use Rattle.job_steps.proofs.RunningCommits.{IsTaskCommit, StageBy, CommitAt, over_is, commits_at}
+
+or_more : (a b : Bool) → a ≡ true → (a || b) ≡ true
+or_more true b h = refl
+or_more false b h = absurd (false_true refl h)
+
+-- who has begun to clean up has begun to ever after
+tell_keeps : (w : Script) (m : Told) (e : Entry) → m.cleaned ≡ true → (tell w m e).cleaned ≡ true
+tell_keeps w m e h = by e.actor
+  where
+    by : (a : Actor) → (tell_by w m e.event e.request e.outcome a).cleaned ≡ true
+    by Driver = or_more m.cleaned (is_begun m.cleans_at e.event) h
+    by _ = h
+
+cleaned_more : (w : Script) (m : Told) (es : List Entry) (e : Entry) → (tell_all w m es).cleaned ≡ true → (tell_all w m (es ++ e ∷ [])).cleaned ≡ true
+cleaned_more w m [] e h = tell_keeps w m e h
+cleaned_more w m (x ∷ es) e h = cleaned_more w (tell w m x) es e h
+
+-- ---- who has published
+
+-- what has a last publisher has one behind more entries
+pub last_more : (w : Script) (k : Option ℕ) (s : Seen) (es : List Entry) (t : ℕ) → HasPublished s t → HasPublished (see_all w k s es) t
+last_more w k s [] t h = h
+last_more w k s (e ∷ es) t h = last_more w k (see w k s e) es t (last_still w k s e t h)
+
+module _ (w : Script) (k : Option ℕ) where
+  -- a publishing request that took effect makes a last publisher
+  published_here : (s : Seen) (n : ℕ) (r : Request) (o : Outcome) (t a : ℕ) → is_effective o ≡ true → is_publishing w s.scene t r ≡ true → HasPublished (see_by w k s n r o (Attempt t a)) t
+  published_here s n r (Answered x) t a took h = (a, latest (is_publishing w s.scene t r) h)
+    where
+      latest : (b : Bool) → b ≡ true → cond (nat_eq t t && b) (Some a) (s.last t) ≡ Some a
+      latest b e = rw (nat_true t t refl, e) refl
+  published_here s n r ReplyLost t a took h = (a, latest (is_publishing w s.scene t r) h)
+    where
+      latest : (b : Bool) → b ≡ true → cond (nat_eq t t && b) (Some a) (s.last t) ≡ Some a
+      latest b e = rw (nat_true t t refl, e) refl
+  published_here s n r Slow t a took h = absurd (false_true refl took)
+  published_here s n r RequestLost t a took h = absurd (false_true refl took)
+
+  -- and it has one ever after
+  published_at : (s : Seen) (es : List Entry) (m : ℕ) (e : Entry) (t a : ℕ) → slice_get es m ≡ Some e → e.actor ≡ Attempt t a → is_effective e.outcome ≡ true → is_publishing w (see_all w k s (take m es)).scene t e.request ≡ true → HasPublished (see_all w k s es) t
+  published_at s [] m e t a at by took h = absurd (none_some refl at)
+  published_at s (x ∷ es) zero e t a at by took h =
+      let is : x ≡ e = some_is at in
+      let here : HasPublished (see w k s e) t = subst (λ c. HasPublished (see_by w k s e.event e.request e.outcome c) t) (sym by) (published_here s e.event e.request e.outcome t a took h) in
+      last_more w k (see w k s x) es t (subst (λ v. HasPublished (see w k s v) t) (sym is) here)
+  published_at s (x ∷ es) (suc m) e t a at by took h = published_at (see w k s x) es m e t a at by took h
+
+module _ (g : Setting) (k : Option ℕ) (opening : Content) (j : IsLegal g.script) (is_opening : IsOpening g opening) where
+  -- a task's commit that is done has made a last publisher, until the driver cleans up
+  done_published : (es : List Entry) (x : Stand) → Runs g k opening es x → x.told.cleaned ≡ false → (a : Who) (t : Retried TaskCommit) → x.attempts a ≡ Some (TheTaskCommit t) → t.operation ≡ TaskCommitOver tasks.Done → HasPublished x.seen a.task
+  done_published es x run clean a t at done =
+      let over : x.attempts a ≡ Some (TheTaskCommit (record { operation = TaskCommitOver tasks.Done; spare = t.spare; repeated = t.repeated })) = at ∙ ap (λ v. Some (TheTaskCommit (record { operation = v; spare = t.spare; repeated = t.repeated }))) done in
+      let own = (has_published g k opening j is_opening es x run clean a t.spare t.repeated over).1 in
+      let then : is_publishing g.script (seen g.script k opening es own.m).scene a.task own.entry.request ≡ true = ap (λ s. is_publishing g.script s a.task own.entry.request) (scene_is g.script k opening es own.m) ∙ own.publishes in
+      subst (λ s. HasPublished s a.task) (sym (sees g k opening j is_opening es x run)) (published_at g.script k (nothing_seen opening) es own.m own.entry a.task a.attempt own.is_entry own.by own.effective then)
+
+-- ---- what is reported
+
+abbrev pub AllReported : (ℕ → Bool) → Seen → Type 0
+AllReported reported s = (t : ℕ) → reported t ≡ true → HasPublished s t
+
+-- where none is missing all are reported
+pub none_left : (p : ℕ → Bool) (t n : ℕ) → first_not p t n ≡ None → (u : ℕ) → t ≤ u → u < t + n → p u ≡ true
+none_left p t zero e u low high = absurd (omega (arith, low, high))
+none_left p t (suc n) e u low high = by (p t) refl e (none_left p (t + 1) n)
+  where
+    first_or_later : (a b : ℕ) → a ≤ b → (b ≡ a) ⊎ (a + 1 ≤ b)
+    first_or_later zero zero l = inl refl
+    first_or_later zero (suc b) l = inr (omega arith)
+    first_or_later (suc a) zero l = absurd (omega (arith, l))
+    first_or_later (suc a) (suc b) l = elim (first_or_later a b (omega (arith, l))) [ inl is ↦ inl (ap suc is) | inr more ↦ inr (omega (arith, more)) ]
+
+    by : (b : Bool) → p t ≡ b → cond b (first_not p (t + 1) n) (Some t) ≡ None → (first_not p (t + 1) n ≡ None → (u : ℕ) → t + 1 ≤ u → u < t + 1 + n → p u ≡ true) → p u ≡ true
+    by false q e old = absurd (none_some e refl)
+    by true q e old = elim (first_or_later t u low) [ inl is ↦ ap p is ∙ q | inr later ↦ old e u later (omega (arith, high)) ]
+
+-- what an end reports: an attempt's commit that is done
+record Reports (a : Actor) (s : ActorStage) (e : OpEnd) (t : ℕ) : Type 0 where
+  by : Who
+  task : by.task ≡ t
+  actor : a ≡ actor_of by
+  stage : is_committing s ≡ true
+  done : e ≡ ends.Task tasks.Done
+
+done_is : (e : OpEnd) → is_done e ≡ true → e ≡ ends.Task tasks.Done
+done_is (ends.Task tasks.Done) h = refl
+done_is _ h = absurd (false_true refl h)
+
+reports : (a : Actor) (s : ActorStage) (e : OpEnd) (p : ℕ → Bool) (t : ℕ) → report a s e p t ≡ true → (p t ≡ true) ⊎ Reports a s e t
+reports (Attempt u n) s e p t h = elim (or_cases (p t) (nat_eq t u && (is_committing s && is_done e)) h) [
+  | inl old ↦ inl old
+  | inr now ↦
+      let x = and_parts (nat_eq t u) (is_committing s && is_done e) now in
+      let y = and_parts (is_committing s) (is_done e) x.1 in
+      inr (record { by = record { task = u; attempt = n }; task = sym (eq_nat t u x.0); actor = refl; stage = y.0; done = done_is e y.1 })
+]
+reports _ s e p t h = inl h
+
+-- the task's commit that is done
+record IsDoneCommit (op : Operation) : Type 0 where
+  commit : Retried TaskCommit
+  is : op ≡ TheTaskCommit commit
+  over : commit.operation ≡ TaskCommitOver tasks.Done
+
+done_commit : (op : Operation) → IsTaskCommit (Some op) → over op ≡ Some (ends.Task tasks.Done) → IsDoneCommit op
+done_commit (TheTaskCommit t) h o = record { commit = t; is = refl; over = over_is t.operation tasks.Done (done_of (task_commit_over t.operation) o) }
+  where
+    task_is : (end : TaskEnd) → ends.Task end ≡ ends.Task tasks.Done → end ≡ tasks.Done
+    task_is end e = cc
+
+    done_of : (x : Option TaskEnd) → option_map ends.Task x ≡ Some (ends.Task tasks.Done) → x ≡ Some tasks.Done
+    done_of (Some end) e = let is : end ≡ tasks.Done = task_is end (some_is e) in ap Some is
+    done_of None e = absurd (none_some refl e)
+done_commit (TheSetup t) h o = absurd h
+done_commit _ h o = absurd h
+
+-- ---- every run
+
+module _ (g : Setting) (opening : Content) (j : IsLegal g.script) (is_opening : IsOpening g opening) (all_ends : List EventEnd) where
+  abbrev w : Script
+  w = g.script
+
+  abbrev k : Option ℕ
+  k = commit_event w all_ends
+
+  abbrev pub seen_of : Play → Seen
+  seen_of x = see_all w k (nothing_seen opening) x.journal
+
+  -- the driver has not begun to clean up
+  abbrev pub Unclean : Play → Type 0
+  Unclean x = (tell_all w (nothing_told (clean_event w all_ends)) x.journal).cleaned ≡ false
+
+  pub record Reported (x : Play) : Type 0 where
+    pub live : AllReported x.live.reported (seen_of x)
+    pub past : AllReported x.past.reported (seen_of x)
+
+  opened : (y : Play) (ev : Event) → AllReported y.past.reported (seen_of y) → AllReported (open_event w y.past ev).reported (seen_of y)
+  opened y Restart old = λ t h. absurd (false_true refl h)
+  opened y _ old = old
+
+  -- a task that has a last publisher has one ever after
+  pub later : (y : Play) (e : Entry) (t : ℕ) → HasPublished (seen_of y) t → HasPublished (see_all w k (nothing_seen opening) (y.journal ++ e ∷ [])) t
+  later y e t h = subst (λ s. HasPublished s t) (sym (see_more w k (nothing_seen opening) y.journal e)) (last_still w k (seen_of y) e t h)
+
+  -- what is told now was not told before
+  pub unclean_before : (y : Play) (e : Entry) → (tell_all w (nothing_told (clean_event w all_ends)) (y.journal ++ e ∷ [])).cleaned ≡ false → Unclean y
+  unclean_before y e h = before (tell_all w (nothing_told (clean_event w all_ends)) y.journal).cleaned _ (cleaned_more w (nothing_told (clean_event w all_ends)) y.journal e) h
+    where
+      before : (a b : Bool) → (a ≡ true → b ≡ true) → b ≡ false → a ≡ false
+      before true b h e = absurd (false_true e (h refl))
+      before false b h e = refl
+
+  finishes : (y : Play) → Reachable g opening y → Ahead y all_ends → (v : ActorEnd) → MayFinish y v → Unclean y → Reported y → Reported (happen g y (Finishes v))
+  finishes y past ahead v may clean old = record {
+    live = λ t h. elim (reports v.actor (y.live.state v.actor).stage v.end y.live.reported t h) [ inl before ↦ old.live t before | inr now ↦ published t now (may_end y v may) ];
+    past = old.past;
+  }
+    where
+      run : IsRun g opening y (times w all_ends)
+      run = is_run g opening j is_opening y past all_ends ahead
+
+      published : (t : ℕ) → Reports v.actor (y.live.state v.actor).stage v.end t → ((is_memory v.end ≡ true) ⊎ ((m : Running) × (y.running v.actor ≡ Some m) × (over m.operation ≡ Some v.end))) → HasPublished (seen_of y) t
+      published t r (inl memory) = absurd (false_true (ap is_memory r.done) memory)
+      published t r (inr q) =
+          let b = r.by in
+          let m = q.0 in
+          let here : y.running (actor_of b) ≡ Some m = ap y.running (sym r.actor) ∙ q.1 in
+          let at = commits_at g opening j is_opening y past b in
+          let busy : (y.live.state (actor_of b)).life ≡ Busy = ap (λ a. (y.live.state a).life) (sym r.actor) ∙ may.busy in
+          let staged : is_committing (y.live.state (actor_of b)).stage ≡ true = ap (λ a. is_committing (y.live.state a).stage) (sym r.actor) ∙ r.stage in
+          let is_task : IsTaskCommit (Some m.operation) =
+          subst (λ l. StageBy true l (Some m.operation)) busy (subst (λ c. StageBy c (y.live.state (actor_of b)).life (Some m.operation)) staged (subst (λ o. CommitAt (y.live.state (actor_of b)) (operation_of o)) here at)) in
+          let d = done_commit m.operation is_task (q.2 ∙ ap (λ v. Some v) r.done) in
+          let told : run.stand.told.cleaned ≡ false = ap (λ (z : Told). z.cleaned) (tells_so g k opening j is_opening y.journal run.stand run.runs) ∙ ap (λ c. (tell_all w (nothing_told c) y.journal).cleaned) run.cleans ∙ clean in
+          let here_at : run.stand.attempts b ≡ Some (TheTaskCommit d.commit) = run.attempts b ∙ ap operation_of here ∙ ap (λ v. Some v) d.is in
+          let has = done_published g k opening j is_opening y.journal run.stand run.runs told b d.commit here_at d.over in
+          subst (λ u. HasPublished (seen_of y) u) r.task (subst (λ s. HasPublished s b.task) (sees g k opening j is_opening y.journal run.stand run.runs) has)
+
+  pub reported : (x : Play) → Reachable g opening x → Ahead x all_ends → Unclean x → Reported x
+  reported x (nothing_happened) ahead clean = record { live = λ t h. absurd (false_true refl h); past = λ t h. absurd (false_true refl h) }
+  reported x (happens y (Refuses f) past may) ahead clean = let old = reported y past (refused_ahead g y f all_ends may.1.idle ahead) clean in record { live = old.past; past = old.past }
+  reported x (happens y (Opens ev) past may) ahead clean = let old = reported y past (opened_ahead g y ev all_ends may.idle ahead) clean in record { live = opened y ev old.past; past = old.past }
+  reported x (happens y (Sends e) past may) ahead clean =
+      let old = reported y past (sent_ahead g y e all_ends ahead) (unclean_before y e clean) in
+      record { live = λ t h. later y e t (old.live t h); past = λ t h. later y e t (old.past t h) }
+  reported x (happens y (Strays r o) past may) ahead clean =
+      let e = strange_entry (length y.ends) r o in
+      let old = reported y past (strayed_ahead g y r o all_ends ahead) (unclean_before y e clean) in
+      record { live = λ t h. later y e t (old.live t h); past = λ t h. later y e t (old.past t h) }
+  reported x (happens y (Finishes v) past may) ahead clean = let before = finished_ahead g y v all_ends ahead in finishes y past before v may clean (reported y past before clean)
+  reported x (happens y (Closes end) past may) ahead clean =
+      let old = reported y past (closed_ahead g y end all_ends (not_refused w y.past.state may.event end _ may.turns) ahead) clean in
+      record { live = old.live; past = old.live }

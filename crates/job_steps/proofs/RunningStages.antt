@@ -1,0 +1,321 @@
+-- What the driver is at, by its life and stage.
+use Rattle.std.proofs.Common.{◌≡◌, ℕ, ◌⊎◌, inl, inr, ◌&&◌, ◌||◌, Bool, true, false, Option, Some, None, refl, sym, ap, subst}
+use Rattle.std.specs.Prelude.{if◌then◌else◌}
+use Rattle.std.specs.Option.{option_map}
+use Rattle.s3_types.specs.declared.request.Actor.{Actor}
+use Rattle.s3_types.specs.declared.request.Actor.TheVariants.{Driver, Attempt}
+use Rattle.s3_types.specs.declared.request.Request.{Request}
+use Rattle.s3_types.specs.declared.journal.Outcome.{Outcome}
+use Rattle.retries.specs.Retries.{Retried}
+use Rattle.job_model.specs.Known.{Known}
+use Rattle.job_model.specs.declared.events.Event.{Event}
+use Rattle.job_model.specs.declared.events.Op.{Op}
+use Rattle.job_model.specs.declared.events.Op.TheVariants.{Setup, Commit, Abort, Clean}
+use Rattle.job_model.specs.declared.ends.SetupEnd.{SetupEnd}
+use Rattle.job_model.specs.declared.ends.SetupEnd.TheVariants as setups
+use Rattle.job_model.specs.declared.ends.CommitEnd.{CommitEnd}
+use Rattle.job_model.specs.declared.ends.CommitEnd.TheVariants as commits
+use Rattle.job_model.specs.declared.ends.CleanEnd.{CleanEnd}
+use Rattle.job_model.specs.declared.ends.CleanEnd.TheVariants as cleans
+use Rattle.job_model.specs.declared.ends.TaskEnd.{TaskEnd}
+use Rattle.job_model.specs.declared.ends.TaskEnd.TheVariants as tasks
+use Rattle.job_model.specs.declared.ends.OpEnd.{OpEnd}
+use Rattle.job_model.specs.declared.ends.OpEnd.TheVariants as ends
+use Rattle.job_model.specs.declared.ends.ActorEnd.{ActorEnd}
+use Rattle.job_model.specs.declared.ends.EventFault.{EventFault}
+use Rattle.job_model.specs.declared.ends.EventFault.TheVariants as faults
+use Rattle.job_model.specs.declared.states.Life.{Life}
+use Rattle.job_model.specs.declared.states.Life.TheVariants.{Idle, Busy, Dead}
+use Rattle.job_model.specs.declared.states.ActorStage.{ActorStage}
+use Rattle.job_model.specs.declared.states.ActorStage.TheVariants as stage
+use Rattle.job_protocol.specs.Setup as setup
+use Rattle.job_protocol.specs.Setup.{setup_over}
+use Rattle.job_protocol.specs.JobCommits.{commit_over}
+use Rattle.job_protocol.specs.Cleanups.{clean_over}
+use Rattle.job_protocol.specs.Operations.{Setting, Operation, TheSetup, TheWrite, TheTaskCommit, TheTaskAbort, TheCommit, TheClean, Running, who, asks, tells, over}
+use Rattle.job_spec.specs.Seen.{is_begun}
+use Rattle.job_spec.specs.States.{ended, setup_ended, commit_ended, clean_ended, dead, restarted, is_new, needs_set, may, driver_may, refuse_op, refuse_begin, begins_commit, begins_clean}
+use Rattle.job_spec.specs.Turns.{is_busy, is_memory, is_wanting}
+use Rattle.proof_base.proofs.Members.{some_is, none_some, false_true, true_or_false}
+use Rattle.job_traces.specs.Runs.{is_set, is_just_set, is_done, IsTimely, nothing_learnt}
+use Rattle.job_facts.proofs.Whose.{or_false}
+use Rattle.job_steps.specs.Transitions.{Play, MayFinish}
+
+-- ---- when an operation may begin
+
+idle_begins : (l : Life) (r : Option EventFault) → refuse_begin l r ≡ None → (l ≡ Idle) × (r ≡ None)
+idle_begins Idle r e = (refl, e)
+idle_begins _ r e = absurd cc
+
+let_by : (unset may : Bool) → (if unset then Some faults.NotSet else (if may then None else Some faults.WrongState)) ≡ None → (unset ≡ false) × (may ≡ true)
+let_by true may e = absurd cc
+let_by false true e = (refl, refl)
+let_by false false e = absurd cc
+
+-- an operation that is not refused: its actor is idle, the job is set up if it must be, and the stage is one that it may begin in
+pub record Begins (driver : ActorStage) (a : Actor) (op : Op) (life : Life) (s : ActorStage) : Type 0 where
+  pub idle : life ≡ Idle
+  pub set : (needs_set a op && is_new driver) ≡ false
+  pub may_begin : may a op s ≡ true
+
+pub begins_so : (driver : ActorStage) (a : Actor) (op : Op) (life : Life) (s : ActorStage) → refuse_begin life (refuse_op driver a op s) ≡ None → Begins driver a op life s
+begins_so driver a op life s e =
+    let i = idle_begins life (refuse_op driver a op s) e in
+    let b = let_by (needs_set a op && is_new driver) (may a op s) i.1 in
+    record { idle = i.0; set = b.0; may_begin = b.1 }
+
+-- ---- an end for want of memory
+
+of_setup : (e : SetupEnd) (s : ActorStage) → is_memory (ends.Setup e) ≡ true → setup_ended e s ≡ dead s
+of_setup setups.NoMemory s h = refl
+of_setup _ s h = absurd (false_true refl h)
+
+of_commit : (e : CommitEnd) (s : ActorStage) → is_memory (ends.Commit e) ≡ true → commit_ended e s ≡ dead s
+of_commit commits.NoMemory s h = refl
+of_commit _ s h = absurd (false_true refl h)
+
+of_clean : (e : CleanEnd) (s : ActorStage) → is_memory (ends.Clean e) ≡ true → clean_ended e s ≡ dead s
+of_clean cleans.NoMemory s h = refl
+of_clean _ s h = absurd (false_true refl h)
+
+of_task : (e : TaskEnd) (s : ActorStage) → is_memory (ends.Task e) ≡ true → ended (ends.Task e) s ≡ dead s
+of_task tasks.NoMemory s h = refl
+of_task _ s h = absurd (false_true refl h)
+
+wanting_memory : (a : Actor) (op : Op) (e : OpEnd) → is_wanting a op e ≡ true → is_memory e ≡ true
+wanting_memory a op ends.NoMemory h = refl
+wanting_memory Driver Setup (ends.Setup setups.NoMemory) h = refl
+wanting_memory Driver Commit (ends.Commit commits.NoMemory) h = refl
+wanting_memory Driver Abort (ends.Clean cleans.NoMemory) h = refl
+wanting_memory Driver Clean (ends.Clean cleans.NoMemory) h = refl
+wanting_memory (Attempt t a) op (ends.Task tasks.NoMemory) h = refl
+wanting_memory _ _ _ h = absurd (false_true refl h)
+
+-- whose it is aside
+pub memory_or : {X : Type 0} (a : Actor) (op : Op) (e : OpEnd) → (is_wanting a op e ≡ true) ⊎ X → (is_memory e ≡ true) ⊎ X
+memory_or a op e (inl wanting) = inl (wanting_memory a op e wanting)
+memory_or a op e (inr x) = inr x
+
+pub may_end : (x : Play) (y : ActorEnd) → MayFinish x y → (is_memory y.end ≡ true) ⊎ ((m : Running) × (x.running y.actor ≡ Some m) × (over m.operation ≡ Some y.end))
+may_end x y may = memory_or y.actor may.doing.op y.end may.end
+
+-- its actor is dead, at its stage
+pub memory_dies : (e : OpEnd) (s : ActorStage) → is_memory e ≡ true → ended e s ≡ dead s
+memory_dies (ends.Setup e) s h = of_setup e s h
+memory_dies (ends.Commit e) s h = of_commit e s h
+memory_dies (ends.Clean e) s h = of_clean e s h
+memory_dies (ends.Task e) s h = of_task e s h
+memory_dies ends.NoMemory s h = refl
+
+-- ---- what the driver is at
+
+-- nothing, or its set-up
+abbrev pub IsSettingUp : Option Operation → Type 0
+IsSettingUp None = Unit {0}
+IsSettingUp (Some (TheSetup t)) = Unit {0}
+IsSettingUp (Some _) = ⊥
+
+-- its commit, or an abort or clean of the job
+abbrev pub IsBehind : Option Operation → Type 0
+IsBehind (Some (TheCommit c)) = Unit {0}
+IsBehind (Some (TheClean t)) = Unit {0}
+IsBehind _ = ⊥
+
+abbrev pub DriverAt : ActorStage → Life → Option Operation → Type 0
+DriverAt stage.New l d = IsSettingUp d
+DriverAt stage.Set l d = (is_busy l ≡ false) × (is_just_set d ≡ true)
+DriverAt _ l d = IsBehind d
+
+behind_set : (d : Option Operation) → IsBehind d → is_set d ≡ true
+behind_set (Some (TheCommit c)) h = refl
+behind_set (Some (TheClean t)) h = refl
+behind_set _ h = absurd h
+
+just_set : (d : Option Operation) → is_just_set d ≡ true → is_set d ≡ true
+just_set (Some (TheSetup t)) e = e
+just_set _ e = absurd (false_true refl e)
+
+-- behind its first stage the job is set up
+pub driver_set : (s : ActorStage) (l : Life) (d : Option Operation) → DriverAt s l d → is_new s ≡ false → is_set d ≡ true
+driver_set stage.New l d h n = absurd (false_true n refl)
+driver_set stage.Set l d h n = just_set d h.1
+driver_set _ l d h n = behind_set d h
+
+-- ---- it begins an operation
+
+-- a set-up at the first stage: none is done, or the driver was not told of its end
+abbrev pub MaySet : Option Operation → Type 0
+MaySet d = (is_set d ≡ false) ⊎ (is_just_set d ≡ true)
+
+setting_up : (d : Option Operation) → IsSettingUp d → MaySet d
+setting_up None h = inl refl
+setting_up (Some (TheSetup t)) h = elim (true_or_false (is_done t.operation)) [ inl e ↦ inr e | inr e ↦ inl e ]
+setting_up _ h = absurd h
+
+pub may_setup : (s : ActorStage) (l : Life) (d : Option Operation) → DriverAt s l d → driver_may Setup s ≡ true → (is_new s ≡ true) × IsSettingUp d × MaySet d
+may_setup stage.New l d h m = (refl, h, setting_up d h)
+may_setup _ l d h m = absurd (false_true refl m)
+
+pub may_commit_job : (s : ActorStage) (l : Life) (d : Option Operation) → DriverAt s l d → driver_may Commit s ≡ true → is_just_set d ≡ true
+may_commit_job stage.Set l d h m = h.1
+may_commit_job _ l d h m = absurd (false_true refl m)
+
+-- at its first stage it is at nothing or at its set-up, at a new set-up too
+pub new_at : (s : ActorStage) (l : Life) (t : Retried setup.Setup) → is_new s ≡ true → DriverAt s l (Some (TheSetup t))
+new_at stage.New l t e = tt
+new_at _ l t e = absurd (false_true refl e)
+
+-- a clean begins at a stage behind the commit or an abort, which stays
+pub behind_at : (s : ActorStage) (l : Life) (d : Option Operation) → IsBehind d → driver_may Clean s ≡ true → DriverAt s l d × (is_new s ≡ false)
+behind_at stage.Committed l d h m = (h, refl)
+behind_at stage.Failed l d h m = (h, refl)
+behind_at stage.Aborted l d h m = (h, refl)
+behind_at _ l d h m = absurd (false_true refl m)
+
+-- ---- its life changes
+
+pub driver_stops : (s : ActorStage) (l m : Life) (d : Option Operation) → is_busy m ≡ false → DriverAt s l d → DriverAt s m d
+driver_stops stage.Set l m d e h = (e, h.1)
+driver_stops _ l m d e h = h
+
+pub driver_restarts : (s : ActorStage) (l : Life) (d : Option Operation) → DriverAt s l d → DriverAt (restarted s) Idle d
+driver_restarts stage.Set l d h = (refl, h.1)
+driver_restarts _ l d h = h
+
+pub restarted_new : (s : ActorStage) → is_new (restarted s) ≡ true → is_new s ≡ true
+restarted_new stage.Committing e = absurd (false_true refl e)
+restarted_new _ e = e
+
+-- ---- its operation ends
+
+-- what an end is of
+pub mapped : {X Y : Type 0} (f : X → Y) (o : Option X) (y : Y) → option_map f o ≡ Some y → (x : X) × (o ≡ Some x) × (f x ≡ y)
+mapped f None y e = absurd (none_some refl e)
+mapped f (Some x) y e = (x, refl, some_is e)
+
+-- where its operation ended so the driver is at what it was at, and at its first stage only where it was
+abbrev pub EndedAt : ActorStage → Operation → OpEnd → Type 0
+EndedAt s op e = DriverAt (ended e s).stage (ended e s).life (Some op) × (is_new (ended e s).stage ≡ true → is_new s ≡ true)
+
+setup_is_done : (x : setup.Setup) → setup_over x ≡ Some setups.Done → is_done x ≡ true
+setup_is_done (setup.SetupOver end) e = ap (λ v. is_done (setup.SetupOver v)) (some_is e)
+setup_is_done _ e = absurd (none_some refl e)
+
+setup_ends : (t : Retried setup.Setup) (e : SetupEnd) → setup_over t.operation ≡ Some e → EndedAt stage.New (TheSetup t) (ends.Setup e)
+setup_ends t setups.Done o = ((refl, setup_is_done t.operation o), λ n. refl)
+setup_ends t _ o = (tt, λ n. refl)
+
+commit_ends : (s : ActorStage) (op : Operation) (e : CommitEnd) → DriverAt s Busy (Some op) → IsBehind (Some op) → EndedAt s op (ends.Commit e)
+commit_ends s op commits.NoMemory h b = (driver_stops s Busy Dead (Some op) refl h, λ n. n)
+commit_ends s op _ h b = (b, λ n. absurd (false_true refl n))
+
+clean_ends : (s : ActorStage) (op : Operation) (e : CleanEnd) → DriverAt s Busy (Some op) → EndedAt s op (ends.Clean e)
+clean_ends s op cleans.NoMemory h = (driver_stops s Busy Dead (Some op) refl h, λ n. n)
+clean_ends s op _ h = (driver_stops s Busy Idle (Some op) refl h, λ n. n)
+
+-- a set-up is gone on with at the first stage alone
+setup_new : (s : ActorStage) (t : Retried setup.Setup) → DriverAt s Busy (Some (TheSetup t)) → s ≡ stage.New
+setup_new stage.New t h = refl
+setup_new stage.Set t h = absurd (false_true h.0 refl)
+setup_new _ t h = absurd h
+
+-- it is at a set-up, or behind that
+abbrev pub Kind : Option Operation → Type 0
+Kind d = IsSettingUp d ⊎ IsBehind d
+
+just_kind : (d : Option Operation) → is_just_set d ≡ true → IsSettingUp d
+just_kind None e = tt
+just_kind (Some (TheSetup t)) e = tt
+just_kind _ e = absurd (false_true refl e)
+
+pub driver_kind : (s : ActorStage) (l : Life) (d : Option Operation) → DriverAt s l d → Kind d
+driver_kind stage.New l d h = inl h
+driver_kind stage.Set l d h = inl (just_kind d h.1)
+driver_kind _ l d h = inr h
+
+-- a busy driver that is at something else than a set-up is behind it
+goes_behind : (s : ActorStage) (d e : Option Operation) → DriverAt s Busy d → (IsSettingUp d → ⊥) → IsBehind e → DriverAt s Busy e
+goes_behind stage.New d e h not_so b = absurd (not_so h)
+goes_behind stage.Set d e h not_so b = absurd (false_true h.0 refl)
+goes_behind _ d e h not_so b = b
+
+behind_now : (s : ActorStage) (op : Operation) → DriverAt s Busy (Some op) → (IsSettingUp (Some op) → ⊥) → IsBehind (Some op)
+behind_now s op h not_so = elim (driver_kind s Busy (Some op) h) [ inl x ↦ absurd (not_so x) | inr x ↦ x ]
+
+-- an attempt's operation it is never at
+no_task : (op : Operation) → Kind (Some op) → (IsSettingUp (Some op) → ⊥) → (IsBehind (Some op) → ⊥) → ⊥
+no_task op k not_so never = elim k [ inl x ↦ not_so x | inr x ↦ never x ]
+
+pub driver_ends : (s : ActorStage) (op : Operation) (e : OpEnd) → DriverAt s Busy (Some op) → over op ≡ Some e → EndedAt s op e
+driver_ends s (TheSetup t) e h o =
+    let m = mapped ends.Setup (setup_over t.operation) e o in
+    subst (EndedAt s (TheSetup t)) m.2 (subst (λ u. EndedAt u (TheSetup t) (ends.Setup m.0)) (sym (setup_new s t h)) (setup_ends t m.0 m.1))
+driver_ends s (TheCommit c) e h o =
+    let m = mapped ends.Commit (commit_over c) e o in
+    subst (EndedAt s (TheCommit c)) m.2 (commit_ends s (TheCommit c) m.0 h (behind_now s (TheCommit c) h (λ x. x)))
+driver_ends s (TheClean t) e h o =
+    let m = mapped ends.Clean (clean_over t.operation) e o in
+    subst (EndedAt s (TheClean t)) m.2 (clean_ends s (TheClean t) m.0 h)
+driver_ends s (TheWrite t) e h o = absurd (no_task (TheWrite t) (driver_kind s Busy (Some (TheWrite t)) h) (λ x. x) (λ x. x))
+driver_ends s (TheTaskCommit t) e h o = absurd (no_task (TheTaskCommit t) (driver_kind s Busy (Some (TheTaskCommit t)) h) (λ x. x) (λ x. x))
+driver_ends s (TheTaskAbort t) e h o = absurd (no_task (TheTaskAbort t) (driver_kind s Busy (Some (TheTaskAbort t)) h) (λ x. x) (λ x. x))
+
+-- ---- it goes on
+
+-- what it asks does not read what is known
+pub driver_asks : (g : Setting) (op : Operation) (k : Known) (r : Request) → Kind (Some op) → asks g (who Driver) k op ≡ Some r → asks g (who Driver) nothing_learnt op ≡ Some r
+driver_asks g (TheWrite t) k r h e = absurd (no_task (TheWrite t) h (λ x. x) (λ x. x))
+driver_asks g (TheTaskCommit t) k r h e = absurd (no_task (TheTaskCommit t) h (λ x. x) (λ x. x))
+driver_asks g (TheTaskAbort t) k r h e = absurd (no_task (TheTaskAbort t) h (λ x. x) (λ x. x))
+driver_asks g _ k r h e = e
+
+pub driver_hears : (g : Setting) (s : ActorStage) (op : Operation) (o : Outcome) → DriverAt s Busy (Some op) → DriverAt s Busy (Some (tells g (who Driver) op o))
+driver_hears g s (TheSetup t) o h = new_at s Busy _ (ap is_new (setup_new s t h))
+driver_hears g s (TheCommit c) o h = goes_behind s (Some (TheCommit c)) (Some (tells g (who Driver) (TheCommit c) o)) h (λ x. x) tt
+driver_hears g s (TheClean t) o h = goes_behind s (Some (TheClean t)) (Some (tells g (who Driver) (TheClean t) o)) h (λ x. x) tt
+driver_hears g s (TheWrite t) o h = absurd (no_task (TheWrite t) (driver_kind s Busy (Some (TheWrite t)) h) (λ x. x) (λ x. x))
+driver_hears g s (TheTaskCommit t) o h = absurd (no_task (TheTaskCommit t) (driver_kind s Busy (Some (TheTaskCommit t)) h) (λ x. x) (λ x. x))
+driver_hears g s (TheTaskAbort t) o h = absurd (no_task (TheTaskAbort t) (driver_kind s Busy (Some (TheTaskAbort t)) h) (λ x. x) (λ x. x))
+
+-- ---- whether its commit has begun
+
+-- whether they have begun
+pub record Begun : Type 0 where
+  pub commit : Bool
+  pub clean : Bool
+
+-- with an event that is refused or not, and with one that begins neither
+abbrev pub with_event : Bool → Begun → Event → Begun
+with_event fine b ev = record { commit = b.commit || (begins_commit ev && fine); clean = b.clean || (begins_clean ev && fine) }
+
+abbrev pub still_begun : Begun → Begun
+still_begun b = record { commit = b.commit || false; clean = b.clean || false }
+
+-- where the driver is at its commit that has begun, and no abort or clean; where it is at an abort or clean that has; and neither has where it is at its set-up
+abbrev pub IsTimed : Begun → Option Operation → Type 0
+IsTimed b None = (b.commit ≡ false) × (b.clean ≡ false)
+IsTimed b (Some (TheSetup t)) = (b.commit ≡ false) × (b.clean ≡ false)
+IsTimed b (Some (TheCommit c)) = (b.commit ≡ true) × (b.clean ≡ false)
+IsTimed b (Some (TheClean t)) = b.clean ≡ true
+IsTimed b (Some _) = Unit {0}
+
+pub timed_setting : (b : Begun) (d : Option Operation) → IsTimed b d → IsSettingUp d → (b.commit ≡ false) × (b.clean ≡ false)
+timed_setting b None h s = h
+timed_setting b (Some (TheSetup t)) h s = h
+timed_setting b (Some _) h s = absurd s
+
+pub timed_sends : (k c : Option ℕ) (n : ℕ) (op : Operation) → IsTimed (record { commit = is_begun k n; clean = is_begun c n }) (Some op) → IsTimely k c n op
+timed_sends k c n (TheSetup t) h = h
+timed_sends k c n (TheCommit v) h = h
+timed_sends k c n (TheClean t) h = h
+timed_sends k c n _ h = tt
+
+pub timed_tells : (g : Setting) (b : Begun) (op : Operation) (o : Outcome) → IsTimed b (Some op) → IsTimed b (Some (tells g (who Driver) op o))
+timed_tells g b (TheWrite t) o h = tt
+timed_tells g b (TheTaskCommit t) o h = tt
+timed_tells g b (TheTaskAbort t) o h = tt
+timed_tells g b _ o h = h
+
+-- a later event that begins neither
+pub timed_on : (b : Begun) (d : Option Operation) → IsTimed b d → IsTimed (still_begun b) d
+timed_on b d h = subst (λ c. IsTimed c d) (λ i. record { commit = sym (or_false b.commit) i; clean = sym (or_false b.clean) i }) h

@@ -1,0 +1,161 @@
+-- An actor's operation begins: it is one that the job's runs let begin.
+use Rattle.std.proofs.Common.{◌≡◌, ℕ, inl, inr, ◌||◌, true, false, List, Option, Some, None, refl, sym, ap, subst, ◌∙◌}
+use Rattle.s3_types.specs.Store.{Content}
+use Rattle.s3_types.specs.declared.request.Actor.{Actor}
+use Rattle.s3_types.specs.declared.request.Actor.TheVariants.{Driver, Attempt, Shell}
+use Rattle.s3_types.specs.declared.journal.Entry.{Entry}
+use Rattle.retries.specs.Retries.{Retried, fresh}
+use Rattle.job_model.specs.Attempts.{Who, actor_of, is_known}
+use Rattle.job_model.specs.Legal.{IsLegal, HasOp}
+use Rattle.job_model.specs.JobScript.{Script}
+use Rattle.job_model.specs.Known.{Known}
+use Rattle.job_model.specs.declared.events.Op.{Op}
+use Rattle.job_model.specs.declared.events.Op.TheVariants.{Setup, Write, Commit, Abort, Clean}
+use Rattle.job_model.specs.declared.events.Event.TheVariants.{Do}
+use Rattle.job_model.specs.declared.ends.TaskEnd.TheVariants as tasks
+use Rattle.job_model.specs.declared.states.Life.TheVariants.{Idle, Busy}
+use Rattle.job_model.specs.declared.states.ActorStage.{ActorStage}
+use Rattle.job_model.specs.declared.states.ActorState.{ActorState}
+use Rattle.job_protocol.specs.Setup.{setup_start}
+use Rattle.job_protocol.specs.Writes.{WriteOver, write_start}
+use Rattle.job_protocol.specs.TaskCommits.{task_commit_start}
+use Rattle.job_protocol.specs.TaskAborts.{TaskAbort, task_abort_start}
+use Rattle.job_protocol.specs.JobCommits.{commit_start}
+use Rattle.job_protocol.specs.Cleanups.{clean_start}
+use Rattle.job_protocol.specs.Knowledge.{knows}
+use Rattle.job_protocol.specs.Operations.{Setting, Operation, TheSetup, TheWrite, TheTaskCommit, TheTaskAbort, TheCommit, TheClean, Running, who, start_of}
+use Rattle.job_spec.specs.States.{put, stage_begun, is_new, driver_may, attempt_may}
+use Rattle.job_spec.specs.Turns.{by_actor}
+use Rattle.proof_base.proofs.Members.{false_true}
+use Rattle.job_facts.specs.Told.{known}
+use Rattle.job_facts.specs.Facts.{IsAttempt}
+use Rattle.job_traces.specs.Runs.{Stand, BeginSetup, BeginCommit, BeginClean, BeginWrite, BeginPublish, BeginAbort, begin, Runs, actor_begins, IsOpening, with_attempt, is_set, is_just_set, MaySetUp}
+use Rattle.job_facts.proofs.Whose.{attempt, or_false, or_true}
+use Rattle.job_traces.proofs.Entries.{late_now}
+use Rattle.job_steps.specs.Transitions.{begun}
+use Rattle.job_steps.specs.Running.{Times, operation_of}
+use Rattle.job_steps.proofs.RunningNumbers.{known_attempt}
+use Rattle.job_steps.proofs.RunningStages.{Begun, with_event, still_begun, IsSettingUp, Begins, MaySet, IsBehind, DriverAt, may_setup, may_commit_job, new_at, behind_at, timed_setting, timed_on}
+use Rattle.job_steps.proofs.RunningTasks.{AttemptAt, FreeAbort, HasWritten, free_start, free_abort, may_write, written_is, may_publish, may_abort}
+use Rattle.job_steps.proofs.RunningAlong.{Along, told_known, set_up, timed_by, driver_begins, attempt_begins}
+
+-- the state of an actor that begins this at its stage
+abbrev pub busy_at : Actor → Op → ActorStage → ActorState
+busy_at a op s = record { life = Busy; stage = stage_begun a op s }
+
+module _ (g : Setting) (opening : Content) (k : Times) (j : IsLegal g.script) (is_opening : IsOpening g opening) where
+  abbrev w : Script
+  w = g.script
+
+  -- ---- the driver
+
+  -- right behind its set-up
+  just_setting : (d : Option Operation) → is_just_set d ≡ true → IsSettingUp d
+  just_setting None e = tt
+  just_setting (Some (TheSetup t)) e = tt
+  just_setting (Some _) e = absurd (false_true refl e)
+
+  -- one more set-up
+  setup_may : (x : Stand) (d : Option Operation) → x.driver ≡ d → MaySet d → ((a : Who) → x.attempts a ≡ None) → MaySetUp x
+  setup_may x d e (inl unset) none = inl (ap is_set e ∙ unset)
+  setup_may x d e (inr just) none = inr (ap is_just_set e ∙ just, none)
+
+  starts_setup : (b : Begun) (es : List Entry) (r : Actor → Option Running) (st : Actor → ActorState) (h : Along g opening k b es r st) (kn : Known) → driver_may Setup (st Driver).stage ≡ true
+      → Along g opening k (still_begun b) es (put r Driver (Some (record { operation = TheSetup (fresh w.retries setup_start); known = kn }))) (put st Driver (busy_at Driver Setup (st Driver).stage))
+  starts_setup b es r st h kn may =
+      let s = (st Driver).stage in
+      let m = may_setup s (st Driver).life (operation_of (r Driver)) h.driver_at may in
+      let op = TheSetup (fresh w.retries setup_start) in
+      let may_set = setup_may h.stand (operation_of (r Driver)) h.driver m.2 (λ a. h.attempts a ∙ h.unset m.0 a) in
+      let t = timed_setting b (operation_of (r Driver)) h.timed m.1 in
+      let early : ((b.commit || false) ≡ false) × ((b.clean || false) ≡ false) = (or_false b.commit ∙ t.0, or_false b.clean ∙ t.1) in
+      driver_begins g opening k j is_opening b (still_begun b) es r st h (record { operation = op; known = kn }) (busy_at Driver Setup s) (begin g h.stand BeginSetup)
+      (actor_begins es h.stand BeginSetup h.runs may_set) refl refl refl early (new_at s Busy (fresh w.retries setup_start) m.0) (λ n. n)
+
+  starts_job_commit : (b : Begun) (es : List Entry) (r : Actor → Option Running) (st : Actor → ActorState) (h : Along g opening k b es r st) (kn : Known) (missing : Option ℕ) → driver_may Commit (st Driver).stage ≡ true
+      → Along g opening k (with_event true b (Do Driver Commit)) es (put r Driver (Some (record { operation = TheCommit (commit_start w missing); known = kn }))) (put st Driver (busy_at Driver Commit (st Driver).stage))
+  starts_job_commit b es r st h kn missing may =
+      let s = (st Driver).stage in
+      let just : is_just_set h.stand.driver ≡ true = ap is_just_set h.driver ∙ may_commit_job s (st Driver).life (operation_of (r Driver)) h.driver_at may in
+      driver_begins g opening k j is_opening b (with_event true b (Do Driver Commit)) es r st h (record { operation = TheCommit (commit_start w missing); known = kn }) (busy_at Driver Commit s) (begin g h.stand (BeginCommit missing))
+      (actor_begins es h.stand (BeginCommit missing) h.runs just) refl refl refl (or_true b.commit, or_false b.clean ∙ (timed_setting b (operation_of (r Driver)) h.timed (just_setting (operation_of (r Driver)) (sym (ap is_just_set h.driver) ∙ just))).1) tt (λ n. absurd (false_true refl n))
+
+  -- an abort or a clean of the job
+  starts_clean : (b c : Begun) (es : List Entry) (r : Actor → Option Running) (st : Actor → ActorState) (h : Along g opening k b es r st) (kn : Known) (v : ActorState) → is_new (st Driver).stage ≡ false
+      → c.clean ≡ true → ((t : Operation) → IsBehind (Some t) → DriverAt v.stage v.life (Some t) × (is_new v.stage ≡ false))
+      → Along g opening k c es (put r Driver (Some (record { operation = TheClean (fresh w.retries clean_start); known = kn }))) (put st Driver v)
+  starts_clean b c es r st h kn v new begun at =
+      let op = TheClean (fresh w.retries clean_start) in
+      let there = at op tt in
+      driver_begins g opening k j is_opening b c es r st h (record { operation = op; known = kn }) v (begin g h.stand BeginClean)
+      (actor_begins es h.stand BeginClean h.runs (set_up g opening k j is_opening b es r st h new)) refl refl refl begun there.0 (λ n. absurd (false_true there.1 n))
+
+  driver_op : (b : Begun) (es : List Entry) (r : Actor → Option Running) (st : Actor → ActorState) (h : Along g opening k b es r st) (kn : Known) (missing : Option ℕ) (op : Op) → Begins (st Driver).stage Driver op (st Driver).life (st Driver).stage → HasOp Driver op
+      → Along g opening k (with_event true b (Do Driver op)) es (put r Driver (begun (start_of g Driver op missing kn) kn)) (put st Driver (busy_at Driver op (st Driver).stage))
+  driver_op b es r st h kn missing Setup m legal = starts_setup b es r st h kn m.may_begin
+  driver_op b es r st h kn missing Commit m legal = starts_job_commit b es r st h kn missing m.may_begin
+  driver_op b es r st h kn missing Abort m legal = starts_clean b (with_event true b (Do Driver Abort)) es r st h kn (busy_at Driver Abort (st Driver).stage) m.set (or_true b.clean) (λ t i. (i, refl))
+  driver_op b es r st h kn missing Clean m legal = starts_clean b (with_event true b (Do Driver Clean)) es r st h kn (busy_at Driver Clean (st Driver).stage) m.set (or_true b.clean) (λ t i. behind_at (st Driver).stage Busy (Some t) i m.may_begin)
+  driver_op b es r st h kn missing Write m legal = absurd legal
+
+  -- ---- an attempt
+
+  -- it has not sent its publishing request where it is at nothing, or where its write is done
+  none_sent : (es : List Entry) (x : Stand) → Runs g k.commit opening es x → is_set x.driver ≡ true → (a : Who) → x.attempts a ≡ None → (known x.told a).publish_sent ≡ false
+  none_sent es x run set a e = ap (λ (v : Known). v.publish_sent) ((late_now g k.commit opening j is_opening es x run set).new a e).0
+
+  written_sent : (es : List Entry) (x : Stand) → Runs g k.commit opening es x → is_set x.driver ≡ true → (a : Who) (d : Option Operation) → x.attempts a ≡ d → HasWritten d → (known x.told a).publish_sent ≡ false
+  written_sent es x run set a d e h =
+      let at = written_is d h in
+      let f = (late_now g k.commit opening j is_opening es x run set).fine a (TheWrite (record { operation = WriteOver tasks.Done; spare = at.0; repeated = at.1 })) (e ∙ at.2) in
+      (f.1.1 refl).0.0
+
+  starts_write : (b : Begun) (es : List Entry) (r : Actor → Option Running) (st : Actor → ActorState) (h : Along g opening k b es r st) (a : Who) (kn : Known) → kn ≡ known h.stand.told a → IsAttempt w a → is_new (st Driver).stage ≡ false
+      → AttemptAt (st (actor_of a)).stage Idle (operation_of (r (actor_of a))) → attempt_may Write (st (actor_of a)).stage ≡ true
+      → Along g opening k b es (put r (actor_of a) (Some (record { operation = TheWrite (fresh w.retries (write_start w a)); known = kn }))) (put st (actor_of a) (busy_at (actor_of a) Write (st (actor_of a)).stage))
+  starts_write b es r st h a kn learnt is new at may =
+      let none : h.stand.attempts a ≡ None = h.attempts a ∙ may_write (st (actor_of a)).stage (operation_of (r (actor_of a))) at may in
+      attempt_begins g opening k j is_opening b es r st h a (record { operation = TheWrite (fresh w.retries (write_start w a)); known = kn }) (busy_at (actor_of a) Write (st (actor_of a)).stage)
+      (actor_begins es h.stand (BeginWrite a) h.runs (set_up g opening k j is_opening b es r st h new, is, none)) new learnt (free_start w a)
+
+  starts_publish : (b : Begun) (es : List Entry) (r : Actor → Option Running) (st : Actor → ActorState) (h : Along g opening k b es r st) (a : Who) (kn : Known) → kn ≡ known h.stand.told a → is_new (st Driver).stage ≡ false
+      → AttemptAt (st (actor_of a)).stage Idle (operation_of (r (actor_of a))) → attempt_may Commit (st (actor_of a)).stage ≡ true
+      → Along g opening k b es (put r (actor_of a) (Some (record { operation = TheTaskCommit (fresh w.retries (task_commit_start w a)); known = kn }))) (put st (actor_of a) (busy_at (actor_of a) Commit (st (actor_of a)).stage))
+  starts_publish b es r st h a kn learnt new at may =
+      let p = may_publish (st (actor_of a)).stage (operation_of (r (actor_of a))) at may in
+      attempt_begins g opening k j is_opening b es r st h a (record { operation = TheTaskCommit (fresh w.retries (task_commit_start w a)); known = kn }) (busy_at (actor_of a) Commit (st (actor_of a)).stage)
+      (actor_begins es h.stand (BeginPublish a) h.runs (set_up g opening k j is_opening b es r st h new, (p.0, p.1, h.attempts a ∙ p.2))) new learnt tt
+
+  starts_abort : (b : Begun) (es : List Entry) (r : Actor → Option Running) (st : Actor → ActorState) (h : Along g opening k b es r st) (a : Who) (kn : Known) → kn ≡ known h.stand.told a → IsAttempt w a → is_new (st Driver).stage ≡ false
+      → AttemptAt (st (actor_of a)).stage Idle (operation_of (r (actor_of a)))
+      → Along g opening k b es (put r (actor_of a) (Some (record { operation = TheTaskAbort (fresh w.retries (task_abort_start w kn)); known = kn }))) (put st (actor_of a) (busy_at (actor_of a) Abort (st (actor_of a)).stage))
+  starts_abort b es r st h a kn learnt is new at =
+      let x = h.stand in
+      let set = set_up g opening k j is_opening b es r st h new in
+      let t : Retried TaskAbort = fresh w.retries (task_abort_start w kn) in
+      let run = subst (λ v. Runs g k.commit opening es (with_attempt x a (TheTaskAbort (fresh w.retries (task_abort_start w v))))) (sym learnt) (actor_begins es x (BeginAbort a) h.runs (set, is)) in
+      let unsent : (known x.told a).publish_sent ≡ false → FreeAbort (task_abort_start w kn) = λ e. free_abort w kn (ap (λ (v : Known). v.publish_sent) learnt ∙ e) in
+      let free = may_abort (st (actor_of a)).stage (operation_of (r (actor_of a))) t at (λ e. unsent (none_sent es x h.runs set a (h.attempts a ∙ e))) (λ y. unsent (written_sent es x h.runs set a (operation_of (r (actor_of a))) (h.attempts a) y)) in
+      attempt_begins g opening k j is_opening b es r st h a (record { operation = TheTaskAbort t; known = kn }) (busy_at (actor_of a) Abort (st (actor_of a)).stage) run new learnt free
+
+  -- whether the commit has begun is as it was
+  pub still : (b : Begun) (es : List Entry) (r : Actor → Option Running) (st : Actor → ActorState) → Along g opening k b es r st → Along g opening k (still_begun b) es r st
+  still b es r st h = timed_by g opening k j is_opening b (still_begun b) es r st h (timed_on b (operation_of (r Driver)) h.timed)
+
+  attempt_op : (b : Begun) (es : List Entry) (r : Actor → Option Running) (st : Actor → ActorState) (h : Along g opening k b es r st) (a : Who) (kn : Known) (missing : Option ℕ) → kn ≡ known h.stand.told a → IsAttempt w a
+      → (op : Op) → Begins (st Driver).stage (actor_of a) op (st (actor_of a)).life (st (actor_of a)).stage → HasOp (actor_of a) op
+      → Along g opening k (still_begun b) es (put r (actor_of a) (begun (start_of g (actor_of a) op missing kn) kn)) (put st (actor_of a) (busy_at (actor_of a) op (st (actor_of a)).stage))
+  attempt_op b es r st h a kn missing learnt is Write m legal = still b es _ _ (starts_write b es r st h a kn learnt is m.set (subst (λ l. AttemptAt (st (actor_of a)).stage l (operation_of (r (actor_of a)))) m.idle (h.attempt_at a)) m.may_begin)
+  attempt_op b es r st h a kn missing learnt is Commit m legal = still b es _ _ (starts_publish b es r st h a kn learnt m.set (subst (λ l. AttemptAt (st (actor_of a)).stage l (operation_of (r (actor_of a)))) m.idle (h.attempt_at a)) m.may_begin)
+  attempt_op b es r st h a kn missing learnt is Abort m legal = still b es _ _ (starts_abort b es r st h a kn learnt is m.set (subst (λ l. AttemptAt (st (actor_of a)).stage l (operation_of (r (actor_of a)))) m.idle (h.attempt_at a)))
+  attempt_op b es r st h a kn missing learnt is _ m legal = absurd legal
+
+  -- ---- any actor
+
+  pub begins : (b : Begun) (es : List Entry) (r : Actor → Option Running) (st : Actor → ActorState) (h : Along g opening k b es r st) (a : Actor) (op : Op) (missing : Option ℕ) → Begins (st Driver).stage a op (st a).life (st a).stage → is_known w.attempts a ≡ true → HasOp a op
+      → Along g opening k (with_event true b (Do a op)) es (put r a (begun (start_of g a op missing (knows w (who a) (by_actor a es))) (knows w (who a) (by_actor a es)))) (put st a (busy_at a op (st a).stage))
+  begins b es r st h Driver op missing m one legal = driver_op b es r st h (knows w (who Driver) (by_actor Driver es)) missing op m legal
+  begins b es r st h (Attempt t n) op missing m one legal =
+      let a = attempt t n in
+      attempt_op b es r st h a (knows w a (by_actor (Attempt t n) es)) missing (sym (told_known g opening k j is_opening es h.stand h.runs a)) (known_attempt j t n one) op m legal
+  begins b es r st h Shell op missing m one legal = absurd legal

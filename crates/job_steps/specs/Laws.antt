@@ -1,0 +1,20 @@
+-- The laws of this crate.
+use Rattle.std.specs.Prelude.{◌≡◌, None}
+use Rattle.s3_types.specs.Store.{Content}
+use Rattle.s3_types.specs.Moment.{IsHonest}
+use Rattle.job_model.specs.Legal.{IsLegal}
+use Rattle.job_protocol.specs.Operations.{Setting}
+use Rattle.job_spec.specs.States.{past}
+use Rattle.job_spec.specs.Follows.{Plays}
+use Rattle.job_steps.specs.Transitions.{Play, Reachable}
+
+-- between events a run has done what its events say, by its journal and its ends alone
+pub record IsPlayed (g : Setting) (opening : Content) (x : Play) : Type 0 where
+  pub plays : Plays g x.ends x.journal
+  pub honest : IsHonest opening x.journal
+  pub past : x.past ≡ past g.script x.ends
+  pub live : x.live ≡ x.past
+
+-- a run of allowed happenings does what its script's events say
+abbrev pub HappeningsPlay : Type 0
+HappeningsPlay = (g : Setting) (opening : Content) (x : Play) → IsLegal g.script → Reachable g opening x → x.now ≡ None → IsPlayed g opening x

@@ -1,0 +1,51 @@
+-- That what happens in a run is one of the job's runs, whose every moment is known.
+use Rattle.std.specs.Prelude.{◌≡◌, ℕ, true, false, List, ◌∷◌, ◌++◌, Option, Some, None}
+use Rattle.s3_types.specs.Store.{Content}
+use Rattle.s3_types.specs.declared.request.Actor.TheVariants.{Driver}
+use Rattle.job_model.specs.Attempts.{Who, actor_of}
+use Rattle.job_model.specs.JobScript.{Script}
+use Rattle.job_model.specs.Legal.{IsLegal}
+use Rattle.job_model.specs.declared.events.Event.{Event}
+use Rattle.job_model.specs.declared.ends.EventEnd.{EventEnd}
+use Rattle.job_protocol.specs.Operations.{Setting, Operation, Running}
+use Rattle.job_spec.specs.States.{is_new, commit_event, is_refused, clean_event}
+use Rattle.job_facts.specs.Told.{known}
+use Rattle.job_traces.specs.Runs.{Stand, Runs, IsOpening, is_set}
+use Rattle.job_steps.specs.Transitions.{Play, Reachable, knows_now}
+
+-- the ends go on so, and the event that goes on is not to be refused
+pub record Ahead (x : Play) (ends : List EventEnd) : Type 0 where
+  pub rest : List EventEnd
+  pub is : ends ≡ x.ends ++ rest
+  pub going : (ev : Event) → x.now ≡ Some ev → (end : EventEnd) × (more : List EventEnd) × (rest ≡ end ∷ more) × (is_refused end ≡ false)
+
+-- the operation that an actor began last, as far as it has come
+abbrev pub operation_of : Option Running → Option Operation
+operation_of None = None
+operation_of (Some m) = Some m.operation
+
+-- the events of the job's commit and of its first abort or clean, if they are any
+pub record Times : Type 0 where
+  pub commit : Option ℕ
+  pub clean : Option ℕ
+
+-- the events of the job's commit and of its first abort or clean, by the ends
+abbrev pub times : Script → List EventEnd → Times
+times w ends = record { commit = commit_event w ends; clean = clean_event w ends }
+
+-- what happened is one of the job's runs, told request by request
+pub record IsRun (g : Setting) (opening : Content) (x : Play) (k : Times) : Type 0 where
+  pub stand : Stand
+  pub runs : Runs g k.commit opening x.journal stand
+  pub cleans : stand.told.cleans_at ≡ k.clean
+  pub driver : stand.driver ≡ operation_of (x.running Driver)
+  pub attempts : (a : Who) → stand.attempts a ≡ operation_of (x.running (actor_of a))
+  -- what each attempt knows, and what it knew as it last sent
+  pub knows : (a : Who) → knows_now g x (actor_of a) ≡ known stand.told a
+  pub last : (a : Who) (m : Running) → x.running (actor_of a) ≡ Some m → m.known ≡ known stand.told a
+  -- a driver behind its first stage has set the job up
+  pub set_up : is_new (x.live.state Driver).stage ≡ false → is_set stand.driver ≡ true
+
+-- a run of allowed happenings is one of the job's runs, request by request
+abbrev pub HappeningsRun : Type 0
+HappeningsRun = (g : Setting) (opening : Content) (x : Play) → IsLegal g.script → IsOpening g opening → Reachable g opening x → (ends : List EventEnd) → Ahead x ends → IsRun g opening x (times g.script ends)

@@ -1,0 +1,164 @@
+-- What happens in a run of a job, one thing after another, and where it leads. Between events strangers may send what leaves the job's own alone.
+use Rattle.std.specs.Prelude.{◌≡◌, ◌+◌, ◌≤◌, ◌^◌, ◌⊎◌, true, List, [], ◌∷◌, ◌++◌, length, slice_get, Option, Some, None}
+use Rattle.s3_types.specs.Store.{Content, Scene}
+use Rattle.s3_types.specs.Answer.{answer}
+use Rattle.s3_types.specs.Moment.{moment, IsHonestOutcome}
+use Rattle.s3_types.specs.declared.request.Actor.{Actor}
+use Rattle.s3_types.specs.declared.request.Request.{Request}
+use Rattle.s3_types.specs.declared.journal.Outcome.{Outcome}
+use Rattle.s3_types.specs.declared.journal.Entry.{Entry}
+use Rattle.job_model.specs.Attempts.{actor_of}
+use Rattle.job_model.specs.Known.{Known}
+use Rattle.job_model.specs.declared.events.Op.{Op}
+use Rattle.job_model.specs.declared.events.Event.{Event}
+use Rattle.job_model.specs.declared.events.Event.TheVariants.{Do, Start, Step, Run, Kill, Mix, Restart, Recover}
+use Rattle.job_model.specs.declared.ends.ActorEnd.{ActorEnd}
+use Rattle.job_model.specs.declared.ends.EventEnd.{EventEnd}
+use Rattle.job_model.specs.declared.ends.EventEnd.TheVariants.{Refused}
+use Rattle.job_model.specs.declared.ends.EventFault.{EventFault}
+use Rattle.job_model.specs.declared.states.Life.TheVariants.{Busy}
+use Rattle.job_protocol.specs.Knowledge.{knows}
+use Rattle.job_protocol.specs.Operations.{Setting, Operation, Running, who, wants, advance, start_of, over}
+use Rattle.job_spec.specs.States.{Past, Doing, put, missing, refusal, open_event, end_op, count, told, nothing_past}
+use Rattle.job_spec.specs.Turns.{of_event, by_actor, is_wanting, Turns}
+use Rattle.job_facts.specs.Told.{strange_entry}
+use Rattle.job_facts.specs.Foreign.{IsForeign}
+
+-- ---- how far a run has come
+
+-- how far a run has come
+pub record Play : Type 0 where
+  pub journal : List Entry
+  pub ends : List EventEnd
+  -- the event that goes on
+  pub now : Option Event
+  -- what is past before it, and as it stands
+  pub past : Past
+  pub live : Past
+  -- the operations that ended in it
+  pub finished : List ActorEnd
+  -- what each actor began last, as far as its entries led it
+  pub running : Actor → Option Running
+
+-- a run before its first event
+abbrev pub nothing_played : Play
+nothing_played = record { journal = []; ends = []; now = None; past = nothing_past; live = nothing_past; finished = []; running = λ a. None }
+
+-- the store and the cluster then
+abbrev pub scene_of : Content → Play → Scene
+scene_of opening x = moment opening x.journal (length x.journal)
+
+-- what an actor knows then, by its own entries
+abbrev pub knows_now : Setting → Play → Actor → Known
+knows_now g x a = knows g.script (who a) (by_actor a x.journal)
+
+-- ---- what may happen
+
+-- one thing that happens in a run
+pub data Transition : Type 0 where
+  -- the next event is refused
+  Refuses : (fault : EventFault) → Transition
+  -- the next event begins
+  Opens : (event : Event) → Transition
+  -- an actor sends a request
+  Sends : (entry : Entry) → Transition
+  -- an actor's operation ends
+  Finishes : (ended : ActorEnd) → Transition
+  -- the event is over
+  Closes : (end : EventEnd) → Transition
+  -- a stranger sends a request
+  Strays : (request : Request) (outcome : Outcome) → Transition
+
+-- ---- where it leads
+
+-- an operation that begins, with what its actor knows then
+abbrev pub begun : Option Operation → Known → Option Running
+begun None k = None
+begun (Some op) k = Some (record { operation = op; known = k })
+
+-- an actor begins an operation
+abbrev pub begin_running : Setting → Play → Actor → Op → Actor → Option Running
+begin_running g x a op = put x.running a (begun (start_of g a op (missing g.script x.past.reported) (knows_now g x a)) (knows_now g x a))
+
+-- what each actor began last, once an event begins
+abbrev pub open_running : Setting → Play → Event → Actor → Option Running
+open_running g x (Do a op) = begin_running g x a op
+open_running g x (Start a op) = begin_running g x a op
+open_running g x (Step a n) = x.running
+open_running g x (Run a) = x.running
+open_running g x (Kill a) = x.running
+open_running g x (Mix seed) = x.running
+open_running g x Restart = x.running
+open_running g x (Recover a) = x.running
+
+-- where the outcome of a sending leads
+abbrev pub hear : Setting → Actor → Option Running → Entry → Option Running
+hear g a None e = None
+hear g a (Some m) e = Some (advance g a m e.outcome)
+
+-- where a happening leads a run
+abbrev pub happen : Setting → Play → Transition → Play
+happen g x (Refuses f) = record { journal = x.journal; ends = x.ends ++ Refused f ∷ []; now = None; past = count x.past; live = count x.past; finished = []; running = x.running }
+happen g x (Opens ev) = record { journal = x.journal; ends = x.ends; now = Some ev; past = x.past; live = open_event g.script x.past ev; finished = []; running = open_running g x ev }
+happen g x (Sends e) = record { journal = x.journal ++ e ∷ []; ends = x.ends; now = x.now; past = x.past; live = x.live; finished = x.finished; running = put x.running e.actor (hear g e.actor (x.running e.actor) e) }
+happen g x (Finishes y) = record { journal = x.journal; ends = x.ends; now = x.now; past = x.past; live = end_op x.live y; finished = x.finished ++ y ∷ []; running = x.running }
+happen g x (Closes end) = record { journal = x.journal; ends = x.ends ++ end ∷ []; now = None; past = count x.live; live = count x.live; finished = []; running = x.running }
+happen g x (Strays r o) = record { journal = x.journal ++ strange_entry (length x.ends) r o ∷ []; ends = x.ends; now = x.now; past = x.past; live = x.live; finished = x.finished; running = x.running }
+
+-- ---- when it may happen
+
+-- the event is next, and refused so, or not
+pub record MayOpen (g : Setting) (x : Play) (ev : Event) (fault : Option EventFault) : Type 0 where
+  pub idle : x.now ≡ None
+  pub next : slice_get g.script.events (length x.ends) ≡ Some ev
+  pub refusal_is : refusal x.past.state ev ≡ fault
+
+-- a busy actor sends what it asks, during an event, and the outcome is one that is due
+pub record MaySend (g : Setting) (opening : Content) (x : Play) (e : Entry) : Type 0 where
+  pub event : Event
+  pub during : x.now ≡ Some event
+  pub number : e.event ≡ length x.ends + 1
+  pub busy : (x.live.state e.actor).life ≡ Busy
+  pub at : Running
+  pub is_at : x.running e.actor ≡ Some at
+  pub asked : wants g e.actor at ≡ Some e.request
+  pub honest : IsHonestOutcome e.outcome (answer (scene_of opening x) e.request)
+  -- the store has drawn fewer ids than there are
+  pub few : (scene_of opening x).content.next ≤ 2 ^ 64
+
+-- an operation ends as it stands, or for its want of memory
+pub record MayFinish (x : Play) (y : ActorEnd) : Type 0 where
+  pub event : Event
+  pub during : x.now ≡ Some event
+  pub busy : (x.live.state y.actor).life ≡ Busy
+  pub doing : Doing
+  pub does : x.live.doing y.actor ≡ Some doing
+  pub end : (is_wanting y.actor doing.op y.end ≡ true) ⊎ ((m : Running) × (x.running y.actor ≡ Some m) × (over m.operation ≡ Some y.end))
+
+-- the event's entries are by turns, and who is busy has more to send
+pub record MayClose (g : Setting) (x : Play) (end : EventEnd) : Type 0 where
+  pub event : Event
+  pub during : x.now ≡ Some event
+  pub told_is : told event end ≡ x.finished
+  pub turns : Turns g.script x.past.state event end (of_event (length x.ends + 1) x.journal)
+  pub going : (a : Actor) (m : Running) → (x.live.state a).life ≡ Busy → x.running a ≡ Some m → over m.operation ≡ None
+
+-- between events a stranger sends what is foreign to the job, by what its attempts know then, and the outcome is one that is due
+pub record MayStray (g : Setting) (opening : Content) (x : Play) (r : Request) (o : Outcome) : Type 0 where
+  pub idle : x.now ≡ None
+  pub foreign : IsForeign g.script (λ a. (knows_now g x (actor_of a)).drawn) r
+  pub honest : IsHonestOutcome o (answer (scene_of opening x) r)
+
+-- a happening may happen at this point of a run
+abbrev pub Enabled : Setting → Content → Play → Transition → Type 0
+Enabled g opening x (Refuses f) = (ev : Event) × MayOpen g x ev (Some f)
+Enabled g opening x (Opens ev) = MayOpen g x ev None
+Enabled g opening x (Sends e) = MaySend g opening x e
+Enabled g opening x (Finishes y) = MayFinish x y
+Enabled g opening x (Closes end) = MayClose g x end
+Enabled g opening x (Strays r o) = MayStray g opening x r o
+
+-- all that happened was allowed when it happened
+pub data Reachable (g : Setting) (opening : Content) : Play → Type 0 where
+  nothing_happened : Reachable g opening nothing_played
+  happens : (x : Play) (h : Transition) → Reachable g opening x → Enabled g opening x h → Reachable g opening (happen g x h)

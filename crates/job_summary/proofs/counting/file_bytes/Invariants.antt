@@ -1,6 +1,0 @@
-use Rattle.std.proofs.Common.{◌≡◌, ◌+◌}
-use Rattle.job_model.specs.Legal.{bytes_of}
-use Rattle.job_summary.proofs.counting.file_bytes.Given as goal
-
-abbrev pub invariant-loop-bytes : goal.invariant-loop-bytes
-invariant-loop-bytes l = l.sum + bytes_of l.bytes-iterator ≡ bytes_of l.files

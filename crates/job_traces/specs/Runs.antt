@@ -1,0 +1,161 @@
+-- Runs of a job among strangers that leave its own alone, request by request, in any order of its actors. An operation may also stop at any time.
+use Rattle.std.specs.Prelude.{◌≡◌, ℕ, ◌≤◌, ◌<◌, ◌^◌, ◌⊎◌, Bool, true, false, List, [], ◌∷◌, ◌++◌, Option, Some, None}
+use Rattle.s3_types.specs.Store.{Content, Upload}
+use Rattle.s3_types.specs.Answer.{answer}
+use Rattle.s3_types.specs.Moment.{IsHonestOutcome}
+use Rattle.s3_types.specs.declared.request.Actor.TheVariants.{Driver}
+use Rattle.s3_types.specs.declared.request.Request.{Request}
+use Rattle.s3_types.specs.declared.journal.Outcome.{Outcome}
+use Rattle.s3_types.specs.declared.journal.Entry.{Entry}
+use Rattle.retries.specs.Retries.{fresh}
+use Rattle.job_model.specs.Attempts.{Who}
+use Rattle.job_model.specs.Known.{Known}
+use Rattle.job_model.specs.declared.ends.SetupEnd.TheVariants as setups
+use Rattle.job_model.specs.declared.ends.TaskEnd.TheVariants as tasks
+use Rattle.job_protocol.specs.Setup.{Setup, SetupOver, setup_start}
+use Rattle.job_protocol.specs.Writes.{WriteOver, write_start}
+use Rattle.job_protocol.specs.TaskCommits.{task_commit_start}
+use Rattle.job_protocol.specs.TaskAborts.{task_abort_start}
+use Rattle.job_protocol.specs.JobCommits.{commit_start}
+use Rattle.job_protocol.specs.Cleanups.{clean_start}
+use Rattle.job_protocol.specs.Operations.{Setting, Operation, TheSetup, TheWrite, TheTaskCommit, TheTaskAbort, TheCommit, TheClean, who, asks, tells}
+use Rattle.job_spec.specs.Seen.{Seen, see, is_begun, nothing_seen}
+use Rattle.job_facts.specs.Told.{Told, known, put_who, nothing_told, tell, entry, driver_entry, strange_entry}
+use Rattle.job_facts.specs.Stores.{at_id}
+use Rattle.job_facts.specs.Facts.{IsAttempt}
+use Rattle.job_facts.specs.Foreign.{IsForeign}
+
+-- where a run stands: what is seen and told, what each attempt and the driver began last and how far that has come, and what the driver's commit has sent
+pub record Stand : Type 0 where
+  pub seen : Seen
+  pub told : Told
+  pub attempts : Who → Option Operation
+  pub driver : Option Operation
+  pub commit : List Entry
+
+-- its first abort or clean is event c if it is any
+abbrev pub first_stand : Content → Option ℕ → Stand
+first_stand opening c = record { seen = nothing_seen opening; told = nothing_told c; attempts = λ a. None; driver = None; commit = [] }
+
+-- an attempt is at this now
+abbrev pub with_attempt : Stand → Who → Operation → Stand
+with_attempt x a op = record { seen = x.seen; told = x.told; attempts = put_who x.attempts a (Some op); driver = x.driver; commit = x.commit }
+
+-- the driver is
+abbrev pub with_driver : Stand → Operation → Stand
+with_driver x op = record { seen = x.seen; told = x.told; attempts = x.attempts; driver = Some op; commit = x.commit }
+
+-- one more entry
+abbrev pub saw : Setting → Option ℕ → Stand → Entry → Stand
+saw g k x e = record { seen = see g.script k x.seen e; told = tell g.script x.told e; attempts = x.attempts; driver = x.driver; commit = x.commit }
+
+-- what its commit has sent, with this entry where it is of the commit
+abbrev pub commit_with : Operation → List Entry → Entry → List Entry
+commit_with (TheCommit c) es e = es ++ e ∷ []
+commit_with _ es e = es
+
+-- how far a run has come, with these as the entries of the job's commit
+abbrev pub with_commit : Stand → List Entry → Stand
+with_commit x es = record { seen = x.seen; told = x.told; attempts = x.attempts; driver = x.driver; commit = es }
+
+-- a set-up ended Done
+abbrev pub is_done : Setup → Bool
+is_done (SetupOver setups.Done) = true
+is_done _ = false
+
+-- the driver's set-up has ended Done
+abbrev pub is_set : Option Operation → Bool
+is_set None = false
+is_set (Some (TheSetup t)) = is_done t.operation
+is_set (Some (TheCommit c)) = true
+is_set (Some (TheClean t)) = true
+is_set (Some _) = false
+
+-- it is what the driver did last
+abbrev pub is_just_set : Option Operation → Bool
+is_just_set (Some (TheSetup t)) = is_done t.operation
+is_just_set _ = false
+
+-- no set-up has ended Done, or nothing was begun since
+abbrev pub MaySetUp : Stand → Type 0
+MaySetUp x = (is_set x.driver ≡ false) ⊎ ((is_just_set x.driver ≡ true) × ((a : Who) → x.attempts a ≡ None))
+
+-- the entries of a set-up are of events before that of the commit and that of the first abort or clean, those of the commit of it or of later ones before that, and those of an abort or clean of that or later ones
+abbrev pub IsTimely : Option ℕ → Option ℕ → ℕ → Operation → Type 0
+IsTimely k c n (TheSetup t) = (is_begun k n ≡ false) × (is_begun c n ≡ false)
+IsTimely k c n (TheCommit v) = (is_begun k n ≡ true) × (is_begun c n ≡ false)
+IsTimely k c n (TheClean t) = is_begun c n ≡ true
+IsTimely k c n _ = Unit {0}
+
+-- what an attempt knows before it has sent anything
+abbrev pub nothing_learnt : Known
+nothing_learnt = record { drawn = []; put_sent = false; publish_sent = false }
+
+-- ---- what an actor may begin
+
+-- what it begins
+pub data Beginning : Type 0 where
+  -- the driver a set-up; its commit, where this task is the least that none has reported; an abort or clean of the job
+  BeginSetup : Beginning
+  BeginCommit : (missing : Option ℕ) → Beginning
+  BeginClean : Beginning
+  -- an attempt its write, its commit, and an abort
+  BeginWrite : (attempt : Who) → Beginning
+  BeginPublish : (attempt : Who) → Beginning
+  BeginAbort : (attempt : Who) → Beginning
+
+-- what the driver is at then
+abbrev pub begun_driver : Setting → Stand → Beginning → Option Operation
+begun_driver g x BeginSetup = Some (TheSetup (fresh g.script.retries setup_start))
+begun_driver g x (BeginCommit missing) = Some (TheCommit (commit_start g.script missing))
+begun_driver g x BeginClean = Some (TheClean (fresh g.script.retries clean_start))
+begun_driver g x _ = x.driver
+
+-- what its commit has sent
+abbrev pub begun_commit : Stand → Beginning → List Entry
+begun_commit x (BeginCommit missing) = []
+begun_commit x _ = x.commit
+
+-- what each attempt is at
+abbrev pub begun_attempts : Setting → Stand → Beginning → Who → Option Operation
+begun_attempts g x (BeginWrite a) = put_who x.attempts a (Some (TheWrite (fresh g.script.retries (write_start g.script a))))
+begun_attempts g x (BeginPublish a) = put_who x.attempts a (Some (TheTaskCommit (fresh g.script.retries (task_commit_start g.script a))))
+begun_attempts g x (BeginAbort a) = put_who x.attempts a (Some (TheTaskAbort (fresh g.script.retries (task_abort_start g.script (known x.told a)))))
+begun_attempts g x _ = x.attempts
+
+-- a run once an actor begins an operation
+abbrev pub begin : Setting → Stand → Beginning → Stand
+begin g x b = record { seen = x.seen; told = x.told; attempts = begun_attempts g x b; driver = begun_driver g x b; commit = begun_commit x b }
+
+-- an attempt's write is done
+abbrev pub WriteIsDone : Option Operation → Type 0
+WriteIsDone o = (spare : ℕ) × (repeated : Bool) × (o ≡ Some (TheWrite (record { operation = WriteOver tasks.Done; spare = spare; repeated = repeated })))
+
+-- a set-up where none has ended Done, or where nothing was begun behind one that its driver was not told of; the commit right after its set-up, and an abort or clean at any time after that;
+-- an attempt's write where it has begun nothing, its commit where its write has ended Done, and its abort at any time
+abbrev pub MayBegin : Setting → Stand → Beginning → Type 0
+MayBegin g x BeginSetup = MaySetUp x
+MayBegin g x (BeginCommit missing) = is_just_set x.driver ≡ true
+MayBegin g x BeginClean = is_set x.driver ≡ true
+MayBegin g x (BeginWrite a) = (is_set x.driver ≡ true) × IsAttempt g.script a × (x.attempts a ≡ None)
+MayBegin g x (BeginPublish a) = (is_set x.driver ≡ true) × WriteIsDone (x.attempts a)
+MayBegin g x (BeginAbort a) = (is_set x.driver ≡ true) × IsAttempt g.script a
+
+-- A run over this content, whose commit is event k if it is any: its entries so far, and where it stands. An actor that stops sends
+-- no more; what it was at is then as far as it had come.
+pub data Runs (g : Setting) (k : Option ℕ) (opening : Content) : List Entry → Stand → Type 0 where
+  run_begins : (c : Option ℕ) → Runs g k opening [] (first_stand opening c)
+  actor_begins : (es : List Entry) (x : Stand) (b : Beginning) → Runs g k opening es x → MayBegin g x b → Runs g k opening es (begin g x b)
+  driver_sends : (es : List Entry) (x : Stand) (op : Operation) (n : ℕ) (r : Request) (o : Outcome) → Runs g k opening es x → x.driver ≡ Some op → asks g (who Driver) nothing_learnt op ≡ Some r
+      → IsTimely k x.told.cleans_at n op → x.seen.scene.content.next ≤ 2 ^ 64 → IsHonestOutcome o (answer x.seen.scene r)
+      → Runs g k opening (es ++ driver_entry n r o ∷ []) (with_commit (with_driver (saw g k x (driver_entry n r o)) (tells g (who Driver) op o)) (commit_with op x.commit (driver_entry n r o)))
+  attempt_sends : (es : List Entry) (x : Stand) (a : Who) (op : Operation) (n : ℕ) (r : Request) (o : Outcome) → Runs g k opening es x → is_set x.driver ≡ true → x.attempts a ≡ Some op → asks g a (known x.told a) op ≡ Some r
+      → IsHonestOutcome o (answer x.seen.scene r) → Runs g k opening (es ++ entry a n r o ∷ []) (with_attempt (saw g k x (entry a n r o)) a (tells g a op o))
+  -- a stranger sends what is foreign to the job, whatever becomes of it
+  strays : (es : List Entry) (x : Stand) (n : ℕ) (r : Request) (o : Outcome) → Runs g k opening es x → IsForeign g.script x.told.drawn r
+      → Runs g k opening (es ++ strange_entry n r o ∷ []) (saw g k x (strange_entry n r o))
+
+-- a content that a run may begin with
+pub record IsOpening (g : Setting) (c : Content) : Type 0 where
+  pub least : c.minimum ≡ g.minimum
+  pub fresh : (id : ℕ) (x : Upload) → at_id g.script c id ≡ Some x → id < c.next

@@ -1,4 +1,0 @@
-pub mod Picking
-pub mod Tallies
-pub mod Unread
-pub mod Keeping

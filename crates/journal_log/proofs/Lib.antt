@@ -1,0 +1,5 @@
+pub mod Journals
+pub mod Standing
+pub mod Leaving
+pub mod Imaged
+pub mod Steps

@@ -1,0 +1,54 @@
+use Rattle.std.proofs.Common.{rules, ◌≡◌, [], Err, drop, refl, ◌∙◌}
+use Rattle.journal_log.specs.Changes.{changes}
+use Rattle.journal_log.proofs.Steps.{rest_of, loop_first, left_first, loop_more, left_more, stopped_at, left_at, some_grown}
+use Rattle.journal_log.proofs.appends.append_all.Goals as goal
+
+pub loop-entry-init : goal.loop-entry-init
+loop-entry-init g c =
+    let s = g.F.Shelf in
+    let old = c.args.shelf.now in
+    record {
+      appended = loop_first s.held s.may_leave s.answers s.fails s.moment s.left_since [] old c.requires.durable;
+      left = left_first s.held s.may_leave s.answers s.fails s.moment s.left_since [] old (g.met.F.Shelf.only_now old) c.requires.durable;
+      takes = c.requires.appends;
+      calm = refl;
+    }
+
+pub loop-entry-preserved : goal.loop-entry-preserved
+loop-entry-preserved g c =
+    let s = g.F.Shelf in
+    let k = c.loop-entry.invariant in
+    let es = rest_of c.as_slice.result.now c.args.from in
+    record {
+      appended = loop_more s.held s.may_leave s.answers s.fails s.moment s.left_since es c.loop-entry.entry-index c.entry-item.result c.args.shelf.now c.loop-entry.shelf c.append_entry.new.shelf c.loop-entry-test.true c.entry-item.is k.appended c.in_ok-append_entry.ensures.ok;
+      left = left_more s.held s.may_leave s.answers s.fails s.moment s.left_since es c.loop-entry.entry-index c.entry-item.result c.args.shelf.now c.loop-entry.shelf c.append_entry.new.shelf c.loop-entry-test.true c.entry-item.is k.appended.grown k.left
+          c.append_entry.ensures.any_moment;
+      takes = c.in_ok-append_entry.ensures.appends (λ e. cc);
+      calm = c.in_ok-append_entry.ensures.calm (λ e. cc) ∙ k.calm;
+    }
+
+pub returns-in_err-append_entry-clause-stopped : goal.returns-in_err-append_entry-clause-stopped
+returns-in_err-append_entry-clause-stopped g c =
+    let s = g.F.Shelf in
+    let fault = c.in_err-append_entry.field-0.0 in
+    let is : c.from_residual.result ≡ Err fault = search rules in
+    rw is
+    (stopped_at s.held s.may_leave s.answers s.fails s.moment s.left_since c.as_slice.result.now c.args.journal.now.entries c.args.from c.loop-entry.entry-index c.entry-item.result fault c.args.shelf.now c.loop-entry.shelf c.append_entry.new.shelf
+    c.as_slice.ensures.entries c.loop-entry-test.true c.entry-item.is c.loop-entry.invariant.appended c.in_err-append_entry.ensures.err)
+
+pub returns-in_err-append_entry-clause-partly : goal.returns-in_err-append_entry-clause-partly
+returns-in_err-append_entry-clause-partly g c =
+    let s = g.F.Shelf in
+    let fault = c.in_err-append_entry.field-0.0 in
+    let is : c.from_residual.result ≡ Err fault = search rules in
+    rw is
+    (some_grown s.held s.answers s.fails fault (changes (drop c.args.from c.args.journal.now.entries)) c.args.shelf.now c.append_entry.new.shelf
+    (stopped_at s.held s.may_leave s.answers s.fails s.moment s.left_since c.as_slice.result.now c.args.journal.now.entries c.args.from c.loop-entry.entry-index c.entry-item.result fault c.args.shelf.now c.loop-entry.shelf c.append_entry.new.shelf
+    c.as_slice.ensures.entries c.loop-entry-test.true c.entry-item.is c.loop-entry.invariant.appended c.in_err-append_entry.ensures.err))
+
+pub returns-in_err-append_entry-clause-any_moment : goal.returns-in_err-append_entry-clause-any_moment
+returns-in_err-append_entry-clause-any_moment g c =
+    let s = g.F.Shelf in
+    let k = c.loop-entry.invariant in
+    left_at s.held s.may_leave s.answers s.fails s.moment s.left_since c.as_slice.result.now c.args.journal.now.entries c.args.from c.loop-entry.entry-index c.entry-item.result c.args.shelf.now c.loop-entry.shelf c.append_entry.new.shelf
+    c.as_slice.ensures.entries c.loop-entry-test.true c.entry-item.is k.appended.grown k.left c.append_entry.ensures.any_moment

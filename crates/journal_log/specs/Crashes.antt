@@ -1,0 +1,42 @@
+-- What a crash leaves of a run.
+use Rattle.std.specs.Prelude.{◌≡◌, ◌⊎◌, ℕ, List, [], ◌∷◌, length, Option, Some, None}
+use Rattle.s3_types.specs.Store.{Content}
+use Rattle.s3_types.specs.Moment.{moment}
+use Rattle.s3_types.specs.declared.request.Request.{Request}
+use Rattle.s3_types.specs.declared.journal.Entry.{Entry}
+use Rattle.shelf.specs.Logged.{Holding, Stored, HoldsGrown, IsBeforeOrAfter, LeavesOnly}
+use Rattle.shelf.specs.Logged.Holding.{Nothing}
+use Rattle.journal_log.specs.Changes.{Begins}
+use Rattle.journal_log.specs.Kept.{StandsFor, IsMoment, IsToEnd, grown_by}
+
+-- P, where it is told what is held
+abbrev pub WhereTold : Option Stored → Type 0 → Type 0
+WhereTold None P = Unit {0}
+WhereTold (Some s) P = P
+
+-- a crash left what was held before these changes, or that with the first ones of them
+abbrev pub IsBetween : Option Stored → List Request → Holding → Type 0
+IsBetween None rs h = Unit {0}
+IsBetween (Some s) rs h = (front : List Request) × Begins front rs × (h ≡ grown_by s.holding front)
+
+-- what is held stands for the last moment of the run, or is nothing where nothing was held
+abbrev pub IsLast : Option Stored → Content → List Entry → Holding → Type 0
+IsLast None opening es h = Unit {0}
+IsLast (Some s) opening es h = StandsFor h (moment opening es (length es)).content ⊎ ((s.holding ≡ Nothing) × (h ≡ Nothing))
+
+-- Crashes of a run with this status and with this held at its end: what one at its beginning may leave, what one since then might have left, and what one at its end may leave.
+pub record SurvivesCrashes (due : ℕ) (held : Option Stored) (at_first since_then at_last : Holding → Type 0) (opening : Content) (es : List Entry) : Type 0 where
+  -- during the run: what one at its beginning may leave, or a moment of the run
+  pub within : (h : Holding) → since_then h → WhereTold held (at_first h ⊎ IsMoment opening es h)
+  -- behind a run that went to its end: its last moment
+  pub behind : IsToEnd due → (h : Holding) → at_last h → IsLast held opening es h
+
+-- a change was appended, and a crash meanwhile left it out or had it
+pub record IsAppended {S : Type 0} (held : S → Option Stored) (moment_of : S → ℕ) (left_since : S → ℕ → Holding → Type 0) (old new : S) (change : Request) : Type 0 where
+  pub grown : HoldsGrown (held old) (held new) change
+  pub leaves : LeavesOnly moment_of left_since old new (IsBeforeOrAfter (held old) change)
+
+-- these changes were appended, one after the other
+abbrev pub AreAppended : {S : Type 0} → (S → Option Stored) → (S → ℕ) → (S → ℕ → Holding → Type 0) → S → List Request → S → Type 0
+AreAppended held moment_of left_since old [] new = old ≡ new
+AreAppended {S} held moment_of left_since old (r ∷ rs) new = (mid : S) × IsAppended held moment_of left_since old mid r × AreAppended held moment_of left_since mid rs new

@@ -1,0 +1,74 @@
+-- The laws of this crate.
+use Rattle.std.specs.Prelude.{◌≡◌, ◌⊎◌, ℕ, ◌<◌, ◌≤◌, ◌^◌, true, false, List, ◌++◌, length, take, Option}
+use Rattle.std.specs.List.{AllByRecursion}
+use Rattle.s3_types.specs.Store.{Content, Scene, new_content}
+use Rattle.s3_types.specs.Answer.{apply, apply_store}
+use Rattle.s3_types.specs.Moment.{moment}
+use Rattle.s3_types.specs.declared.request.Request.{Request}
+use Rattle.s3_types.specs.declared.journal.Entry.{Entry}
+use Rattle.log_format.specs.Change.{is_changing}
+use Rattle.log_format.specs.declared.held.Held.{Held}
+use Rattle.shelf.specs.Logged.{Holding, Stored, fresh, IsDurable, LeavesOnly}
+use Rattle.store_image.specs.Image.{image}
+use Rattle.store_image.specs.Content.{is_minimum, IsContent}
+use Rattle.journal_log.specs.Changes.{changes, content_after, Begins}
+use Rattle.journal_log.specs.Made.{IsMade, KeepsImages}
+use Rattle.journal_log.specs.Kept.{Unfolds, StandsFor, IsMoment, kept, Holds, HasEarlier, HoldsPart, HoldsGrownBy, HoldsSome}
+use Rattle.journal_log.specs.Crashes.{WhereTold, IsBetween, IsLast, AreAppended}
+
+-- the changes of a journal's requests give the store at each of its moments
+pub record ChangesFollow : Type 0 where
+  -- a changing request changes the store's content alone, and any other one leaves that
+  pub store : (s : Scene) (r : Request) → is_changing r ≡ true → apply s r ≡ record { content = apply_store s.content r; files = s.files }
+  pub others : (s : Scene) (r : Request) → is_changing r ≡ false → (apply s r).content ≡ s.content
+  -- folded from the opening content they are the content of each moment
+  pub folded : (opening : Content) (es : List Entry) (m : ℕ) → content_after opening (changes (take m es)) ≡ (moment opening es m).content
+  -- those of a longer journal are those of the shorter one and more
+  pub joined : (es fs : List Entry) → changes (es ++ fs) ≡ changes es ++ changes fs
+  -- the first ones of a journal are those of its first entries
+  pub cut : (es : List Entry) (rs : List Request) → Begins rs (changes es) → (m : ℕ) × (m ≤ length es) × (rs ≡ changes (take m es))
+
+-- changes keep a store one that an image can have
+pub record ContentStays : Type 0 where
+  -- a new store can have an image
+  pub new : (minimum : ℕ) → is_minimum minimum ≡ true → IsContent (new_content minimum)
+  -- and so can a store behind requests, up to the most of its counter
+  pub one : (c : Content) (r : Request) → IsContent c → IsMade r → (apply_store c r).next ≤ 2 ^ 62 → IsContent (apply_store c r)
+  pub all : (c : Content) (rs : List Request) → IsContent c → AllByRecursion IsMade rs → (content_after c rs).next ≤ 2 ^ 62 → IsContent (content_after c rs)
+  -- and behind each entry of a journal
+  pub moments : (opening : Content) (es : List Entry) → AllByRecursion IsMade (changes es) → KeepsImages opening es
+
+-- what a shelf keeps of a run stands for a moment of that run
+pub record KeptStands : Type 0 where
+  -- the changes of the first entries stand for the moment behind these, and the first changes for a moment
+  pub moments : (opening : Content) (es : List Entry) (m : ℕ) → StandsFor (kept opening (changes (take m es))) (moment opening es m).content
+  pub some : (opening : Content) (es : List Entry) (rs : List Request) → Begins rs (changes es) → IsMoment opening es (kept opening rs)
+  -- a moment is one of a longer run too
+  pub longer : (opening : Content) (es fs : List Entry) (h : Holding) → IsMoment opening es h → IsMoment opening (es ++ fs) h
+  -- what grew holds the changes before and those by which it grew
+  pub grown : (opening : Content) (before after : Option Stored) (rs more : List Request) → Holds before opening rs → HoldsGrownBy before after more → Holds after opening (rs ++ more)
+  -- what stands between the changes of two journals is a moment of both together
+  pub between : (opening : Content) (es part : List Entry) (held : Option Stored) (h : Holding) → Holds held opening (changes es) → IsBetween held (changes part) h → WhereTold held (IsMoment opening (es ++ part) h)
+  -- all changes before an event, with some of that event's, have all of the earlier events
+  pub earlier : (es part : List Entry) (n : ℕ) (rs : List Request) → AllByRecursion (λ e. e.event ≡ n) part → Begins rs (changes part) → HasEarlier (es ++ part) (changes es ++ rs)
+  -- what grew by first changes of an event is what is held of a run that was cut short there
+  pub short : (opening : Content) (before after : Option Stored) (es part : List Entry) (n : ℕ) → Holds before opening (changes es) → AllByRecursion (λ e. e.event ≡ n) part → HoldsSome before after (changes part) → HoldsPart after opening (es ++ part)
+  -- where the base is the image of a content that can have one, there is one content that it all stands for
+  pub one : (held : Held) (c d : Content) (a : Unfolds held c) (b : Unfolds held d) → length held.base < 2 ^ 64 → IsContent a.first → IsContent b.first → c ≡ d
+
+-- from a shelf that is durable and holds the changes of a journal, first changes of the next entries were appended: a crash since then left a moment
+pub record CrashesLeaveMoments {S : Type 0} (held : S → Option Stored) (may_leave : S → Holding → Type 0) (moment_of : S → ℕ) (left_since : S → ℕ → Holding → Type 0) : Type 0 where
+  pub between : (old new : S) (rs : List Request) → IsDurable (held old) (may_leave old) → AreAppended held moment_of left_since old rs new → LeavesOnly moment_of left_since old new (IsBetween (held old) rs)
+  pub leave : (opening : Content) (es part : List Entry) (old new : S) (rs : List Request) → Holds (held old) opening (changes es) → IsDurable (held old) (may_leave old) → AreAppended held moment_of left_since old rs new → Begins rs (changes part)
+      → LeavesOnly moment_of left_since old new (λ h. WhereTold (held old) (IsMoment opening (es ++ part) h))
+  -- one at the end of a run that is held whole and is durable leaves its last moment
+  pub last : (opening : Content) (es : List Entry) (at_end : S) → Holds (held at_end) opening (changes es) → IsDurable (held at_end) (may_leave at_end) → (h : Holding) → may_leave at_end h → IsLast (held at_end) opening es h
+  -- and so from one event to the next, also where some of the next changes were appended alone
+  pub on : (opening : Content) (es part : List Entry) (first mid new : S) → Holds (held mid) opening (changes es) → HoldsSome (held mid) (held new) (changes part) → LeavesOnly moment_of left_since first mid (λ h. WhereTold (held mid) (IsMoment opening es h))
+      → LeavesOnly moment_of left_since mid new (IsBetween (held mid) (changes part)) → LeavesOnly moment_of left_since first new (λ h. WhereTold (held new) (IsMoment opening (es ++ part) h))
+
+-- a shelf was loaded, replaced by the image of the opening content, and took changes of the journal: a crash since the load began left what one before it may leave, or a moment
+pub record RunsSurvive {S : Type 0} (may_leave : S → Holding → Type 0) (moment_of : S → ℕ) (left_since : S → ℕ → Holding → Type 0) : Type 0 where
+  pub survive : (opening : Content) (es : List Entry) (told : Option Stored) (first loaded replaced last : S) → LeavesOnly moment_of left_since first loaded (may_leave first)
+      → LeavesOnly moment_of left_since loaded replaced (λ h. may_leave loaded h ⊎ (h ≡ fresh (image opening))) → LeavesOnly moment_of left_since replaced last (λ h. WhereTold told (IsMoment opening es h))
+      → LeavesOnly moment_of left_since first last (λ h. WhereTold told (may_leave first h ⊎ IsMoment opening es h))

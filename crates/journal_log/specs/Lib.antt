@@ -1,0 +1,6 @@
+pub mod Changes
+pub mod Made
+pub mod Kept
+pub mod Crashes
+pub mod Laws
+pub mod Appends

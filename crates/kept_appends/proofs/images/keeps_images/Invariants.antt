@@ -1,9 +1,0 @@
-use Rattle.std.proofs.Common.{take}
-use Rattle.std.specs.List.{AllByRecursion}
-use Rattle.kept_runs.specs.Changes.{changes}
-use Rattle.kept_runs.specs.Made.{IsMade}
-use Rattle.kept_appends.proofs.images.keeps_images.Given as goal
-
--- the changes of the entries so far
-abbrev pub invariant-loop-entry : goal.invariant-loop-entry
-invariant-loop-entry l = AllByRecursion IsMade (changes (take l.entry-index l.entries))

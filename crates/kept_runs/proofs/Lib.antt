@@ -1,4 +1,0 @@
-pub mod Journals
-pub mod Standing
-pub mod Leaving
-pub mod Imaged

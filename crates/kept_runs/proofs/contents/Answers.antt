@@ -1,5 +1,0 @@
-use Rattle.kept_runs.proofs.Imaged.{new, one, all, moments}
-use Rattle.kept_runs.proofs.contents.Goals as goal
-
-pub returns : goal.returns
-returns c = record { stay = record { new = new; one = one; all = all; moments = moments } }

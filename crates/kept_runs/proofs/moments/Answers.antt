@@ -1,5 +1,0 @@
-use Rattle.kept_runs.proofs.Standing.{moments, some, longer, holds_more, between, earlier, short, one}
-use Rattle.kept_runs.proofs.moments.Goals as goal
-
-pub returns : goal.returns
-returns c = record { stand = record { moments = moments; some = some; longer = longer; grown = holds_more; between = between; earlier = earlier; short = short; one = one } }

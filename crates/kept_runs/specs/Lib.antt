@@ -1,5 +1,0 @@
-pub mod Changes
-pub mod Made
-pub mod Kept
-pub mod Crashes
-pub mod Laws

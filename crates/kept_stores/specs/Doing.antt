@@ -1,8 +1,0 @@
--- What the work of the code is.
-use Rattle.kept_stores.specs.declared.work.Work.{Work as Doing}
-use Rattle.kept_stores.specs.declared.work.Work.TheVariants as doing
-use Rattle.kept_stores.specs.Works.{Work, Says, Saves}
-
-abbrev pub work_in : Doing → Work
-work_in (doing.Says due text sent) = Says due text sent.entries
-work_in (doing.Saves opening text sent) = Saves opening text sent.entries

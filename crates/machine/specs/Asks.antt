@@ -1,0 +1,20 @@
+-- What an operation owes beside the contracts of its calls.
+use Rattle.std.specs.Prelude.{◌≡◌, Bool, Option, Some, None}
+use Rattle.s3_types.specs.Store.{Scene}
+use Rattle.s3_types.specs.declared.request.Request.{Request}
+use Rattle.s3_types.specs.declared.reply.Reply.{Reply}
+use Rattle.retries.specs.Retries.{Item, Got, WornOut, OutOfMemory}
+use Rattle.machine.specs.Standing.{Standing, Faulted, Broken}
+
+-- what an actor's operation owes as a machine
+pub record AskLaws {O : Type 0} (wants : O → Option Request) (after : O → Item → O) (fits : O → Reply → Bool → Type 0) (standing : O → Standing) : Type 0 where
+  -- without memory it asks nothing more
+  pub stops : (o : O) → wants (after o OutOfMemory) ≡ None
+  pub breaks : (o : O) → standing (after o OutOfMemory) ≡ Broken
+  -- it is faulted exactly where a request of it wore out
+  pub faults : (o : O) (r : Request) → wants o ≡ Some r → standing (after o WornOut) ≡ Faulted
+  pub goes_on : (o : O) (r : Request) (a : Reply) (b : Bool) → wants o ≡ Some r → fits o a b → standing (after o (Got a b)) ≡ standing o
+
+-- it goes on among others, and promises nothing of a scene
+abbrev pub never : {O : Type 0} → O → Scene → Bool → Type 0
+never o s repeated = ⊥

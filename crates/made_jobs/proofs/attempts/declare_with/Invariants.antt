@@ -1,5 +1,0 @@
-use Rattle.made_jobs.proofs.Adding.{IsAdding}
-use Rattle.made_jobs.proofs.attempts.declare_with.Given as goal
-
-abbrev pub invariant-loop-path : goal.invariant-loop-path
-invariant-loop-path l = IsAdding l.fn.attempts l.fn.name l.files l.attempts l.path-iterator

@@ -1,5 +1,0 @@
-pub mod Members
-pub mod Held
-pub mod Frame
-pub mod Walk
-pub mod Laws

@@ -1,0 +1,214 @@
+-- the first request that wore out: there is one answer, it is computed, and a counter of one request at a time finds it
+use Rattle.std.proofs.Common.{◌≡◌, ℕ, ◌+◌, ◌<◌, ◌&&◌, ◌||◌, not, zero, suc, refl, ap, sym, subst, ◌∙◌, inl, inr, Bool, true, false, cond, nat_lt, arith, List, [], ◌∷◌, ◌++◌, Option, Some, None, is_some, append_assoc, append-nil}
+use Rattle.std.proofs.lemmas.Bool.Decides.{nat_tests}
+use Rattle.s3_types.specs.declared.request.Request.{Request}
+use Rattle.s3_types.specs.declared.journal.Outcome.{Outcome}
+use Rattle.s3_types.specs.declared.journal.Outcome.TheVariants.{Answered, Slow, RequestLost, ReplyLost}
+use Rattle.s3_types.specs.declared.journal.Entry.{Entry}
+use Rattle.retries.specs.Same.{same_request}
+use Rattle.retries.specs.Operation.{Follows}
+use Rattle.retries.specs.Retries.{Item, Retried, wants_of, fresh, step, wears, unanswered_by, is_zero, has_worn, worn_in, Counting, spent_in}
+use Rattle.retries.specs.Worn.{was_answered, streak, IsWorn, NoneWorn, IsFirstWorn, WornFirst, first_worn_after}
+use Rattle.retries.proofs.Lists.{parted, true_or_false, false_true}
+use Rattle.retries.proofs.SameRequest.{same_is, same_self}
+use Rattle.retries.proofs.Misses.{streak_same, streak_other, worn_now, worn_more, worn_grows}
+
+and_false : (b : Bool) → b && false ≡ false
+and_false true = refl
+and_false false = refl
+
+and_true : (b : Bool) → b && true ≡ b
+and_true true = refl
+and_true false = refl
+
+-- ---- one answer
+
+worn_of_first : (retries : ℕ) (es : List Entry) (r : Request) → IsFirstWorn retries es r → IsWorn retries r es
+worn_of_first retries es r f =
+    let e : (f.before ++ f.last ∷ []) ++ f.later ≡ es = append_assoc f.before (f.last ∷ []) f.later ∙ sym f.parts in
+    subst (λ l. IsWorn retries r l) e (worn_more retries r (f.before ++ f.last ∷ []) f.later f.worn)
+
+-- who wore out among the entries before another that was the first contradicts it
+too_early : (retries : ℕ) (es : List Entry) (r q : Request) (f : IsFirstWorn retries es r) (g : IsFirstWorn retries es q) (zs : List Entry) → g.before ≡ f.before ++ f.last ∷ zs → ⊥
+too_early retries es r q f g zs e =
+    let w : IsWorn retries r ((f.before ++ f.last ∷ []) ++ zs) = worn_more retries r (f.before ++ f.last ∷ []) zs f.worn in
+    let i : (f.before ++ f.last ∷ []) ++ zs ≡ g.before = append_assoc f.before (f.last ∷ []) zs ∙ sym e in
+    g.first r (subst (λ l. IsWorn retries r l) i w)
+
+one_first : (retries : ℕ) (es : List Entry) (r q : Request) → IsFirstWorn retries es r → IsFirstWorn retries es q → r ≡ q
+one_first retries es r q f g = elim (parted f.before f.last f.later g.before g.last g.later (sym f.parts ∙ g.parts)) [
+  | inl s ↦ sym f.is_of ∙ ap (λ (v : Entry). v.request) s.1 ∙ g.is_of
+  | inr s ↦ elim s [ inl z ↦ absurd (too_early retries es r q f g z.0 z.1) | inr z ↦ absurd (too_early retries es q r g f z.0 z.1) ]
+]
+
+pub only_one : (retries : ℕ) (es : List Entry) (a b : Option Request) → WornFirst retries es a → WornFirst retries es b → a ≡ b
+only_one retries es None None h k = refl
+only_one retries es None (Some q) h k = absurd (h q (worn_of_first retries es q k))
+only_one retries es (Some r) None h k = absurd (k r (worn_of_first retries es r h))
+only_one retries es (Some r) (Some q) h k = ap Some (one_first retries es r q h k)
+
+by_first : (retries : ℕ) (es : List Entry) (o : Option Request) → WornFirst retries es o → (b : Bool) → b ≡ is_some o → (b ≡ true → (r : Request) × IsWorn retries r es) × ((r : Request) → IsWorn retries r es → b ≡ true)
+by_first retries es None h b e = (λ t. absurd (false_true e t), λ r w. absurd (h r w))
+by_first retries es (Some r) h b e = (λ t. (r, worn_of_first retries es r h), λ q w. e)
+
+-- ---- it is computed
+
+snoc : (done : List Entry) (e : Entry) (es : List Entry) → (done ++ e ∷ []) ++ es ≡ done ++ e ∷ es
+snoc done e es = append_assoc done (e ∷ []) es
+
+lost_one : (retries : ℕ) (done : List Entry) (e : Entry) → NoneWorn retries done → nat_lt retries (streak e.request (done ++ e ∷ [])) ≡ false → NoneWorn retries (done ++ e ∷ [])
+lost_one retries done e none low q w = elim (worn_grows retries q done e w) [
+  | inl v ↦ none q v
+  | inr v ↦ let i : q ≡ e.request = same_is q e.request v.0 in
+      let s : streak q (done ++ e ∷ []) ≡ streak e.request (done ++ e ∷ []) = ap (λ p. streak p (done ++ e ∷ [])) i in
+      let b : retries < streak q (done ++ e ∷ []) = v.1 in
+      let c : retries < streak e.request (done ++ e ∷ []) = subst (λ n. retries < n) s b in
+      contradicts c
+]
+  where
+    contradicts : retries < streak e.request (done ++ e ∷ []) → ⊥
+    contradicts c = grind (arith, nat_tests)
+
+is_lower : (a b : ℕ) → nat_lt a b ≡ true → a < b
+is_lower a b h = grind (arith, nat_tests)
+
+computed_by : (retries : ℕ) (done : List Entry) (e : Entry) (es : List Entry) → NoneWorn retries done → (NoneWorn retries (done ++ e ∷ []) → WornFirst retries ((done ++ e ∷ []) ++ es) (first_worn_after retries (done ++ e ∷ []) es))
+    → (b : Bool) → nat_lt retries (streak e.request (done ++ e ∷ [])) ≡ b → WornFirst retries (done ++ e ∷ es) (cond b (Some e.request) (first_worn_after retries (done ++ e ∷ []) es))
+computed_by retries done e es none later true h = record { before = done; last = e; later = es; parts = refl; is_of = refl; worn = worn_now retries e.request (done ++ e ∷ []) (is_lower retries (streak e.request (done ++ e ∷ [])) h); first = none }
+computed_by retries done e es none later false h = subst (λ l. WornFirst retries l (first_worn_after retries (done ++ e ∷ []) es)) (snoc done e es) (later (lost_one retries done e none h))
+
+pub computed : (retries : ℕ) (done es : List Entry) → NoneWorn retries done → WornFirst retries (done ++ es) (first_worn_after retries done es)
+computed retries done [] none = subst (λ l. NoneWorn retries l) (sym (append-nil done)) none
+computed retries done (e ∷ es) none = computed_by retries done e es none (computed retries (done ++ e ∷ []) es) (nat_lt retries (streak e.request (done ++ e ∷ []))) refl
+
+-- nothing wore out before anything was sent
+pub none_sent : (retries : ℕ) → NoneWorn retries []
+none_sent retries r w = let h : None ≡ Some false = w.1 0 (omega arith) in cc
+
+-- ---- a counter of one request at a time
+
+-- of the request in hand as many sendings are missed as are not spare, and of no other any
+pub record Counts (retries : ℕ) (done : List Entry) (hand : Option Request) (spare : ℕ) : Type 0 where
+  pub held : (q : Request) → hand ≡ Some q → streak q done + spare ≡ retries
+  pub others : (q : Request) → (hand ≡ Some q → ⊥) → streak q done ≡ 0
+  pub none : NoneWorn retries done
+
+all_still : (retries : ℕ) (done : List Entry) (hand : Option Request) → ((q : Request) → streak q done ≡ 0) → NoneWorn retries done → Counts retries done hand retries
+all_still retries done hand still none = record { held = λ q h. let z : streak q done ≡ 0 = still q in omega arith; others = λ q h. still q; none = none }
+
+-- behind an answer no request has missed any
+answered_one : (retries spare : ℕ) (done : List Entry) (hand later : Option Request) (e : Entry) → Counts retries done hand spare → hand ≡ Some e.request → was_answered e.outcome ≡ true → Counts retries (done ++ e ∷ []) later retries
+answered_one retries spare done hand later e c asked told =
+    let none_missed : (q : Request) → streak q (done ++ e ∷ []) ≡ 0 = λ q. elim (true_or_false (same_request q e.request)) [
+      | inl s ↦ streak_same q done e s ∙ ap (λ b. cond b 0 (streak q done + 1)) told
+      | inr s ↦ streak_other q done e s ∙ c.others q (λ h. other q s (sym asked ∙ h))
+    ] in
+    all_still retries (done ++ e ∷ []) later none_missed (λ q w. elim (worn_grows retries q done e w) [ inl v ↦ c.none q v | inr v ↦ let z : streak q (done ++ e ∷ []) ≡ 0 = none_missed q in let b : retries < streak q (done ++ e ∷ []) = v.1 in absurd (omega arith) ])
+  where
+    other : (q : Request) → same_request q e.request ≡ false → Some e.request ≡ Some q → ⊥
+    other q s h = let i : e.request ≡ q = cc in false_true (ap (λ v. same_request v e.request) i ∙ s) (same_self e.request)
+
+missed_here : (retries spare : ℕ) (done : List Entry) (hand : Option Request) (e : Entry) → Counts retries done hand spare → hand ≡ Some e.request → was_answered e.outcome ≡ false → streak e.request (done ++ e ∷ []) + spare ≡ retries + 1
+missed_here retries spare done hand e c asked told =
+    let s : streak e.request (done ++ e ∷ []) ≡ streak e.request done + 1 = streak_same e.request done e (same_self e.request) ∙ ap (λ b. cond b 0 (streak e.request done + 1)) told in
+    let h : streak e.request done + spare ≡ retries = c.held e.request asked in omega arith
+
+-- without an answer the request in hand has missed one more
+missed_one : (retries n : ℕ) (done : List Entry) (hand : Option Request) (e : Entry) → Counts retries done hand (suc n) → hand ≡ Some e.request → was_answered e.outcome ≡ false → Counts retries (done ++ e ∷ []) hand n
+missed_one retries n done hand e c asked told =
+    let more : streak e.request (done ++ e ∷ []) + suc n ≡ retries + 1 = missed_here retries (suc n) done hand e c asked told in
+    record {
+      held = λ q h. let i : e.request ≡ q = let j : Some e.request ≡ Some q = sym asked ∙ h in cc in let s : streak e.request (done ++ e ∷ []) ≡ streak q (done ++ e ∷ []) = ap (λ v. streak v (done ++ e ∷ [])) i in omega arith;
+      others = λ q h. elim (true_or_false (same_request q e.request)) [
+        | inl s ↦ absurd (h (asked ∙ ap Some (sym (same_is q e.request s))))
+        | inr s ↦ streak_other q done e s ∙ c.others q h
+      ];
+      none = λ q w. elim (worn_grows retries q done e w) [
+        | inl v ↦ c.none q v
+        | inr v ↦ let s : streak q (done ++ e ∷ []) ≡ streak e.request (done ++ e ∷ []) = ap (λ p. streak p (done ++ e ∷ [])) (same_is q e.request v.0) in let b : retries < streak q (done ++ e ∷ []) = v.1 in absurd (omega arith)
+      ];
+    }
+
+module _ {M : Type 0} (retries : ℕ) (asks : M → Option Request) (after : M → Item → M) where
+  abbrev Goes : List Entry → Retried M → List Entry → Type 0
+  Goes done t es = Counts retries done (asks t.operation) t.spare → Follows (wants_of asks) (step retries after) t es → WornFirst retries (done ++ es) (worn_in retries after t es)
+
+  one_missed : (done : List Entry) (m : M) (repeated again : Bool) (n : ℕ) (e : Entry) (es : List Entry) → Counts retries done (asks m) n → asks m ≡ Some e.request → was_answered e.outcome ≡ false
+      → ((t : Retried M) → Counts retries (done ++ e ∷ []) (asks t.operation) t.spare → Follows (wants_of asks) (step retries after) t es → WornFirst retries ((done ++ e ∷ []) ++ es) (worn_in retries after t es))
+      → Follows (wants_of asks) (step retries after) (unanswered_by retries after m again n) es
+      → WornFirst retries (done ++ e ∷ es) (cond (is_zero n) (Some e.request) (worn_in retries after (unanswered_by retries after m again n) es))
+  one_missed done m repeated again zero e es c asked told later f =
+      let s : streak e.request (done ++ e ∷ []) + 0 ≡ retries + 1 = missed_here retries 0 done (asks m) e c asked told in
+      record { before = done; last = e; later = es; parts = refl; is_of = refl; worn = worn_now retries e.request (done ++ e ∷ []) (omega arith); first = c.none }
+  one_missed done m repeated again (suc n) e es c asked told later f =
+      subst (λ l. WornFirst retries l (worn_in retries after (record { operation = m; spare = n; repeated = again }) es)) (snoc done e es)
+      (later (record { operation = m; spare = n; repeated = again }) (missed_one retries n done (asks m) e c asked told) f)
+
+  one_sent : (done : List Entry) (m : M) (repeated : Bool) (n : ℕ) (e : Entry) (o : Outcome) (es : List Entry) → e.outcome ≡ o → Counts retries done (asks m) n → asks m ≡ Some e.request
+      → ((t : Retried M) → Counts retries (done ++ e ∷ []) (asks t.operation) t.spare → Follows (wants_of asks) (step retries after) t es → WornFirst retries ((done ++ e ∷ []) ++ es) (worn_in retries after t es))
+      → Follows (wants_of asks) (step retries after) (step retries after (record { operation = m; spare = n; repeated = repeated }) o) es
+      → WornFirst retries (done ++ e ∷ es) (cond (wears (record { operation = m; spare = n; repeated = repeated }) o) (Some e.request) (worn_in retries after (step retries after (record { operation = m; spare = n; repeated = repeated }) o) es))
+  one_sent done m repeated n e (Answered r) es is c asked later f =
+      subst (λ l. WornFirst retries l (worn_in retries after (step retries after (record { operation = m; spare = n; repeated = repeated }) (Answered r)) es)) (snoc done e es)
+      (later (step retries after (record { operation = m; spare = n; repeated = repeated }) (Answered r)) (answered_one retries n done (asks m) _ e c asked (ap was_answered is)) f)
+  one_sent done m repeated n e Slow es is c asked later f = one_missed done m repeated repeated n e es c asked (ap was_answered is) later f
+  one_sent done m repeated n e RequestLost es is c asked later f = one_missed done m repeated true n e es c asked (ap was_answered is) later f
+  one_sent done m repeated n e ReplyLost es is c asked later f = one_missed done m repeated true n e es c asked (ap was_answered is) later f
+
+  counted : (done : List Entry) (t : Retried M) (es : List Entry) → Goes done t es
+  counted done t [] c f = subst (λ l. NoneWorn retries l) (sym (append-nil done)) c.none
+  counted done t (e ∷ es) c f = one_sent done t.operation t.repeated t.spare e e.outcome es refl c f.0 (λ u. counted (done ++ e ∷ []) u es) f.1
+
+  pub counted_first : (m : M) (es : List Entry) → Follows (wants_of asks) (step retries after) (fresh retries m) es → WornFirst retries es (worn_in retries after (fresh retries m) es)
+  counted_first m es f = counted [] (fresh retries m) es (all_still retries [] (asks m) (λ q. refl) (none_sent retries)) f
+
+  or_some : (b c : Bool) (r : Request) (o : Option Request) → c ≡ is_some o → b || c ≡ is_some (cond b (Some r) o)
+  or_some true c r o h = refl
+  or_some false c r o h = h
+
+  pub some_worn : (t : Retried M) (es : List Entry) → has_worn retries after t es ≡ is_some (worn_in retries after t es)
+  some_worn t [] = refl
+  some_worn t (e ∷ es) = or_some (wears t e.outcome) _ e.request _ (some_worn (step retries after t e.outcome) es)
+
+  pub exactly_worn : (m : M) (es : List Entry) → Follows (wants_of asks) (step retries after) (fresh retries m) es
+      → (has_worn retries after (fresh retries m) es ≡ true → (r : Request) × IsWorn retries r es) × ((r : Request) → IsWorn retries r es → has_worn retries after (fresh retries m) es ≡ true)
+  exactly_worn m es f = by_first retries es (worn_in retries after (fresh retries m) es) (counted_first m es f) _ (some_worn (fresh retries m) es)
+
+-- ---- any operation that counts one request at a time
+
+module _ {M : Type 0} (retries : ℕ) (wants : M → Option Request) (tells : M → Outcome → M) (spare : M → ℕ) (holds : M → Bool) (c : Counting retries wants tells spare holds) where
+  abbrev Spends : List Entry → M → List Entry → Type 0
+  Spends done m es = holds m ≡ true → Counts retries done (wants m) (spare m) → Follows wants tells m es → WornFirst retries (done ++ es) (spent_in tells spare m es)
+
+  spent_answered : (done : List Entry) (m : M) (e : Entry) (es : List Entry) → holds m ≡ true → Counts retries done (wants m) (spare m) → wants m ≡ Some e.request → was_answered e.outcome ≡ true
+      → Spends (done ++ e ∷ []) (tells m e.outcome) es → Follows wants tells (tells m e.outcome) es → WornFirst retries (done ++ e ∷ es) (spent_in tells spare (tells m e.outcome) es)
+  spent_answered done m e es i k asked told later f =
+      let d : Counts retries (done ++ e ∷ []) (wants (tells m e.outcome)) (spare (tells m e.outcome)) =
+      subst (λ n. Counts retries (done ++ e ∷ []) (wants (tells m e.outcome)) n) (sym (c.answered m e.outcome i told)) (answered_one retries (spare m) done (wants m) (wants (tells m e.outcome)) e k asked told) in
+      subst (λ l. WornFirst retries l (spent_in tells spare (tells m e.outcome) es)) (snoc done e es) (later (c.kept m e.outcome i) d f)
+
+  spent_missed : (done : List Entry) (m : M) (e : Entry) (es : List Entry) (n : ℕ) → spare m ≡ n → holds m ≡ true → Counts retries done (wants m) (spare m) → wants m ≡ Some e.request → was_answered e.outcome ≡ false
+      → Spends (done ++ e ∷ []) (tells m e.outcome) es → Follows wants tells (tells m e.outcome) es → WornFirst retries (done ++ e ∷ es) (cond (is_zero n) (Some e.request) (spent_in tells spare (tells m e.outcome) es))
+  spent_missed done m e es zero is i k asked told later f =
+      let s : streak e.request (done ++ e ∷ []) + spare m ≡ retries + 1 = missed_here retries (spare m) done (wants m) e k asked told in
+      record { before = done; last = e; later = es; parts = refl; is_of = refl; worn = worn_now retries e.request (done ++ e ∷ []) (omega arith); first = k.none }
+  spent_missed done m e es (suc n) is i k asked told later f =
+      let a = c.again m e.outcome n i told is in
+      let k2 : Counts retries done (wants m) (suc n) = subst (λ x. Counts retries done (wants m) x) is k in
+      let d : Counts retries (done ++ e ∷ []) (wants m) n = missed_one retries n done (wants m) e k2 asked told in
+      let d2 : Counts retries (done ++ e ∷ []) (wants m) (spare (tells m e.outcome)) = subst (λ x. Counts retries (done ++ e ∷ []) (wants m) x) (sym a.0) d in
+      let d3 : Counts retries (done ++ e ∷ []) (wants (tells m e.outcome)) (spare (tells m e.outcome)) = subst (λ x. Counts retries (done ++ e ∷ []) x (spare (tells m e.outcome))) (sym a.1) d2 in
+      subst (λ l. WornFirst retries l (spent_in tells spare (tells m e.outcome) es)) (snoc done e es) (later (c.kept m e.outcome i) d3 f)
+
+  spent_by : (done : List Entry) (m : M) (e : Entry) (es : List Entry) (b : Bool) → was_answered e.outcome ≡ b → holds m ≡ true → Counts retries done (wants m) (spare m) → wants m ≡ Some e.request
+      → Spends (done ++ e ∷ []) (tells m e.outcome) es → Follows wants tells (tells m e.outcome) es
+      → WornFirst retries (done ++ e ∷ es) (cond (is_zero (spare m) && not b) (Some e.request) (spent_in tells spare (tells m e.outcome) es))
+  spent_by done m e es true told i k asked later f = subst (λ b. WornFirst retries (done ++ e ∷ es) (cond b (Some e.request) (spent_in tells spare (tells m e.outcome) es))) (sym (and_false (is_zero (spare m)))) (spent_answered done m e es i k asked told later f)
+  spent_by done m e es false told i k asked later f = subst (λ b. WornFirst retries (done ++ e ∷ es) (cond b (Some e.request) (spent_in tells spare (tells m e.outcome) es))) (sym (and_true (is_zero (spare m)))) (spent_missed done m e es (spare m) refl i k asked told later f)
+
+  spent : (done : List Entry) (m : M) (es : List Entry) → Spends done m es
+  spent done m [] i k f = subst (λ l. NoneWorn retries l) (sym (append-nil done)) k.none
+  spent done m (e ∷ es) i k f = spent_by done m e es (was_answered e.outcome) refl i k f.0 (spent (done ++ e ∷ []) (tells m e.outcome) es) f.1
+
+  pub spent_first : (m : M) → holds m ≡ true → spare m ≡ retries → (es : List Entry) → Follows wants tells m es → WornFirst retries es (spent_in tells spare m es)
+  spent_first m i is es f = spent [] m es i (subst (λ n. Counts retries [] (wants m) n) (sym is) (all_still retries [] (wants m) (λ q. refl) (none_sent retries))) f

@@ -1,5 +1,0 @@
-use Rattle.sendings.proofs.SameRequest.{same_is, same_self}
-use Rattle.sendings.proofs.requests.Goals as goal
-
-pub returns : goal.returns
-returns c = record { same = record { equal = same_is; self = same_self } }

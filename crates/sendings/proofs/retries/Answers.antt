@@ -1,7 +1,0 @@
-use Rattle.std.proofs.Common.{None}
-use Rattle.sendings.specs.Retries.{fresh}
-use Rattle.sendings.proofs.First.{counted_first, some_worn, exactly_worn, spent_first}
-use Rattle.sendings.proofs.retries.Goals as goal
-
-pub returns : goal.returns
-returns g c = record { literal = record { first = λ retries asks after m es f. counted_first retries asks after m es f; some = λ retries after m es. some_worn retries (λ m. None) after (fresh retries m) es; exactly = λ retries asks after m es f. exactly_worn retries asks after m es f; counts = λ retries wants tells spare holds c m i is es f. spent_first retries wants tells spare holds c m i is es f } }

@@ -1,0 +1,43 @@
+-- What a request names of a bucket and of the cluster's files, and that nothing else changes.
+use Rattle.std.specs.Prelude.{◌≡◌, ℕ, ◌<◌, ◌≤◌, List, [], ◌∷◌, Option, Some, None}
+use Rattle.std.specs.FinMap as fin
+use Rattle.s3_types.specs.Store.{BucketContent, Scene, Upload}
+use Rattle.s3_types.specs.Answer.{bucket_of}
+use Rattle.s3_types.specs.declared.request.Request.{Request}
+use Rattle.s3_types.specs.declared.request.Request.TheVariants.{PutObject, DeleteObject, DeleteObjects, CopyObject, UploadPart, CompleteUpload, AbortUpload, ClusterPut, ClusterRename, ClusterDelete}
+use Rattle.proof_base.specs.Members.{IsIn}
+use Rattle.store_frame.specs.Held.{object_at, upload_at}
+
+-- the keys at which a request may change what stands
+abbrev pub changed_keys : Request → List (List ℕ)
+changed_keys (PutObject bucket key bytes header) = key ∷ []
+changed_keys (DeleteObject bucket key) = key ∷ []
+changed_keys (DeleteObjects bucket keys) = keys
+changed_keys (CopyObject bucket source target) = target ∷ []
+changed_keys (CompleteUpload bucket key id parts) = key ∷ []
+changed_keys _ = []
+
+-- the upload that it may change or end
+abbrev pub changed_upload : Request → Option ℕ
+changed_upload (UploadPart bucket key id number bytes) = Some id
+changed_upload (CompleteUpload bucket key id parts) = Some id
+changed_upload (AbortUpload bucket key id) = Some id
+changed_upload _ = None
+
+-- the cluster's paths at which it may change what stands
+abbrev pub changed_paths : Request → List (List ℕ)
+changed_paths (ClusterPut path bytes) = path ∷ []
+changed_paths (ClusterRename source target) = source ∷ target ∷ []
+changed_paths (ClusterDelete path) = path ∷ []
+changed_paths _ = []
+
+-- From one scene to another nothing of a bucket and of the cluster's files changes but what the request names; uploads that are begun have ids that were not drawn before.
+pub record Frame (s t : Scene) (n : List ℕ) (r : Request) : Type 0 where
+  pub there : (b : BucketContent) → fin.get s.content.buckets n ≡ Some b → (x : BucketContent) × (fin.get t.content.buckets n ≡ Some x)
+  pub least : t.content.minimum ≡ s.content.minimum
+  pub later : s.content.next ≤ t.content.next
+  pub keys : (k : List ℕ) → (bucket_of r ≡ n → IsIn k (changed_keys r) → ⊥) → object_at t.content n k ≡ object_at s.content n k
+  pub uploads : (id : ℕ) → (bucket_of r ≡ n → changed_upload r ≡ Some id → ⊥) → id < s.content.next → upload_at t.content n id ≡ upload_at s.content n id
+  -- ids below the next one stay so
+  pub fresh : ((id : ℕ) (x : Upload) → upload_at s.content n id ≡ Some x → id < s.content.next) → (id : ℕ) (x : Upload) → upload_at t.content n id ≡ Some x → id < t.content.next
+  pub files : (p : List ℕ) → (IsIn p (changed_paths r) → ⊥) → fin.get t.files p ≡ fin.get s.files p

@@ -1,0 +1,36 @@
+-- The laws of this crate.
+use Rattle.std.specs.Prelude.{◌≡◌, ℕ, ◌⊎◌, false, true, nat_lt, List, length, map, take, Some}
+use Rattle.std.specs.FinMap as fin
+use Rattle.std.specs.Ordering.{is_lt}
+use Rattle.proof_base.specs.Order.{text_cmp}
+use Rattle.s3_types.specs.Store.{Objects, Scene}
+use Rattle.s3_types.specs.Pages.{begins, listed, text_in}
+use Rattle.s3_types.specs.Answer.{apply}
+use Rattle.s3_types.specs.Requests.{only_reads}
+use Rattle.s3_types.specs.declared.object.Object.{Object}
+use Rattle.s3_types.specs.declared.request.Request.{Request}
+use Rattle.proof_base.specs.Members.{IsIn, RisesFrom, last_from}
+use Rattle.store_frame.specs.Held.{HasBucket}
+use Rattle.store_frame.specs.Frame.{Frame}
+
+-- a request changes only what it names, and one that reads changes nothing
+pub record RequestsKeep : Type 0 where
+  pub frame : (s : Scene) (n : List ℕ) (r : Request) → HasBucket s.content n → Frame s (apply s r) n r
+  pub reads : (s : Scene) (r : Request) → only_reads r ≡ true → apply s r ≡ s
+
+-- the keys on a page
+abbrev pub keys_listed : ℕ → List ℕ → List ℕ → Objects → List (List ℕ)
+keys_listed limit p after m = map text_in (take limit (listed p false after m))
+
+-- a listing without a delimiter has, page by page, each key that stands, in order, and no other
+pub record PagesCover : Type 0 where
+  -- the keys of a page rise behind the last one before it
+  pub rises : (limit : ℕ) (p after : List ℕ) (m : Objects) → RisesFrom after (keys_listed limit p after m)
+  -- each begins with the prefix and stands
+  pub begin : (limit : ℕ) (p after k : List ℕ) (m : Objects) → IsIn k (keys_listed limit p after m) → (begins p k ≡ true) × ((x : Object) × (fin.get m k ≡ Some x))
+  -- what stands behind the last key is on the page or behind its last one
+  pub cover : (limit : ℕ) (p after k : List ℕ) (m : Objects) (x : Object) → fin.get m k ≡ Some x → begins p k ≡ true → is_lt (text_cmp after k) ≡ true
+      → IsIn k (keys_listed limit p after m) ⊎ (is_lt (text_cmp (last_from after (keys_listed limit p after m)) k) ≡ true)
+  -- and on the page, where no more remain
+  pub all : (limit : ℕ) (p after k : List ℕ) (m : Objects) (x : Object) → nat_lt limit (length (listed p false after m)) ≡ false → fin.get m k ≡ Some x → begins p k ≡ true → is_lt (text_cmp after k) ≡ true
+      → IsIn k (keys_listed limit p after m)

@@ -1,0 +1,4 @@
+pub mod Held
+pub mod Frame
+pub mod Walk
+pub mod Laws

@@ -1,3 +1,0 @@
-pub mod WriteFalls
-pub mod AbortFalls
-pub mod CommitFalls

@@ -1,6 +1,0 @@
-pub mod Standing
-pub mod Writes
-pub mod Commits
-pub mod CommitStands
-pub mod Aborts
-pub mod AbortStands

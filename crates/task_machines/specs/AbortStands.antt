@@ -1,0 +1,49 @@
+-- How an abort of a task stands.
+use Rattle.std.specs.Prelude.{◌≡◌, Bool, true, false, List, [], ◌∷◌, Option, Some, None}
+use Rattle.std.proofs.Common.{refl}
+use Rattle.s3_types.specs.declared.request.Committer.{Committer}
+use Rattle.s3_types.specs.declared.request.Committer.TheVariants.{Magic, Directory, Partitioned}
+use Rattle.s3_types.specs.declared.reply.Reply.{Reply}
+use Rattle.machine.specs.Standing.{Standing, Fine}
+use Rattle.job_model.specs.Known.{Drawn}
+use Rattle.job_model.specs.JobScript.{Script}
+use Rattle.job_protocol.specs.AtWork.{Attempting, task_script, task_abort_wants, task_abort_told}
+use Rattle.list_walk.specs.Walks.{Sweep, sweep_hears, all_go}
+use Rattle.job_protocol.specs.TaskAborts.{TaskAbort, Dropping, Sweeping, Removing, TaskAbortOver, task_abort_over, task_abort_hears, removing, dropped, dropping, sweeping}
+use Rattle.machine.specs.Asks.{AskLaws}
+use Rattle.task_machines.specs.Standing.{standing_by}
+use Rattle.task_machines.specs.Aborts.{abort_fits}
+
+abbrev pub abort_standing : Attempting TaskAbort → Standing
+abort_standing m = standing_by (task_abort_over m.operation)
+
+fine_removing : (sent : Bool) → standing_by (task_abort_over (removing sent)) ≡ Fine
+fine_removing true = refl
+fine_removing false = refl
+
+fine_dropped : (c : Committer) (sent : Bool) → standing_by (task_abort_over (dropped c sent)) ≡ Fine
+fine_dropped Magic sent = refl
+fine_dropped Directory sent = fine_removing sent
+fine_dropped Partitioned sent = fine_removing sent
+
+fine_dropping : (c : Committer) (sent : Bool) (ds : List Drawn) → standing_by (task_abort_over (dropping c sent ds)) ≡ Fine
+fine_dropping c sent [] = fine_dropped c sent
+fine_dropping c sent (d ∷ ds) = refl
+
+fine_sweeping : (o : Option Sweep) → standing_by (task_abort_over (sweeping o)) ≡ Fine
+fine_sweeping (Some s) = refl
+fine_sweeping None = refl
+
+goes_on : (w : Script) (o : TaskAbort) (a : Reply) → standing_by (task_abort_over (task_abort_hears w o a)) ≡ standing_by (task_abort_over o)
+goes_on w (Dropping d ds sent) a = fine_dropping w.committer sent ds
+goes_on w (Sweeping s) a = fine_sweeping (sweep_hears all_go s a)
+goes_on w Removing a = refl
+goes_on w (TaskAbortOver end) a = refl
+
+pub abort_laws : AskLaws task_abort_wants task_abort_told abort_fits abort_standing
+abort_laws = record {
+  stops = λ m. refl;
+  breaks = λ m. refl;
+  faults = λ m r e. refl;
+  goes_on = λ m r a b e h. goes_on (task_script m.plan) m.operation a;
+}

@@ -1,6 +1,0 @@
-mod FourEntries
-mod Reverted
-mod Lost
-mod Killed
-mod Aborted
-mod Twins

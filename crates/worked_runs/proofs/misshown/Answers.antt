@@ -1,8 +1,0 @@
-use Rattle.worked_runs.proofs.Refusals.{shown, runs}
-use Rattle.worked_runs.proofs.misshown.Goals as goal
-
-pub returns-clause-shown : goal.returns-clause-shown
-returns-clause-shown c = shown
-
-pub returns-clause-runs : goal.returns-clause-runs
-returns-clause-runs c = runs

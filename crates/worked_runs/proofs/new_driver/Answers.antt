@@ -1,8 +1,0 @@
-use Rattle.worked_runs.proofs.NewDrivers as drivers
-use Rattle.worked_runs.proofs.new_driver.Goals as goal
-
-pub returns-clause-run : goal.returns-clause-run
-returns-clause-run c = drivers.new_driver
-
-pub returns-clause-forgotten : goal.returns-clause-forgotten
-returns-clause-forgotten c = drivers.forgotten
